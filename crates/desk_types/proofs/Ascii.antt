@@ -1,0 +1,26 @@
+-- Names are text.
+use Rattle.std.proofs.Common.{◌≡◌, ℕ, ◌<◌, ◌≤◌, true, List, All, inl, inr, length, arith}
+use Rattle.std.proofs.lemmas.Bool.{cases_lt}
+use Rattle.std.proofs.lemmas.Bool.Decides.{nat_tests}
+use Rattle.std.proofs.lemmas.List.{get_or_past}
+use Rattle.std.proofs.lemmas.Str.{IsUtf8-from_ascii}
+use Rattle.std.specs.List.{AllPass, slice_index}
+use Rattle.std.specs.Str.{IsUtf8}
+use Rattle.desk_types.specs.Designator.{is_designator_byte}
+
+-- bytes from 0x20 to 0x7E are text
+pub IsUtf8-printable : (bytes : List ℕ) → All (λ b. (0x20 ≤ b) × (b ≤ 0x7e)) bytes → IsUtf8 bytes
+IsUtf8-printable bytes each = IsUtf8-from_ascii bytes at
+  where
+    at : (i : ℕ) → slice_index bytes i < 128
+    at i = elim (cases_lt i (length bytes)) [
+      | inl inside ↦ omega (arith, each i 0 inside)
+      | inr past ↦ omega (arith, get_or_past bytes i 0 past)
+    ]
+
+printable-mark : (b : ℕ) → is_designator_byte b ≡ true → (0x20 ≤ b) × (b ≤ 0x7e)
+printable-mark b is = grind (arith, nat_tests)
+
+-- the bytes of a designator are printable
+pub printable-marks : (bytes : List ℕ) → AllPass is_designator_byte bytes → All (λ b. (0x20 ≤ b) × (b ≤ 0x7e)) bytes
+printable-marks bytes each = λ k d inside. printable-mark _ (each k d inside)

@@ -1,0 +1,157 @@
+-- Worked runs of what was placed where, computed by the definitions.
+use Rattle.std.specs.Prelude.{◌≡◌, ℕ, Bool, true, false, Some, None, List, [], ◌∷◌, ◌++◌, map, codes, refl}
+use Rattle.desk_types.specs.declared.answer.Detail.TheVariants.{Plain, MinutesLeft, Reels}
+use Rattle.desk_types.specs.declared.answer.Refusal.TheVariants.{Expired}
+use Rattle.desk_types.specs.declared.answer.Reply.TheVariants.{Accepted, Refused}
+use Rattle.desk_types.specs.declared.command.Command.TheVariants.{PartDefined, SheetDefined, ProductSelected, MaterialsLoaded, MaterialsSpliced, MaterialsUnloaded, WorkStarted, WorkCompleted, MaterialsInstalled}
+use Rattle.desk_types.specs.declared.command.Stamped.{Stamped}
+use Rattle.desk_types.specs.declared.level.Level.TheVariants.{FiveA}
+use Rattle.desk_types.specs.Id.{Name}
+use Rattle.desk_types.specs.History.{History}
+use Rattle.desk_types.specs.Tape.{tape_of}
+use Rattle.desk_types.specs.Pieces.{install_picks, left_of, live_on}
+use Rattle.desk_types.specs.FloorLife.{is_out_at, exposure_of}
+use Rattle.desk_types.specs.Refusals.{part_refusal, sheet_refusal, definition_refusal, selection_refusal, receipt_refusal, mounting_refusal, unload_refusal, start_refusal, completion_refusal, install_refusal, command_refusal, refusal_of}
+use Rattle.desk_types.specs.Outcome.{replies_to, after_commands}
+use Rattle.desk_types.specs.Placements.{takes_of, Placement, placements_of, overdue_of, lots_of, boards_of}
+use Rattle.desk_types.proofs.RowsCommon.{P, L, L1, L2, PR, M, S1, S2, K1, K2, K3, B1, B2, R1, R2, R3, R4, R5, at, said, sheet_row, received, received_at, base, base_replies}
+
+-- a piece of part P, placed from slot 1 of machine M by the entry of this number, in this place of its message
+abbrev piece : ℕ → ℕ → Name → Name → Name → Name → ℕ → Bool → Placement
+piece number place board designator reel lot effective overdue = record {
+  number = number;
+  place = place;
+  board = board;
+  designator = designator;
+  machine = M;
+  slot = S1;
+  reel = reel;
+  part = P;
+  lot = lot;
+  effective = effective;
+  overdue = overdue;
+}
+
+-- A piece is placed at the minute at which its reel's floor life is over.
+abbrev late_piece : List Stamped
+late_piece = base
+    ++ at 0 (received_at FiveA K1 10)
+    ∷ at 0 (MaterialsLoaded M S1 K1)
+    ∷ at 1439 (WorkStarted M B1)
+    ∷ at 1440 (MaterialsInstalled M B1 (R1 ∷ []))
+    ∷ []
+
+-- What was placed past floor life was placed, and is accepted. The next board is not begun with the expired reel at the front.
+pub a_piece_past_floor_life_is_placed : replies_to [] (late_piece ++ at 1440 (WorkCompleted M B1) ∷ at 1440 (WorkStarted M B2) ∷ []) ≡
+    base_replies ++ Accepted Plain ∷ Accepted (MinutesLeft (Some 1440)) ∷ Accepted Plain ∷ Accepted (Reels (K1 ∷ [])) ∷ Accepted Plain
+    ∷ Refused (Expired S1) ∷ []
+unfolding refusal_of command_refusal part_refusal definition_refusal sheet_refusal selection_refusal receipt_refusal mounting_refusal tape_of left_of live_on is_out_at exposure_of start_refusal install_refusal install_picks completion_refusal
+a_piece_past_floor_life_is_placed = refl
+
+-- the list after the piece
+abbrev after_late_piece : History
+after_late_piece = after_commands [] late_piece
+
+-- The piece is the one placement, and is marked overdue. The board holds its lot.
+pub a_piece_past_floor_life_is_overdue :
+    (placements_of after_late_piece ≡ piece 8 1 B1 R1 K1 L1 1440 true ∷ [])
+    × (overdue_of after_late_piece ≡ piece 8 1 B1 R1 K1 L1 1440 true ∷ [])
+    × (lots_of after_late_piece B1 ≡ L1 ∷ [])
+unfolding refusal_of command_refusal part_refusal definition_refusal sheet_refusal selection_refusal receipt_refusal mounting_refusal tape_of left_of live_on is_out_at exposure_of start_refusal install_refusal install_picks takes_of
+a_piece_past_floor_life_is_overdue = (refl, refl, refl)
+
+-- Two boards take pieces of two reels of lot L, the second joined to the first. A reel of lot L2 is received, and stays where it is.
+abbrev boards_of_one_lot : List Stamped
+boards_of_one_lot = base ++ said (
+    received K1 P L 5
+    ∷ received K2 P L 5
+    ∷ received K3 P L2 5
+    ∷ MaterialsLoaded M S1 K1
+    ∷ MaterialsSpliced M S1 K2
+    ∷ WorkStarted M B1
+    ∷ MaterialsInstalled M B1 (R1 ∷ R2 ∷ R3 ∷ R4 ∷ R5 ∷ [])
+    ∷ WorkCompleted M B1
+    ∷ WorkStarted M B2
+    ∷ MaterialsInstalled M B2 (R1 ∷ [])
+    ∷ [])
+
+-- the list after that
+abbrev after_two_boards : History
+after_two_boards = after_commands [] boards_of_one_lot
+
+-- The first board takes the whole first reel, and the second board takes its piece off the second.
+pub a_tape_goes_on_with_the_next_board : replies_to [] boards_of_one_lot ≡
+    base_replies ++ Accepted Plain ∷ Accepted Plain ∷ Accepted Plain ∷ Accepted (MinutesLeft None) ∷ Accepted (MinutesLeft None)
+    ∷ Accepted Plain ∷ Accepted (Reels (K1 ∷ K1 ∷ K1 ∷ K1 ∷ K1 ∷ [])) ∷ Accepted Plain ∷ Accepted Plain ∷ Accepted (Reels (K2 ∷ [])) ∷ []
+unfolding refusal_of command_refusal part_refusal definition_refusal sheet_refusal selection_refusal receipt_refusal mounting_refusal tape_of left_of live_on start_refusal completion_refusal install_refusal install_picks
+a_tape_goes_on_with_the_next_board = refl
+
+-- the pieces of both boards, each with its entry, its place in the message, its reel and its lot
+abbrev pieces_of_both : List Placement
+pieces_of_both =
+    piece 11 1 B1 R1 K1 L 0 false
+    ∷ piece 11 2 B1 R2 K1 L 0 false
+    ∷ piece 11 3 B1 R3 K1 L 0 false
+    ∷ piece 11 4 B1 R4 K1 L 0 false
+    ∷ piece 11 5 B1 R5 K1 L 0 false
+    ∷ piece 14 1 B2 R1 K2 L 0 false
+    ∷ []
+
+-- They are the placements, and none is overdue.
+pub placements_of_two_boards : (placements_of after_two_boards ≡ pieces_of_both) × (overdue_of after_two_boards ≡ [])
+unfolding refusal_of command_refusal part_refusal definition_refusal sheet_refusal selection_refusal receipt_refusal mounting_refusal tape_of left_of live_on start_refusal completion_refusal install_refusal install_picks takes_of
+placements_of_two_boards = (refl, refl)
+
+-- The lot leads to both boards, and each board leads back to the lot. A lot of which nothing was placed leads to no board.
+pub a_lot_leads_to_its_boards_and_they_lead_back :
+    (boards_of after_two_boards L ≡ B1 ∷ B2 ∷ [])
+    × (lots_of after_two_boards B1 ≡ L ∷ [])
+    × (lots_of after_two_boards B2 ≡ L ∷ [])
+    × (boards_of after_two_boards L2 ≡ [])
+unfolding refusal_of command_refusal part_refusal definition_refusal sheet_refusal selection_refusal receipt_refusal mounting_refusal tape_of left_of live_on start_refusal completion_refusal install_refusal install_picks takes_of
+a_lot_leads_to_its_boards_and_they_lead_back = (refl, refl, refl, refl)
+
+-- A board is built from the first reel of slot 1. Then both slots are unloaded, and the second reel of slot 1 is loaded on slot 2.
+abbrev reel_moved : List Stamped
+reel_moved = said (
+    PartDefined P
+    ∷ SheetDefined PR M (sheet_row S1 P (R1 ∷ []) ∷ sheet_row S2 P (codes "C1" ∷ []) ∷ [])
+    ∷ ProductSelected M PR
+    ∷ received K1 P L1 10
+    ∷ received K2 P L1 20
+    ∷ received K3 P L1 5
+    ∷ MaterialsLoaded M S1 K1
+    ∷ MaterialsSpliced M S1 K2
+    ∷ MaterialsLoaded M S2 K3
+    ∷ WorkStarted M B1
+    ∷ MaterialsInstalled M B1 (R1 ∷ [])
+    ∷ WorkCompleted M B1
+    ∷ MaterialsUnloaded M S1
+    ∷ MaterialsUnloaded M S2
+    ∷ MaterialsLoaded M S2 K2
+    ∷ [])
+
+-- the list after that
+abbrev after_the_move : History
+after_the_move = after_commands [] reel_moved
+
+-- A reel that was unloaded may be loaded on another slot.
+pub a_reel_moves_to_another_slot : replies_to [] reel_moved ≡
+    Accepted Plain ∷ Accepted Plain ∷ Accepted Plain ∷ Accepted Plain ∷ Accepted Plain ∷ Accepted Plain
+    ∷ Accepted (MinutesLeft None) ∷ Accepted (MinutesLeft None) ∷ Accepted (MinutesLeft None) ∷ Accepted Plain ∷ Accepted (Reels (K1 ∷ []))
+    ∷ Accepted Plain ∷ Accepted Plain ∷ Accepted Plain ∷ Accepted (MinutesLeft None) ∷ []
+unfolding refusal_of command_refusal part_refusal definition_refusal sheet_refusal selection_refusal receipt_refusal mounting_refusal tape_of left_of live_on start_refusal completion_refusal install_refusal install_picks unload_refusal
+a_reel_moves_to_another_slot = refl
+
+-- The moved reel is live where it is now. One piece of the first reel is gone.
+pub a_moved_reel_is_live_on_its_new_slot :
+    (live_on after_the_move M S1 ≡ [])
+    × (live_on after_the_move M S2 ≡ K2 ∷ [])
+    × (map (left_of after_the_move) (K1 ∷ K2 ∷ K3 ∷ []) ≡ 9 ∷ 20 ∷ 5 ∷ [])
+unfolding refusal_of command_refusal part_refusal definition_refusal sheet_refusal selection_refusal receipt_refusal mounting_refusal tape_of left_of live_on start_refusal completion_refusal install_refusal install_picks unload_refusal
+a_moved_reel_is_live_on_its_new_slot = (refl, refl, refl)
+
+-- The placement keeps the reel and the slot from which the piece was taken, whatever was loaded later.
+pub a_placement_keeps_its_reel_and_slot : placements_of after_the_move ≡ piece 11 1 B1 R1 K1 L1 0 false ∷ []
+unfolding refusal_of command_refusal part_refusal definition_refusal sheet_refusal selection_refusal receipt_refusal mounting_refusal tape_of left_of live_on start_refusal completion_refusal install_refusal install_picks unload_refusal takes_of
+a_placement_keeps_its_reel_and_slot = refl

@@ -1,0 +1,57 @@
+-- Worked runs of boards in work, computed by the definitions.
+use Rattle.std.specs.Prelude.{◌≡◌, None, [], ◌∷◌, ◌++◌, codes, refl}
+use Rattle.desk_types.specs.declared.answer.Detail.TheVariants.{Plain, MinutesLeft, Reels}
+use Rattle.desk_types.specs.declared.answer.Refusal.TheVariants.{MachineBusy, DesignatorTwice, SlotEmpty, OtherProduct, NotInWork, DesignatorNotOnSheet, ReelShort}
+use Rattle.desk_types.specs.declared.answer.Reply.TheVariants.{Accepted, Refused}
+use Rattle.desk_types.specs.declared.command.Command.TheVariants.{SheetDefined, ProductSelected, MaterialsLoaded, WorkStarted, WorkCompleted, MaterialsInstalled, MaterialsScrapped}
+use Rattle.desk_types.specs.Tape.{tape_of}
+use Rattle.desk_types.specs.Pieces.{install_picks, left_of, live_on}
+use Rattle.desk_types.specs.Refusals.{part_refusal, sheet_refusal, definition_refusal, selection_refusal, receipt_refusal, mounting_refusal, scrap_refusal, start_refusal, completion_refusal, install_refusal, command_refusal, refusal_of}
+use Rattle.desk_types.specs.Outcome.{replies_to}
+use Rattle.desk_types.proofs.RowsCommon.{P, L1, PR, PS, M, S1, K1, B1, B2, R1, R2, R3, said, sheet_row, received, base, base_replies}
+
+-- Work on a board does not begin while a slot of the sheet has no reel.
+pub work_needs_loaded_slots : replies_to [] (base ++ said (WorkStarted M B1 ∷ [])) ≡
+    base_replies ++ Refused (SlotEmpty S1) ∷ []
+unfolding refusal_of command_refusal part_refusal definition_refusal sheet_refusal selection_refusal start_refusal tape_of live_on
+work_needs_loaded_slots = refl
+
+-- While a board is in work on a machine, a new sheet for the machine and the next board are refused. The work is completed once.
+-- Then another product is selected, and the board, which was begun as the first product, is refused.
+pub a_machine_in_work_waits : replies_to [] (base ++ said (
+    received K1 P L1 10
+    ∷ MaterialsLoaded M S1 K1
+    ∷ WorkStarted M B1
+    ∷ SheetDefined PR M (sheet_row S1 P (R1 ∷ []) ∷ [])
+    ∷ WorkStarted M B2
+    ∷ WorkCompleted M B1
+    ∷ WorkCompleted M B1
+    ∷ SheetDefined PS M (sheet_row S1 P (R1 ∷ []) ∷ [])
+    ∷ ProductSelected M PS
+    ∷ WorkStarted M B1
+    ∷ [])) ≡
+    base_replies ++ Accepted Plain ∷ Accepted (MinutesLeft None) ∷ Accepted Plain ∷ Refused (MachineBusy M) ∷ Refused (MachineBusy M)
+    ∷ Accepted Plain ∷ Refused (NotInWork B1) ∷ Accepted Plain ∷ Accepted Plain ∷ Refused (OtherProduct B1) ∷ []
+unfolding refusal_of command_refusal part_refusal definition_refusal sheet_refusal selection_refusal receipt_refusal mounting_refusal tape_of left_of live_on start_refusal completion_refusal
+a_machine_in_work_waits = refl
+
+-- An install names the board in work, and designators of its sheet, each once, for which there are pieces. Else nothing is placed.
+-- A slot whose reel is spent counts as empty.
+pub what_an_install_is_refused_for : replies_to [] (base ++ said (
+    received K1 P L1 2
+    ∷ MaterialsLoaded M S1 K1
+    ∷ WorkStarted M B1
+    ∷ MaterialsInstalled M B2 (R1 ∷ [])
+    ∷ MaterialsInstalled M B1 (codes "R9" ∷ [])
+    ∷ MaterialsInstalled M B1 (R1 ∷ R1 ∷ [])
+    ∷ MaterialsInstalled M B1 (R1 ∷ R2 ∷ R3 ∷ [])
+    ∷ MaterialsScrapped M S1 3
+    ∷ MaterialsInstalled M B1 (R1 ∷ R2 ∷ [])
+    ∷ MaterialsInstalled M B1 (R3 ∷ [])
+    ∷ MaterialsScrapped M S1 1
+    ∷ [])) ≡
+    base_replies ++ Accepted Plain ∷ Accepted (MinutesLeft None) ∷ Accepted Plain ∷ Refused (NotInWork B2)
+    ∷ Refused (DesignatorNotOnSheet (codes "R9")) ∷ Refused (DesignatorTwice R1) ∷ Refused (ReelShort R3) ∷ Refused (ReelShort S1)
+    ∷ Accepted (Reels (K1 ∷ K1 ∷ [])) ∷ Refused (ReelShort R3) ∷ Refused (SlotEmpty S1) ∷ []
+unfolding refusal_of command_refusal part_refusal definition_refusal sheet_refusal selection_refusal receipt_refusal mounting_refusal tape_of left_of live_on start_refusal install_refusal install_picks scrap_refusal
+what_an_install_is_refused_for = refl

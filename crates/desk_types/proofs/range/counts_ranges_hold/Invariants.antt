@@ -1,0 +1,6 @@
+use Rattle.std.specs.List.{AllWithin}
+use Rattle.desk_types.specs.Command.{IsCountRow}
+use Rattle.desk_types.proofs.range.counts_ranges_hold.Given as goal
+
+abbrev pub invariant-loop-row : goal.invariant-loop-row
+invariant-loop-row l = AllWithin IsCountRow l.items 0 l.row-index

@@ -1,0 +1,11 @@
+-- Short texts that are kept in place, in an array of a fixed width.
+use Rattle.std.specs.Prelude.{◌≡◌, ℕ, ◌-◌, ◌≤◌, List, ◌++◌, length, take, replicate}
+
+-- the bytes, with zeros behind them up to the width
+abbrev pub padded : ℕ → List ℕ → List ℕ
+padded width bytes = bytes ++ replicate (width - length bytes) 0
+
+-- the array holds a text of this length, and zeros behind it
+pub record IsPadded (width : ℕ) (bytes : List ℕ) (len : ℕ) : Type 0 where
+  pub len_fits : len ≤ length bytes
+  pub padding : padded width (take len bytes) ≡ bytes

@@ -1,0 +1,26 @@
+-- Names of parts, reels, lots, machines, slots, boards, products, messages and their sources.
+use Rattle.std.specs.Prelude.{◌≢◌, ℕ, ◌-◌, ◌≤◌, ◌<◌, ◌==◌, Bool, List, length, take, slice_index, All}
+use Rattle.std.specs.Cmp.Lexicographic.{pointwise}
+use Rattle.desk_types.specs.declared.id.TheConstants.{LONGEST_ID}
+use Rattle.desk_types.specs.Fixed.{IsPadded}
+
+-- A name as contracts see it: its bytes.
+abbrev pub Name : Type 0
+Name = List ℕ
+
+-- whether two names are one, byte by byte
+abbrev pub same : Name → Name → Bool
+same = pointwise ◌==◌
+
+-- 1 to 64 bytes from 0x20 to 0x7E, with no space at either end
+pub record IsId (bytes : List ℕ) : Type 0 where
+  pub some : 0 < length bytes
+  pub fits : length bytes ≤ LONGEST_ID
+  pub printable : All (λ b. (0x20 ≤ b) × (b ≤ 0x7e)) bytes
+  pub no_space_first : slice_index bytes 0 ≢ 0x20
+  pub no_space_last : slice_index bytes (length bytes - 1) ≢ 0x20
+
+-- what an id keeps
+pub record IsIdInside (bytes : List ℕ) (len : ℕ) : Type 0 where
+  pub is_id : IsId (take len bytes)
+  pub padded : IsPadded LONGEST_ID bytes len

@@ -1,0 +1,233 @@
+-- When a command is refused, and why: for each command its tests in order, of which the first that holds gives the answer.
+use Rattle.std.specs.Prelude.{ℕ, ◌+◌, nat_lt, Bool, true, false, not, ◌&&◌, Option, Some, None, List, [], ◌∷◌, ◌++◌, map, if◌then◌else◌, unwrap_or, is_some, is_none, ◌==◌}
+use Rattle.std.specs.Option.{option_map, option_map_or, option_or, option_to_list}
+use Rattle.std.specs.List.{list_any, find, sum_by, flat_map}
+use Rattle.desk_types.specs.declared.answer.Refusal.{Refusal}
+use Rattle.desk_types.specs.declared.answer.Refusal.TheVariants.{TooFarAhead, PartExists, UnknownPart, ReelExists, UnknownReel, UnknownSheet, MachineBusy, SlotTwice, DesignatorTwice, NoProduct, SlotNotOnSheet, SlotTaken, SlotEmpty, ReelMounted, ReelEmpty, WrongPart, NotBaked, Expired, BoardBusy, OtherProduct, NotInWork, DesignatorNotOnSheet, AlreadyPlaced, ReelShort, ReelTwice, CountAbove}
+use Rattle.desk_types.specs.declared.command.Command.{Command}
+use Rattle.desk_types.specs.declared.command.Command.TheVariants.{PartDefined, AlternateAllowed, SheetDefined, ProductSelected, ReelReceived, ReelOpened, ReelSealed, ReelBaked, MaterialsLoaded, MaterialsSpliced, MaterialsUnloaded, WorkStarted, WorkCompleted, MaterialsInstalled, MaterialsScrapped, CountsTaken, ClockSet}
+use Rattle.desk_types.specs.declared.command.Receipt.{Receipt}
+use Rattle.desk_types.specs.declared.command.Stamped.{Stamped}
+use Rattle.desk_types.specs.declared.command.TheConstants.{FURTHEST_AHEAD}
+use Rattle.desk_types.specs.declared.count.CountRow.{CountRow}
+use Rattle.desk_types.specs.declared.sheet.SheetRow.{SheetRow}
+use Rattle.desk_types.specs.declared.take.Pick.{Pick}
+use Rattle.desk_types.specs.Id.{Name, same}
+use Rattle.desk_types.specs.History.{History, desk_minute, effective_minute}
+use Rattle.desk_types.specs.Setup.{is_part, is_allowed, sheet_of, selected_on, sheet_on, row_on, receipt_of}
+use Rattle.desk_types.specs.Tape.{tape_of}
+use Rattle.desk_types.specs.Pieces.{left_of, live_on, front_of, is_mounted, slot_for, pick_for}
+use Rattle.desk_types.specs.FloorLife.{is_expired, is_unbaked}
+use Rattle.desk_types.specs.Work.{in_work_on, is_in_work_on, is_in_work, product_of, is_placed_on}
+
+-- the refusal of the first test that holds
+abbrev pub first_refusal : List (Bool × Refusal) → Option Refusal
+first_refusal [] = None
+first_refusal (t ∷ ts) = if t.0 then Some t.1 else first_refusal ts
+
+-- ---- parts and sheets
+
+unfoldable pub part_refusal : History → Name → Option Refusal
+part_refusal H part = first_refusal (
+    (is_part H part, PartExists part)
+    ∷ [])
+
+unfoldable pub alternate_refusal : History → Name → Name → Option Refusal
+alternate_refusal H part alternate = first_refusal (
+    (not (is_part H part), UnknownPart part)
+    ∷ (not (is_part H alternate), UnknownPart alternate)
+    ∷ [])
+
+-- the first name that stands among those before it
+abbrev pub name_twice : List Name → List Name → Option Name
+name_twice before [] = None
+name_twice before (x ∷ xs) = if list_any (same x) before then Some x else name_twice (before ++ x ∷ []) xs
+
+-- the slots of all rows, in sheet order
+abbrev pub slots_of_rows : List SheetRow → List Name
+slots_of_rows rows = map (λ (row : SheetRow). row.slot) rows
+
+-- the designators of all rows, in sheet order
+abbrev pub designators_of_rows : List SheetRow → List Name
+designators_of_rows rows = flat_map (λ (row : SheetRow). row.designators) rows
+
+-- the part of the first row whose part is not defined
+abbrev pub unknown_part : History → List SheetRow → Option Name
+unknown_part H rows = option_map (λ (row : SheetRow). row.part) (find (λ (row : SheetRow). not (is_part H row.part)) rows)
+
+-- what is wrong with the rows of a sheet: first a slot twice, then a designator twice, then a part that is not defined
+unfoldable pub sheet_refusal : History → List SheetRow → Option Refusal
+sheet_refusal H rows =
+    option_or (option_map SlotTwice (name_twice [] (slots_of_rows rows)))
+    (option_or (option_map DesignatorTwice (name_twice [] (designators_of_rows rows)))
+    (option_map UnknownPart (unknown_part H rows)))
+
+unfoldable pub definition_refusal : History → Name → List SheetRow → Option Refusal
+definition_refusal H machine rows = if is_some (in_work_on H machine) then Some (MachineBusy machine) else sheet_refusal H rows
+
+unfoldable pub selection_refusal : History → Name → Name → Option Refusal
+selection_refusal H machine product = first_refusal (
+    (is_none (sheet_of H product machine), UnknownSheet product)
+    ∷ (is_some (in_work_on H machine), MachineBusy machine)
+    ∷ [])
+
+-- ---- reels
+
+unfoldable pub receipt_refusal : History → Name → Name → Option Refusal
+receipt_refusal H reel part = first_refusal (
+    (not (is_part H part), UnknownPart part)
+    ∷ (is_some (receipt_of H reel), ReelExists reel)
+    ∷ [])
+
+-- of an open
+unfoldable pub opening_refusal : History → Name → Option Refusal
+opening_refusal H reel = first_refusal (
+    (is_none (receipt_of H reel), UnknownReel reel)
+    ∷ [])
+
+-- of a seal or a bake
+unfoldable pub closing_refusal : History → Name → Option Refusal
+closing_refusal H reel = first_refusal (
+    (is_none (receipt_of H reel), UnknownReel reel)
+    ∷ (is_mounted H reel, ReelMounted reel)
+    ∷ [])
+
+-- ---- slots
+
+-- whether the reel's part is not allowed for the part of a row
+abbrev pub is_wrong_for : History → SheetRow → Name → Bool
+is_wrong_for H row reel = option_map_or (λ (r : Receipt). not (is_allowed H row.part r.part)) (receipt_of H reel) false
+
+-- whether the reel's part is not allowed for the slot's row in the sheet of the selected product
+abbrev pub is_wrong_part : History → Name → Name → Name → Bool
+is_wrong_part H machine slot reel = option_map_or (λ row. is_wrong_for H row reel) (row_on H machine slot) false
+
+-- whether the slot has no live reel
+abbrev pub is_vacant : History → Name → Name → Bool
+is_vacant H machine slot = is_none (front_of H machine slot)
+
+-- of a load or a splice at a minute; they differ in the test of the slot's live reels, which is given
+unfoldable pub mounting_refusal : History → ℕ → Name → Name → Name → Bool × Refusal → Option Refusal
+mounting_refusal H minute machine slot reel slot_test = first_refusal (
+    (is_none (selected_on H machine), NoProduct machine)
+    ∷ (is_none (row_on H machine slot), SlotNotOnSheet slot)
+    ∷ slot_test
+    ∷ (is_none (receipt_of H reel), UnknownReel reel)
+    ∷ (is_mounted H reel, ReelMounted reel)
+    ∷ (left_of H reel == 0, ReelEmpty reel)
+    ∷ (is_wrong_part H machine slot reel, WrongPart reel)
+    ∷ (is_unbaked H reel, NotBaked reel)
+    ∷ (is_expired H reel minute, Expired reel)
+    ∷ [])
+
+unfoldable pub unload_refusal : History → Name → Name → Option Refusal
+unload_refusal H machine slot = first_refusal (
+    (is_vacant H machine slot, SlotEmpty slot)
+    ∷ [])
+
+unfoldable pub scrap_refusal : History → Name → Name → ℕ → Option Refusal
+scrap_refusal H machine slot n = first_refusal (
+    (is_vacant H machine slot, SlotEmpty slot)
+    ∷ (nat_lt (sum_by (left_of H) (live_on H machine slot)) n, ReelShort slot)
+    ∷ [])
+
+-- ---- work
+
+-- what is wrong at a minute with the front of a row's slot
+abbrev pub front_refusal : History → ℕ → SheetRow → Option Name → Option Refusal
+front_refusal H minute row None = Some (SlotEmpty row.slot)
+front_refusal H minute row (Some reel) = first_refusal (
+    (is_wrong_for H row reel, WrongPart row.slot)
+    ∷ (is_unbaked H reel, NotBaked row.slot)
+    ∷ (is_expired H reel minute, Expired row.slot)
+    ∷ [])
+
+-- what is wrong with the first faulty slot of some rows
+abbrev pub slots_refusal : History → ℕ → Name → List SheetRow → Option Refusal
+slots_refusal H minute machine [] = None
+slots_refusal H minute machine (row ∷ rows) =
+    option_or (front_refusal H minute row (front_of H machine row.slot)) (slots_refusal H minute machine rows)
+
+-- whether two names are there and differ
+abbrev pub differ : Option Name → Option Name → Bool
+differ (Some a) (Some b) = not (same a b)
+differ _ _ = false
+
+-- of a start of work; by the test before it no board is in work on this machine, so a board that is in work is so on another
+unfoldable pub start_refusal : History → ℕ → Name → Name → Option Refusal
+start_refusal H minute machine board = option_or (first_refusal (
+    (is_none (selected_on H machine), NoProduct machine)
+    ∷ (is_some (in_work_on H machine), MachineBusy machine)
+    ∷ (is_in_work H board, BoardBusy board)
+    ∷ (differ (product_of H board) (selected_on H machine), OtherProduct board)
+    ∷ []))
+    (slots_refusal H minute machine (unwrap_or (sheet_on H machine) []))
+
+unfoldable pub completion_refusal : History → Name → Name → Option Refusal
+completion_refusal H machine board = first_refusal (
+    (not (is_in_work_on H machine board), NotInWork board)
+    ∷ [])
+
+-- what is wrong with the first faulty designator of a message, after the picks for those before it and the designators that stand before it
+abbrev pub designators_refusal : (Name → Option Name) → (Name → List Name) → (Name → ℕ) → (Name → Bool) → Name → Name → List Pick → List Name → List Name → Option Refusal
+designators_refusal slot_of tape pieces placed machine board before seen [] = None
+designators_refusal slot_of tape pieces placed machine board before seen (d ∷ ds) = option_or (first_refusal (
+    (is_none (slot_of d), DesignatorNotOnSheet d)
+    ∷ (list_any (same d) seen, DesignatorTwice d)
+    ∷ (placed d, AlreadyPlaced d)
+    ∷ (is_none (pick_for slot_of tape pieces machine board before d), ReelShort d)
+    ∷ []))
+    (designators_refusal slot_of tape pieces placed machine board (before ++ option_to_list (pick_for slot_of tape pieces machine board before d)) (seen ++ d ∷ []) ds)
+
+unfoldable pub install_refusal : History → Name → Name → List Name → Option Refusal
+install_refusal H machine board designators =
+    if is_in_work_on H machine board
+    then designators_refusal (slot_for (sheet_on H machine)) (tape_of H machine) (left_of H) (is_placed_on H board) machine board [] [] designators
+    else Some (NotInWork board)
+
+-- ---- counts
+
+-- what is wrong with the first faulty row of a count, after the reels of the rows before it
+abbrev pub counts_refusal : History → List Name → List CountRow → Option Refusal
+counts_refusal H seen [] = None
+counts_refusal H seen (row ∷ rows) = option_or (first_refusal (
+    (is_none (receipt_of H row.reel), UnknownReel row.reel)
+    ∷ (list_any (same row.reel) seen, ReelTwice row.reel)
+    ∷ (is_mounted H row.reel, ReelMounted row.reel)
+    ∷ (nat_lt (left_of H row.reel) row.quantity, CountAbove row.reel)
+    ∷ []))
+    (counts_refusal H (seen ++ row.reel ∷ []) rows)
+
+-- ---- any command
+
+-- the refusal of a command after H that takes effect at the minute
+unfoldable pub command_refusal : History → ℕ → Command → Option Refusal
+command_refusal H minute (PartDefined part) = part_refusal H part
+command_refusal H minute (AlternateAllowed part alternate) = alternate_refusal H part alternate
+command_refusal H minute (SheetDefined product machine rows) = definition_refusal H machine rows
+command_refusal H minute (ProductSelected machine product) = selection_refusal H machine product
+command_refusal H minute (ReelReceived reel part lot moisture quantity) = receipt_refusal H reel part
+command_refusal H minute (ReelOpened reel) = opening_refusal H reel
+command_refusal H minute (ReelSealed reel) = closing_refusal H reel
+command_refusal H minute (ReelBaked reel) = closing_refusal H reel
+command_refusal H minute (MaterialsLoaded machine slot reel) = mounting_refusal H minute machine slot reel (not (is_vacant H machine slot), SlotTaken slot)
+command_refusal H minute (MaterialsSpliced machine slot reel) = mounting_refusal H minute machine slot reel (is_vacant H machine slot, SlotEmpty slot)
+command_refusal H minute (MaterialsUnloaded machine slot) = unload_refusal H machine slot
+command_refusal H minute (WorkStarted machine board) = start_refusal H minute machine board
+command_refusal H minute (WorkCompleted machine board) = completion_refusal H machine board
+command_refusal H minute (MaterialsInstalled machine board designators) = install_refusal H machine board designators
+command_refusal H minute (MaterialsScrapped machine slot quantity) = scrap_refusal H machine slot quantity
+command_refusal H minute (CountsTaken counts) = counts_refusal H [] counts
+command_refusal H minute ClockSet = None
+
+abbrev pub is_clock : Command → Bool
+is_clock ClockSet = true
+is_clock _ = false
+
+-- whether the own minute is more than two weeks above the desk minute; a command that sets the clock, and the first one of all, may be so
+abbrev pub is_too_far_ahead : History → Stamped → Bool
+is_too_far_ahead H s = option_map_or (λ desk. nat_lt (desk + FURTHEST_AHEAD) s.minute) (desk_minute H) false && not (is_clock s.command)
+
+-- why the command is refused after H, where it is
+unfoldable pub refusal_of : History → Stamped → Option Refusal
+refusal_of H s = if is_too_far_ahead H s then Some TooFarAhead else command_refusal H (effective_minute H s.minute) s.command

@@ -1,0 +1,110 @@
+//! What a desk is, and a run of commands on one.
+
+ghost use Rattle.std.specs.Prelude.{◌≡◌, ℕ, All, IfOk, OnOk, length};
+ghost use Rattle.desk_types.specs.History.{History};
+ghost use Rattle.desk_types.specs.Outcome.{reply_to, after_command, replies_to, after_commands};
+ghost use Rattle.desk_types.specs.Desk.{HasRoom};
+
+use crate::answer::{Refusal, Replies, Reply};
+use crate::change::Change;
+use crate::command::Stamped;
+use crate::list::Listing;
+use crate::number::Minute;
+use std::alloc::{AllocError, Global};
+
+/// The most commands that a desk is ever asked to accept.
+pub const MOST_ENTRIES: u64 = 1_000_000_000;
+
+/// Why a command came to no change.
+#[derive(Clone, Copy, Debug, PartialEq, Eq)]
+pub enum JudgeFault {
+    /// The command is refused.
+    Refused(Refusal),
+    /// Memory was refused while it was judged.
+    NoMemory,
+}
+
+impl From<AllocError> for JudgeFault {
+    ghost use Rattle.std.specs.Prelude.{◌≡◌};
+    ghost use Rattle.desk_types.specs.declared.desk.JudgeFault.TheVariants.{NoMemory};
+
+    ghost from_gives = { λ _ fault. fault ≡ NoMemory };
+
+    fn from(_error: AllocError) -> JudgeFault {
+        JudgeFault::NoMemory
+    }
+}
+
+/// A desk answers commands as the list of the commands that it accepted says.
+///
+/// `Stands` says for which lists it stands. There may be several: what a call promises holds for
+/// each of them, and room for one more entry is asked of one. `Knows` says which commands the desk
+/// knows. A desk keeps its allocator, so its methods take none.
+pub trait Desk {
+    ghost use Rattle.desk_types.specs.declared.command.Command.{Command};
+    ghost use Rattle.desk_types.specs.History.{History, desk_minute, accept};
+    ghost use Rattle.desk_types.specs.Desk.{HasRoom, IsChange, IsJudgement};
+
+    /// The lists for which the desk stands.
+    ghost Stands: { Self → History → Type 0 };
+
+    /// The commands that the desk knows.
+    ghost Knows: { Command → Type 0 };
+
+    /// What the command would do, were it sent now. It is refused exactly for the refusal of the
+    /// definition, and changes nothing. Repeats are the owner's to look for, and so is the greatest
+    /// number.
+    fn judge(&self, stamped: &Stamped) -> Result<Change, JudgeFault>
+        requires room { HasRoom Stands self.now 1 }
+        requires known { Knows stamped.now.command }
+        ensures { (H : History) → Stands self.now H → IsJudgement H stamped.now result };
+
+    /// Accepts what was judged. After an `Err` nothing is known of the desk: drop it.
+    fn settle(&mut self, change: Change) -> Result<(), AllocError>
+        requires room { HasRoom Stands self.old 1 }
+        requires known { Knows change.stamped.command }
+        requires judged { (H : History) → Stands self.old H → IsChange H change.stamped change }
+        ensures { (H : History) → Stands self.old H → OnOk result (Stands self.new (accept H change.stamped)) };
+
+    /// The desk minute: the greatest effective minute of the accepted commands.
+    fn minute(&self) -> Option<Minute>
+        ensures { (H : History) → Stands self.now H → result ≡ desk_minute H };
+}
+
+/// Judges commands one after the other, and settles each that is accepted. The replies are those of
+/// the list alone. It stops at the first want of memory, and then nothing is known of the desk.
+pub fn run<D: Desk>(
+    alloc: Global,
+    desk: &mut D,
+    messages: &[Stamped],
+) -> Result<Replies, AllocError>
+    requires room { HasRoom D.Stands desk.old (length messages.now) }
+    requires known { All (λ s. D.Knows s.command) messages.now }
+    ensures replies { (H : History) → D.Stands desk.old H → IfOk result (λ replies. replies ≡ replies_to H messages.now) }
+    ensures stands { (H : History) → D.Stands desk.old H → OnOk result (D.Stands desk.new (after_commands H messages.now)) }
+{
+    let mut replies = Vec::new(alloc);
+    for message in messages {
+        let reply = answer(desk, message)?;
+        replies.push(reply)?;
+    }
+    Ok(Listing::new(replies))
+}
+
+/// Judges one command, and settles it where it is accepted.
+fn answer<D: Desk>(desk: &mut D, message: &Stamped) -> Result<Reply, AllocError>
+    requires room { HasRoom D.Stands desk.old 1 }
+    requires known { D.Knows message.now.command }
+    ensures reply { (H : History) → D.Stands desk.old H → IfOk result (λ reply. reply ≡ reply_to H message.now) }
+    ensures stands { (H : History) → D.Stands desk.old H → OnOk result (D.Stands desk.new (after_command H message.now)) }
+{
+    match desk.judge(message) {
+        Ok(change) => {
+            let detail = change.detail().clone()?;
+            desk.settle(change)?;
+            Ok(Reply::Accepted(detail))
+        }
+        Err(JudgeFault::Refused(refusal)) => Ok(Reply::Refused(refusal)),
+        Err(JudgeFault::NoMemory) => Err(AllocError),
+    }
+}

@@ -1,0 +1,34 @@
+//! Setup sheets: which part each slot feeds, and where its pieces go.
+
+use crate::designator::Designator;
+use crate::id::Id;
+use crate::list::Bounded;
+use std::alloc::AllocError;
+
+/// 1 to 5,000 designators in order.
+pub type Designators = Bounded<Designator>;
+
+/// 1 to 5,000 rows in sheet order.
+pub type SheetRows = Bounded<SheetRow>;
+
+/// A row of a sheet: a slot, the part that it feeds, and the designators that its pieces go to.
+#[derive(Debug, PartialEq, Eq, Drop)]
+pub struct SheetRow {
+    pub slot: Id,
+    pub part: Id,
+    pub designators: Designators,
+}
+
+impl Clone for SheetRow {
+    ghost use Rattle.std.specs.Prelude.{◌≡◌};
+
+    ghost is_clone = { λ x y. y ≡ x };
+
+    fn clone(&self) -> Result<SheetRow, AllocError> {
+        Ok(SheetRow {
+            slot: self.slot,
+            part: self.part,
+            designators: self.designators.clone()?,
+        })
+    }
+}

@@ -1,0 +1,102 @@
+//! A small desk that knows one word, the definition of a part. It shows what a desk owes.
+
+ghost use Rattle.std.specs.Prelude.{◌≡◌, ◌+◌, nat_lt, max, unwrap_or, [], false, IfOk};
+ghost use Rattle.std.specs.List.{list_any};
+ghost use Rattle.std.specs.Option.{option_map_or};
+ghost use Rattle.desk_types.specs.Id.{same};
+
+use crate::*;
+use std::alloc::{AllocError, Global};
+
+/// The parts, the newest first, and the desk minute.
+#[derive(Drop)]
+pub struct PartsDesk {
+    alloc: Global,
+    parts: Vec<Id>,
+    minute: Option<Minute>,
+}
+
+impl PartsDesk {
+    pub fn new(alloc: Global) -> PartsDesk
+        ensures parts { result.parts.items ≡ [] }
+        ensures minute { result.minute ≡ None }
+    {
+        PartsDesk {
+            alloc,
+            parts: Vec::new(alloc),
+            minute: None,
+        }
+    }
+}
+
+impl Desk for PartsDesk {
+    ghost use Rattle.std.specs.Prelude.{◌≡◌};
+    ghost use Rattle.std.specs.List.{list_any};
+    ghost use Rattle.desk_types.specs.declared.command.Command.TheVariants.{PartDefined};
+    ghost use Rattle.desk_types.specs.Id.{Name, same};
+    ghost use Rattle.desk_types.specs.History.{desk_minute};
+    ghost use Rattle.desk_types.specs.Setup.{is_part};
+
+    ghost Stands = { λ desk H. ((part : Name) → list_any (λ p. same p part) desk.parts.items ≡ is_part H part) × (desk.minute ≡ desk_minute H) };
+
+    ghost Knows = { λ command. (part : Name) × (command ≡ PartDefined part) };
+
+    #[tactic(auto, unfolding(crate::specs::Refusals::refusal_of, crate::specs::Refusals::command_refusal, crate::specs::Refusals::part_refusal))]
+    fn judge(&self, stamped: &Stamped) -> Result<Change, JudgeFault> {
+        let Command::PartDefined { part } = &stamped.command else {
+            unreachable!()
+        };
+        if is_too_far_ahead(self.minute, stamped.minute) {
+            return Err(JudgeFault::Refused(Refusal::TooFarAhead));
+        }
+        if is_among(&self.parts, part) {
+            return Err(JudgeFault::Refused(Refusal::PartExists(*part)));
+        }
+        Ok(plain(self.alloc, stamped, later(self.minute, stamped.minute))?)
+    }
+
+    fn settle(&mut self, change: Change) -> Result<(), AllocError> {
+        if let Command::PartDefined { part } = &change.stamped.command {
+            self.parts.insert(0, *part)?;
+        }
+        self.minute = Some(change.minute);
+        Ok(())
+    }
+
+    fn minute(&self) -> Option<Minute> {
+        self.minute
+    }
+}
+
+fn is_among(parts: &[Id], part: &Id) -> bool
+    ensures { result ≡ list_any (λ p. same p part.now) parts.now }
+{
+    parts.iter().any(|p| *p == *part)
+}
+
+/// A change that tells nothing more and takes nothing.
+fn plain(alloc: Global, stamped: &Stamped, minute: Minute) -> Result<Change, AllocError>
+    ensures { IfOk result (λ change. change ≡ record { stamped = stamped.now; minute = minute; detail = Detail.Plain; takes = [] }) }
+{
+    Ok(Change {
+        stamped: stamped.clone()?,
+        minute,
+        detail: Detail::Plain,
+        takes: Listing::new(Vec::new(alloc)),
+    })
+}
+
+fn is_too_far_ahead(desk: Option<Minute>, own: Minute) -> bool
+    ensures { result ≡ option_map_or (λ minute. nat_lt (minute + FURTHEST_AHEAD) own) desk false }
+{
+    desk.is_some_and(|minute| own.get() > minute.get() + FURTHEST_AHEAD)
+}
+
+fn later(desk: Option<Minute>, own: Minute) -> Minute
+    ensures { result ≡ max own (unwrap_or desk 0) }
+{
+    match desk {
+        Some(minute) => minute.max(own),
+        None => own,
+    }
+}
