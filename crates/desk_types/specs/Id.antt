@@ -1,6 +1,8 @@
 -- Names of parts, reels, lots, machines, slots, boards, products, messages and their sources.
 use Rattle.std.specs.Prelude.{◌≢◌, ℕ, ◌-◌, ◌≤◌, ◌<◌, ◌==◌, Bool, List, length, take, slice_index, All}
-use Rattle.std.specs.Cmp.Lexicographic.{pointwise}
+use Rattle.std.specs.Cmp.Lexicographic.{pointwise, slice_cmp}
+use Rattle.std.specs.Ordering.{nat_cmp}
+use Rattle.std.specs.declared.cmp.Ordering.{Ordering}
 use Rattle.desk_types.specs.declared.id.TheConstants.{LONGEST_ID}
 use Rattle.desk_types.specs.Fixed.{IsPadded}
 
@@ -11,6 +13,10 @@ Name = List ℕ
 -- whether two names are one, byte by byte
 abbrev pub same : Name → Name → Bool
 same = pointwise ◌==◌
+
+-- the order of names, byte by byte
+abbrev pub by_name : Name → Name → Ordering
+by_name = slice_cmp nat_cmp
 
 -- 1 to 64 bytes from 0x20 to 0x7E, with no space at either end
 pub record IsId (bytes : List ℕ) : Type 0 where

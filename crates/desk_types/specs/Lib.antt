@@ -4,6 +4,7 @@ pub mod Designator
 pub mod Desk
 pub mod Fixed
 pub mod FloorLife
+pub mod Front
 pub mod History
 pub mod Id
 pub mod Judged

@@ -8,13 +8,12 @@ use Rattle.desk_types.specs.declared.command.Command.TheVariants.{ReelReceived, 
 use Rattle.desk_types.specs.declared.command.Entry.{Entry}
 use Rattle.desk_types.specs.declared.command.Receipt.{Receipt}
 use Rattle.desk_types.specs.declared.count.CountRow.{CountRow}
-use Rattle.desk_types.specs.declared.sheet.SheetRow.{SheetRow}
 use Rattle.desk_types.specs.declared.take.Pick.{Pick}
 use Rattle.desk_types.specs.declared.take.Purpose.{Purpose}
 use Rattle.desk_types.specs.declared.take.Purpose.TheVariants.{Placed, Rejected, Counted}
 use Rattle.desk_types.specs.Id.{Name, same}
 use Rattle.desk_types.specs.History.{History}
-use Rattle.desk_types.specs.Setup.{sheet_on, receipt_of}
+use Rattle.desk_types.specs.Setup.{slot_on, receipt_of}
 use Rattle.desk_types.specs.Tape.{tape_of}
 
 -- ---- what a command takes
@@ -26,10 +25,6 @@ picked picks reel = sum_by (λ p. if same p.reel reel then p.quantity else 0) pi
 -- a pick of n pieces, and none of 0
 abbrev pub pieces_off : Name → ℕ → Purpose → List Pick
 pieces_off reel n purpose = if nat_lt 0 n then record { reel = reel; quantity = n; purpose = purpose } ∷ [] else []
-
--- the slot of the first row that has the designator
-abbrev pub slot_for : Option (List SheetRow) → Name → Option Name
-slot_for rows designator = option_map (λ (row : SheetRow). row.slot) (option_and_then (find (λ row. list_any (same designator) row.designators)) rows)
 
 -- one piece for a designator: off the first reel of its slot's tape that has a piece left after what was picked before.
 -- The slot of a designator, the tape of a slot and the pieces of a reel are given.
@@ -57,7 +52,7 @@ count_picks pieces (row ∷ rows) = pieces_off row.reel (pieces row.reel - row.q
 -- what a command takes after H, where the reels have these pieces
 abbrev pub picks_from : (Name → ℕ) → History → Command → List Pick
 picks_from pieces H (MaterialsInstalled machine board designators) =
-    install_picks (slot_for (sheet_on H machine)) (tape_of H machine) pieces machine board [] designators
+    install_picks (slot_on H machine) (tape_of H machine) pieces machine board [] designators
 picks_from pieces H (MaterialsScrapped machine slot quantity) = scrap_picks pieces (Rejected machine slot) (tape_of H machine slot) quantity
 picks_from pieces H (CountsTaken counts) = count_picks pieces counts
 picks_from pieces H _ = []

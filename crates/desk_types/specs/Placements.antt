@@ -1,13 +1,12 @@
 -- Traces: which piece was placed where, and from which reel and lot.
-use Rattle.std.specs.Prelude.{ℕ, Bool, Option, Some, None, List, [], ◌∷◌, ◌++◌, map, if◌then◌else◌}
+use Rattle.std.specs.Prelude.{ℕ, Bool, Option, Some, None, List, [], ◌∷◌, ◌++◌, map}
 use Rattle.std.specs.List.{filter, filter_map, enumerate_from}
-use Rattle.std.specs.Ordering.{nat_cmp, is_lt}
-use Rattle.std.specs.Cmp.Lexicographic.{slice_cmp}
+use Rattle.std.specs.BTreeSet.{insert_key}
 use Rattle.desk_types.specs.declared.command.Entry.{Entry}
 use Rattle.desk_types.specs.declared.take.Purpose.{Purpose}
 use Rattle.desk_types.specs.declared.take.Purpose.TheVariants.{Placed}
 use Rattle.desk_types.specs.declared.take.Take.{Take}
-use Rattle.desk_types.specs.Id.{Name, same}
+use Rattle.desk_types.specs.Id.{Name, same, by_name}
 use Rattle.desk_types.specs.History.{History}
 use Rattle.desk_types.specs.Outcome.{takes_by}
 
@@ -78,20 +77,10 @@ overdue_of H = filter (λ p. p.overdue) (placements_of H)
 
 -- ---- lots and boards
 
--- whether the first name comes before the second, byte by byte
-abbrev pub comes_before : Name → Name → Bool
-comes_before x y = is_lt (slice_cmp nat_cmp x y)
-
--- the name put to its place among names in byte order, where it is not there yet
-abbrev pub put_in_order : Name → List Name → List Name
-put_in_order x [] = x ∷ []
-put_in_order x (y ∷ ys) =
-    if same x y then y ∷ ys else (if comes_before x y then x ∷ y ∷ ys else y ∷ put_in_order x ys)
-
 -- the set of these names: each once, in byte order
 abbrev pub set_of : List Name → List Name
 set_of [] = []
-set_of (x ∷ xs) = put_in_order x (set_of xs)
+set_of (x ∷ xs) = insert_key by_name (set_of xs) x
 
 -- the lots of which the board holds a piece
 abbrev pub lots_of : History → Name → List Name

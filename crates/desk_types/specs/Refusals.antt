@@ -14,9 +14,9 @@ use Rattle.desk_types.specs.declared.sheet.SheetRow.{SheetRow}
 use Rattle.desk_types.specs.declared.take.Pick.{Pick}
 use Rattle.desk_types.specs.Id.{Name, same}
 use Rattle.desk_types.specs.History.{History, desk_minute, effective_minute}
-use Rattle.desk_types.specs.Setup.{is_part, is_allowed, sheet_of, selected_on, sheet_on, row_on, receipt_of}
+use Rattle.desk_types.specs.Setup.{is_part, is_allowed, sheet_of, selected_on, sheet_on, row_on, slot_on, receipt_of}
 use Rattle.desk_types.specs.Tape.{tape_of}
-use Rattle.desk_types.specs.Pieces.{left_of, live_on, front_of, is_mounted, slot_for, pick_for}
+use Rattle.desk_types.specs.Pieces.{left_of, live_on, front_of, is_mounted, pick_for}
 use Rattle.desk_types.specs.FloorLife.{is_expired, is_unbaked}
 use Rattle.desk_types.specs.Work.{in_work_on, is_in_work_on, is_in_work, product_of, is_placed_on}
 
@@ -51,19 +51,19 @@ slots_of_rows rows = map (λ (row : SheetRow). row.slot) rows
 abbrev pub designators_of_rows : List SheetRow → List Name
 designators_of_rows rows = flat_map (λ (row : SheetRow). row.designators) rows
 
--- the part of the first row whose part is not defined
-abbrev pub unknown_part : History → List SheetRow → Option Name
-unknown_part H rows = option_map (λ (row : SheetRow). row.part) (find (λ (row : SheetRow). not (is_part H row.part)) rows)
+-- the part of the first row whose part is not among the parts, of which a test is given
+abbrev pub unknown_part : (Name → Bool) → List SheetRow → Option Name
+unknown_part is_known rows = option_map (λ (row : SheetRow). row.part) (find (λ (row : SheetRow). not (is_known row.part)) rows)
 
--- what is wrong with the rows of a sheet: first a slot twice, then a designator twice, then a part that is not defined
-unfoldable pub sheet_refusal : History → List SheetRow → Option Refusal
-sheet_refusal H rows =
+-- what is wrong with the rows of a sheet: first a slot twice, then a designator twice, then a part that is not among the parts
+unfoldable pub sheet_refusal : (Name → Bool) → List SheetRow → Option Refusal
+sheet_refusal is_known rows =
     option_or (option_map SlotTwice (name_twice [] (slots_of_rows rows)))
     (option_or (option_map DesignatorTwice (name_twice [] (designators_of_rows rows)))
-    (option_map UnknownPart (unknown_part H rows)))
+    (option_map UnknownPart (unknown_part is_known rows)))
 
 unfoldable pub definition_refusal : History → Name → List SheetRow → Option Refusal
-definition_refusal H machine rows = if is_some (in_work_on H machine) then Some (MachineBusy machine) else sheet_refusal H rows
+definition_refusal H machine rows = if is_some (in_work_on H machine) then Some (MachineBusy machine) else sheet_refusal (is_part H) rows
 
 unfoldable pub selection_refusal : History → Name → Name → Option Refusal
 selection_refusal H machine product = first_refusal (
@@ -133,14 +133,14 @@ scrap_refusal H machine slot n = first_refusal (
 
 -- ---- work
 
+-- what is wrong with a reel that is to feed a slot
+abbrev pub feeding_refusal : Name → (wrong unbaked expired : Bool) → Option Refusal
+feeding_refusal slot wrong unbaked expired = first_refusal ((wrong, WrongPart slot) ∷ (unbaked, NotBaked slot) ∷ (expired, Expired slot) ∷ [])
+
 -- what is wrong at a minute with the front of a row's slot
 abbrev pub front_refusal : History → ℕ → SheetRow → Option Name → Option Refusal
 front_refusal H minute row None = Some (SlotEmpty row.slot)
-front_refusal H minute row (Some reel) = first_refusal (
-    (is_wrong_for H row reel, WrongPart row.slot)
-    ∷ (is_unbaked H reel, NotBaked row.slot)
-    ∷ (is_expired H reel minute, Expired row.slot)
-    ∷ [])
+front_refusal H minute row (Some reel) = feeding_refusal row.slot (is_wrong_for H row reel) (is_unbaked H reel) (is_expired H reel minute)
 
 -- what is wrong with the first faulty slot of some rows
 abbrev pub slots_refusal : History → ℕ → Name → List SheetRow → Option Refusal
@@ -182,7 +182,7 @@ designators_refusal slot_of tape pieces placed machine board before seen (d ∷ 
 unfoldable pub install_refusal : History → Name → Name → List Name → Option Refusal
 install_refusal H machine board designators =
     if is_in_work_on H machine board
-    then designators_refusal (slot_for (sheet_on H machine)) (tape_of H machine) (left_of H) (is_placed_on H board) machine board [] [] designators
+    then designators_refusal (slot_on H machine) (tape_of H machine) (left_of H) (is_placed_on H board) machine board [] [] designators
     else Some (NotInWork board)
 
 -- ---- counts

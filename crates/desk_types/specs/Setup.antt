@@ -1,6 +1,6 @@
 -- Parts and their alternates, the sheets of products, what a machine makes, and receipts.
 use Rattle.std.specs.Prelude.{ℕ, Bool, false, ◌||◌, ◌&&◌, Option, Some, None, List, if◌then◌else◌}
-use Rattle.std.specs.Option.{option_and_then}
+use Rattle.std.specs.Option.{option_and_then, option_map}
 use Rattle.std.specs.List.{list_any, find}
 use Rattle.desk_types.specs.declared.command.Command.{Command}
 use Rattle.desk_types.specs.declared.command.Command.TheVariants.{PartDefined, AlternateAllowed, SheetDefined, ProductSelected, ReelReceived}
@@ -57,9 +57,23 @@ selected_on H machine = latest (λ e. selection_by machine e.stamped.command) H
 abbrev pub sheet_on : History → Name → Option (List SheetRow)
 sheet_on H machine = option_and_then (λ product. sheet_of H product machine) (selected_on H machine)
 
--- the first row of that sheet for the slot
+-- ---- rows of a sheet
+
+-- the first row for the slot
+abbrev pub row_in : List SheetRow → Name → Option SheetRow
+row_in rows slot = find (λ row. same row.slot slot) rows
+
+-- the slot of the first row that has the designator
+abbrev pub slot_in : List SheetRow → Name → Option Name
+slot_in rows designator = option_map (λ (row : SheetRow). row.slot) (find (λ row. list_any (same designator) row.designators) rows)
+
+-- the row for the slot in the sheet of the selected product on the machine
 abbrev pub row_on : History → Name → Name → Option SheetRow
-row_on H machine slot = option_and_then (λ rows. find (λ row. same row.slot slot) rows) (sheet_on H machine)
+row_on H machine slot = option_and_then (λ rows. row_in rows slot) (sheet_on H machine)
+
+-- the slot for the designator in the sheet of the selected product on the machine
+abbrev pub slot_on : History → Name → Name → Option Name
+slot_on H machine designator = option_and_then (λ rows. slot_in rows designator) (sheet_on H machine)
 
 -- ---- receipts
 

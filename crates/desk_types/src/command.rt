@@ -235,7 +235,7 @@ pub struct Entry {
 }
 
 /// What the receipt of a reel said, and when it took effect.
-#[derive(Debug, PartialEq, Eq)]
+#[derive(Clone, Copy, Debug, PartialEq, Eq)]
 pub struct Receipt {
     pub part: Id,
     pub lot: Id,
@@ -243,17 +243,3 @@ pub struct Receipt {
     pub quantity: Quantity,
     pub effective: Minute,
 }
-
-impl Clone for Receipt {
-    ghost use Rattle.std.specs.Prelude.{◌≡◌, ⊤};
-
-    ghost is_clone = { λ x y. y ≡ x };
-
-    ghost is_infallible = { λ _. ⊤ };
-
-    fn clone(&self) -> Result<Receipt, AllocError> {
-        Ok(*self)
-    }
-}
-
-impl Copy for Receipt {}
