@@ -1,7 +1,9 @@
 pub mod Ascii
 pub mod FloorLifeRows
+pub mod Keys
 pub mod PieceRows
 pub mod RowsCommon
 pub mod SetupRows
+pub mod Steps
 pub mod TraceRows
 pub mod WorkRows

@@ -11,6 +11,7 @@ pub mod Judged
 pub mod Level
 pub mod Number
 pub mod Outcome
+pub mod Pair
 pub mod Pieces
 pub mod Placements
 pub mod Refusals

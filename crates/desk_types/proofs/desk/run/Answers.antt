@@ -1,17 +1,13 @@
-use Rattle.std.proofs.Common.{◌≡◌, ℕ, ◌+◌, ◌<◌, ◌≤◌, List, [], ◌∷◌, ◌++◌, Option, Some, None, length, get_or, drop, suc, sym, ap, ◌∙◌, add-one, append_assoc, arith}
-use Rattle.std.proofs.Math.Seq.{drop-cons}
+use Rattle.std.proofs.Common.{◌≡◌, ℕ, ◌+◌, ◌≤◌, List, [], ◌∷◌, ◌++◌, Option, Some, None, length, drop, sym, ap, ◌∙◌, append_assoc, arith}
 use Rattle.std.specs.Option.{option_map_or}
 use Rattle.desk_types.specs.declared.command.Stamped.{Stamped}
 use Rattle.desk_types.specs.declared.answer.Reply.{Reply}
 use Rattle.desk_types.specs.declared.answer.Refusal.{Refusal}
 use Rattle.desk_types.specs.History.{History, accept}
 use Rattle.desk_types.specs.Refusals.{refusal_of}
+use Rattle.desk_types.proofs.Steps.{drop-next}
 use Rattle.desk_types.specs.Outcome.{after_command, after_commands, reply_to, replies_to}
 use Rattle.desk_types.proofs.desk.run.Goals as goal
-
--- the messages that are left are the next one and the others
-next_first : (ms : List Stamped) (i : ℕ) (s : Stamped) → i < length ms → s ≡ get_or ms i s → drop i ms ≡ s ∷ drop (i + 1) ms
-next_first ms i s inside is = rw add-one (drop-cons ms i s inside ∙ ap (λ x. x ∷ drop (suc i) ms) (sym is))
 
 -- one more reply, and the replies to the others, are still what all give
 told_more : (H first : History) (ms : List Stamped) (i : ℕ) (s : Stamped) (rs : List Reply) (r : Reply)
@@ -36,7 +32,7 @@ loop-message-preserved g c =
     let message = c.message-item.result in
     let i = c.loop-message.message-index in
     let ms = c.args.messages.now in
-    let here = next_first ms i message (omega arith) c.message-item.is in
+    let here = drop-next ms i message (omega arith) c.message-item.is in
     record {
       told = λ first stands.
           let now = c.loop-message.invariant.told first stands in (

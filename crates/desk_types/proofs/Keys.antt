@@ -1,0 +1,54 @@
+-- Names and pairs of names as the keys of ordered sets and maps.
+use Rattle.std.proofs.Common.{◌≡◌, Bool, true, false, cond, List, refl, sym, ap, ◌∙◌}
+use Rattle.std.specs.Prelude.{◌&&◌, ◌||◌}
+use Rattle.std.specs.BTreeMap.{is_at}
+use Rattle.std.specs.Cmp.{partial_equiv_from_equiv}
+use Rattle.std.specs.Cmp.Lexicographic.{texts_ties, nat_list_eq_equiv, bytes_decides}
+use Rattle.std.specs.List.{list_any}
+use Rattle.std.specs.Ordering.{is_eq, ordering_then}
+use Rattle.std.specs.declared.cmp.Ordering.{Ordering}
+use Rattle.std.specs.declared.cmp.Ordering.TheVariants.{Less, Equal, Greater}
+use Rattle.desk_types.specs.Id.{Name, same, by_name}
+use Rattle.desk_types.specs.Pair.{same_pair, by_pair}
+
+pub same-refl : (a : Name) → same a a ≡ true
+same-refl a = nat_list_eq_equiv.refl a
+
+pub same-sym : (a b : Name) → same a b ≡ same b a
+same-sym a b = (partial_equiv_from_equiv nat_list_eq_equiv).symm a b
+
+pub same-true : (a b : Name) → same a b ≡ true → a ≡ b
+same-true a b = (bytes_decides a b).0
+
+-- a key is found exactly where it is the same
+pub is_at-by_name : (k q : Name) → is_at (by_name k) q ≡ same k q
+is_at-by_name k q = sym (texts_ties k q)
+
+is_eq-ordering_then : (a b : Ordering) → is_eq (ordering_then a b) ≡ (is_eq a && is_eq b)
+is_eq-ordering_then Less b = refl
+is_eq-ordering_then Equal b = refl
+is_eq-ordering_then Greater b = refl
+
+pub is_at-by_pair : (k q : Name × Name) → is_at (by_pair k) q ≡ same_pair k q
+is_at-by_pair k q =
+    is_eq-ordering_then (by_name k.0 q.0) (by_name k.1 q.1)
+    ∙ ap (λ t. t && is_eq (by_name k.1 q.1)) (is_at-by_name k.0 q.0)
+    ∙ ap (λ t. same k.0 q.0 && t) (is_at-by_name k.1 q.1)
+
+-- a test that two tests agree on is passed by the same lists
+pub list_any-same : {X : Type 0} (s t : X → Bool) → ((x : X) → s x ≡ t x) → (xs : List X) → list_any s xs ≡ list_any t xs
+list_any-same s t agree xs = ap (λ test. list_any test xs) (λ j x. agree x j)
+
+or-cond : (b c : Bool) → cond b true c ≡ (b || c)
+or-cond true c = refl
+or-cond false c = refl
+
+-- What a set has after one key is put in, where `at k` finds the key k and `is k` is the test for it.
+pub has-after : {K : Type 0} (at is : K → K → Bool) → ((k q : K) → at k q ≡ is k q) → (old new : List K) (k : K)
+    → ((q : K) → list_any (at q) new ≡ cond (at k q) true (list_any (at q) old)) → (q : K) → list_any (is q) new ≡ (is k q || list_any (is q) old)
+has-after at is agree old new k after q =
+    sym (list_any-same (at q) (is q) (agree q) new)
+    ∙ after q
+    ∙ or-cond (at k q) _
+    ∙ ap (λ t. t || list_any (at q) old) (agree k q)
+    ∙ ap (λ t. is k q || t) (list_any-same (at q) (is q) (agree q) old)

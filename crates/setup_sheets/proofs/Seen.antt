@@ -1,0 +1,76 @@
+-- Names looked at one after the other, and put into a set.
+use Rattle.std.proofs.Common.{◌≡◌, Bool, true, false, not, cond, Some, None, List, [], ◌∷◌, ◌++◌, refl, sym, ap, ◌∙◌, append_assoc, append-nil}
+use Rattle.std.specs.Prelude.{◌||◌, if◌then◌else◌}
+use Rattle.std.specs.BTreeMap.{is_at}
+use Rattle.std.specs.BTreeSet.{BTreeSet, contains}
+use Rattle.std.specs.List.{list_any}
+use Rattle.std.proofs.lemmas.List.Folds.{list_any-append}
+use Rattle.desk_types.specs.Id.{Name, same, by_name}
+use Rattle.desk_types.specs.Refusals.{name_twice}
+use Rattle.desk_types.proofs.Keys.{is_at-by_name, same-sym}
+use Rattle.setup_sheets.specs.Names.{is_among, HasSeen}
+
+put-last : (a b : Bool) → cond a true b ≡ (b || (a || false))
+put-last true true = refl
+put-last true false = refl
+put-last false true = refl
+put-last false false = refl
+
+-- a set with one name more has seen one name more
+pub HasSeen-push : (old new : BTreeSet Name) (x : Name) (names : List Name) → HasSeen old names
+    → ((q : Name) → contains by_name new q ≡ cond (is_at (by_name x) q) true (contains by_name old q)) → HasSeen new (names ++ x ∷ [])
+HasSeen-push old new x names has after q =
+    after q
+    ∙ ap (λ b. cond b true (contains by_name old q)) (is_at-by_name x q ∙ same-sym x q)
+    ∙ ap (λ b. cond (same q x) true b) (has q)
+    ∙ put-last (same q x) (list_any (same q) names)
+    ∙ sym (list_any-append (same q) names (x ∷ []))
+
+-- a name that was not seen is passed over
+pub name_twice-new : (before : List Name) (x : Name) (xs : List Name) → list_any (same x) before ≡ false
+    → name_twice before (x ∷ xs) ≡ name_twice (before ++ x ∷ []) xs
+name_twice-new before x xs new = ap (λ b. if b then Some x else name_twice (before ++ x ∷ []) xs) new
+
+-- a name that was seen is the first
+pub name_twice-seen : (before : List Name) (x : Name) (xs : List Name) → list_any (same x) before ≡ true → name_twice before (x ∷ xs) ≡ Some x
+name_twice-seen before x xs seen = ap (λ b. if b then Some x else name_twice (before ++ x ∷ []) xs) seen
+
+-- names in two lists: a first one in the first list
+pub name_twice-append_some : (before xs ys : List Name) (x : Name) → name_twice before xs ≡ Some x → name_twice before (xs ++ ys) ≡ Some x
+name_twice-append_some before [] ys x is = cc
+name_twice-append_some before (z ∷ xs) ys x is = by (list_any (same z) before) refl (name_twice-append_some (before ++ z ∷ []) xs ys x)
+  where
+    by : (b : Bool) → list_any (same z) before ≡ b → (name_twice (before ++ z ∷ []) xs ≡ Some x → name_twice (before ++ z ∷ []) (xs ++ ys) ≡ Some x)
+        → name_twice before (z ∷ xs ++ ys) ≡ Some x
+    by true seen next = name_twice-seen before z (xs ++ ys) seen ∙ sym (name_twice-seen before z xs seen) ∙ is
+    by false new next = name_twice-new before z (xs ++ ys) new ∙ next (sym (name_twice-new before z xs new) ∙ is)
+
+-- or none in the first list
+pub name_twice-append_none : (before xs ys : List Name) → name_twice before xs ≡ None → name_twice before (xs ++ ys) ≡ name_twice (before ++ xs) ys
+name_twice-append_none before [] ys none = ap (λ l. name_twice l ys) (sym (append-nil before))
+name_twice-append_none before (z ∷ xs) ys none = by (list_any (same z) before) refl (name_twice-append_none (before ++ z ∷ []) xs ys)
+  where
+    by : (b : Bool) → list_any (same z) before ≡ b → (name_twice (before ++ z ∷ []) xs ≡ None → name_twice (before ++ z ∷ []) (xs ++ ys) ≡ name_twice ((before ++ z ∷ []) ++ xs) ys)
+        → name_twice before (z ∷ xs ++ ys) ≡ name_twice (before ++ z ∷ xs) ys
+    by true seen next = let is : Some z ≡ None = sym (name_twice-seen before z xs seen) ∙ none in cc
+    by false new next =
+        name_twice-new before z (xs ++ ys) new ∙ next (sym (name_twice-new before z xs new) ∙ none)
+        ∙ ap (λ l. name_twice l ys) (append_assoc before (z ∷ []) xs)
+
+-- a name that went into the set was not among those before it
+pub was-new : (seen : BTreeSet Name) (before : List Name) (x : Name) (added : Bool) → HasSeen seen before
+    → added ≡ not (contains by_name seen x) → added ≡ true → is_among before x ≡ false
+was-new seen before x added has told is = sym (has x) ∙ by (contains by_name seen x) (sym told ∙ is)
+  where
+    by : (b : Bool) → not b ≡ true → b ≡ false
+    by true n = sym n
+    by false n = refl
+
+-- and one that did not was
+pub was-seen : (seen : BTreeSet Name) (before : List Name) (x : Name) (added : Bool) → HasSeen seen before
+    → added ≡ not (contains by_name seen x) → added ≡ false → is_among before x ≡ true
+was-seen seen before x added has told is = sym (has x) ∙ by (contains by_name seen x) (sym told ∙ is)
+  where
+    by : (b : Bool) → not b ≡ false → b ≡ true
+    by true n = refl
+    by false n = sym n

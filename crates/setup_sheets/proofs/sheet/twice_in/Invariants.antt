@@ -1,0 +1,12 @@
+use Rattle.std.proofs.Common.{◌≡◌, List, ◌++◌, take, drop}
+use Rattle.desk_types.specs.Id.{Name}
+use Rattle.desk_types.specs.Refusals.{name_twice}
+use Rattle.setup_sheets.specs.Names.{HasSeen}
+use Rattle.setup_sheets.proofs.sheet.twice_in.Given as goal
+
+-- the designators so far have been seen, and none of them twice
+abbrev pub invariant-loop-designator : goal.invariant-loop-designator
+invariant-loop-designator l = (before : List Name) → HasSeen l.fn.seen before → record {
+  seen : HasSeen l.seen (before ++ take l.designator-index l.designators);
+  none : name_twice before l.designators ≡ name_twice (before ++ take l.designator-index l.designators) (drop l.designator-index l.designators);
+}

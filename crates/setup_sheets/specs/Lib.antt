@@ -1,0 +1,4 @@
+pub mod Alternates
+pub mod Names
+pub mod Sheet
+pub mod Verification

@@ -1,0 +1,31 @@
+-- Feeder verification over the fronts of a machine's slots.
+use Rattle.std.specs.Prelude.{ℕ, not, Option, Some, None, List, [], ◌∷◌, map}
+use Rattle.desk_types.specs.declared.answer.Refusal.{Refusal}
+use Rattle.desk_types.specs.declared.answer.Refusal.TheVariants.{SlotEmpty}
+use Rattle.desk_types.specs.declared.front.Front.{Front}
+use Rattle.desk_types.specs.declared.front.FrontReel.{FrontReel}
+use Rattle.desk_types.specs.declared.sheet.SheetRow.{SheetRow}
+use Rattle.desk_types.specs.Id.{Name}
+use Rattle.desk_types.specs.Front.{is_unbaked_life, is_expired_life}
+use Rattle.desk_types.specs.Refusals.{feeding_refusal}
+use Rattle.setup_sheets.specs.Alternates.{is_allowed_by}
+
+-- the slots of fronts, in their order
+abbrev pub slots_of_fronts : List Front → List Name
+slots_of_fronts fronts = map (λ (front : Front). front.slot) fronts
+
+-- what is wrong at a minute with the front of a row's slot, by these alternates
+abbrev pub front_fault : List (Name × Name) → ℕ → SheetRow → Option FrontReel → Option Refusal
+front_fault alternates minute row None = Some (SlotEmpty row.slot)
+front_fault alternates minute row (Some reel) =
+    feeding_refusal row.slot (not (is_allowed_by alternates row.part reel.part)) (is_unbaked_life reel.life) (is_expired_life reel.life minute)
+
+-- the first faulty slot in sheet order, with what is wrong
+abbrev pub first_fault : List (Name × Name) → ℕ → List SheetRow → List Front → Option (Name × Refusal)
+first_fault alternates minute [] fronts = None
+first_fault alternates minute (row ∷ rows) [] = None
+first_fault alternates minute (row ∷ rows) (front ∷ fronts) = here (front_fault alternates minute row front.reel) (first_fault alternates minute rows fronts)
+  where
+    here : Option Refusal → Option (Name × Refusal) → Option (Name × Refusal)
+    here None later = later
+    here (Some refusal) later = Some (row.slot, refusal)

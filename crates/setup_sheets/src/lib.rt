@@ -1,0 +1,17 @@
+//! Setup sheets: which parts may feed which slots, whether a sheet is well made, and whether a
+//! machine is set up as its sheet says.
+#![tactic(auto)]
+
+mod alternates;
+mod parts;
+mod rows;
+mod sheet;
+#[cfg(test)]
+mod tests;
+mod verification;
+
+pub use alternates::{Alternates, allowed};
+pub use parts::Parts;
+pub use rows::{row_of, slot_of};
+pub use sheet::{SheetFault, check_sheet};
+pub use verification::verify;

@@ -1,0 +1,104 @@
+//! Is a sheet well made?
+
+ghost use Rattle.std.specs.Prelude.{◌≡◌, ◌++◌, List, [], Ok, None, IfOk};
+ghost use Rattle.desk_types.specs.Id.{Name};
+ghost use Rattle.desk_types.specs.Refusals.{name_twice, slots_of_rows, designators_of_rows, unknown_part};
+ghost use Rattle.setup_sheets.specs.Names.{HasSeen, is_among};
+ghost use Rattle.setup_sheets.specs.Sheet.{IsChecked};
+
+use crate::parts::Parts;
+use desk_types::{Designator, Id, Refusal, SheetRow};
+use std::alloc::{AllocError, Global};
+use std::collections::BTreeSet;
+
+/// Why a sheet is not taken.
+#[derive(Clone, Copy, Debug, PartialEq, Eq)]
+pub enum SheetFault {
+    /// SlotTwice, DesignatorTwice or UnknownPart, with its place.
+    Refused(Refusal),
+    /// Memory was refused while the sheet was looked at.
+    NoMemory,
+}
+
+impl From<AllocError> for SheetFault {
+    ghost use Rattle.std.specs.Prelude.{◌≡◌};
+    ghost use Rattle.setup_sheets.specs.declared.sheet.SheetFault.TheVariants.{NoMemory};
+
+    ghost from_gives = { λ _ fault. fault ≡ NoMemory };
+
+    fn from(_error: AllocError) -> SheetFault {
+        SheetFault::NoMemory
+    }
+}
+
+/// Looks for what is wrong with the rows of a sheet: first a slot that an earlier row has, then a
+/// designator that stands earlier in the sheet, then a part that is not among the parts.
+///
+/// It looks names up in search trees, so its time grows hardly faster than the sheet.
+#[tactic(auto, unfolding(desk_types::specs::Refusals::sheet_refusal))]
+pub fn check_sheet(alloc: Global, parts: &Parts, rows: &[SheetRow]) -> Result<(), SheetFault>
+    ensures { IsChecked parts.now rows.now result }
+{
+    if let Some(slot) = slot_twice(alloc, rows)? {
+        return Err(SheetFault::Refused(Refusal::SlotTwice(slot)));
+    }
+    if let Some(designator) = designator_twice(alloc, rows)? {
+        return Err(SheetFault::Refused(Refusal::DesignatorTwice(Id::from(designator))));
+    }
+    match part_unknown(parts, rows) {
+        Some(part) => Err(SheetFault::Refused(Refusal::UnknownPart(part))),
+        None => Ok(()),
+    }
+}
+
+/// The slot of the first row whose slot an earlier row has.
+fn slot_twice(alloc: Global, rows: &[SheetRow]) -> Result<Option<Id>, AllocError>
+    ensures { IfOk result (λ twice. twice ≡ name_twice [] (slots_of_rows rows.now)) }
+{
+    let mut seen = BTreeSet::new(alloc);
+    for row in rows {
+        if !seen.insert(row.slot)? {
+            return Ok(Some(row.slot));
+        }
+    }
+    Ok(None)
+}
+
+/// The first designator that stands earlier in the sheet.
+fn designator_twice(alloc: Global, rows: &[SheetRow]) -> Result<Option<Designator>, AllocError>
+    ensures { IfOk result (λ twice. twice ≡ name_twice [] (designators_of_rows rows.now)) }
+{
+    let mut seen = BTreeSet::new(alloc);
+    for row in rows {
+        if let Some(designator) = twice_in(&mut seen, row.designators.as_slice())? {
+            return Ok(Some(designator));
+        }
+    }
+    Ok(None)
+}
+
+/// The first of some designators that was seen before, or stands earlier among them. Where there is
+/// none, all have been seen afterwards.
+fn twice_in(
+    seen: &mut BTreeSet<Designator>,
+    designators: &[Designator],
+) -> Result<Option<Designator>, AllocError>
+    ensures twice { (before : List Name) → HasSeen seen.old before → IfOk result (λ twice. twice ≡ name_twice before designators.now) }
+    ensures seen { (before : List Name) → HasSeen seen.old before → result ≡ Ok None → HasSeen seen.new (before ++ designators.now) }
+{
+    for designator in designators {
+        if !seen.insert(*designator)? {
+            return Ok(Some(*designator));
+        }
+    }
+    Ok(None)
+}
+
+/// The part of the first row whose part is not among the parts.
+fn part_unknown(parts: &Parts, rows: &[SheetRow]) -> Option<Id>
+    ensures { result ≡ unknown_part (is_among parts.now) rows.now }
+{
+    rows.iter()
+        .find(|row| !parts.has(&row.part))
+        .map(|row| row.part)
+}

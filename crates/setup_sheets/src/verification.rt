@@ -1,0 +1,80 @@
+//! Feeder verification: does each slot of a sheet hold a reel that may feed it?
+
+ghost use Rattle.std.specs.Prelude.{◌≡◌, None, Some, OnOk, IfErr};
+ghost use Rattle.setup_sheets.specs.Verification.{first_fault, front_fault, slots_of_fronts};
+ghost use Rattle.desk_types.specs.Refusals.{slots_of_rows};
+
+use crate::alternates::{Alternates, allowed};
+use desk_types::{Front, FrontReel, Fronts, Id, Life, Minute, Refusal, SheetRow, SheetRows};
+
+/// Looks at the fronts of a machine's slots before a board is started. The first slot of the sheet
+/// that holds no reel, or one that may not feed it at this minute, is named with the reason:
+/// SlotEmpty, WrongPart, NotBaked or Expired, tested in this order. Takes no memory.
+pub fn verify(
+    rows: &SheetRows,
+    fronts: &Fronts,
+    alternates: &Alternates,
+    at: Minute,
+) -> Result<(), (Id, Refusal)>
+    requires { slots_of_fronts fronts.now ≡ slots_of_rows rows.now }
+    ensures ok { OnOk result (first_fault alternates.now at rows.now fronts.now ≡ None) }
+    ensures fault { IfErr result (λ fault. first_fault alternates.now at rows.now fronts.now ≡ Some fault) }
+{
+    match first_faulty(rows.as_slice(), fronts.as_slice(), alternates, at) {
+        Some(fault) => Err(fault),
+        None => Ok(()),
+    }
+}
+
+/// The first faulty slot in sheet order, with what is wrong.
+fn first_faulty(
+    rows: &[SheetRow],
+    fronts: &[Front],
+    alternates: &Alternates,
+    at: Minute,
+) -> Option<(Id, Refusal)>
+    requires { slots_of_fronts fronts.now ≡ slots_of_rows rows.now }
+    ensures { result ≡ first_fault alternates.now at rows.now fronts.now }
+{
+    for i in 0..rows.len() {
+        let row = &rows[i];
+        if let Some(refusal) = front_fault(row, &fronts[i], alternates, at) {
+            return Some((row.slot, refusal));
+        }
+    }
+    None
+}
+
+/// What is wrong with the front of a row's slot.
+fn front_fault(
+    row: &SheetRow,
+    front: &Front,
+    alternates: &Alternates,
+    at: Minute,
+) -> Option<Refusal>
+    ensures { result ≡ front_fault alternates.now at row.now front.now.reel }
+{
+    match &front.reel {
+        None => Some(Refusal::SlotEmpty(row.slot)),
+        Some(reel) => reel_fault(row, reel, alternates, at),
+    }
+}
+
+fn reel_fault(
+    row: &SheetRow,
+    reel: &FrontReel,
+    alternates: &Alternates,
+    at: Minute,
+) -> Option<Refusal>
+    ensures { result ≡ front_fault alternates.now at row.now (Some reel.now) }
+{
+    if !allowed(alternates, &row.part, &reel.part) {
+        return Some(Refusal::WrongPart(row.slot));
+    }
+    match reel.life {
+        Life::Unlimited => None,
+        Life::Unbaked => Some(Refusal::NotBaked(row.slot)),
+        Life::Until(end) if at.get() >= end => Some(Refusal::Expired(row.slot)),
+        Life::Until(_) => None,
+    }
+}
