@@ -1,7 +1,10 @@
 pub mod Ascii
+pub mod Exposure
 pub mod FloorLifeRows
 pub mod Keys
+pub mod Minutes
 pub mod PieceRows
+pub mod ReelCommands
 pub mod RowsCommon
 pub mod SetupRows
 pub mod Steps

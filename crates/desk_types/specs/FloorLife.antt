@@ -1,5 +1,5 @@
 -- Floor life: how many minutes a reel lay out of its bag, and how many it may.
-use Rattle.std.specs.Prelude.{ℕ, ◌-◌, nat_le, Bool, true, false, not, ◌&&◌, Option, Some, None, List, if◌then◌else◌, unwrap_or, count_by}
+use Rattle.std.specs.Prelude.{ℕ, ◌-◌, nat_le, Bool, true, false, not, ◌&&◌, Option, Some, None, List, [], ◌∷◌, if◌then◌else◌, unwrap_or, count_by}
 use Rattle.std.specs.Option.{option_and_then, option_map, option_map_or, option_or}
 use Rattle.std.specs.List.{range_with_len}
 use Rattle.desk_types.specs.declared.command.Command.{Command}
@@ -48,6 +48,19 @@ minutes_between from to = range_with_len from (to - from)
 -- the exposure at a minute: how many minutes before it the reel was out, since its last bake, or else its receipt
 unfoldable pub exposure_of : History → Name → ℕ → ℕ
 exposure_of H reel minute = count_by (is_out_at H reel) (minutes_between (exposure_starts H reel) minute)
+
+-- ---- since when a reel is out
+
+-- the minute since which the reel is out after a command on it, or in its bag: what opens it says so unless it is out already
+abbrev pub since_after : Option Bool → ℕ → Option ℕ → Option ℕ
+since_after (Some true) minute since = option_or since (Some minute)
+since_after (Some false) minute since = None
+since_after None minute since = since
+
+-- the minute since which the reel is out of its bag: that of the first open, load or splice since its last receipt, seal or bake
+abbrev pub out_since : History → Name → Option ℕ
+out_since [] reel = None
+out_since (e ∷ H) reel = since_after (open_by reel e.stamped.command) e.effective (out_since H reel)
 
 -- ---- floor life
 

@@ -5,7 +5,7 @@ use crate::*;
 use desk_types::{
     Bounded, Designator, Front, FrontReel, Id, Life, Listing, Minute, Refusal, SheetRow,
 };
-use std::alloc::Global;
+use std::alloc::{AllocError, Global};
 use std::test::Fail;
 
 fn id(bytes: &[u8]) -> Result<Id, Fail> {
@@ -62,6 +62,15 @@ fn alternates_go_one_way_and_do_not_chain(rt: HostRuntime) -> Result<(), Fail> {
     Ok(())
 }
 
+/// What a sheet is refused for, where memory is found.
+fn refusal(alloc: Global, parts: &Parts, rows: &[SheetRow]) -> Result<Option<Refusal>, Fail> {
+    match check_sheet(alloc, parts, rows) {
+        Ok(()) => Ok(None),
+        Err(SheetFault::Refused(refusal)) => Ok(Some(refusal)),
+        Err(SheetFault::NoMemory) => Err(AllocError)?,
+    }
+}
+
 #[test]
 fn a_sheet_is_refused_for_its_first_fault(rt: HostRuntime) -> Result<(), Fail> {
     let mut parts = Parts::new(rt.alloc());
@@ -72,22 +81,13 @@ fn a_sheet_is_refused_for_its_first_fault(rt: HostRuntime) -> Result<(), Fail> {
     let within = row(rt.alloc(), b"3", b"Q", &[b"C1", b"C2", b"C1"])?;
     let unknown = row(rt.alloc(), b"4", b"Q", &[b"C3"])?;
     let sheet = vec![in rt.alloc(); good, other_slot, within, same_slot]?;
-    let twice = check_sheet(rt.alloc(), &parts, &sheet[..4]);
-    assert_eq!(rt;
-        twice,
-        Err(SheetFault::Refused(Refusal::SlotTwice(id(b"1")?)))
-    );
-    let within = check_sheet(rt.alloc(), &parts, &sheet[..3]);
-    assert_eq!(rt;
-        within,
-        Err(SheetFault::Refused(Refusal::DesignatorTwice(id(b"C1")?)))
-    );
-    assert_eq!(rt; check_sheet(rt.alloc(), &parts, &sheet[..2]), Ok(()));
-    let bad = check_sheet(rt.alloc(), &parts, &[unknown]);
-    assert_eq!(rt;
-        bad,
-        Err(SheetFault::Refused(Refusal::UnknownPart(id(b"Q")?)))
-    );
+    let twice = refusal(rt.alloc(), &parts, &sheet[..4])?;
+    assert_eq!(rt; twice, Some(Refusal::SlotTwice(id(b"1")?)));
+    let within = refusal(rt.alloc(), &parts, &sheet[..3])?;
+    assert_eq!(rt; within, Some(Refusal::DesignatorTwice(id(b"C1")?)));
+    assert_eq!(rt; refusal(rt.alloc(), &parts, &sheet[..2])?, None);
+    let bad = refusal(rt.alloc(), &parts, &[unknown])?;
+    assert_eq!(rt; bad, Some(Refusal::UnknownPart(id(b"Q")?)));
     Ok(())
 }
 
@@ -174,6 +174,6 @@ fn a_large_sheet_is_looked_through(rt: HostRuntime) -> Result<(), Fail> {
             designators: Bounded::new(designators).ok_or("no designators")?,
         })?;
     }
-    assert_eq!(rt; check_sheet(alloc, &parts, rows.as_slice()), Ok(()));
+    assert_eq!(rt; refusal(alloc, &parts, rows.as_slice())?, None);
     Ok(())
 }

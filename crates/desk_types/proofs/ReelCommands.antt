@@ -1,0 +1,65 @@
+-- What commands on a reel say, and what they don't.
+use Rattle.std.proofs.Common.{◌≡◌, ℕ, Bool, true, false, Option, Some, None, ◌∷◌, refl, sym, ap, ◌∙◌}
+use Rattle.std.specs.Prelude.{unwrap_or, if◌then◌else◌}
+use Rattle.std.specs.Option.{option_or, option_map}
+use Rattle.desk_types.specs.declared.command.Command.{Command}
+use Rattle.desk_types.specs.declared.command.Command.TheVariants.{ReelReceived, ReelOpened, ReelSealed, ReelBaked, MaterialsLoaded, MaterialsSpliced}
+use Rattle.desk_types.specs.declared.command.Entry.{Entry}
+use Rattle.desk_types.specs.declared.command.Receipt.{Receipt}
+use Rattle.desk_types.specs.Id.{Name, same}
+use Rattle.desk_types.specs.History.{History, latest}
+use Rattle.desk_types.specs.Setup.{receipt_by, receipt_of}
+use Rattle.desk_types.specs.FloorLife.{open_by, bake_by, baked_by, last_bake, exposure_starts, is_baked}
+
+-- the command neither receives nor bakes the reel
+pub record IsQuiet (name : Name) (minute : ℕ) (command : Command) : Type 0 where
+  pub receipt : receipt_by name minute command ≡ None
+  pub bake : bake_by name minute command ≡ None
+  pub baked : baked_by name command ≡ None
+
+in-bag : {P : Type 0} (b : Bool) → (if b then Some false else None) ≡ Some true → P
+in-bag true is = cc
+in-bag false is = cc
+
+not-at-all : {X Y : Type 0} (b : Bool) (x : X) (y : Y) → (if b then Some x else None) ≡ None → (if b then Some y else None) ≡ None
+not-at-all true x y is = cc
+not-at-all false x y is = refl
+
+-- a command that leaves the reel out of its bag
+pub IsQuiet-open : (name : Name) (minute : ℕ) (command : Command) → open_by name command ≡ Some true → IsQuiet name minute command
+IsQuiet-open name minute (ReelReceived r part lot moisture quantity) is = in-bag (same r name) is
+IsQuiet-open name minute (ReelBaked r) is = in-bag (same r name) is
+IsQuiet-open name minute _ is = record { receipt = refl; bake = refl; baked = refl }
+
+-- a command that does not handle the reel
+pub IsQuiet-untouched : (name : Name) (minute : ℕ) (command : Command) → open_by name command ≡ None → IsQuiet name minute command
+IsQuiet-untouched name minute (ReelReceived r part lot moisture quantity) is = record {
+  receipt = not-at-all (same r name) false (record { part = part; lot = lot; moisture = moisture; quantity = quantity; effective = minute }) is;
+  bake = refl;
+  baked = not-at-all (same r name) false false is;
+}
+IsQuiet-untouched name minute (ReelBaked r) is = record {
+  receipt = refl;
+  bake = not-at-all (same r name) false minute is;
+  baked = not-at-all (same r name) false true is;
+}
+IsQuiet-untouched name minute _ is = record { receipt = refl; bake = refl; baked = refl }
+
+pub IsQuiet-seal : (name : Name) (minute : ℕ) (reel : Name) → IsQuiet name minute (ReelSealed reel)
+IsQuiet-seal name minute reel = record { receipt = refl; bake = refl; baked = refl }
+
+-- after a quiet entry the receipt, the last bake and the minute from which exposure counts are as before
+pub receipt_of-quiet : (H : History) (e : Entry) (name : Name) → IsQuiet name e.effective e.stamped.command → receipt_of (e ∷ H) name ≡ receipt_of H name
+receipt_of-quiet H e name quiet = ap (λ o. option_or o (receipt_of H name)) quiet.receipt
+
+pub last_bake-quiet : (H : History) (e : Entry) (name : Name) → IsQuiet name e.effective e.stamped.command → last_bake (e ∷ H) name ≡ last_bake H name
+last_bake-quiet H e name quiet = ap (λ o. option_or o (last_bake H name)) quiet.bake
+
+pub is_baked-quiet : (H : History) (e : Entry) (name : Name) → IsQuiet name e.effective e.stamped.command → is_baked (e ∷ H) name ≡ is_baked H name
+is_baked-quiet H e name quiet = ap (λ o. unwrap_or (option_or o (latest (λ (e' : Entry). baked_by name e'.stamped.command) H)) false) quiet.baked
+
+pub exposure_starts-quiet : (H : History) (e : Entry) (name : Name) → IsQuiet name e.effective e.stamped.command
+    → exposure_starts (e ∷ H) name ≡ exposure_starts H name
+exposure_starts-quiet H e name quiet =
+    ap (λ o. unwrap_or (option_or o (option_map (λ (r : Receipt). r.effective) (receipt_of (e ∷ H) name))) 0) (last_bake-quiet H e name quiet)
+    ∙ ap (λ o. unwrap_or (option_or (last_bake H name) (option_map (λ (r : Receipt). r.effective) o)) 0) (receipt_of-quiet H e name quiet)

@@ -1,0 +1,8 @@
+//! Reels: how many pieces they have, and how long they may still lie out of their bags.
+#![tactic(auto)]
+
+mod reel;
+#[cfg(test)]
+mod tests;
+
+pub use reel::{Reel, Usage};

@@ -1,0 +1,191 @@
+//! A reel: its pieces and its floor life, counted in constant time and with no clock.
+
+ghost use Rattle.std.specs.Prelude.{◌≡◌, ℕ, ◌+◌, ◌-◌, ◌≤◌, Some, None};
+ghost use Rattle.std.specs.Option.{ForSome, ForNone};
+
+use desk_types::{Id, Level, Minute, Moisture, Quantity};
+
+/// What became of pieces that were taken off a reel.
+#[derive(Clone, Copy, Debug, PartialEq, Eq)]
+pub enum Usage {
+    /// They were placed on boards.
+    Placed,
+    /// They were thrown away, or a count showed them missing.
+    Scrapped,
+}
+
+/// A reel as the commands on it left it. Minutes are whole minutes since 1970-01-01T00:00Z.
+///
+/// `used` is the exposure at `open_since`, or at `last` while the reel is in its bag; `open_since` is
+/// the minute since which it is out of its bag; `last` is the minute of its last receipt, open, seal
+/// or bake. The idea of floor life is J-STD-033's; the limits are this project's own profile.
+#[derive(Clone, Copy, Debug, PartialEq, Eq)]
+pub struct Reel {
+    pub part: Id,
+    pub lot: Id,
+    pub level: Level,
+    pub label: u64,
+    pub received: u64,
+    pub placed: u64,
+    pub scrapped: u64,
+    pub remaining: u64,
+    pub used: u64,
+    pub open_since: Option<Minute>,
+    pub baked: bool,
+    pub last: Minute,
+    ghost balance: { received ≡ placed + scrapped + remaining },
+    ghost open_minutes: { ForSome open_since (λ since. (used ≤ since) × (since ≤ last)) },
+    ghost sealed_minutes: { ForNone open_since (used ≤ last) },
+}
+
+impl Reel {
+    ghost use Rattle.std.specs.Prelude.{◌≡◌, ℕ, ◌+◌, ◌-◌, ◌≤◌, not, ◌&&◌, Some, None, true, false, if◌then◌else◌, ◌∷◌};
+    ghost use Rattle.desk_types.specs.declared.command.Command.TheVariants.{ReelReceived, ReelSealed, ReelBaked};
+    ghost use Rattle.desk_types.specs.declared.command.Entry.{Entry};
+    ghost use Rattle.desk_types.specs.Id.{Name};
+    ghost use Rattle.desk_types.specs.History.{History};
+    ghost use Rattle.desk_types.specs.FloorLife.{open_by, exposure_of, minutes_left, is_expired, is_unbaked};
+    ghost use Rattle.reels.specs.Reel.{StandsFor, IsUntouched, SameReceipt, SamePieces, SameLife, IsReceived, exposure_at, is_placed_usage};
+
+    /// A reel that came in at this minute, sealed.
+    pub fn receive(part: Id, lot: Id, moisture: Moisture, quantity: Quantity, at: Minute) -> Reel
+        ensures pieces { IsReceived quantity result }
+        ensures last { result.last ≡ at }
+        ensures stands { (H : History) (name : Name) (e : Entry) → IsUntouched H name → e.stamped.command ≡ ReelReceived name part lot moisture quantity
+            → e.effective ≡ at → StandsFor (e ∷ H) name result }
+    {
+        let pieces = quantity.get();
+        Reel {
+            part,
+            lot,
+            level: moisture.level(),
+            label: moisture.label(),
+            received: pieces,
+            placed: 0,
+            scrapped: 0,
+            remaining: pieces,
+            used: 0,
+            open_since: None,
+            baked: false,
+            last: at,
+        }
+    }
+
+    /// The reel is out of its bag from this minute on. A reel that is out already stays so.
+    pub fn open(&mut self, at: Minute)
+        requires { self.old.last ≤ at }
+        ensures receipt { SameReceipt self.old self.new }
+        ensures pieces { SamePieces self.old self.new }
+        ensures last { self.new.last ≡ at }
+        ensures stands { (H : History) (name : Name) (e : Entry) → StandsFor H name self.old → open_by name e.stamped.command ≡ Some true
+            → e.effective ≡ at → StandsFor (e ∷ H) name self.new }
+    {
+        self.open_since = Some(self.open_since.unwrap_or(at));
+        self.last = at;
+    }
+
+    /// The reel is in its bag from this minute on: its exposure stands still.
+    pub fn seal(&mut self, at: Minute)
+        requires { self.old.last ≤ at }
+        ensures receipt { SameReceipt self.old self.new }
+        ensures pieces { SamePieces self.old self.new }
+        ensures last { self.new.last ≡ at }
+        ensures stands { (H : History) (name : Name) (e : Entry) → StandsFor H name self.old → e.stamped.command ≡ ReelSealed name
+            → e.effective ≡ at → StandsFor (e ∷ H) name self.new }
+    {
+        self.used = self.exposure(at);
+        self.open_since = None;
+        self.last = at;
+    }
+
+    /// The reel was baked and is in its bag: its exposure is 0.
+    pub fn bake(&mut self, at: Minute)
+        requires { self.old.last ≤ at }
+        ensures receipt { SameReceipt self.old self.new }
+        ensures pieces { SamePieces self.old self.new }
+        ensures last { self.new.last ≡ at }
+        ensures stands { (H : History) (name : Name) (e : Entry) → StandsFor H name self.old → e.stamped.command ≡ ReelBaked name
+            → e.effective ≡ at → StandsFor (e ∷ H) name self.new }
+    {
+        self.used = 0;
+        self.open_since = None;
+        self.baked = true;
+        self.last = at;
+    }
+
+    /// How many minutes before this one the reel was out of its bag, since its last bake, or else its
+    /// receipt.
+    pub fn exposure(&self, at: Minute) -> u64
+        requires { self.now.last ≤ at }
+        ensures value { result ≡ exposure_at self.now at }
+        ensures bound { result ≤ at }
+        ensures stands { (H : History) (name : Name) → StandsFor H name self.now → result ≡ exposure_of H name at }
+    {
+        match self.open_since {
+            Some(since) => self.used + (at.get() - since.get()),
+            None => self.used,
+        }
+    }
+
+    /// The minutes of floor life that are left, 0 when expired, or none where there is no limit.
+    pub fn minutes_left(&self, at: Minute) -> Option<u64>
+        requires { self.now.last ≤ at }
+        ensures { (H : History) (name : Name) → StandsFor H name self.now → result ≡ minutes_left H name at }
+    {
+        let exposure = self.exposure(at);
+        let limit = self.level.limit(self.label)?;
+        Some(limit.saturating_sub(exposure))
+    }
+
+    /// Whether the reel may be used at this minute: it waits for no bake, and is not expired.
+    pub fn usable(&self, at: Minute) -> bool
+        requires { self.now.last ≤ at }
+        ensures { (H : History) (name : Name) → StandsFor H name self.now → result ≡ (not (is_unbaked H name) && not (is_expired H name at)) }
+    {
+        if self.level == Level::Six && !self.baked {
+            return false;
+        }
+        let exposure = self.exposure(at);
+        match self.level.limit(self.label) {
+            Some(limit) => exposure < limit,
+            None => true,
+        }
+    }
+
+    /// Takes pieces off the reel.
+    pub fn take(&mut self, pieces: u64, usage: Usage)
+        requires { pieces ≤ self.old.remaining }
+        ensures remaining { self.new.remaining ≡ self.old.remaining - pieces }
+        ensures placed { self.new.placed ≡ self.old.placed + (if is_placed_usage usage then pieces else 0) }
+        ensures scrapped { self.new.scrapped ≡ self.old.scrapped + (if is_placed_usage usage then 0 else pieces) }
+        ensures receipt { SameReceipt self.old self.new }
+        ensures life { SameLife self.old self.new }
+        ensures stands { (H : History) (name : Name) → StandsFor H name self.old → StandsFor H name self.new }
+    {
+        self.remaining -= pieces;
+        match usage {
+            Usage::Placed => self.placed += pieces,
+            Usage::Scrapped => self.scrapped += pieces,
+        }
+    }
+
+    /// So many pieces were counted: those that are missing are scrapped.
+    pub fn count(&mut self, pieces: u64)
+        requires { pieces ≤ self.old.remaining }
+        ensures remaining { self.new.remaining ≡ pieces }
+        ensures placed { self.new.placed ≡ self.old.placed }
+        ensures scrapped { self.new.scrapped ≡ self.old.scrapped + (self.old.remaining - pieces) }
+        ensures receipt { SameReceipt self.old self.new }
+        ensures life { SameLife self.old self.new }
+        ensures stands { (H : History) (name : Name) → StandsFor H name self.old → StandsFor H name self.new }
+    {
+        let missing = self.remaining - pieces;
+        self.take(missing, Usage::Scrapped);
+    }
+
+    /// A law: a command on another reel, or on none, changes nothing of what the reel stands for. It is
+    /// for proofs, and does nothing when it runs.
+    pub fn stays(&self)
+        ensures { (H : History) (name : Name) (e : Entry) → StandsFor H name self.now → open_by name e.stamped.command ≡ None → StandsFor (e ∷ H) name self.now }
+    {}
+}
