@@ -1,5 +1,5 @@
 -- How an entry changes the exposure of a reel.
-use Rattle.std.proofs.Common.{◌≡◌, ℕ, ◌+◌, ◌-◌, ◌<◌, ◌≤◌, Bool, true, false, cond, Option, Some, None, ◌∷◌, refl, sym, ap, ◌∙◌, count_by, arith}
+use Rattle.std.proofs.Common.{◌≡◌, ℕ, ◌+◌, ◌-◌, ◌<◌, ◌≤◌, Bool, true, false, cond, Option, Some, None, ◌∷◌, refl, ap, ◌∙◌, count_by, arith}
 use Rattle.std.specs.Prelude.{nat_le, unwrap_or, if◌then◌else◌}
 use Rattle.std.specs.Option.{option_or}
 use Rattle.std.proofs.lemmas.Bool.Decides.{nat_tests}
@@ -60,9 +60,9 @@ exposure-after H e name out says starts low minute le =
     ap (λ s. count_by p (minutes_between s minute)) starts
     ∙ count-split p (exposure_starts H name) e.effective minute low le
     ∙ ap (λ n. n + count_by p (minutes_between e.effective minute))
-        (count-agree p (is_out_at H name) (exposure_starts H name) e.effective (λ t from to. is_out-before H e name t to))
+    (count-agree p (is_out_at H name) (exposure_starts H name) e.effective (λ t from to. is_out-before H e name t to))
     ∙ ap (λ n. count_by (is_out_at H name) (minutes_between (exposure_starts H name) e.effective) + n)
-        (count-one p out e.effective minute (λ t from to. is_out-after H e name out t says from))
+    (count-one p out e.effective minute (λ t from to. is_out-after H e name out t says from))
   where
     p : ℕ → Bool
     p = is_out_at (e ∷ H) name

@@ -1,5 +1,5 @@
 -- Floor life: how many minutes a reel lay out of its bag, and how many it may.
-use Rattle.std.specs.Prelude.{ℕ, ◌-◌, nat_le, Bool, true, false, not, ◌&&◌, Option, Some, None, List, [], ◌∷◌, if◌then◌else◌, unwrap_or, count_by}
+use Rattle.std.specs.Prelude.{◌≡◌, ℕ, ◌-◌, nat_le, ⊤, Bool, true, false, not, ◌&&◌, Option, Some, None, List, [], ◌∷◌, if◌then◌else◌, unwrap_or, count_by}
 use Rattle.std.specs.Option.{option_and_then, option_map, option_map_or, option_or}
 use Rattle.std.specs.List.{range_with_len}
 use Rattle.desk_types.specs.declared.command.Command.{Command}
@@ -23,6 +23,11 @@ open_by reel (ReelBaked r) = if same r reel then Some false else None
 open_by reel (MaterialsLoaded machine slot r) = if same r reel then Some true else None
 open_by reel (MaterialsSpliced machine slot r) = if same r reel then Some true else None
 open_by reel _ = None
+
+-- no entry is a command on the reel of this name
+abbrev pub IsUntouched : History → Name → Type 0
+IsUntouched [] name = ⊤
+IsUntouched (e ∷ H) name = (open_by name e.stamped.command ≡ None) × IsUntouched H name
 
 -- whether the reel is out of its bag at the minute: as the last command on it that took effect by then left it
 unfoldable pub is_out_at : History → Name → ℕ → Bool

@@ -9,12 +9,12 @@ use Rattle.desk_types.specs.Id.{Name}
 use Rattle.desk_types.specs.Level.{LevelWithLabel}
 use Rattle.desk_types.specs.Setup.{receipt_by, receipt_of}
 use Rattle.desk_types.specs.History.{History}
-use Rattle.desk_types.specs.FloorLife.{open_by, bake_by, last_bake, since_after, out_since, exposure_of, exposure_starts, is_baked}
+use Rattle.desk_types.specs.FloorLife.{open_by, IsUntouched, bake_by, last_bake, since_after, out_since, exposure_of, exposure_starts, is_baked}
 use Rattle.desk_types.proofs.Exposure.{exposure-before, exposure-after, exposure-anew, exposure-untouched}
 use Rattle.desk_types.proofs.Keys.{same-refl}
 use Rattle.desk_types.proofs.ReelCommands.{IsQuiet, IsQuiet-open, IsQuiet-untouched, IsQuiet-seal, last_bake-quiet, is_baked-quiet, exposure_starts-quiet}
 use Rattle.reels.specs.declared.reel.Reel.{Reel}
-use Rattle.reels.specs.Reel.{HasReceipt, StandsFor, IsUntouched, SameReceipt, exposure_at}
+use Rattle.reels.specs.Reel.{HasReceipt, StandsFor, SameReceipt, exposure_at}
 
 -- an entry that doesn't receive the reel leaves its receipt
 HasReceipt-next : (H : History) (e : Entry) (name : Name) (old new : Reel) → HasReceipt H name old → SameReceipt old new

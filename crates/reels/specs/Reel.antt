@@ -1,11 +1,11 @@
 -- What a reel stands for.
-use Rattle.std.specs.Prelude.{◌≡◌, ℕ, ◌+◌, ◌-◌, ◌≤◌, ⊤, Bool, true, false, Some, None, [], ◌∷◌, unwrap_or}
+use Rattle.std.specs.Prelude.{◌≡◌, ℕ, ◌+◌, ◌-◌, ◌≤◌, Bool, true, false, Some, unwrap_or}
 use Rattle.std.specs.Option.{option_map_or}
 use Rattle.desk_types.specs.declared.command.Receipt.{Receipt}
 use Rattle.desk_types.specs.Id.{Name}
 use Rattle.desk_types.specs.History.{History}
 use Rattle.desk_types.specs.Setup.{receipt_of}
-use Rattle.desk_types.specs.FloorLife.{open_by, out_since, exposure_of, exposure_starts, is_baked}
+use Rattle.desk_types.specs.FloorLife.{out_since, exposure_of, exposure_starts, is_baked}
 use Rattle.reels.specs.declared.reel.Reel.{Reel}
 use Rattle.reels.specs.declared.reel.Usage.{Usage}
 use Rattle.reels.specs.declared.reel.Usage.TheVariants.{Placed, Scrapped}
@@ -33,11 +33,6 @@ pub record StandsFor (H : History) (name : Name) (reel : Reel) : Type 0 where
   pub starts : exposure_starts H name ≤ reel.last
   pub used : reel.used ≡ exposure_of H name (unwrap_or reel.open_since reel.last)
   pub exposure : (minute : ℕ) → reel.last ≤ minute → exposure_at reel minute ≡ exposure_of H name minute
-
--- no entry is a command on the reel of this name
-abbrev pub IsUntouched : History → Name → Type 0
-IsUntouched [] name = ⊤
-IsUntouched (e ∷ H) name = (open_by name e.stamped.command ≡ None) × IsUntouched H name
 
 -- all pieces of the receipt remain
 pub record IsReceived (quantity : ℕ) (reel : Reel) : Type 0 where

@@ -44,8 +44,8 @@ impl Reel {
     ghost use Rattle.desk_types.specs.declared.command.Entry.{Entry};
     ghost use Rattle.desk_types.specs.Id.{Name};
     ghost use Rattle.desk_types.specs.History.{History};
-    ghost use Rattle.desk_types.specs.FloorLife.{open_by, exposure_of, minutes_left, is_expired, is_unbaked};
-    ghost use Rattle.reels.specs.Reel.{StandsFor, IsUntouched, SameReceipt, SamePieces, SameLife, IsReceived, exposure_at, is_placed_usage};
+    ghost use Rattle.desk_types.specs.FloorLife.{open_by, IsUntouched, exposure_of, minutes_left, is_expired, is_unbaked};
+    ghost use Rattle.reels.specs.Reel.{StandsFor, SameReceipt, SamePieces, SameLife, IsReceived, exposure_at, is_placed_usage};
 
     /// A reel that came in at this minute, sealed.
     pub fn receive(part: Id, lot: Id, moisture: Moisture, quantity: Quantity, at: Minute) -> Reel
@@ -137,19 +137,30 @@ impl Reel {
         Some(limit.saturating_sub(exposure))
     }
 
+    /// Whether the reel waits for its bake: it is of level 6, and was not baked since its receipt.
+    pub fn is_unbaked(&self) -> bool
+        ensures { (H : History) (name : Name) → StandsFor H name self.now → result ≡ is_unbaked H name }
+    {
+        self.level == Level::Six && !self.baked
+    }
+
+    /// Whether the reel's floor life is used up at this minute.
+    pub fn is_expired(&self, at: Minute) -> bool
+        requires { self.now.last ≤ at }
+        ensures { (H : History) (name : Name) → StandsFor H name self.now → result ≡ is_expired H name at }
+    {
+        match self.level.limit(self.label) {
+            Some(limit) => self.exposure(at) >= limit,
+            None => false,
+        }
+    }
+
     /// Whether the reel may be used at this minute: it waits for no bake, and is not expired.
     pub fn usable(&self, at: Minute) -> bool
         requires { self.now.last ≤ at }
         ensures { (H : History) (name : Name) → StandsFor H name self.now → result ≡ (not (is_unbaked H name) && not (is_expired H name at)) }
     {
-        if self.level == Level::Six && !self.baked {
-            return false;
-        }
-        let exposure = self.exposure(at);
-        match self.level.limit(self.label) {
-            Some(limit) => exposure < limit,
-            None => true,
-        }
+        !self.is_unbaked() && !self.is_expired(at)
     }
 
     /// Takes pieces off the reel.

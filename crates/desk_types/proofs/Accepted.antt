@@ -1,0 +1,171 @@
+-- What an accepted command says of its tests.
+use Rattle.std.proofs.Common.{◌≡◌, ℕ, Bool, true, false, Option, Some, None, List, [], ◌∷◌, refl, sym, ap, ◌∙◌}
+use Rattle.std.specs.Prelude.{if◌then◌else◌, not, is_some, is_none, ◌==◌}
+use Rattle.std.specs.List.{AllByRecursion}
+use Rattle.desk_types.specs.declared.answer.Refusal.{Refusal}
+use Rattle.desk_types.specs.declared.answer.Refusal.TheVariants.{TooFarAhead, UnknownPart, ReelExists, UnknownReel, NoProduct, SlotNotOnSheet, ReelMounted, ReelEmpty, WrongPart, NotBaked, Expired}
+use Rattle.desk_types.specs.declared.command.Command.{Command}
+use Rattle.desk_types.specs.declared.command.Command.TheVariants.{ReelReceived, ReelOpened, ReelSealed, ReelBaked, MaterialsLoaded, MaterialsSpliced}
+use Rattle.desk_types.specs.declared.command.Entry.{Entry}
+use Rattle.desk_types.specs.declared.command.Receipt.{Receipt}
+use Rattle.desk_types.specs.declared.command.Stamped.{Stamped}
+use Rattle.desk_types.specs.Id.{Name, same}
+use Rattle.desk_types.specs.History.{History, effective_minute}
+use Rattle.desk_types.specs.Setup.{is_part, selected_on, row_on, receipt_by, receipt_of}
+use Rattle.desk_types.specs.Pieces.{left_of, is_mounted}
+use Rattle.desk_types.specs.FloorLife.{open_by, is_expired, is_unbaked}
+use Rattle.desk_types.specs.Refusals.{first_refusal, receipt_refusal, opening_refusal, closing_refusal, mounting_refusal, is_wrong_part, command_refusal, is_too_far_ahead, refusal_of}
+use Rattle.desk_types.specs.Judged.{IsNext}
+use Rattle.desk_types.proofs.Keys.{same-true}
+
+-- ---- tests
+
+-- where the first test gives nothing, no test holds
+pub none-holds : (ts : List (Bool × Refusal)) → first_refusal ts ≡ None → AllByRecursion (λ (t : Bool × Refusal). t.0 ≡ false) ts
+none-holds [] none = tt
+none-holds ((true, refusal) ∷ ts) none = cc
+none-holds ((false, refusal) ∷ ts) none = (refl, none-holds ts none)
+
+if-none : {X : Type 0} (b : Bool) (x : X) (o : Option X) → (if b then Some x else o) ≡ None → (b ≡ false) × (o ≡ None)
+if-none true x o none = cc
+if-none false x o none = (refl, none)
+
+-- an accepted command is not too far ahead
+pub not-too-far : (H : History) (s : Stamped) → refusal_of H s ≡ None → is_too_far_ahead H s ≡ false
+unfolding refusal_of
+not-too-far H s none = (if-none (is_too_far_ahead H s) TooFarAhead _ none).0
+
+-- an accepted command has no refusal of its own
+pub command-accepted : (H : History) (s : Stamped) → refusal_of H s ≡ None → command_refusal H (effective_minute H s.minute) s.command ≡ None
+unfolding refusal_of
+command-accepted H s none = (if-none (is_too_far_ahead H s) TooFarAhead _ none).1
+
+-- the next entry has none at its minute
+pub next-accepted : (H : History) (e : Entry) → IsNext H e → command_refusal H e.effective e.stamped.command ≡ None
+next-accepted H e next = ap (λ m. command_refusal H m e.stamped.command) next.effective ∙ command-accepted H e.stamped next.accepted
+
+-- ---- reels
+
+-- the reel was received and is on no slot
+pub record IsAtRest (H : History) (reel : Name) : Type 0 where
+  pub received : is_none (receipt_of H reel) ≡ false
+  pub not_mounted : is_mounted H reel ≡ false
+
+-- the reel may be mounted at the minute: the tests of a load or a splice
+pub record IsMountable (H : History) (minute : ℕ) (machine slot reel : Name) (slot_test : Bool) : Type 0 where
+  pub selected : is_none (selected_on H machine) ≡ false
+  pub on_sheet : is_none (row_on H machine slot) ≡ false
+  pub of_slot : slot_test ≡ false
+  pub received : is_none (receipt_of H reel) ≡ false
+  pub not_mounted : is_mounted H reel ≡ false
+  pub some : (left_of H reel == 0) ≡ false
+  pub right_part : is_wrong_part H machine slot reel ≡ false
+  pub baked : is_unbaked H reel ≡ false
+  pub not_expired : is_expired H reel minute ≡ false
+
+-- the part is there and the reel was not received
+pub record IsReceivable (H : History) (reel part : Name) : Type 0 where
+  pub known : not (is_part H part) ≡ false
+  pub new : is_some (receipt_of H reel) ≡ false
+
+-- what an accepted receipt says
+pub receivable : (H : History) (reel part : Name) → receipt_refusal H reel part ≡ None → IsReceivable H reel part
+unfolding receipt_refusal
+receivable H reel part none =
+    let all = none-holds ((not (is_part H part), UnknownPart part) ∷ (is_some (receipt_of H reel), ReelExists reel) ∷ []) none in
+    record { known = all.0; new = all.1.0 }
+
+-- what an accepted open says
+pub openable : (H : History) (reel : Name) → opening_refusal H reel ≡ None → is_none (receipt_of H reel) ≡ false
+unfolding opening_refusal
+openable H reel none = (none-holds ((is_none (receipt_of H reel), UnknownReel reel) ∷ []) none).0
+
+-- what an accepted seal or bake says
+pub at-rest : (H : History) (reel : Name) → closing_refusal H reel ≡ None → IsAtRest H reel
+unfolding closing_refusal
+at-rest H reel none =
+    let all = none-holds ((is_none (receipt_of H reel), UnknownReel reel) ∷ (is_mounted H reel, ReelMounted reel) ∷ []) none in
+    record { received = all.0; not_mounted = all.1.0 }
+
+-- what an accepted load or splice says
+pub mountable : (H : History) (minute : ℕ) (machine slot reel : Name) (slot_test : Bool × Refusal) → mounting_refusal H minute machine slot reel slot_test ≡ None
+    → IsMountable H minute machine slot reel slot_test.0
+unfolding mounting_refusal
+mountable H minute machine slot reel slot_test none =
+    let all = none-holds tests none in
+    record {
+      selected = all.0;
+      on_sheet = all.1.0;
+      of_slot = all.1.1.0;
+      received = all.1.1.1.0;
+      not_mounted = all.1.1.1.1.0;
+      some = all.1.1.1.1.1.0;
+      right_part = all.1.1.1.1.1.1.0;
+      baked = all.1.1.1.1.1.1.1.0;
+      not_expired = all.1.1.1.1.1.1.1.1.0;
+    }
+  where
+    tests : List (Bool × Refusal)
+    tests =
+        (is_none (selected_on H machine), NoProduct machine)
+        ∷ (is_none (row_on H machine slot), SlotNotOnSheet slot)
+        ∷ slot_test
+        ∷ (is_none (receipt_of H reel), UnknownReel reel)
+        ∷ (is_mounted H reel, ReelMounted reel)
+        ∷ (left_of H reel == 0, ReelEmpty reel)
+        ∷ (is_wrong_part H machine slot reel, WrongPart reel)
+        ∷ (is_unbaked H reel, NotBaked reel)
+        ∷ (is_expired H reel minute, Expired reel)
+        ∷ []
+
+-- ---- receipts of handled reels
+
+not-some : {X : Type 0} (o : Option X) → is_some o ≡ false → o ≡ None
+not-some None is = refl
+not-some (Some x) is = cc
+
+if-some : {X : Type 0} (b : Bool) (x y : X) → (if b then Some x else None) ≡ Some y → b ≡ true
+if-some true x y is = refl
+if-some false x y is = cc
+
+not-both : {X Y P : Type 0} (b : Bool) (x : X) (y z : Y) → (if b then Some x else None) ≡ None → (if b then Some y else None) ≡ Some z → P
+not-both true x y z none is = cc
+not-both false x y z none is = cc
+
+-- a command on the reel r says something of the reel `name`, so they are one, and that of r was received
+received-too : {X : Type 0} (H : History) (r name : Name) (x y : X) → (if same r name then Some x else None) ≡ Some y → is_none (receipt_of H r) ≡ false
+    → is_none (receipt_of H name) ≡ false
+received-too H r name x y says received = sym (ap (λ n. is_none (receipt_of H n)) (same-true r name (if-some (same r name) x y says))) ∙ received
+
+-- an accepted command that handles a reel, and is not its receipt, is on a reel that was received
+pub handled-by : (H : History) (minute : ℕ) (name : Name) (command : Command) (out : Bool) → command_refusal H minute command ≡ None
+    → receipt_by name minute command ≡ None → open_by name command ≡ Some out → is_none (receipt_of H name) ≡ false
+unfolding command_refusal
+handled-by H minute name (ReelReceived r part lot moisture quantity) out accepted none says =
+    not-both (same r name) (record { part = part; lot = lot; moisture = moisture; quantity = quantity; effective = minute }) false out none says
+handled-by H minute name (ReelOpened r) out accepted none says = received-too H r name true out says (openable H r accepted)
+handled-by H minute name (ReelSealed r) out accepted none says = received-too H r name false out says (at-rest H r accepted).received
+handled-by H minute name (ReelBaked r) out accepted none says = received-too H r name false out says (at-rest H r accepted).received
+handled-by H minute name (MaterialsLoaded machine slot r) out accepted none says =
+    received-too H r name true out says (mountable H minute machine slot r _ accepted).received
+handled-by H minute name (MaterialsSpliced machine slot r) out accepted none says =
+    received-too H r name true out says (mountable H minute machine slot r _ accepted).received
+handled-by H minute name _ out accepted none says = cc
+
+-- An entry that handles a reel, and is not its receipt, comes after its receipt.
+pub handled-received : (H : History) (e : Entry) (name : Name) (out : Bool) → IsNext H e → receipt_by name e.effective e.stamped.command ≡ None
+    → open_by name e.stamped.command ≡ Some out → receipt_of H name ≡ None → ⊥
+handled-received H e name out next none says unknown = cc (handled-by H e.effective name e.stamped.command out (next-accepted H e next) none says)
+
+-- a command that receives a reel, accepted, is on a reel that was not received
+pub received-by : (H : History) (minute : ℕ) (name : Name) (command : Command) (receipt : Receipt) → command_refusal H minute command ≡ None
+    → receipt_by name minute command ≡ Some receipt → receipt_of H name ≡ None
+unfolding command_refusal
+received-by H minute name (ReelReceived r part lot moisture quantity) receipt accepted is =
+    sym (ap (receipt_of H) (same-true r name (if-some (same r name) _ receipt is))) ∙ not-some (receipt_of H r) (receivable H r part accepted).new
+received-by H minute name _ receipt accepted is = cc
+
+-- A reel is received once: an entry that receives it comes where it was not received.
+pub received-once : (H : History) (e : Entry) (name : Name) (receipt : Receipt) → IsNext H e → receipt_by name e.effective e.stamped.command ≡ Some receipt
+    → receipt_of H name ≡ None
+received-once H e name receipt next is = received-by H e.effective name e.stamped.command receipt (next-accepted H e next) is

@@ -1,0 +1,182 @@
+-- Which reels stand on slots, and which entries put them there.
+use Rattle.std.proofs.Common.{◌≡◌, Bool, true, false, Some, None, List, [], ◌∷◌, refl, sym, ap, ◌∙◌}
+use Rattle.std.specs.Prelude.{nat_lt, is_none, ◌&&◌, ◌||◌, if◌then◌else◌}
+use Rattle.std.specs.List.{list_any, filter}
+use Rattle.std.proofs.lemmas.List.Folds.{list_any-append}
+use Rattle.std.proofs.lemmas.Map.Views.{any-filter_same}
+use Rattle.desk_types.specs.declared.command.Command.{Command}
+use Rattle.desk_types.specs.declared.command.Command.TheVariants.{MaterialsLoaded, MaterialsSpliced, MaterialsUnloaded}
+use Rattle.desk_types.specs.declared.command.Entry.{Entry}
+use Rattle.desk_types.specs.Id.{Name, same}
+use Rattle.desk_types.specs.History.{History}
+use Rattle.desk_types.specs.Tape.{spliced, tape_after, tape_of}
+use Rattle.desk_types.specs.Setup.{receipt_of}
+use Rattle.desk_types.specs.Pieces.{left_of, live_on, first, is_live_where_loaded, is_mounted}
+use Rattle.desk_types.specs.FloorLife.{open_by, IsUntouched}
+use Rattle.desk_types.specs.Judged.{IsJudged}
+use Rattle.desk_types.proofs.Judgements.{untouched}
+use Rattle.desk_types.proofs.Keys.{same-refl, same-sym, same-true}
+
+-- whether the reel stands among the reels
+abbrev pub has : List Name → Name → Bool
+has reels reel = list_any (same reel) reels
+
+-- ---- live reels
+
+-- a filter keeps a reel that passes its test, and no other
+pub has-filter : (p : Name → Bool) (reels : List Name) (reel : Name) → has (filter (λ r. p r) reels) reel ≡ (p reel && has reels reel)
+has-filter p reels reel = any-filter_same (same reel) p (p reel) (λ r is. ap p (sym (same-true reel r is))) reels
+
+-- a reel is live on a slot where it stands on its tape and has pieces left
+pub has-live_on : (H : History) (machine slot reel : Name) → has (live_on H machine slot) reel ≡ (nat_lt 0 (left_of H reel) && has (tape_of H machine slot) reel)
+unfolding live_on
+has-live_on H machine slot reel = has-filter (λ r. nat_lt 0 (left_of H r)) (tape_of H machine slot) reel
+
+-- ---- which entry put it there
+
+-- whether the command puts the reel on the slot
+abbrev pub mounts : Name → Name → Name → Command → Bool
+mounts machine slot reel (MaterialsLoaded m s r) = (same m machine && same s slot) && same r reel
+mounts machine slot reel (MaterialsSpliced m s r) = (same m machine && same s slot) && same r reel
+mounts machine slot reel _ = false
+
+-- whether the command loads the slot
+abbrev pub loads : Name → Name → Command → Bool
+loads machine slot (MaterialsLoaded m s r) = same m machine && same s slot
+loads machine slot _ = false
+
+and-both : (a b : Bool) → (a && b) ≡ true → (a ≡ true) × (b ≡ true)
+and-both true b is = (refl, is)
+and-both false b is = cc
+
+or-left : (a b : Bool) → a ≡ true → (a || b) ≡ true
+or-left true b is = refl
+or-left false b is = cc
+
+or-right : (a b : Bool) → b ≡ true → (a || b) ≡ true
+or-right true b is = refl
+or-right false b is = is
+
+has-one : (r reel : Name) (rest : Bool) → has (r ∷ []) reel ≡ true → (same r reel || rest) ≡ true
+has-one r reel rest is = by (same reel r) (same-sym reel r) is
+  where
+    by : (b : Bool) → b ≡ same r reel → (b || false) ≡ true → (same r reel || rest) ≡ true
+    by true eq is = or-left _ rest (sym eq)
+    by false eq is = cc
+
+-- a reel that stands on a tape after a splice stood there before or is the one that was joined
+has-spliced : (reels : List Name) (r reel : Name) (rest : Bool) → has (spliced reels r) reel ≡ true → (has reels reel ≡ true → rest ≡ true)
+    → (same r reel || rest) ≡ true
+has-spliced [] r reel rest is there = cc
+has-spliced (x ∷ xs) r reel rest is there = by (has (x ∷ xs) reel) refl (sym (list_any-append (same reel) (x ∷ xs) (r ∷ [])) ∙ is)
+  where
+    by : (b : Bool) → has (x ∷ xs) reel ≡ b → (b || has (r ∷ []) reel) ≡ true → (same r reel || rest) ≡ true
+    by true before is = or-right _ rest (there before)
+    by false before is = has-one r reel rest is
+
+-- after a command, the reel was put there by it or stood there before
+mounted-step : (machine slot reel : Name) (command : Command) (reels : List Name) (rest : Bool) → has (tape_after machine slot command reels) reel ≡ true
+    → (has reels reel ≡ true → rest ≡ true) → (mounts machine slot reel command || rest) ≡ true
+mounted-step machine slot reel (MaterialsLoaded m s r) reels rest is there = by (same m machine && same s slot) is
+  where
+    by : (b : Bool) → has (if b then r ∷ [] else reels) reel ≡ true → ((b && same r reel) || rest) ≡ true
+    by true is = has-one r reel rest is
+    by false is = there is
+mounted-step machine slot reel (MaterialsSpliced m s r) reels rest is there = by (same m machine && same s slot) is
+  where
+    by : (b : Bool) → has (if b then spliced reels r else reels) reel ≡ true → ((b && same r reel) || rest) ≡ true
+    by true is = has-spliced reels r reel rest is there
+    by false is = there is
+mounted-step machine slot reel (MaterialsUnloaded m s) reels rest is there = by (same m machine && same s slot) is
+  where
+    by : (b : Bool) → has (if b then [] else reels) reel ≡ true → rest ≡ true
+    by true is = cc
+    by false is = there is
+mounted-step machine slot reel _ reels rest is there = there is
+
+-- A reel that stands on the tape of a slot was loaded or spliced there by some entry.
+pub mounted-by : (H : History) (machine slot reel : Name) → has (tape_of H machine slot) reel ≡ true
+    → list_any (λ (e : Entry). mounts machine slot reel e.stamped.command) H ≡ true
+unfolding tape_of
+mounted-by [] machine slot reel is = cc
+mounted-by (e ∷ H) machine slot reel is =
+    mounted-step machine slot reel e.stamped.command (tape_of H machine slot) _ is (mounted-by H machine slot reel)
+
+not-there : (here b : Bool) → (if b then Some true else None) ≡ None → (here && b) ≡ false
+not-there true true none = cc
+not-there true false none = refl
+not-there false b none = refl
+
+-- a command that does not handle the reel puts it on no slot
+untouched-mounts : (machine slot reel : Name) (command : Command) → open_by reel command ≡ None → mounts machine slot reel command ≡ false
+untouched-mounts machine slot reel (MaterialsLoaded m s r) none = not-there (same m machine && same s slot) (same r reel) none
+untouched-mounts machine slot reel (MaterialsSpliced m s r) none = not-there (same m machine && same s slot) (same r reel) none
+untouched-mounts machine slot reel _ none = refl
+
+mounts-none : (H : History) (machine slot reel : Name) → IsUntouched H reel → list_any (λ (e : Entry). mounts machine slot reel e.stamped.command) H ≡ false
+mounts-none [] machine slot reel all = refl
+mounts-none (e ∷ H) machine slot reel (none, all) =
+    ap (λ b. b || list_any (λ (e' : Entry). mounts machine slot reel e'.stamped.command) H) (untouched-mounts machine slot reel e.stamped.command none)
+    ∙ mounts-none H machine slot reel all
+
+-- A reel that was not received stands on no tape.
+pub unreceived-nowhere : (H : History) (machine slot reel : Name) → IsJudged H → receipt_of H reel ≡ None → has (tape_of H machine slot) reel ≡ false
+unreceived-nowhere H machine slot reel judged none = by (has (tape_of H machine slot) reel) refl
+  where
+    by : (b : Bool) → has (tape_of H machine slot) reel ≡ b → has (tape_of H machine slot) reel ≡ false
+    by true on = cc (mounted-by H machine slot reel on, mounts-none H machine slot reel (untouched H reel judged none))
+    by false off = off
+
+-- ---- loaded slots
+
+-- after a command, a slot that has a tape was loaded by it or had one before; `test` holds of each load of the slot
+loaded-step : (machine slot : Name) (test : Command → Bool) → ((r : Name) → test (MaterialsLoaded machine slot r) ≡ true) → (command : Command)
+    (reels : List Name) (rest : Bool) → is_none (first (tape_after machine slot command reels)) ≡ false → (is_none (first reels) ≡ false → rest ≡ true)
+    → (test command || rest) ≡ true
+loaded-step machine slot test of_load (MaterialsLoaded m s r) reels rest some there = by (same m machine && same s slot) refl some
+  where
+    by : (b : Bool) → (same m machine && same s slot) ≡ b → is_none (first (if b then r ∷ [] else reels)) ≡ false
+        → (test (MaterialsLoaded m s r) || rest) ≡ true
+    by true here some =
+        let machine_is = same-true m machine (and-both _ _ here).0 in
+        let slot_is = same-true s slot (and-both _ _ here).1 in
+        or-left _ rest (ap (λ m'. test (MaterialsLoaded m' s r)) machine_is ∙ ap (λ s'. test (MaterialsLoaded machine s' r)) slot_is ∙ of_load r)
+    by false here some = or-right _ rest (there some)
+loaded-step machine slot test of_load (MaterialsSpliced m s r) reels rest some there = or-right _ rest (there (by (same m machine && same s slot) reels some))
+  where
+    by : (b : Bool) (reels : List Name) → is_none (first (if b then spliced reels r else reels)) ≡ false → is_none (first reels) ≡ false
+    by true [] some = some
+    by true (x ∷ xs) some = refl
+    by false reels some = some
+loaded-step machine slot test of_load (MaterialsUnloaded m s) reels rest some there = or-right _ rest (there (by (same m machine && same s slot) some))
+  where
+    by : (b : Bool) → is_none (first (if b then [] else reels)) ≡ false → is_none (first reels) ≡ false
+    by true some = cc
+    by false some = some
+loaded-step machine slot test of_load _ reels rest some there = or-right _ rest (there some)
+
+-- A slot that has a tape was loaded: some entry passes each test that holds of its loads.
+pub loaded-by : (H : History) (machine slot : Name) (test : Command → Bool) → ((r : Name) → test (MaterialsLoaded machine slot r) ≡ true)
+    → is_none (first (tape_of H machine slot)) ≡ false → list_any (λ (e : Entry). test e.stamped.command) H ≡ true
+unfolding tape_of
+loaded-by [] machine slot test of_load some = cc
+loaded-by (e ∷ H) machine slot test of_load some =
+    loaded-step machine slot test of_load e.stamped.command (tape_of H machine slot) _ some (loaded-by H machine slot test of_load)
+
+-- reels among which one stands are some
+pub has-first : (reels : List Name) (reel : Name) → has reels reel ≡ true → is_none (first reels) ≡ false
+has-first [] reel is = cc
+has-first (x ∷ xs) reel is = refl
+
+-- A slot on whose tape a reel stands was loaded by some entry.
+pub slot-loaded : (H : History) (machine slot reel : Name) → has (tape_of H machine slot) reel ≡ true
+    → list_any (λ (e : Entry). loads machine slot e.stamped.command) H ≡ true
+slot-loaded H machine slot reel is = loaded-by H machine slot (loads machine slot) (λ r. rw (same-refl machine, same-refl slot)) (has-first (tape_of H machine slot) reel is)
+
+-- A reel that is live on some slot is mounted.
+pub live-mounted : (H : History) (machine slot reel : Name) → has (live_on H machine slot) reel ≡ true → is_mounted H reel ≡ true
+live-mounted H machine slot reel is =
+    loaded-by H machine slot (is_live_where_loaded H reel) (λ r. is) (has-first (tape_of H machine slot) reel on_tape)
+  where
+    on_tape : has (tape_of H machine slot) reel ≡ true
+    on_tape = (and-both (nat_lt 0 (left_of H reel)) _ (sym (has-live_on H machine slot reel) ∙ is)).1
