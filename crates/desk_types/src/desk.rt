@@ -8,8 +8,11 @@ ghost use Rattle.desk_types.specs.Desk.{HasRoom};
 use crate::answer::{Refusal, Replies, Reply};
 use crate::change::Change;
 use crate::command::Stamped;
+use crate::front::Fronts;
+use crate::id::Id;
 use crate::list::Listing;
 use crate::number::Minute;
+use crate::sheet::SheetRows;
 use std::alloc::{AllocError, Global};
 
 /// The most commands that a desk is ever asked to accept.
@@ -42,7 +45,9 @@ impl From<AllocError> for JudgeFault {
 /// knows. A desk keeps its allocator, so its methods take none.
 pub trait Desk {
     ghost use Rattle.desk_types.specs.declared.command.Command.{Command};
+    ghost use Rattle.desk_types.specs.Front.{fronts_of};
     ghost use Rattle.desk_types.specs.History.{History, desk_minute, accept};
+    ghost use Rattle.desk_types.specs.Setup.{selected_on, sheet_of};
     ghost use Rattle.desk_types.specs.Desk.{HasRoom, IsChange, IsJudgement};
 
     /// The lists for which the desk stands.
@@ -69,6 +74,19 @@ pub trait Desk {
     /// The desk minute: the greatest effective minute of the accepted commands.
     fn minute(&self) -> Option<Minute>
         ensures { (H : History) → Stands self.now H → result ≡ desk_minute H };
+
+    /// The product that is selected on the machine.
+    fn selected(&self, machine: &Id) -> Option<Id>
+        ensures { (H : History) → Stands self.now H → result ≡ selected_on H machine.now };
+
+    /// The last sheet of the product on the machine.
+    fn sheet_of(&self, product: &Id, machine: &Id) -> Result<Option<SheetRows>, AllocError>
+        ensures { (H : History) → Stands self.now H → IfOk result (λ rows. rows ≡ sheet_of H product.now machine.now) };
+
+    /// The slots of the selected product's sheet, in sheet order, each with its front reel at the
+    /// desk minute. There are none where no product is selected.
+    fn fronts(&self, machine: &Id) -> Result<Fronts, AllocError>
+        ensures { (H : History) → Stands self.now H → IfOk result (λ fronts. fronts ≡ fronts_of H machine.now) };
 }
 
 /// Judges commands one after the other, and settles each that is accepted. The replies are those of

@@ -2,6 +2,7 @@
 
 ghost use Rattle.std.specs.Prelude.{◌≡◌, ℕ, ◌+◌, ◌-◌, ◌≤◌, Some, None};
 ghost use Rattle.std.specs.Option.{ForSome, ForNone};
+ghost use Rattle.desk_types.specs.declared.level.TheConstants.{GREATEST_LABEL};
 
 use desk_types::{Id, Level, Minute, Moisture, Quantity};
 
@@ -33,6 +34,7 @@ pub struct Reel {
     pub open_since: Option<Minute>,
     pub baked: bool,
     pub last: Minute,
+    ghost label_range: { label ≤ GREATEST_LABEL },
     ghost balance: { received ≡ placed + scrapped + remaining },
     ghost open_minutes: { ForSome open_since (λ since. (used ≤ since) × (since ≤ last)) },
     ghost sealed_minutes: { ForNone open_since (used ≤ last) },
@@ -40,6 +42,8 @@ pub struct Reel {
 
 impl Reel {
     ghost use Rattle.std.specs.Prelude.{◌≡◌, ℕ, ◌+◌, ◌-◌, ◌≤◌, not, ◌&&◌, Some, None, true, false, if◌then◌else◌, ◌∷◌};
+    ghost use Rattle.std.specs.Prelude.{IfSome};
+    ghost use Rattle.desk_types.specs.declared.level.TheConstants.{GREATEST_LABEL};
     ghost use Rattle.desk_types.specs.declared.command.Command.TheVariants.{ReelReceived, ReelSealed, ReelBaked};
     ghost use Rattle.desk_types.specs.declared.command.Entry.{Entry};
     ghost use Rattle.desk_types.specs.Id.{Name};
@@ -130,7 +134,8 @@ impl Reel {
     /// The minutes of floor life that are left, 0 when expired, or none where there is no limit.
     pub fn minutes_left(&self, at: Minute) -> Option<u64>
         requires { self.now.last ≤ at }
-        ensures { (H : History) (name : Name) → StandsFor H name self.now → result ≡ minutes_left H name at }
+        ensures bound { IfSome result (λ left. left ≤ GREATEST_LABEL) }
+        ensures stands { (H : History) (name : Name) → StandsFor H name self.now → result ≡ minutes_left H name at }
     {
         let exposure = self.exposure(at);
         let limit = self.level.limit(self.label)?;

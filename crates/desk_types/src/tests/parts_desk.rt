@@ -30,14 +30,15 @@ impl PartsDesk {
 }
 
 impl Desk for PartsDesk {
-    ghost use Rattle.std.specs.Prelude.{◌≡◌};
+    ghost use Rattle.std.specs.Prelude.{◌≡◌, None};
     ghost use Rattle.std.specs.List.{list_any};
     ghost use Rattle.desk_types.specs.declared.command.Command.TheVariants.{PartDefined};
     ghost use Rattle.desk_types.specs.Id.{Name, same};
     ghost use Rattle.desk_types.specs.History.{desk_minute};
-    ghost use Rattle.desk_types.specs.Setup.{is_part};
+    ghost use Rattle.desk_types.specs.Setup.{is_part, selected_on, sheet_of};
 
-    ghost Stands = { λ desk H. ((part : Name) → list_any (λ p. same p part) desk.parts.items ≡ is_part H part) × (desk.minute ≡ desk_minute H) };
+    ghost Stands = { λ desk H. ((part : Name) → list_any (λ p. same p part) desk.parts.items ≡ is_part H part) × (desk.minute ≡ desk_minute H)
+        × ((machine : Name) → selected_on H machine ≡ None) × ((product machine : Name) → sheet_of H product machine ≡ None) };
 
     ghost Knows = { λ command. (part : Name) × (command ≡ PartDefined part) };
 
@@ -65,6 +66,18 @@ impl Desk for PartsDesk {
 
     fn minute(&self) -> Option<Minute> {
         self.minute
+    }
+
+    fn selected(&self, _machine: &Id) -> Option<Id> {
+        None
+    }
+
+    fn sheet_of(&self, _product: &Id, _machine: &Id) -> Result<Option<SheetRows>, AllocError> {
+        Ok(None)
+    }
+
+    fn fronts(&self, _machine: &Id) -> Result<Fronts, AllocError> {
+        Ok(Listing::new(Vec::new(self.alloc)))
     }
 }
 

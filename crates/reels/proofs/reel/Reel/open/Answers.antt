@@ -6,6 +6,7 @@ pub invariant_of-self : goal.invariant_of-self
 invariant_of-self c =
     let reel = c.args.self.now in
     record {
+      label_range = reel.label_range;
       balance = reel.balance;
       open_minutes = λ x is. since-between reel.open_since reel.used reel.last c.args.at x reel.open_minutes reel.sealed_minutes c.requires (sym c.unwrap_or.ensures ∙ cc);
       sealed_minutes = λ is. absurd (cc);

@@ -1,0 +1,82 @@
+-- Lists of items.
+use Rattle.std.proofs.Common.{◌≡◌, refl, ap, ◌∙◌, sym, ℕ, suc, List, [], ◌∷◌, ◌++◌, length, Some, option_and_then, Result, Ok, Err}
+use Rattle.serde_json.specs.Data.{Data}
+use Rattle.serde_json.specs.Find.{get, as_array}
+use Rattle.serde_json.specs.View.{items_of}
+use Rattle.cfx_profile.specs.declared.fault.MessageFault.{MessageFault}
+use Rattle.cfx_profile.specs.declared.member.Member.{Member}
+use Rattle.cfx_profile.specs.Fault.{◌>>=◌}
+use Rattle.cfx_profile.specs.Lists.{items_list, some_items, items_in, each}
+use Rattle.cfx_profile.specs.Member.{member_text}
+
+-- the items of an array that was made of a list are that list
+pub items_list-of : (ds : List Data) → items_list (items_of ds) ≡ ds
+items_list-of [] = refl
+items_list-of (d ∷ ds) = ap (λ r. d ∷ r) (items_list-of ds)
+
+-- a member that is an array is judged by its length
+pub items_in-of : (m : Member) (body : Data) (ds : List Data)
+    → option_and_then as_array (get (member_text m) body) ≡ Some (items_of ds) → items_in m body ≡ some_items m ds
+unfolding items_in
+items_in-of m body ds is = rw (is, items_list-of ds) refl
+
+-- an item before the others
+first_of_each : {X : Type 0} → Result X MessageFault → Result (List X) MessageFault → Result (List X) MessageFault
+first_of_each first rest = do
+  x ← first
+  xs ← rest
+  Ok (x ∷ xs)
+
+-- what is read of two lists, one after the other
+both : {X : Type 0} → Result (List X) MessageFault → Result (List X) MessageFault → Result (List X) MessageFault
+both first second = do
+  xs ← first
+  ys ← second
+  Ok (xs ++ ys)
+
+both-nothing : {X : Type 0} (r : Result (List X) MessageFault) → r ≡ both (Ok []) r
+unfolding both
+both-nothing (Ok ys) = refl
+both-nothing (Err fault) = refl
+
+both-first : {X : Type 0} (first : Result X MessageFault) (rest later : Result (List X) MessageFault)
+    → first_of_each first (both rest later) ≡ both (first_of_each first rest) later
+unfolding both first_of_each
+both-first (Err fault) rest later = refl
+both-first (Ok x) (Err fault) later = refl
+both-first (Ok x) (Ok xs) (Err fault) = refl
+both-first (Ok x) (Ok xs) (Ok ys) = refl
+
+each-append : {X : Type 0} (reading : Data → Result X MessageFault) (ds es : List Data)
+    → each reading (ds ++ es) ≡ both (each reading ds) (each reading es)
+unfolding first_of_each
+each-append reading [] es = both-nothing (each reading es)
+each-append reading (d ∷ ds) es = ap (first_of_each (reading d)) (each-append reading ds es) ∙ both-first (reading d) (each reading ds) (each reading es)
+
+-- one more item
+pub each-more : {X : Type 0} (reading : Data → Result X MessageFault) (ds : List Data) (d : Data) (xs : List X) (x : X)
+    → each reading ds ≡ Ok xs → reading d ≡ Ok x → each reading (ds ++ d ∷ []) ≡ Ok (xs ++ x ∷ [])
+unfolding both
+each-more reading ds d xs x before here = rw (each-append reading ds (d ∷ []), before, here) refl
+
+-- the first item at fault
+pub each-fault : {X : Type 0} (reading : Data → Result X MessageFault) (ds : List Data) (d : Data) (later : List Data) (xs : List X) (fault : MessageFault)
+    → each reading ds ≡ Ok xs → reading d ≡ Err fault → each reading (ds ++ d ∷ later) ≡ Err fault
+unfolding both
+each-fault reading ds d later xs fault before here = rw (each-append reading ds (d ∷ later), before, here) refl
+
+length-first : {X : Type 0} (first : Result X MessageFault) (rest : Result (List X) MessageFault) (xs : List X) (n : ℕ)
+    → first_of_each first rest ≡ Ok xs → ((ys : List X) → rest ≡ Ok ys → length ys ≡ n) → length xs ≡ suc n
+unfolding first_of_each
+length-first (Err fault) rest xs n is count = cc
+length-first (Ok x) (Err fault) xs n is count = cc
+length-first (Ok x) (Ok ys) xs n is count =
+    let whole : x ∷ ys ≡ xs = cc in
+    ap length (sym whole) ∙ ap suc (count ys refl)
+
+-- each item gives one element
+pub length-each : {X : Type 0} (reading : Data → Result X MessageFault) (ds : List Data) (xs : List X)
+    → each reading ds ≡ Ok xs → length xs ≡ length ds
+unfolding first_of_each
+length-each reading [] xs is = cc
+length-each reading (d ∷ ds) xs is = length-first (reading d) (each reading ds) xs (length ds) is (length-each reading ds)

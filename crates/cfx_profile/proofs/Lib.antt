@@ -1,0 +1,4 @@
+pub mod Faults
+pub mod Items
+pub mod Names
+pub mod Skips

@@ -1,0 +1,22 @@
+use Rattle.std.proofs.Common.{rules, ◌≡◌, refl, true, false, None, List, ℕ, if◌then◌else◌}
+use Rattle.std.proofs.lemmas.Str.{IsUtf8-from_is_utf8, is_utf8-from_IsUtf8}
+use Rattle.std.specs.Str.{is_utf8, IsUtf8}
+use Rattle.serde_json.specs.Read.{read}
+use Rattle.cfx_profile.specs.Message.{value_of}
+use Rattle.cfx_profile.proofs.message.value_of.Goals as goal
+
+-- bytes that are no JSON text, where they are text at all, spell no value
+none_of : (bytes : List ℕ) → (IsUtf8 bytes → read bytes ≡ None) → value_of bytes ≡ None
+unfolding value_of
+none_of bytes bad =
+    elim (is_utf8 bytes) as (λ b. is_utf8 bytes ≡ b → (if b then read bytes else None) ≡ None)
+    [ true ↦ λ is. bad (IsUtf8-from_is_utf8 bytes is) | false ↦ λ is. refl ] refl
+
+pub returns-in-Ok-clause-ok : goal.returns-in-Ok-clause-ok
+unfolding value_of
+returns-in-Ok-clause-ok c = rw (is_utf8-from_IsUtf8 c.args.bytes.now c.in-Ok.ensures.ok.0) c.in-Ok.ensures.ok.1
+
+pub returns-in-Err-2-clause-bad : goal.returns-in-Err-2-clause-bad
+returns-in-Err-2-clause-bad c =
+    let bad : IsUtf8 c.args.bytes.now → read c.args.bytes.now ≡ None = search rules in
+    λ _. none_of c.args.bytes.now bad

@@ -1,0 +1,10 @@
+pub mod Answer
+pub mod Bodies
+pub mod Fault
+pub mod Forms
+pub mod Lists
+pub mod Member
+pub mod Message
+pub mod Minute
+pub mod Skipped
+pub mod Word

@@ -1,0 +1,26 @@
+//! Reading messages: what the bytes of one message say.
+//!
+//! A message is a JSON object (RFC 8259), an envelope after IPC-CFX. Five of its members are read.
+//! The names of the messages and their bodies are this project's own profile, which stands in
+//! `specs/Bodies.antt` on one page.
+#![tactic(auto)]
+
+mod answer;
+mod bodies;
+mod fault;
+mod forms;
+mod lists;
+mod member;
+mod message;
+mod minute;
+mod skipped;
+#[cfg(test)]
+mod tests;
+mod word;
+
+pub use answer::{ignored_text, unavailable_text};
+pub use fault::MessageFault;
+pub use member::Member;
+pub use message::{Said, read_message};
+pub use minute::{MinuteFault, read_minute};
+pub use skipped::other_members_are_skipped;

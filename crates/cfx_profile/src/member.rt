@@ -1,0 +1,62 @@
+//! The members of messages that are read.
+
+ghost use Rattle.std.specs.Prelude.{◌≡◌};
+ghost use Rattle.cfx_profile.specs.Member.{member_text};
+
+/// A member of an envelope, of a body or of a row in a body.
+#[derive(Clone, Copy, Debug, PartialEq, Eq)]
+pub enum Member {
+    /// Of the envelope: which message it is.
+    MessageName,
+    /// Of the envelope: the name of this one message.
+    UniqueId,
+    /// Of the envelope: who sent it.
+    Source,
+    /// Of the envelope: when it was sent, by the sender's clock.
+    TimeStamp,
+    /// Of the envelope: what it says.
+    MessageBody,
+    PartNumber,
+    Alternate,
+    Product,
+    Machine,
+    Rows,
+    Slot,
+    Designators,
+    Reel,
+    Lot,
+    Level,
+    Quantity,
+    LabelMinutes,
+    Board,
+    Counts,
+}
+
+impl Member {
+    /// The member's key.
+    pub fn as_str(self) -> &'static str
+        ensures { result.now ≡ member_text self }
+    {
+        match self {
+            Member::MessageName => "MessageName",
+            Member::UniqueId => "UniqueID",
+            Member::Source => "Source",
+            Member::TimeStamp => "TimeStamp",
+            Member::MessageBody => "MessageBody",
+            Member::PartNumber => "PartNumber",
+            Member::Alternate => "Alternate",
+            Member::Product => "Product",
+            Member::Machine => "Machine",
+            Member::Rows => "Rows",
+            Member::Slot => "Slot",
+            Member::Designators => "Designators",
+            Member::Reel => "Reel",
+            Member::Lot => "Lot",
+            Member::Level => "Level",
+            Member::Quantity => "Quantity",
+            Member::LabelMinutes => "LabelMinutes",
+            Member::Board => "Board",
+            Member::Counts => "Counts",
+        }
+    }
+}

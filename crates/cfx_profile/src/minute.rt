@@ -1,0 +1,58 @@
+//! The minute of a time.
+
+ghost use Rattle.std.specs.Prelude.{◌≡◌, ◌≤◌, IfSome};
+ghost use Rattle.jiff.specs.Words.{epoch_day};
+ghost use Rattle.cfx_profile.specs.Minute.{minute_said, minute_of_nanos, minute_of_day};
+
+use desk_types::Minute;
+use jiff::Timestamp;
+use jiff::civil::DateTime;
+
+/// Why a time is not read.
+#[derive(Clone, Copy, Debug, PartialEq, Eq)]
+pub enum MinuteFault {
+    /// The text is no time, or its time is before 1970.
+    BadTime,
+    /// Memory was refused. Reading a time takes no memory today, so this is not answered.
+    NoMemory,
+}
+
+/// The minute of a time text: whole minutes since 1970-01-01T00:00Z, rounded down.
+///
+/// The text is an instant with `Z` or an offset, as RFC 3339 has it and as `jiff` reads it: up to
+/// 9999-12-30T22:00:00.999999999Z. A text that is no such instant is a date, with or without a time
+/// of day, in UTC; an offset or a zone in it is dropped. An instant before 1970 is a fault, and is
+/// not read as a date.
+#[tactic(auto, unfolding(crate::specs::Minute::minute_said))]
+pub fn read_minute(text: &str) -> Result<Minute, MinuteFault>
+    ensures { result ≡ minute_said text.now }
+{
+    let minute = match text.parse::<Timestamp>() {
+        Ok(instant) => instant_minute(instant),
+        Err(_) => match text.parse::<DateTime>() {
+            Ok(civil) => civil_minute(civil),
+            Err(_) => None,
+        },
+    };
+    minute.ok_or(MinuteFault::BadTime)
+}
+
+fn instant_minute(instant: Timestamp) -> Option<Minute>
+    ensures { result ≡ minute_of_nanos instant.nanosecond }
+{
+    let nanos = instant.as_nanosecond();
+    if nanos < 0 {
+        return None;
+    }
+    Minute::new((nanos / 60_000_000_000) as u64)
+}
+
+fn civil_minute(civil: DateTime) -> Option<Minute>
+    ensures { result ≡ minute_of_day (epoch_day civil.date) civil.time.hour civil.time.minute }
+{
+    let day = civil.date().to_plain().to_unix_epoch_day();
+    if day < 0 {
+        return None;
+    }
+    Minute::new(1440 * day as u64 + 60 * civil.hour() as u64 + civil.minute() as u64)
+}

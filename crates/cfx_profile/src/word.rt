@@ -1,0 +1,91 @@
+//! The messages of this project's profile, by name.
+
+ghost use Rattle.std.specs.Prelude.{◌≡◌, find, option_map};
+ghost use Rattle.desk_types.specs.Id.{same};
+ghost use Rattle.cfx_profile.specs.Word.{message_name, word_of};
+
+/// Which of the seventeen messages it is.
+#[derive(Clone, Copy, Debug, PartialEq, Eq)]
+pub enum Word {
+    PartDefined,
+    AlternateAllowed,
+    SheetDefined,
+    ProductSelected,
+    ReelReceived,
+    ReelOpened,
+    ReelSealed,
+    ReelBaked,
+    MaterialsLoaded,
+    MaterialsSpliced,
+    MaterialsUnloaded,
+    WorkStarted,
+    WorkCompleted,
+    MaterialsInstalled,
+    MaterialsScrapped,
+    CountsTaken,
+    ClockSet,
+}
+
+/// All seventeen.
+const WORDS: [Word; 17] = [
+    Word::PartDefined,
+    Word::AlternateAllowed,
+    Word::SheetDefined,
+    Word::ProductSelected,
+    Word::ReelReceived,
+    Word::ReelOpened,
+    Word::ReelSealed,
+    Word::ReelBaked,
+    Word::MaterialsLoaded,
+    Word::MaterialsSpliced,
+    Word::MaterialsUnloaded,
+    Word::WorkStarted,
+    Word::WorkCompleted,
+    Word::MaterialsInstalled,
+    Word::MaterialsScrapped,
+    Word::CountsTaken,
+    Word::ClockSet,
+];
+
+impl Word {
+    /// The word of a message of this name, where it is one of the seventeen.
+    #[tactic(auto, unfolding(crate::specs::Word::word_of))]
+    pub fn read(name: &str) -> Option<Word>
+        ensures { result ≡ word_of name.now }
+    {
+        named(&WORDS, name).copied()
+    }
+
+    /// The name of its messages.
+    #[tactic(auto, unfolding(crate::specs::Word::message_name))]
+    pub fn message_name(self) -> &'static str
+        ensures { result.now ≡ message_name self }
+    {
+        match self {
+            Word::PartDefined => "TraceDesk.PartDefined",
+            Word::AlternateAllowed => "TraceDesk.AlternateAllowed",
+            Word::SheetDefined => "TraceDesk.SheetDefined",
+            Word::ProductSelected => "TraceDesk.ProductSelected",
+            Word::ReelReceived => "TraceDesk.ReelReceived",
+            Word::ReelOpened => "TraceDesk.ReelOpened",
+            Word::ReelSealed => "TraceDesk.ReelSealed",
+            Word::ReelBaked => "TraceDesk.ReelBaked",
+            Word::MaterialsLoaded => "TraceDesk.MaterialsLoaded",
+            Word::MaterialsSpliced => "TraceDesk.MaterialsSpliced",
+            Word::MaterialsUnloaded => "TraceDesk.MaterialsUnloaded",
+            Word::WorkStarted => "TraceDesk.WorkStarted",
+            Word::WorkCompleted => "TraceDesk.WorkCompleted",
+            Word::MaterialsInstalled => "TraceDesk.MaterialsInstalled",
+            Word::MaterialsScrapped => "TraceDesk.MaterialsScrapped",
+            Word::CountsTaken => "TraceDesk.CountsTaken",
+            Word::ClockSet => "TraceDesk.ClockSet",
+        }
+    }
+}
+
+/// The first of some words with messages of this name.
+fn named<'a>(words: &'a [Word], name: &str) -> Option<&'a Word>
+    ensures { option_map (λ word. word.now) result ≡ find (λ word. same (message_name word) name.now) words.now }
+{
+    words.iter().find(|word| word.message_name() == name)
+}

@@ -1,0 +1,4 @@
+pub mod Fronting
+pub mod Handling
+pub mod Leaving
+pub mod Live

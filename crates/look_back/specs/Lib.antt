@@ -1,0 +1,6 @@
+pub mod Feeding
+pub mod Fronts
+pub mod Kept
+pub mod Life
+pub mod Look
+pub mod Words

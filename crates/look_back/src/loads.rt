@@ -1,0 +1,80 @@
+//! Why a load is refused.
+
+ghost use Rattle.std.specs.Prelude.{◌≡◌, ◌≤◌, not, reverse, IfOk};
+ghost use Rattle.desk_types.specs.declared.answer.Refusal.TheVariants.{SlotTaken};
+ghost use Rattle.desk_types.specs.Judged.{IsJudged};
+ghost use Rattle.desk_types.specs.Refusals.{is_vacant, is_wrong_for, mounting_refusal};
+ghost use Rattle.look_back.specs.Feeding.{reel_refusal};
+ghost use Rattle.look_back.specs.Kept.{AreTakes};
+ghost use Rattle.look_back.specs.Life.{now_of};
+
+use crate::floor_life::reel_of;
+use crate::mounts::{front, is_mounted};
+use crate::pieces::left;
+use crate::setup::{is_allowed, row_on, selected_on};
+use desk_types::{Entry, Id, Minute, Refusal, SheetRow, Takes};
+use std::alloc::{AllocError, Global};
+
+/// What is wrong with a reel that is to be loaded or spliced for a row.
+#[tactic(auto, unfolding(crate::specs::Feeding::reel_refusal))]
+fn reel_refusal(
+    entries: &[Entry],
+    takes: &[Takes],
+    minute: Minute,
+    row: &SheetRow,
+    reel: &Id,
+) -> Option<Refusal>
+    requires judged { IsJudged (reverse entries.now) }
+    requires takes { AreTakes (reverse entries.now) (reverse takes.now) }
+    requires minute { now_of (reverse entries.now) ≤ minute }
+    ensures { result ≡ reel_refusal (reverse entries.now) minute row.now reel.now }
+{
+    let Some(found) = reel_of(entries, reel) else {
+        return Some(Refusal::UnknownReel(*reel));
+    };
+    if is_mounted(entries, takes, reel) {
+        return Some(Refusal::ReelMounted(*reel));
+    }
+    if left(entries, takes, reel) == 0 {
+        return Some(Refusal::ReelEmpty(*reel));
+    }
+    if !is_allowed(entries, &row.part, &found.part) {
+        return Some(Refusal::WrongPart(*reel));
+    }
+    if found.is_unbaked() {
+        return Some(Refusal::NotBaked(*reel));
+    }
+    if found.is_expired(minute) {
+        return Some(Refusal::Expired(*reel));
+    }
+    None
+}
+
+/// Why a load is refused.
+#[tactic(auto, unfolding(desk_types::specs::Refusals::mounting_refusal, crate::specs::Feeding::reel_refusal))]
+pub fn load_refusal(
+    alloc: Global,
+    entries: &[Entry],
+    takes: &[Takes],
+    minute: Minute,
+    machine: &Id,
+    slot: &Id,
+    reel: &Id,
+) -> Result<Option<Refusal>, AllocError>
+    requires judged { IsJudged (reverse entries.now) }
+    requires takes { AreTakes (reverse entries.now) (reverse takes.now) }
+    requires minute { now_of (reverse entries.now) ≤ minute }
+    ensures { IfOk result (λ refusal. refusal ≡ mounting_refusal (reverse entries.now) minute machine.now slot.now reel.now
+        (not (is_vacant (reverse entries.now) machine.now slot.now), SlotTaken slot.now)) }
+{
+    if selected_on(entries, machine).is_none() {
+        return Ok(Some(Refusal::NoProduct(*machine)));
+    }
+    let Some(row) = row_on(entries, machine, slot) else {
+        return Ok(Some(Refusal::SlotNotOnSheet(*slot)));
+    };
+    if front(alloc, entries, takes, machine, slot)?.is_some() {
+        return Ok(Some(Refusal::SlotTaken(*slot)));
+    }
+    Ok(reel_refusal(entries, takes, minute, row, reel))
+}

@@ -1,0 +1,138 @@
+//! The desk that keeps its list and searches it.
+
+ghost use Rattle.std.specs.Prelude.{◌≡◌, ◌+◌, ◌≤◌, [], length, reverse, OnOk, OnErr};
+ghost use Rattle.std.specs.List.{find};
+ghost use Rattle.std.specs.Option.{option_copied};
+ghost use Rattle.desk_types.specs.declared.desk.TheConstants.{MOST_ENTRIES};
+ghost use Rattle.desk_types.specs.Id.{same};
+ghost use Rattle.desk_types.specs.History.{accept};
+ghost use Rattle.desk_types.specs.Desk.{IsChange};
+
+use crate::fronts::fronts;
+use crate::judging::judged;
+use crate::setup::{desk_minute, selected_on, sheet_of};
+use desk_types::{Change, Desk, Entry, Fronts, Id, JudgeFault, Minute, SheetRows, Stamped, Takes};
+use std::alloc::{AllocError, Global};
+use std::marker::Model;
+
+/// A desk that keeps the list of accepted entries, each with its takes, and answers by searching
+/// it. Contracts see it as that list.
+#[derive(Drop)]
+pub struct PlainDesk {
+    alloc: Global,
+    entries: Vec<Entry>,
+    takes: Vec<Takes>,
+}
+
+impl Model for PlainDesk {
+    ghost use Rattle.std.specs.Prelude.{reverse};
+    ghost use Rattle.desk_types.specs.History.{History};
+    ghost use Rattle.desk_types.specs.Judged.{IsJudged};
+    ghost use Rattle.look_back.specs.Kept.{AreTakes};
+
+    ghost Value = { History };
+
+    ghost view = { λ a. reverse a.entries.items };
+
+    ghost invariant = { λ a. IsJudged (reverse a.entries.items) × AreTakes (reverse a.entries.items) (reverse a.takes.items) };
+}
+
+impl PlainDesk {
+    /// A desk that has accepted nothing. Takes no memory.
+    pub fn new(alloc: Global) -> PlainDesk
+        ensures { result ≡ [] }
+    {
+        PlainDesk {
+            alloc,
+            entries: Vec::new(alloc),
+            takes: Vec::new(alloc),
+        }
+    }
+
+    /// The accepted entries, the oldest first. Takes no memory.
+    pub fn entries(&self) -> &[Entry]
+        ensures { reverse result.now ≡ self.now }
+    {
+        self.entries.as_slice()
+    }
+
+    /// The entry with this UniqueID, where there is one. Takes no memory.
+    pub fn earlier(&self, uid: &Id) -> Option<&Entry>
+        ensures { option_copied result ≡ find (λ e. same e.stamped.uid uid.now) self.now }
+    {
+        earlier(self.entries.as_slice(), uid)
+    }
+
+    /// Accepts what was judged. Without memory the desk is as before.
+    pub fn append(&mut self, change: Change) -> Result<(), AllocError>
+        requires room { length self.old + 1 ≤ MOST_ENTRIES }
+        requires judged { IsChange self.old change.stamped change }
+        ensures ok { OnOk result (self.new ≡ accept self.old change.stamped) }
+        ensures err { OnErr result (self.new ≡ self.old) }
+    {
+        let entry = Entry {
+            number: self.entries.len() as u64 + 1,
+            stamped: change.stamped,
+            effective: change.minute,
+        };
+        entry.ranges_hold();
+        self.entries.push(entry)?;
+        if self.takes.push(change.takes).is_err() {
+            self.entries.pop();
+            return Err(AllocError);
+        }
+        Ok(())
+    }
+}
+
+fn earlier<'a>(entries: &'a [Entry], uid: &Id) -> Option<&'a Entry>
+    ensures { option_copied result ≡ find (λ e. same e.stamped.uid uid.now) (reverse entries.now) }
+{
+    entries.iter().rev().find(|entry| entry.stamped.uid == *uid)
+}
+
+impl Desk for PlainDesk {
+    ghost use Rattle.std.specs.Prelude.{◌≡◌};
+    ghost use Rattle.look_back.specs.Words.{IsKnown};
+
+    ghost Stands = { λ desk H. H ≡ desk };
+
+    ghost Knows = { λ command. IsKnown command };
+
+    fn judge(&self, stamped: &Stamped) -> Result<Change, JudgeFault> {
+        judged(
+            self.alloc,
+            self.entries.as_slice(),
+            self.takes.as_slice(),
+            stamped,
+        )
+    }
+
+    fn settle(&mut self, change: Change) -> Result<(), AllocError> {
+        self.append(change)
+    }
+
+    fn minute(&self) -> Option<Minute> {
+        desk_minute(self.entries.as_slice())
+    }
+
+    fn selected(&self, machine: &Id) -> Option<Id> {
+        selected_on(self.entries.as_slice(), machine)
+    }
+
+    fn sheet_of(&self, product: &Id, machine: &Id) -> Result<Option<SheetRows>, AllocError> {
+        match sheet_of(self.entries.as_slice(), product, machine) {
+            Some(rows) => Ok(Some(rows.clone()?)),
+            None => Ok(None),
+        }
+    }
+
+    fn fronts(&self, machine: &Id) -> Result<Fronts, AllocError> {
+        fronts(
+            self.alloc,
+            self.entries.as_slice(),
+            self.takes.as_slice(),
+            machine,
+        )
+    }
+}

@@ -1,0 +1,324 @@
+//! Worked runs: what is said to a desk, line by line, and what it answers.
+
+ghost use Rattle.std.specs.Prelude.{IfOk};
+ghost use Rattle.look_back.specs.Words.{IsKnown};
+
+use crate::plain::PlainDesk;
+use desk_types::{
+    Bounded, Command, Designator, Desk, Id, JudgeFault, Level, Minute, Moisture, Quantity,
+    SheetRow, Stamped, run,
+};
+use std::alloc::{AllocError, Global};
+use std::process::Abort;
+use std::test::Fail;
+
+fn id(text: &str) -> Result<Id, Fail> {
+    Ok(Id::read(text.as_bytes()).ok_or("no id")?)
+}
+
+fn minute(minutes: u64) -> Result<Minute, Fail> {
+    Ok(Minute::new(minutes).ok_or("no minute")?)
+}
+
+/// A sheet of one slot, which feeds one designator.
+fn sheet(
+    alloc: Global,
+    product: &str,
+    machine: &str,
+    slot: &str,
+    part: &str,
+) -> Result<Command, Fail>
+    ensures { IfOk result IsKnown }
+{
+    let designator = Designator::read(b"R1").ok_or("no designator")?;
+    let row = SheetRow {
+        slot: id(slot)?,
+        part: id(part)?,
+        designators: Bounded::new(vec![in alloc; designator]?).ok_or("no designators")?,
+    };
+    Ok(Command::SheetDefined {
+        product: id(product)?,
+        machine: id(machine)?,
+        rows: Bounded::new(vec![in alloc; row]?).ok_or("no rows")?,
+    })
+}
+
+/// The receipt of a reel of ten pieces of lot L1. The label's minutes are those of level six.
+fn receipt(reel: &str, part: &str, level: &str) -> Result<Command, Fail>
+    ensures { IfOk result IsKnown }
+{
+    let level = Level::read(level.as_bytes()).ok_or("no level")?;
+    let label = if level == Level::Six { 60 } else { 0 };
+    Ok(Command::ReelReceived {
+        reel: id(reel)?,
+        part: id(part)?,
+        lot: id("L1")?,
+        moisture: Moisture::new(level, label).ok_or("no moisture")?,
+        quantity: Quantity::new(10).ok_or("no quantity")?,
+    })
+}
+
+/// The command that these words say.
+fn command(alloc: Global, line: &str) -> Result<Command, Fail>
+    ensures { IfOk result IsKnown }
+{
+    let mut words = Vec::new(alloc);
+    for word in line.split_whitespace() {
+        words.push(word)?;
+    }
+    match *words {
+        ["part", part] => Ok(Command::PartDefined { part: id(part)? }),
+        ["alternate", part, alternate] => Ok(Command::AlternateAllowed {
+            part: id(part)?,
+            alternate: id(alternate)?,
+        }),
+        ["sheet", product, machine, slot, part] => sheet(alloc, product, machine, slot, part),
+        ["select", machine, product] => Ok(Command::ProductSelected {
+            machine: id(machine)?,
+            product: id(product)?,
+        }),
+        ["receive", reel, part, level] => receipt(reel, part, level),
+        ["open", reel] => Ok(Command::ReelOpened { reel: id(reel)? }),
+        ["seal", reel] => Ok(Command::ReelSealed { reel: id(reel)? }),
+        ["bake", reel] => Ok(Command::ReelBaked { reel: id(reel)? }),
+        ["load", machine, slot, reel] => Ok(Command::MaterialsLoaded {
+            machine: id(machine)?,
+            slot: id(slot)?,
+            reel: id(reel)?,
+        }),
+        ["start", machine, board] => Ok(Command::WorkStarted {
+            machine: id(machine)?,
+            board: id(board)?,
+        }),
+        ["complete", machine, board] => Ok(Command::WorkCompleted {
+            machine: id(machine)?,
+            board: id(board)?,
+        }),
+        ["clock"] => Ok(Command::ClockSet),
+        _ => Err("no command")?,
+    }
+}
+
+/// The command of a line, at an own minute. Its UniqueID is named after the place that it would
+/// get: u1, u2 and so on.
+fn stamped(alloc: Global, desk: &PlainDesk, minutes: u64, line: &str) -> Result<Stamped, Fail>
+    ensures { IfOk result (λ s. IsKnown s.command) }
+{
+    let place = desk.entries().len() as u64 + 1;
+    Ok(Stamped {
+        uid: id(format!(in alloc; "u{place}")?.as_str())?,
+        source: id("S")?,
+        minute: minute(minutes)?,
+        command: command(alloc, line)?,
+    })
+}
+
+/// Says the lines one after the other, each at its own minute, and looks at each answer.
+fn say(
+    rt: &impl Abort,
+    alloc: Global,
+    desk: &mut PlainDesk,
+    lines: &[(u64, &str, &str)],
+) -> Result<(), Fail> {
+    for (minutes, line, wanted) in lines {
+        assert!(rt; desk.entries().len() < 1000);
+        let messages = [stamped(alloc, desk, *minutes, line)?];
+        let replies = run(alloc, desk, &messages)?;
+        let [reply] = replies.as_slice() else {
+            return Err("not one reply")?;
+        };
+        let shown = format!(in alloc; "{reply:?}")?;
+        assert_eq!(rt; shown.as_str(), *wanted, "{line} at {minutes}");
+    }
+    Ok(())
+}
+
+const PLAIN: &str = "Accepted(Plain)";
+
+const NO_LIMIT: &str = "Accepted(MinutesLeft(None))";
+
+/// A desk with parts P and Q, and a machine M whose slot 1 feeds P.
+fn set_up(rt: &impl Abort, alloc: Global) -> Result<PlainDesk, Fail> {
+    let mut desk = PlainDesk::new(alloc);
+    let lines = [
+        (0, "part P", PLAIN),
+        (0, "part Q", PLAIN),
+        (0, "sheet PR M 1 P", PLAIN),
+        (0, "select M PR", PLAIN),
+    ];
+    say(rt, alloc, &mut desk, &lines)?;
+    Ok(desk)
+}
+
+#[test]
+fn what_does_not_fit_is_refused_by_name(rt: HostRuntime) -> Result<(), Fail> {
+    let mut desk = set_up(&rt, rt.alloc())?;
+    let lines = [
+        (0, "part P", "Refused(PartExists(P))"),
+        (0, "alternate P Z", "Refused(UnknownPart(Z))"),
+        (0, "sheet PR M 1 Z", "Refused(UnknownPart(Z))"),
+        (0, "select M PX", "Refused(UnknownSheet(PX))"),
+        (0, "receive K1 Z 1", "Refused(UnknownPart(Z))"),
+        (0, "receive K1 P 1", PLAIN),
+        (0, "receive K1 Q 1", "Refused(ReelExists(K1))"),
+        (0, "receive K2 P 1", PLAIN),
+        (0, "load N 1 K1", "Refused(NoProduct(N))"),
+        (0, "load M 2 K1", "Refused(SlotNotOnSheet(2))"),
+        (0, "load M 1 K9", "Refused(UnknownReel(K9))"),
+        (0, "start M B1", "Refused(SlotEmpty(1))"),
+        (0, "load M 1 K1", NO_LIMIT),
+        (0, "load M 1 K2", "Refused(SlotTaken(1))"),
+        (0, "open K9", "Refused(UnknownReel(K9))"),
+        (0, "seal K1", "Refused(ReelMounted(K1))"),
+        (0, "sheet PS N 1 P", PLAIN),
+        (0, "select N PS", PLAIN),
+        (0, "load N 1 K1", "Refused(ReelMounted(K1))"),
+    ];
+    say(&rt, rt.alloc(), &mut desk, &lines)
+}
+
+#[test]
+fn an_alternate_is_allowed_in_one_direction(rt: HostRuntime) -> Result<(), Fail> {
+    let mut desk = set_up(&rt, rt.alloc())?;
+    let lines = [
+        (0, "receive K1 Q 1", PLAIN),
+        (0, "load M 1 K1", "Refused(WrongPart(K1))"),
+        (0, "alternate P Q", PLAIN),
+        (0, "load M 1 K1", NO_LIMIT),
+        (0, "sheet PS N 1 Q", PLAIN),
+        (0, "select N PS", PLAIN),
+        (0, "receive K2 P 1", PLAIN),
+        (0, "load N 1 K2", "Refused(WrongPart(K2))"),
+    ];
+    say(&rt, rt.alloc(), &mut desk, &lines)
+}
+
+#[test]
+fn a_board_is_in_work_on_one_machine(rt: HostRuntime) -> Result<(), Fail> {
+    let mut desk = set_up(&rt, rt.alloc())?;
+    let lines = [
+        (0, "receive K1 P 1", PLAIN),
+        (0, "load M 1 K1", NO_LIMIT),
+        (0, "start M B1", PLAIN),
+        (0, "sheet PR M 1 P", "Refused(MachineBusy(M))"),
+        (0, "select M PR", "Refused(MachineBusy(M))"),
+        (0, "start M B2", "Refused(MachineBusy(M))"),
+        (0, "sheet PR N 1 P", PLAIN),
+        (0, "select N PR", PLAIN),
+        (0, "start N B1", "Refused(BoardBusy(B1))"),
+        (0, "complete N B1", "Refused(NotInWork(B1))"),
+        (0, "complete M B1", PLAIN),
+        (0, "complete M B1", "Refused(NotInWork(B1))"),
+        (0, "sheet PS M 1 P", PLAIN),
+        (0, "select M PS", PLAIN),
+        (0, "start M B1", "Refused(OtherProduct(B1))"),
+        (0, "sheet PS M 1 Q", PLAIN),
+        (0, "start M B2", "Refused(WrongPart(1))"),
+    ];
+    say(&rt, rt.alloc(), &mut desk, &lines)
+}
+
+#[test]
+fn a_reel_expires_at_its_minute(rt: HostRuntime) -> Result<(), Fail> {
+    let mut desk = set_up(&rt, rt.alloc())?;
+    let lines = [
+        (0, "receive K1 P 3", PLAIN),
+        (0, "receive K2 P 3", PLAIN),
+        (0, "open K1", PLAIN),
+        (0, "open K2", PLAIN),
+        (10_079, "load M 1 K1", "Accepted(MinutesLeft(Some(1)))"),
+        (10_079, "start M B1", PLAIN),
+        (10_079, "complete M B1", PLAIN),
+        (10_080, "start M B2", "Refused(Expired(1))"),
+        (10_080, "sheet PS N 1 P", PLAIN),
+        (10_080, "select N PS", PLAIN),
+        (10_080, "load N 1 K2", "Refused(Expired(K2))"),
+    ];
+    say(&rt, rt.alloc(), &mut desk, &lines)
+}
+
+#[test]
+fn a_bake_and_a_bag_save_floor_life(rt: HostRuntime) -> Result<(), Fail> {
+    let mut baked = set_up(&rt, rt.alloc())?;
+    let lines = [
+        (0, "receive K1 P 5a", PLAIN),
+        (0, "open K1", PLAIN),
+        (1440, "load M 1 K1", "Refused(Expired(K1))"),
+        (1441, "bake K1", PLAIN),
+        (1440, "load M 1 K1", "Accepted(MinutesLeft(Some(1440)))"),
+    ];
+    say(&rt, rt.alloc(), &mut baked, &lines)?;
+    let mut six = set_up(&rt, rt.alloc())?;
+    let lines = [
+        (0, "receive K1 P 6", PLAIN),
+        (0, "load M 1 K1", "Refused(NotBaked(K1))"),
+        (10, "bake K1", PLAIN),
+        (10, "open K1", PLAIN),
+        (69, "load M 1 K1", "Accepted(MinutesLeft(Some(1)))"),
+    ];
+    say(&rt, rt.alloc(), &mut six, &lines)?;
+    let mut sealed = set_up(&rt, rt.alloc())?;
+    let lines = [
+        (0, "receive K1 P 5a", PLAIN),
+        (50, "open K1", PLAIN),
+        (150, "seal K1", PLAIN),
+        (1000, "load M 1 K1", "Accepted(MinutesLeft(Some(1340)))"),
+    ];
+    say(&rt, rt.alloc(), &mut sealed, &lines)
+}
+
+#[test]
+fn late_commands_take_effect_at_the_desk_minute(rt: HostRuntime) -> Result<(), Fail> {
+    let mut desk = set_up(&rt, rt.alloc())?;
+    let lines = [
+        (20_161, "part Z", "Refused(TooFarAhead)"),
+        (20_160, "part Z", PLAIN),
+        (20_100, "part Y", PLAIN),
+        (100_000, "clock", PLAIN),
+        (120_161, "part X", "Refused(TooFarAhead)"),
+    ];
+    say(&rt, rt.alloc(), &mut desk, &lines)?;
+    let late = desk.earlier(&id("u6")?).ok_or("no entry")?;
+    assert_eq!(rt; late.number, 6);
+    assert_eq!(rt; late.stamped.minute, minute(20_100)?);
+    assert_eq!(rt; late.effective, minute(20_160)?);
+    assert!(rt; desk.earlier(&id("u8")?).is_none());
+    assert_eq!(rt; desk.entries().len(), 7);
+    assert_eq!(rt; desk.minute(), Some(minute(100_000)?));
+    Ok(())
+}
+
+/// Judges and accepts the command of a line. Where memory is refused while it is accepted, the desk
+/// is as before.
+fn accept(rt: &impl Abort, alloc: Global, desk: &mut PlainDesk, line: &str) -> Result<(), Fail> {
+    let before = desk.entries().len();
+    assert!(rt; before < 1000);
+    let message = stamped(alloc, desk, 0, line)?;
+    let change = match desk.judge(&message) {
+        Ok(change) => change,
+        Err(JudgeFault::NoMemory) => return Err(AllocError)?,
+        Err(JudgeFault::Refused(_)) => return Err("refused")?,
+    };
+    let accepted = desk.append(change);
+    let wanted = if accepted.is_ok() { before + 1 } else { before };
+    assert_eq!(rt; desk.entries().len(), wanted);
+    assert_eq!(rt; desk.earlier(&message.uid).is_some(), accepted.is_ok());
+    Ok(accepted?)
+}
+
+#[test]
+fn a_command_is_accepted_or_memory_was_refused(rt: HostRuntime) -> Result<(), Fail> {
+    let mut desk = PlainDesk::new(rt.alloc());
+    for line in [
+        "part P",
+        "sheet PR M 1 P",
+        "select M PR",
+        "receive K1 P 1",
+        "load M 1 K1",
+        "start M B1",
+    ] {
+        accept(&rt, rt.alloc(), &mut desk, line)?;
+    }
+    assert_eq!(rt; desk.minute(), Some(minute(0)?));
+    Ok(())
+}
