@@ -1,11 +1,8 @@
-pub mod Accepted
 pub mod Ascii
 pub mod Exposure
 pub mod FloorLifeRows
-pub mod Judgements
 pub mod Keys
 pub mod Minutes
-pub mod Mounts
 pub mod PieceRows
 pub mod ReelCommands
 pub mod RowsCommon

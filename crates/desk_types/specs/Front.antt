@@ -8,7 +8,7 @@ use Rattle.desk_types.specs.declared.front.Life.{Life}
 use Rattle.desk_types.specs.declared.front.Life.TheVariants.{Unlimited, Unbaked, Until}
 use Rattle.desk_types.specs.declared.sheet.SheetRow.{SheetRow}
 use Rattle.desk_types.specs.Id.{Name}
-use Rattle.desk_types.specs.History.{History, desk_minute}
+use Rattle.desk_types.specs.History.{History, now_of}
 use Rattle.desk_types.specs.Setup.{sheet_on, receipt_of}
 use Rattle.desk_types.specs.Pieces.{front_of}
 use Rattle.desk_types.specs.FloorLife.{minutes_left, is_unbaked}
@@ -39,5 +39,5 @@ front_reel H minute reel = record {
 -- the slots of the selected product's sheet on the machine, in sheet order, each with its front reel at the desk minute
 abbrev pub fronts_of : History → Name → List Front
 fronts_of H machine =
-    map (λ (row : SheetRow). record { slot = row.slot; reel = option_map (front_reel H (unwrap_or (desk_minute H) 0)) (front_of H machine row.slot) })
+    map (λ (row : SheetRow). record { slot = row.slot; reel = option_map (front_reel H (now_of H)) (front_of H machine row.slot) })
     (unwrap_or (sheet_on H machine) [])

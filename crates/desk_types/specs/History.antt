@@ -22,9 +22,13 @@ abbrev pub desk_minute : History → Option ℕ
 desk_minute [] = None
 desk_minute (e ∷ H) = Some (max e.effective (unwrap_or (desk_minute H) 0))
 
+-- the desk minute, or 0 where nothing is accepted
+abbrev pub now_of : History → ℕ
+now_of H = unwrap_or (desk_minute H) 0
+
 -- the minute at which a command of this own minute takes effect after H: its own, and never before the desk minute
 abbrev pub effective_minute : History → ℕ → ℕ
-effective_minute H own = max own (unwrap_or (desk_minute H) 0)
+effective_minute H own = max own (now_of H)
 
 -- the entry that the command becomes when it is accepted after H
 abbrev pub entry_of : History → Stamped → Entry

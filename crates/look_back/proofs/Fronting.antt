@@ -10,7 +10,7 @@ use Rattle.desk_types.specs.Pieces.{left_of, live_on, first, front_of}
 use Rattle.desk_types.specs.Front.{fronts_of}
 use Rattle.desk_types.specs.Judged.{IsJudged}
 use Rattle.desk_types.proofs.Keys.{same-refl}
-use Rattle.desk_types.proofs.Mounts.{has, has-live_on, unreceived-nowhere}
+use Rattle.desk_laws.proofs.Mounts.{has, has-live_on, unreceived-nowhere}
 
 first-has : (reels : List Name) (reel : Name) → first reels ≡ Some reel → has reels reel ≡ true
 first-has [] reel is = cc

@@ -8,12 +8,12 @@ use Rattle.desk_types.specs.declared.command.Command.TheVariants.{ReelReceived, 
 use Rattle.desk_types.specs.declared.command.Entry.{Entry}
 use Rattle.desk_types.specs.declared.command.Receipt.{Receipt}
 use Rattle.desk_types.specs.Id.{Name, same}
-use Rattle.desk_types.specs.History.{History, desk_minute}
+use Rattle.desk_types.specs.History.{History, now_of}
 use Rattle.desk_types.specs.Setup.{receipt_by, receipt_of}
 use Rattle.desk_types.specs.FloorLife.{open_by}
 use Rattle.desk_types.specs.Judged.{IsNext, IsJudged}
-use Rattle.desk_types.proofs.Accepted.{received-once}
-use Rattle.desk_types.proofs.Judgements.{judged-prefix}
+use Rattle.desk_laws.proofs.Accepted.{received-once}
+use Rattle.desk_laws.proofs.Judgements.{judged-prefix}
 use Rattle.desk_types.proofs.Keys.{same-true}
 use Rattle.desk_types.proofs.Steps.{take-next, drop-next}
 use Rattle.reels.specs.declared.reel.Reel.{Reel}
@@ -77,4 +77,4 @@ judged-next entries i e inside is judged = judged-prefix (e ∷ reverse (take i 
 -- the reel's last command took effect by the next entry
 pub by-then : (H : History) (e : Entry) (name : Name) (found : Option Reel) → IsJudged (e ∷ H) → IsReelOf H name found → (reel : Reel) → found ≡ Some reel → reel.last ≤ e.effective
 by-then H e name None judged is_reel reel is = cc
-by-then H e name (Some found) judged is_reel reel is = omega (arith, is_reel.1, judged.0.effective, le-max_right e.stamped.minute (unwrap_or (desk_minute H) 0), ap (λ (o : Option Reel). option_map_or (λ (r : Reel). r.last) o 0) is)
+by-then H e name (Some found) judged is_reel reel is = omega (arith, is_reel.1, judged.0.effective, le-max_right e.stamped.minute (now_of H), ap (λ (o : Option Reel). option_map_or (λ (r : Reel). r.last) o 0) is)

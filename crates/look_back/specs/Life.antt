@@ -1,16 +1,12 @@
 -- A reel as the list left it.
-use Rattle.std.specs.Prelude.{◌≡◌, ℕ, ◌≤◌, Bool, true, false, Option, Some, None, unwrap_or}
+use Rattle.std.specs.Prelude.{◌≡◌, ℕ, ◌≤◌, Bool, true, false, Option, Some, None}
 use Rattle.desk_types.specs.declared.command.Command.{Command}
 use Rattle.desk_types.specs.declared.command.Command.TheVariants.{ReelBaked}
 use Rattle.desk_types.specs.Id.{Name}
-use Rattle.desk_types.specs.History.{History, desk_minute}
+use Rattle.desk_types.specs.History.{History, now_of}
 use Rattle.desk_types.specs.Setup.{receipt_of}
 use Rattle.reels.specs.declared.reel.Reel.{Reel}
 use Rattle.reels.specs.Reel.{StandsFor}
-
--- the desk minute, or 0 where nothing is accepted
-abbrev pub now_of : History → ℕ
-now_of H = unwrap_or (desk_minute H) 0
 
 -- the reel of this name, or none where it was not received
 abbrev pub IsReelOf : History → Name → Option Reel → Type 0

@@ -10,7 +10,7 @@ ghost use Rattle.desk_types.specs.Pieces.{front_of};
 ghost use Rattle.desk_types.specs.Front.{life_of, front_reel, fronts_of};
 ghost use Rattle.reels.specs.Reel.{StandsFor};
 ghost use Rattle.look_back.specs.Kept.{AreTakes};
-ghost use Rattle.look_back.specs.Life.{now_of};
+ghost use Rattle.desk_types.specs.History.{now_of};
 
 use crate::floor_life::reel_of;
 use crate::mounts::front;

@@ -8,7 +8,7 @@ ghost use Rattle.desk_types.specs.Outcome.{detail_of};
 ghost use Rattle.desk_types.specs.FloorLife.{minutes_left};
 ghost use Rattle.desk_types.specs.Desk.{IsJudgement};
 ghost use Rattle.look_back.specs.Kept.{AreTakes};
-ghost use Rattle.look_back.specs.Life.{now_of};
+ghost use Rattle.desk_types.specs.History.{now_of};
 ghost use Rattle.look_back.specs.Words.{IsKnown};
 
 use crate::floor_life::reel_of;

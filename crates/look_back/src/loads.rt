@@ -6,7 +6,7 @@ ghost use Rattle.desk_types.specs.Judged.{IsJudged};
 ghost use Rattle.desk_types.specs.Refusals.{is_vacant, is_wrong_for, mounting_refusal};
 ghost use Rattle.look_back.specs.Feeding.{reel_refusal};
 ghost use Rattle.look_back.specs.Kept.{AreTakes};
-ghost use Rattle.look_back.specs.Life.{now_of};
+ghost use Rattle.desk_types.specs.History.{now_of};
 
 use crate::floor_life::reel_of;
 use crate::mounts::{front, is_mounted};

@@ -6,7 +6,7 @@ ghost use Rattle.desk_types.specs.Refusals.{front_refusal, slots_refusal, start_
 ghost use Rattle.desk_types.specs.Setup.{selected_on};
 ghost use Rattle.desk_types.specs.Work.{product_of};
 ghost use Rattle.look_back.specs.Kept.{AreTakes};
-ghost use Rattle.look_back.specs.Life.{now_of};
+ghost use Rattle.desk_types.specs.History.{now_of};
 
 use crate::floor_life::reel_of;
 use crate::mounts::front;

@@ -14,7 +14,7 @@ use Rattle.desk_types.specs.Setup.{receipt_of}
 use Rattle.desk_types.specs.Pieces.{left_of, live_on, first, is_live_where_loaded, is_mounted}
 use Rattle.desk_types.specs.FloorLife.{open_by, IsUntouched}
 use Rattle.desk_types.specs.Judged.{IsJudged}
-use Rattle.desk_types.proofs.Judgements.{untouched}
+use Rattle.desk_laws.proofs.Judgements.{untouched}
 use Rattle.desk_types.proofs.Keys.{same-refl, same-sym, same-true}
 
 -- whether the reel stands among the reels

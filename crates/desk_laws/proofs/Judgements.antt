@@ -1,16 +1,16 @@
 -- What holds of the lists that a desk can come to have.
 use Rattle.std.proofs.Common.{◌≡◌, ℕ, ◌≤◌, Bool, Option, Some, None, List, [], ◌∷◌, ◌++◌, refl, sym, ap, subst, arith}
-use Rattle.std.specs.Prelude.{max, unwrap_or}
+use Rattle.std.specs.Prelude.{max}
 use Rattle.std.specs.Option.{option_or}
 use Rattle.std.specs.List.{AllByRecursion}
 use Rattle.std.proofs.Math.Nat.{le-max_left, le-max_right}
 use Rattle.desk_types.specs.declared.command.Entry.{Entry}
 use Rattle.desk_types.specs.Id.{Name}
-use Rattle.desk_types.specs.History.{History, IsPrefix, desk_minute, effective_minute}
+use Rattle.desk_types.specs.History.{History, IsPrefix, desk_minute, now_of, effective_minute}
 use Rattle.desk_types.specs.Setup.{receipt_by, receipt_of}
 use Rattle.desk_types.specs.FloorLife.{open_by, IsUntouched}
 use Rattle.desk_types.specs.Judged.{IsNext, IsJudged}
-use Rattle.desk_types.proofs.Accepted.{handled-received}
+use Rattle.desk_laws.proofs.Accepted.{handled-received}
 
 -- ---- reels
 
@@ -42,14 +42,14 @@ by-later [] minute later le all = tt
 by-later (e ∷ H) minute later le (first, all) = (omega arith, by-later H minute later le all)
 
 -- each entry took effect by the desk minute
-pub by-desk_minute : (H : History) → AreBy H (unwrap_or (desk_minute H) 0)
+pub by-desk_minute : (H : History) → AreBy H (now_of H)
 by-desk_minute [] = tt
 by-desk_minute (e ∷ H) =
-    (le-max_left e.effective _, by-later H _ _ (le-max_right e.effective (unwrap_or (desk_minute H) 0)) (by-desk_minute H))
+    (le-max_left e.effective _, by-later H _ _ (le-max_right e.effective (now_of H)) (by-desk_minute H))
 
 -- a command takes effect no earlier than each entry before it
 pub by-effective_minute : (H : History) (own : ℕ) → AreBy H (effective_minute H own)
-by-effective_minute H own = by-later H _ _ (le-max_right own (unwrap_or (desk_minute H) 0)) (by-desk_minute H)
+by-effective_minute H own = by-later H _ _ (le-max_right own (now_of H)) (by-desk_minute H)
 
 -- the next entry takes effect no earlier than each entry before it
 pub by-next : (H : History) (e : Entry) → IsNext H e → AreBy H e.effective
@@ -59,7 +59,7 @@ by-next H e next = subst (AreBy H) (sym next.effective) (by-effective_minute H e
 pub desk_minute-next : (H : History) (e : Entry) → IsNext H e → desk_minute (e ∷ H) ≡ Some e.effective
 desk_minute-next H e next = ap Some is
   where
-    is : max e.effective (unwrap_or (desk_minute H) 0) ≡ e.effective
+    is : max e.effective (now_of H) ≡ e.effective
     is = omega (arith, next.effective)
 
 -- the same of a list
@@ -67,12 +67,12 @@ pub desk_minute-judged : (H : History) (e : Entry) → IsJudged (e ∷ H) → de
 desk_minute-judged H e judged = desk_minute-next H e judged.0
 
 -- the desk minute never falls
-pub desk_minute-prefix : (G H : History) → IsPrefix G H → unwrap_or (desk_minute G) 0 ≤ unwrap_or (desk_minute H) 0
-desk_minute-prefix G H (later, is) = subst (λ all. unwrap_or (desk_minute G) 0 ≤ unwrap_or (desk_minute all) 0) (sym is) (rises later)
+pub desk_minute-prefix : (G H : History) → IsPrefix G H → now_of G ≤ now_of H
+desk_minute-prefix G H (later, is) = subst (λ all. now_of G ≤ now_of all) (sym is) (rises later)
   where
-    rises : (later : List Entry) → unwrap_or (desk_minute G) 0 ≤ unwrap_or (desk_minute (later ++ G)) 0
+    rises : (later : List Entry) → now_of G ≤ now_of (later ++ G)
     rises [] = omega arith
-    rises (e ∷ es) = let rest = rises es in omega (arith, le-max_right e.effective (unwrap_or (desk_minute (es ++ G)) 0))
+    rises (e ∷ es) = let rest = rises es in omega (arith, le-max_right e.effective (now_of (es ++ G)))
 
 -- ---- prefixes
 
