@@ -1,5 +1,5 @@
 -- Names and pairs of names as the keys of ordered sets and maps.
-use Rattle.std.proofs.Common.{◌≡◌, Bool, true, false, cond, List, refl, sym, ap, ◌∙◌}
+use Rattle.std.proofs.Common.{◌≡◌, Bool, true, false, cond, Option, List, refl, sym, ap, ◌∙◌}
 use Rattle.std.specs.Prelude.{◌&&◌, ◌||◌}
 use Rattle.std.specs.BTreeMap.{is_at}
 use Rattle.std.specs.Cmp.{partial_equiv_from_equiv}
@@ -52,3 +52,43 @@ has-after at is agree old new k after q =
     ∙ or-cond (at k q) _
     ∙ ap (λ t. t || list_any (at q) old) (agree k q)
     ∙ ap (λ t. is k q || t) (list_any-same (at q) (is q) (agree q) old)
+
+-- ---- maps
+
+cond-of : {X Y : Type 0} (F : X → Y) (b : Bool) (x y : X) → F (cond b x y) ≡ cond b (F x) (F y)
+cond-of F true x y = refl
+cond-of F false x y = refl
+
+-- What is read of a map by names after one name is written: `old` and `new` look it up before and after, w is what is written.
+pub name-written : {V X : Type 0} (old new : Name → Option V) (k : Name) (w : Option V) (read : Option V → X)
+    → ((q : Name) → new q ≡ cond (is_at (by_name k) q) w (old q)) → (q : Name) → read (new q) ≡ cond (same k q) (read w) (read (old q))
+name-written old new k w read after q = ap read (after q) ∙ cond-of read _ _ _ ∙ ap (λ b. cond b (read w) (read (old q))) (is_at-by_name k q)
+
+-- The same of a map by pairs of names.
+pub pair-written : {V X : Type 0} (old new : Name × Name → Option V) (k : Name × Name) (w : Option V) (read : Option V → X)
+    → ((q : Name × Name) → new q ≡ cond (is_at (by_pair k) q) w (old q)) → (a b : Name) → read (new (a, b)) ≡ cond (same_pair k (a, b)) (read w) (read (old (a, b)))
+pair-written old new k w read after a b = ap read (after (a, b)) ∙ cond-of read _ _ _ ∙ ap (λ t. cond t (read w) (read (old (a, b)))) (is_at-by_pair k (a, b))
+
+-- What is written over what was there is a step from it.
+pub name-changed : {X : Type 0} (x y : X) (old : Name → X) (step : X → X) (k : Name) → old k ≡ x → step x ≡ y → (q : Name)
+    → cond (same k q) y (old q) ≡ cond (same k q) (step (old q)) (old q)
+name-changed x y old step k was is q = by (same k q) refl
+  where
+    by : (b : Bool) → same k q ≡ b → cond b y (old q) ≡ cond b (step (old q)) (old q)
+    by true one = sym is ∙ ap step (sym was ∙ ap old (same-true k q one))
+    by false one = refl
+
+and-both : (a b : Bool) → (a && b) ≡ true → (a ≡ true) × (b ≡ true)
+and-both true b is = (refl, is)
+and-both false b is = cc
+
+-- The same of pairs.
+pub pair-changed : {X : Type 0} (x y : X) (old : Name → Name → X) (step : X → X) (k : Name × Name) → old k.0 k.1 ≡ x → step x ≡ y → (a b : Name)
+    → cond (same_pair k (a, b)) y (old a b) ≡ cond (same_pair k (a, b)) (step (old a b)) (old a b)
+pair-changed x y old step k was is a b = by (same_pair k (a, b)) refl
+  where
+    by : (t : Bool) → same_pair k (a, b) ≡ t → cond t y (old a b) ≡ cond t (step (old a b)) (old a b)
+    by true one =
+        let both = and-both (same k.0 a) (same k.1 b) one in
+        sym is ∙ ap step (sym was ∙ ap (λ m. old m k.1) (same-true k.0 a both.0) ∙ ap (old a) (same-true k.1 b both.1))
+    by false one = refl

@@ -62,17 +62,20 @@ received name minute _ receipt is = cc
 pub so-far : (entries : List Entry) (i : ℕ) (e : Entry) → i < length entries → e ≡ get_or entries i e → reverse (take (i + 1) entries) ≡ e ∷ reverse (take i entries)
 so-far entries i e inside is = reverse-last (take (i + 1) entries) (take i entries) e (take-next entries i e inside is)
 
+-- a list, the last element first: those after the i-th, that one, and those before it
+pub split-at : {X : Type 0} (xs : List X) (i : ℕ) (x : X) → i < length xs → x ≡ get_or xs i x → reverse xs ≡ reverse (drop (i + 1) xs) ++ x ∷ reverse (take i xs)
+split-at xs i x inside is =
+    ap reverse split ∙ reverse-append (take i xs) (x ∷ drop (i + 1) xs)
+    ∙ ap (λ later. later ++ reverse (take i xs)) (reverse-append (x ∷ []) (drop (i + 1) xs))
+    ∙ append_assoc (reverse (drop (i + 1) xs)) (x ∷ []) (reverse (take i xs))
+  where
+    split : xs ≡ take i xs ++ x ∷ drop (i + 1) xs
+    split = sym (take-append-drop i xs) ∙ ap (λ rest. take i xs ++ rest) (drop-next xs i x inside is)
+
 -- the entries so far, and the next one, are a list that a desk can have
 pub judged-next : (entries : List Entry) (i : ℕ) (e : Entry) → i < length entries → e ≡ get_or entries i e → IsJudged (reverse entries) → IsJudged (e ∷ reverse (take i entries))
-judged-next entries i e inside is judged = judged-prefix (e ∷ reverse (take i entries)) (reverse entries) (reverse (drop (i + 1) entries), all) judged
-  where
-    split : entries ≡ take i entries ++ e ∷ drop (i + 1) entries
-    split = sym (take-append-drop i entries) ∙ ap (λ rest. take i entries ++ rest) (drop-next entries i e inside is)
-
-    all : reverse entries ≡ reverse (drop (i + 1) entries) ++ e ∷ reverse (take i entries)
-    all = ap reverse split ∙ reverse-append (take i entries) (e ∷ drop (i + 1) entries)
-        ∙ ap (λ later. later ++ reverse (take i entries)) (reverse-append (e ∷ []) (drop (i + 1) entries))
-        ∙ append_assoc (reverse (drop (i + 1) entries)) (e ∷ []) (reverse (take i entries))
+judged-next entries i e inside is judged =
+    judged-prefix (e ∷ reverse (take i entries)) (reverse entries) (reverse (drop (i + 1) entries), split-at entries i e inside is) judged
 
 -- the reel's last command took effect by the next entry
 pub by-then : (H : History) (e : Entry) (name : Name) (found : Option Reel) → IsJudged (e ∷ H) → IsReelOf H name found → (reel : Reel) → found ≡ Some reel → reel.last ≤ e.effective

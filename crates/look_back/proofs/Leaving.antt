@@ -13,7 +13,7 @@ use Rattle.std.proofs.lemmas.List.Sums.{sum_by-cons}
 use Rattle.look_back.specs.Kept.{AreTakes, taken}
 
 -- the takes of picks are as many pieces as the picks
-taken-map : (H : History) (minute : ℕ) (picks : List Pick) (reel : Name) → taken (map (take_of H minute) picks) reel ≡ picked picks reel
+pub taken-map : (H : History) (minute : ℕ) (picks : List Pick) (reel : Name) → taken (map (take_of H minute) picks) reel ≡ picked picks reel
 taken-map H minute [] reel = refl
 taken-map H minute (p ∷ ps) reel =
     sum_by-cons (λ (t : Take). cond (same t.reel reel) t.quantity 0) (take_of H minute p) (map (take_of H minute) ps)

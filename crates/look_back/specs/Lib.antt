@@ -1,4 +1,5 @@
 pub mod Feeding
+pub mod Floor
 pub mod Fronts
 pub mod Kept
 pub mod Life

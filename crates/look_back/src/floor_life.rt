@@ -60,7 +60,7 @@ fn is_bake(command: &Command) -> bool
 }
 
 /// The reel after an entry.
-fn reel_after(reel: Option<Reel>, name: &Id, entry: &Entry) -> Option<Reel>
+pub fn reel_after(reel: Option<Reel>, name: &Id, entry: &Entry) -> Option<Reel>
     requires { ForSome reel (λ r. r.last ≤ entry.now.effective) }
     ensures { (H : History) → IsJudged (entry.now ∷ H) → IsReelOf H name.now reel → IsReelOf (entry.now ∷ H) name.now result }
 {

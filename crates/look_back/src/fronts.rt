@@ -1,6 +1,6 @@
 //! The fronts of a machine's slots, as a verification looks at them.
 
-ghost use Rattle.std.specs.Prelude.{◌≡◌, ◌≤◌, true, Some, is_some, reverse, IfOk};
+ghost use Rattle.std.specs.Prelude.{◌≡◌, ◌≤◌, true, is_some, reverse, IfOk};
 ghost use Rattle.std.specs.Option.{option_map, ForSome};
 ghost use Rattle.desk_types.specs.Id.{Name};
 ghost use Rattle.desk_types.specs.History.{History};
@@ -9,11 +9,10 @@ ghost use Rattle.desk_types.specs.Setup.{receipt_of};
 ghost use Rattle.desk_types.specs.Pieces.{front_of};
 ghost use Rattle.desk_types.specs.Front.{life_of, front_reel, fronts_of};
 ghost use Rattle.reels.specs.Reel.{StandsFor};
+ghost use Rattle.look_back.specs.Floor.{IsFloor, AreReelsBy};
 ghost use Rattle.look_back.specs.Kept.{AreTakes};
-ghost use Rattle.desk_types.specs.History.{now_of};
 
-use crate::floor_life::reel_of;
-use crate::mounts::front;
+use crate::floor::{Floor, floor_of, front, reel_on};
 use crate::setup::{desk_minute, sheet_on};
 use desk_types::{Entry, Front, FrontReel, Fronts, Id, Life, Listing, Minute, Takes};
 use reels::Reel;
@@ -34,36 +33,26 @@ fn life(reel: &Reel, minute: Minute) -> Life
 }
 
 /// A received reel with its part and its life.
-fn front_reel(entries: &[Entry], minute: Minute, reel: Option<Id>) -> Option<FrontReel>
-    requires judged { IsJudged (reverse entries.now) }
-    requires minute { now_of (reverse entries.now) ≤ minute }
-    ensures { ForSome reel (λ name. is_some (receipt_of (reverse entries.now) name) ≡ true) → result ≡ option_map (front_reel (reverse entries.now) minute) reel }
+fn front_reel(floor: &Floor, minute: Minute, reel: Option<Id>) -> Option<FrontReel>
+    requires { AreReelsBy floor.now.reels minute }
+    ensures { (H : History) → IsFloor H floor.now → ForSome reel (λ name. is_some (receipt_of H name) ≡ true)
+        → result ≡ option_map (front_reel H minute) reel }
 {
-    let reel = reel?;
-    let found = reel_of(entries, &reel)?;
+    let name = reel?;
+    let found = reel_on(floor, &name)?;
     Some(FrontReel {
-        reel,
+        reel: name,
         part: found.part,
         life: life(&found, minute),
     })
 }
 
 /// The front reel of a slot with its part and its life.
-fn front_at(
-    alloc: Global,
-    entries: &[Entry],
-    takes: &[Takes],
-    minute: Minute,
-    machine: &Id,
-    slot: &Id,
-) -> Result<Option<FrontReel>, AllocError>
-    requires judged { IsJudged (reverse entries.now) }
-    requires takes { AreTakes (reverse entries.now) (reverse takes.now) }
-    requires minute { now_of (reverse entries.now) ≤ minute }
-    ensures { IfOk result (λ reel. reel ≡ option_map (front_reel (reverse entries.now) minute) (front_of (reverse entries.now) machine.now slot.now)) }
+fn front_at(floor: &Floor, minute: Minute, machine: &Id, slot: &Id) -> Option<FrontReel>
+    requires { AreReelsBy floor.now.reels minute }
+    ensures { (H : History) → IsJudged H → IsFloor H floor.now → result ≡ option_map (front_reel H minute) (front_of H machine.now slot.now) }
 {
-    let reel = front(alloc, entries, takes, machine, slot)?;
-    Ok(front_reel(entries, minute, reel))
+    front_reel(floor, minute, front(floor, machine, slot))
 }
 
 /// The slots of the selected product's sheet, in sheet order, each with its front reel at the desk
@@ -85,8 +74,9 @@ pub fn fronts(
     let Some(rows) = sheet_on(entries, machine) else {
         return Ok(Listing::new(fronts));
     };
+    let floor = floor_of(alloc, entries, takes)?;
     for row in rows.as_slice() {
-        let reel = front_at(alloc, entries, takes, minute, machine, &row.slot)?;
+        let reel = front_at(&floor, minute, machine, &row.slot);
         fronts.push(Front {
             slot: row.slot,
             reel,

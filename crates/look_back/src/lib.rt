@@ -1,6 +1,8 @@
 //! The plain desk: it keeps the list of accepted entries and answers by searching it.
 #![tactic(auto)]
 
+mod alternates;
+mod floor;
 mod floor_life;
 mod fronts;
 mod judging;

@@ -1,36 +1,39 @@
 //! Why a start of work is refused.
 
 ghost use Rattle.std.specs.Prelude.{◌≡◌, ◌≤◌, reverse, IfOk};
+ghost use Rattle.desk_types.specs.History.{History};
 ghost use Rattle.desk_types.specs.Judged.{IsJudged};
 ghost use Rattle.desk_types.specs.Refusals.{front_refusal, slots_refusal, start_refusal, differ};
 ghost use Rattle.desk_types.specs.Setup.{selected_on};
 ghost use Rattle.desk_types.specs.Work.{product_of};
 ghost use Rattle.look_back.specs.Kept.{AreTakes};
+ghost use Rattle.look_back.specs.Floor.{IsFloor, AreReelsBy, AreAlternates};
 ghost use Rattle.desk_types.specs.History.{now_of};
 
-use crate::floor_life::reel_of;
-use crate::mounts::front;
-use crate::setup::{is_allowed, selected_on, sheet_on};
+use crate::alternates::alternates_of;
+use crate::floor::{Floor, floor_of, front, reel_on};
+use crate::setup::{selected_on, sheet_on};
 use crate::work::{in_work_on, is_in_work, product_of};
 use desk_types::{Entry, Id, Minute, Refusal, SheetRow, Takes};
+use setup_sheets::{Alternates, allowed};
 use std::alloc::{AllocError, Global};
 
 /// What is wrong with the front of a row's slot.
 fn front_refusal(
-    entries: &[Entry],
+    floor: &Floor,
+    alternates: &Alternates,
     minute: Minute,
     row: &SheetRow,
     front: Option<Id>,
 ) -> Option<Refusal>
-    requires judged { IsJudged (reverse entries.now) }
-    requires minute { now_of (reverse entries.now) ≤ minute }
-    ensures { result ≡ front_refusal (reverse entries.now) minute row.now front }
+    requires { AreReelsBy floor.now.reels minute }
+    ensures { (H : History) → IsFloor H floor.now → AreAlternates H alternates.now → result ≡ front_refusal H minute row.now front }
 {
-    let Some(reel) = front else {
+    let Some(name) = front else {
         return Some(Refusal::SlotEmpty(row.slot));
     };
-    let found = reel_of(entries, &reel)?;
-    if !is_allowed(entries, &row.part, &found.part) {
+    let found = reel_on(floor, &name)?;
+    if !allowed(alternates, &row.part, &found.part) {
         return Some(Refusal::WrongPart(row.slot));
     }
     if found.is_unbaked() {
@@ -44,26 +47,23 @@ fn front_refusal(
 
 /// What is wrong with the first faulty slot of a sheet.
 fn slots_refusal(
-    alloc: Global,
-    entries: &[Entry],
-    takes: &[Takes],
+    floor: &Floor,
+    alternates: &Alternates,
     minute: Minute,
     machine: &Id,
     rows: &[SheetRow],
-) -> Result<Option<Refusal>, AllocError>
-    requires judged { IsJudged (reverse entries.now) }
-    requires takes { AreTakes (reverse entries.now) (reverse takes.now) }
-    requires minute { now_of (reverse entries.now) ≤ minute }
-    ensures { IfOk result (λ refusal. refusal ≡ slots_refusal (reverse entries.now) minute machine.now rows.now) }
+) -> Option<Refusal>
+    requires { AreReelsBy floor.now.reels minute }
+    ensures { (H : History) → IsFloor H floor.now → AreAlternates H alternates.now → result ≡ slots_refusal H minute machine.now rows.now }
 {
     for row in rows {
-        let reel = front(alloc, entries, takes, machine, &row.slot)?;
-        let refusal = front_refusal(entries, minute, row, reel);
+        let reel = front(floor, machine, &row.slot);
+        let refusal = front_refusal(floor, alternates, minute, row, reel);
         if refusal.is_some() {
-            return Ok(refusal);
+            return refusal;
         }
     }
-    Ok(None)
+    None
 }
 
 /// Whether the board is of another product than that which is selected on the machine.
@@ -103,8 +103,16 @@ pub fn start_refusal(
     if is_other_product(entries, machine, board) {
         return Ok(Some(Refusal::OtherProduct(*board)));
     }
-    match sheet_on(entries, machine) {
-        Some(rows) => slots_refusal(alloc, entries, takes, minute, machine, rows.as_slice()),
-        None => Ok(None),
-    }
+    let Some(rows) = sheet_on(entries, machine) else {
+        return Ok(None);
+    };
+    let floor = floor_of(alloc, entries, takes)?;
+    let alternates = alternates_of(alloc, entries)?;
+    Ok(slots_refusal(
+        &floor,
+        &alternates,
+        minute,
+        machine,
+        rows.as_slice(),
+    ))
 }

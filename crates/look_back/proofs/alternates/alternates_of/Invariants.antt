@@ -1,0 +1,6 @@
+use Rattle.std.proofs.Common.{reverse, take}
+use Rattle.look_back.specs.Floor.{AreAlternates}
+use Rattle.look_back.proofs.alternates.alternates_of.Given as goal
+
+abbrev pub invariant-loop-entry : goal.invariant-loop-entry
+invariant-loop-entry l = AreAlternates (reverse (take l.entry-index l.entries)) l.alternates

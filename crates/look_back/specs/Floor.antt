@@ -1,0 +1,51 @@
+-- The shop floor in maps: every reel, what is left of it, and every tape.
+use Rattle.std.specs.Prelude.{◌≡◌, ℕ, ◌≤◌, Option, List, [], unwrap_or}
+use Rattle.std.specs.Option.{option_map, option_map_or, ForSome}
+use Rattle.std.specs.List.{find}
+use Rattle.std.specs.BTreeMap as tree
+use Rattle.std.specs.BTreeMap.{BTreeMap}
+use Rattle.desk_types.specs.declared.count.CountRow.{CountRow}
+use Rattle.desk_types.specs.Id.{Name, same, by_name}
+use Rattle.desk_types.specs.Pair.{by_pair}
+use Rattle.desk_types.specs.History.{History}
+use Rattle.desk_types.specs.Setup.{is_alternate}
+use Rattle.desk_types.specs.Tape.{tape_of}
+use Rattle.desk_types.specs.Pieces.{left_of}
+use Rattle.reels.specs.declared.reel.Reel.{Reel}
+use Rattle.look_back.specs.declared.floor.Floor.{Floor}
+use Rattle.look_back.specs.Life.{IsReelOf}
+use Rattle.setup_sheets.specs.Alternates.{is_pair_among}
+
+-- the pieces that the stock has of the reel
+abbrev pub pieces_at : BTreeMap Name ℕ → Name → ℕ
+pieces_at stock reel = unwrap_or (tree.get by_name stock reel) 0
+
+-- the reels of the slot's tape
+abbrev pub tape_at : BTreeMap (Name × Name) (List Name) → Name → Name → List Name
+tape_at tapes machine slot = unwrap_or (tree.get by_pair tapes (machine, slot)) []
+
+-- the reel of this name
+abbrev pub reel_at : BTreeMap Name Reel → Name → Option Reel
+reel_at reels name = tree.get by_name reels name
+
+-- the pieces that counted rows say the reel has, or else so many
+abbrev pub told_or : List CountRow → Name → ℕ → ℕ
+told_or rows reel pieces = option_map_or (λ (row : CountRow). row.quantity) (find (λ row. same row.reel reel) rows) pieces
+
+-- the last command on each reel took effect by the minute
+abbrev pub AreReelsBy : BTreeMap Name Reel → ℕ → Type 0
+AreReelsBy reels minute = (name : Name) → ForSome (reel_at reels name) (λ reel. reel.last ≤ minute)
+
+-- each reel is as the list left it
+abbrev pub AreReels : History → BTreeMap Name Reel → Type 0
+AreReels H reels = (name : Name) → IsReelOf H name (reel_at reels name)
+
+-- the alternates are those that the list names
+abbrev pub AreAlternates : History → List (Name × Name) → Type 0
+AreAlternates H alternates = (p q : Name) → is_pair_among alternates p q ≡ is_alternate H p q
+
+-- The floor is as the list left it.
+pub record IsFloor (H : History) (floor : Floor) : Type 0 where
+  pub reels : AreReels H floor.reels
+  pub stock : (reel : Name) → pieces_at floor.stock reel ≡ left_of H reel
+  pub tapes : (machine slot : Name) → tape_at floor.tapes machine slot ≡ tape_of H machine slot
