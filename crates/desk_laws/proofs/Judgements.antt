@@ -14,7 +14,8 @@ use Rattle.desk_laws.proofs.Accepted.{handled-received}
 
 -- ---- reels
 
-or-none : {X : Type 0} (a b : Option X) → option_or a b ≡ None → (a ≡ None) × (b ≡ None)
+-- of two, neither says anything where both together do not
+pub or-none : {X : Type 0} (a b : Option X) → option_or a b ≡ None → (a ≡ None) × (b ≡ None)
 or-none None b none = (refl, none)
 or-none (Some x) b none = cc
 

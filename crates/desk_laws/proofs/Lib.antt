@@ -1,3 +1,6 @@
 pub mod Accepted
+pub mod Balance
 pub mod Judgements
 pub mod Mounts
+pub mod Picks
+pub mod Tapes

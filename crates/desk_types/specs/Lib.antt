@@ -17,5 +17,6 @@ pub mod Placements
 pub mod Refusals
 pub mod Setup
 pub mod Tape
+pub mod View
 pub mod Wire
 pub mod Work

@@ -168,15 +168,20 @@ completion_refusal H machine board = first_refusal (
     (not (is_in_work_on H machine board), NotInWork board)
     ∷ [])
 
+-- what is wrong with a designator of a message, by its slot, whether it stands twice, whether it is placed, and its pick
+abbrev pub designator_refusal : Name → Option Name → (twice placed : Bool) → Option Pick → Option Refusal
+designator_refusal d slot twice placed pick = first_refusal (
+    (is_none slot, DesignatorNotOnSheet d)
+    ∷ (twice, DesignatorTwice d)
+    ∷ (placed, AlreadyPlaced d)
+    ∷ (is_none pick, ReelShort d)
+    ∷ [])
+
 -- what is wrong with the first faulty designator of a message, after the picks for those before it and the designators that stand before it
 abbrev pub designators_refusal : (Name → Option Name) → (Name → List Name) → (Name → ℕ) → (Name → Bool) → Name → Name → List Pick → List Name → List Name → Option Refusal
 designators_refusal slot_of tape pieces placed machine board before seen [] = None
-designators_refusal slot_of tape pieces placed machine board before seen (d ∷ ds) = option_or (first_refusal (
-    (is_none (slot_of d), DesignatorNotOnSheet d)
-    ∷ (list_any (same d) seen, DesignatorTwice d)
-    ∷ (placed d, AlreadyPlaced d)
-    ∷ (is_none (pick_for slot_of tape pieces machine board before d), ReelShort d)
-    ∷ []))
+designators_refusal slot_of tape pieces placed machine board before seen (d ∷ ds) = option_or
+    (designator_refusal d (slot_of d) (list_any (same d) seen) (placed d) (pick_for slot_of tape pieces machine board before d))
     (designators_refusal slot_of tape pieces placed machine board (before ++ option_to_list (pick_for slot_of tape pieces machine board before d)) (seen ++ d ∷ []) ds)
 
 unfoldable pub install_refusal : History → Name → Name → List Name → Option Refusal
@@ -187,16 +192,19 @@ install_refusal H machine board designators =
 
 -- ---- counts
 
--- what is wrong with the first faulty row of a count, after the reels of the rows before it
-abbrev pub counts_refusal : History → List Name → List CountRow → Option Refusal
-counts_refusal H seen [] = None
-counts_refusal H seen (row ∷ rows) = option_or (first_refusal (
+-- what is wrong with a row of a count, after the reels of the rows before it
+abbrev pub count_refusal : History → List Name → CountRow → Option Refusal
+count_refusal H seen row = first_refusal (
     (is_none (receipt_of H row.reel), UnknownReel row.reel)
     ∷ (list_any (same row.reel) seen, ReelTwice row.reel)
     ∷ (is_mounted H row.reel, ReelMounted row.reel)
     ∷ (nat_lt (left_of H row.reel) row.quantity, CountAbove row.reel)
-    ∷ []))
-    (counts_refusal H (seen ++ row.reel ∷ []) rows)
+    ∷ [])
+
+-- what is wrong with the first faulty row of a count, after the reels of the rows before it
+abbrev pub counts_refusal : History → List Name → List CountRow → Option Refusal
+counts_refusal H seen [] = None
+counts_refusal H seen (row ∷ rows) = option_or (count_refusal H seen row) (counts_refusal H (seen ++ row.reel ∷ []) rows)
 
 -- ---- any command
 

@@ -13,6 +13,7 @@ use crate::id::Id;
 use crate::list::Listing;
 use crate::number::Minute;
 use crate::sheet::SheetRows;
+use crate::view::ReelView;
 use std::alloc::{AllocError, Global};
 
 /// The most commands that a desk is ever asked to accept.
@@ -48,6 +49,7 @@ pub trait Desk {
     ghost use Rattle.desk_types.specs.Front.{fronts_of};
     ghost use Rattle.desk_types.specs.History.{History, desk_minute, accept};
     ghost use Rattle.desk_types.specs.Setup.{selected_on, sheet_of};
+    ghost use Rattle.desk_types.specs.View.{reel_view};
     ghost use Rattle.desk_types.specs.Desk.{HasRoom, IsChange, IsJudgement};
 
     /// The lists for which the desk stands.
@@ -87,6 +89,10 @@ pub trait Desk {
     /// desk minute. There are none where no product is selected.
     fn fronts(&self, machine: &Id) -> Result<Fronts, AllocError>
         ensures { (H : History) → Stands self.now H → IfOk result (λ fronts. fronts ≡ fronts_of H machine.now) };
+
+    /// The reel at the desk minute, or none where no such reel was received. Takes no memory.
+    fn reel(&self, reel: &Id) -> Option<ReelView>
+        ensures { (H : History) → Stands self.now H → result ≡ reel_view H reel.now };
 }
 
 /// Judges commands one after the other, and settles each that is accepted. The replies are those of

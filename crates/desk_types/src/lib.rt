@@ -21,6 +21,7 @@ mod sheet;
 mod take;
 #[cfg(test)]
 mod tests;
+mod view;
 mod wire;
 
 pub use answer::{Detail, Refusal, Replies, Reply};
@@ -36,4 +37,5 @@ pub use list::{Bounded, IdList, LONGEST_LIST, Listing, Text};
 pub use number::{CountedQuantity, GREATEST_MINUTE, GREATEST_QUANTITY, Minute, Quantity};
 pub use sheet::{Designators, SheetRow, SheetRows};
 pub use take::{Pick, Purpose, Take};
+pub use view::{Left, ReelView};
 pub use wire::Wire;

@@ -1,8 +1,12 @@
 pub mod Flooring
 pub mod Fronting
 pub mod Handling
+pub mod Installing
 pub mod Keeping
 pub mod Leaving
 pub mod Live
+pub mod Spending
 pub mod Stocking
+pub mod Summing
 pub mod Unhandled
+pub mod Viewing

@@ -1,6 +1,6 @@
 -- The shop floor in maps: every reel, what is left of it, and every tape.
 use Rattle.std.specs.Prelude.{◌≡◌, ℕ, ◌≤◌, Option, List, [], unwrap_or}
-use Rattle.std.specs.Option.{option_map, option_map_or, ForSome}
+use Rattle.std.specs.Option.{option_map_or, ForSome}
 use Rattle.std.specs.List.{find}
 use Rattle.std.specs.BTreeMap as tree
 use Rattle.std.specs.BTreeMap.{BTreeMap}

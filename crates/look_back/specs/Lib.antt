@@ -4,4 +4,6 @@ pub mod Fronts
 pub mod Kept
 pub mod Life
 pub mod Look
+pub mod Placing
+pub mod Totals
 pub mod Words

@@ -5,8 +5,6 @@ mod reel_map;
 mod stock;
 mod tape_map;
 
-pub use self::tape_map::Tape;
-
 ghost use Rattle.std.specs.Prelude.{◌≡◌, ◌≤◌, nat_lt, [], ◌∷◌, reverse, IfOk, OnOk};
 ghost use Rattle.std.specs.List.{find};
 ghost use Rattle.desk_types.specs.History.{History};
@@ -17,7 +15,9 @@ ghost use Rattle.look_back.specs.Kept.{AreTakes};
 ghost use Rattle.look_back.specs.Floor.{IsFloor, AreReelsBy, pieces_at, reel_at};
 
 use self::reel_map::{note_reel, reel_in};
-use self::stock::{note_stock, pieces};
+use self::stock::note_stock;
+pub use self::stock::{lower, pieces};
+pub use self::tape_map::Tape;
 use self::tape_map::note_tape;
 use desk_types::{Entry, Id, Take, Takes};
 use reels::Reel;
@@ -44,12 +44,7 @@ fn bare(alloc: Global) -> Floor
 }
 
 /// The floor after an entry with its takes.
-fn note(
-    alloc: Global,
-    floor: &mut Floor,
-    entry: &Entry,
-    takes: &[Take],
-) -> Result<(), AllocError>
+fn note(alloc: Global, floor: &mut Floor, entry: &Entry, takes: &[Take]) -> Result<(), AllocError>
     requires { AreReelsBy floor.old.reels entry.now.effective }
     ensures { (H : History) → IsJudged (entry.now ∷ H) → takes.now ≡ takes_by H entry.now.effective entry.now.stamped.command
         → IsFloor H floor.old → OnOk result (IsFloor (entry.now ∷ H) floor.new) }

@@ -5,10 +5,12 @@ mod alternates;
 mod floor;
 mod floor_life;
 mod fronts;
+mod installs;
 mod judging;
 mod loads;
 mod mounts;
 mod pieces;
+mod placing;
 mod plain;
 mod refusals;
 mod setup;
@@ -17,6 +19,8 @@ mod starts;
 mod tapes;
 #[cfg(test)]
 mod tests;
+mod totals;
+mod views;
 mod work;
 
 pub use plain::PlainDesk;

@@ -11,7 +11,10 @@ ghost use Rattle.desk_types.specs.Desk.{IsChange};
 use crate::fronts::fronts;
 use crate::judging::judged;
 use crate::setup::{desk_minute, selected_on, sheet_of};
-use desk_types::{Change, Desk, Entry, Fronts, Id, JudgeFault, Minute, SheetRows, Stamped, Takes};
+use crate::views::reel_view;
+use desk_types::{
+    Change, Desk, Entry, Fronts, Id, JudgeFault, Minute, ReelView, SheetRows, Stamped, Takes,
+};
 use std::alloc::{AllocError, Global};
 use std::marker::Model;
 
@@ -134,5 +137,9 @@ impl Desk for PlainDesk {
             self.takes.as_slice(),
             machine,
         )
+    }
+
+    fn reel(&self, reel: &Id) -> Option<ReelView> {
+        reel_view(self.entries.as_slice(), self.takes.as_slice(), reel)
     }
 }

@@ -108,11 +108,5 @@ pub fn start_refusal(
     };
     let floor = floor_of(alloc, entries, takes)?;
     let alternates = alternates_of(alloc, entries)?;
-    Ok(slots_refusal(
-        &floor,
-        &alternates,
-        minute,
-        machine,
-        rows.as_slice(),
-    ))
+    Ok(slots_refusal(&floor, &alternates, minute, machine, rows.as_slice()))
 }

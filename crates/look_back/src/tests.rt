@@ -3,6 +3,8 @@
 ghost use Rattle.std.specs.Prelude.{IfOk};
 ghost use Rattle.look_back.specs.Words.{IsKnown};
 
+mod views;
+
 use crate::plain::PlainDesk;
 use desk_types::{
     Bounded, Command, Designator, Desk, Id, JudgeFault, Level, Minute, Moisture, Quantity,

@@ -35,10 +35,11 @@ impl Desk for PartsDesk {
     ghost use Rattle.desk_types.specs.declared.command.Command.TheVariants.{PartDefined};
     ghost use Rattle.desk_types.specs.Id.{Name, same};
     ghost use Rattle.desk_types.specs.History.{desk_minute};
-    ghost use Rattle.desk_types.specs.Setup.{is_part, selected_on, sheet_of};
+    ghost use Rattle.desk_types.specs.Setup.{is_part, receipt_of, selected_on, sheet_of};
 
     ghost Stands = { λ desk H. ((part : Name) → list_any (λ p. same p part) desk.parts.items ≡ is_part H part) × (desk.minute ≡ desk_minute H)
-        × ((machine : Name) → selected_on H machine ≡ None) × ((product machine : Name) → sheet_of H product machine ≡ None) };
+        × ((machine : Name) → selected_on H machine ≡ None) × ((product machine : Name) → sheet_of H product machine ≡ None)
+        × ((reel : Name) → receipt_of H reel ≡ None) };
 
     ghost Knows = { λ command. (part : Name) × (command ≡ PartDefined part) };
 
@@ -78,6 +79,10 @@ impl Desk for PartsDesk {
 
     fn fronts(&self, _machine: &Id) -> Result<Fronts, AllocError> {
         Ok(Listing::new(Vec::new(self.alloc)))
+    }
+
+    fn reel(&self, _reel: &Id) -> Option<ReelView> {
+        None
     }
 }
 

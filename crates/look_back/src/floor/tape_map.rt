@@ -1,7 +1,8 @@
 //! Tapes by machine and slot.
 
-ghost use Rattle.std.specs.Prelude.{◌≡◌, ◌&&◌, [], ◌∷◌, if◌then◌else◌, IfOk, OnOk};
+ghost use Rattle.std.specs.Prelude.{◌≡◌, ◌&&◌, [], ◌∷◌, if◌then◌else◌, drop, IfOk, OnOk};
 ghost use Rattle.desk_types.specs.Id.{Name, same};
+ghost use Rattle.desk_types.specs.Pieces.{first};
 ghost use Rattle.desk_types.specs.Tape.{spliced, tape_after};
 ghost use Rattle.look_back.specs.Floor.{tape_at};
 
@@ -33,6 +34,23 @@ impl Tape {
         let mut reels = VecDeque::new(alloc);
         reels.push_back(reel)?;
         Ok(Tape { reels })
+    }
+
+    /// The first reel.
+    pub fn front(&self) -> Option<Id>
+        ensures { result ≡ first self.now }
+    {
+        match self.reels.front() {
+            Some(reel) => Some(*reel),
+            None => None,
+        }
+    }
+
+    /// Takes the first reel off.
+    pub fn pop(&mut self)
+        ensures { self.new ≡ drop 1 self.old }
+    {
+        self.reels.pop_front();
     }
 
     /// Joins a reel to the end, where there is one.

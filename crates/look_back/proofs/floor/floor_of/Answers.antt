@@ -1,6 +1,5 @@
-use Rattle.std.proofs.Common.{◌≡◌, ◌<◌, ◌∷◌, reverse, length, take, refl, sym, ap, subst, ◌∙◌, arith}
+use Rattle.std.proofs.Common.{reverse, take, sym, subst, ◌∙◌, arith}
 use Rattle.std.proofs.lemmas.List.{length-reverse}
-use Rattle.desk_types.specs.Outcome.{takes_by}
 use Rattle.look_back.specs.Floor.{IsFloor, reel_at}
 use Rattle.look_back.proofs.Handling.{so-far, judged-next, by-then}
 use Rattle.look_back.proofs.Keeping.{as-many, takes-at}

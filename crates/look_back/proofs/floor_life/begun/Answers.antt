@@ -1,5 +1,4 @@
 use Rattle.std.proofs.Common.{◌≡◌, Some, refl, sym, ◌∙◌, arith}
-use Rattle.std.specs.Prelude.{unwrap_or}
 use Rattle.desk_types.specs.History.{now_of}
 use Rattle.desk_types.specs.Setup.{receipt_by}
 use Rattle.desk_laws.proofs.Judgements.{untouched}

@@ -1,11 +1,7 @@
-use Rattle.std.proofs.Common.{◌≡◌, Bool, true, false, cond, Option, Some, None, ◌∷◌, refl, sym, ap, subst, ◌∙◌}
-use Rattle.desk_types.specs.declared.command.Entry.{Entry}
-use Rattle.desk_types.specs.Id.{Name, same}
-use Rattle.desk_types.specs.History.{History}
-use Rattle.desk_types.specs.FloorLife.{open_by}
+use Rattle.std.proofs.Common.{Some, None, ◌∷◌, sym, subst}
 use Rattle.desk_types.proofs.Keys.{name-written}
 use Rattle.look_back.specs.Life.{IsReelOf}
-use Rattle.look_back.specs.Floor.{reel_at, AreReels}
+use Rattle.look_back.specs.Floor.{reel_at}
 use Rattle.look_back.proofs.Unhandled.{unhandled, others-unhandled, reel-kept, reel-written}
 use Rattle.look_back.proofs.floor.reel_map.note_reel.Goals as goal
 

@@ -1,4 +1,4 @@
-use Rattle.std.proofs.Common.{cond, [], ◌∷◌, ◌++◌, sym, ap, ◌∙◌}
+use Rattle.std.proofs.Common.{cond, sym, ap, ◌∙◌}
 use Rattle.desk_types.specs.Id.{same}
 use Rattle.look_back.specs.Floor.{pieces_at, told_or}
 use Rattle.look_back.proofs.Stocking.{told_or-last}

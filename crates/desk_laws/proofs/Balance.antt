@@ -1,0 +1,146 @@
+-- What is left of a reel: its receipt, less what was placed and what was scrapped.
+use Rattle.std.proofs.Common.{◌≡◌, ℕ, ◌+◌, ◌-◌, ◌≤◌, Bool, true, false, not, Option, Some, None, List, [], ◌∷◌, refl, ap, unwrap_or, arith, filter}
+use Rattle.std.specs.Prelude.{if◌then◌else◌}
+use Rattle.std.specs.Option.{option_map_or, option_or}
+use Rattle.std.proofs.lemmas.List.Filters.{sum_by-filter_both}
+use Rattle.desk_types.specs.declared.command.Command.{Command}
+use Rattle.desk_types.specs.declared.command.Command.TheVariants.{ReelReceived, MaterialsInstalled, MaterialsScrapped, CountsTaken}
+use Rattle.desk_types.specs.declared.command.Entry.{Entry}
+use Rattle.desk_types.specs.declared.command.Receipt.{Receipt}
+use Rattle.desk_types.specs.declared.take.Pick.{Pick}
+use Rattle.desk_types.specs.declared.take.Purpose.TheVariants.{Rejected}
+use Rattle.desk_types.specs.Id.{Name, same}
+use Rattle.desk_types.specs.History.{History}
+use Rattle.desk_types.specs.Setup.{slot_on, receipt_by, receipt_of}
+use Rattle.desk_types.specs.Tape.{tape_of}
+use Rattle.desk_types.specs.Pieces.{picked, picks_of, told_by, left_of, all_picks, is_placed, received_of, placed_of, scrapped_of}
+use Rattle.desk_types.specs.Refusals.{command_refusal}
+use Rattle.desk_types.specs.Judged.{IsJudged}
+use Rattle.desk_laws.proofs.Accepted.{next-accepted, received-once}
+use Rattle.desk_laws.proofs.Judgements.{or-none}
+use Rattle.desk_laws.proofs.Picks.{picked-append, install-within, scrap-within, counted}
+use Rattle.desk_laws.proofs.Tapes.{tape-distinct}
+
+-- ---- one command
+
+-- what an accepted command does to one reel that it does not receive: it takes no more than the reel has, and leaves the rest
+pub record IsTaken (H : History) (command : Command) (reel : Name) : Type 0 where
+  pub within : picked (picks_of H command) reel ≤ left_of H reel
+  pub rest : unwrap_or (told_by reel command) (left_of H reel - picked (picks_of H command) reel) ≡ left_of H reel - picked (picks_of H command) reel
+
+-- An accepted command does so.
+taken-by : (H : History) (minute : ℕ) (command : Command) (reel : Name) → IsJudged H → command_refusal H minute command ≡ None
+    → receipt_by reel minute command ≡ None → IsTaken H command reel
+unfolding command_refusal
+taken-by H minute (ReelReceived r part lot moisture quantity) reel judged accepted other = record { within = omega arith; rest = by (same r reel) other }
+  where
+    receipt : Receipt
+    receipt = record { part = part; lot = lot; moisture = moisture; quantity = quantity; effective = minute }
+
+    by : (b : Bool) → (if b then Some receipt else None) ≡ None → unwrap_or (if b then Some quantity else None) (left_of H reel - 0) ≡ left_of H reel - 0
+    by true other = cc
+    by false other = refl
+taken-by H minute (MaterialsInstalled machine board designators) reel judged accepted other =
+    record { within = install-within (slot_on H machine) (tape_of H machine) (left_of H) machine board [] designators reel (omega arith); rest = refl }
+taken-by H minute (MaterialsScrapped machine slot quantity) reel judged accepted other =
+    record { within = scrap-within (left_of H) (Rejected machine slot) (tape_of H machine slot) quantity reel (tape-distinct H machine slot judged); rest = refl }
+taken-by H minute (CountsTaken counts) reel judged accepted other =
+    let said = counted H [] counts reel accepted in record { within = said.within; rest = said.told }
+taken-by H minute _ reel judged accepted other = record { within = omega arith; rest = refl }
+
+-- The next entry takes of a reel, that it does not receive, no more than it has left.
+pub picks-within : (H : History) (e : Entry) (reel : Name) → IsJudged (e ∷ H) → receipt_by reel e.effective e.stamped.command ≡ None
+    → picked (picks_of H e.stamped.command) reel ≤ left_of H reel
+picks-within H e reel (next, judged) other = (taken-by H e.effective e.stamped.command reel judged (next-accepted H e next) other).within
+
+-- What the next entry leaves of a reel, that it does not receive, is what was left less what it takes.
+pub left-next : (H : History) (e : Entry) (reel : Name) → IsJudged (e ∷ H) → receipt_by reel e.effective e.stamped.command ≡ None
+    → left_of (e ∷ H) reel ≡ left_of H reel - picked (picks_of H e.stamped.command) reel
+unfolding left_of
+left-next H e reel (next, judged) other = (taken-by H e.effective e.stamped.command reel judged (next-accepted H e next) other).rest
+
+-- What is left of a reel falls, but where it is received.
+pub falls : (H : History) (e : Entry) (reel : Name) → IsJudged (e ∷ H) → receipt_by reel e.effective e.stamped.command ≡ None → left_of (e ∷ H) reel ≤ left_of H reel
+falls H e reel judged other = let is = left-next H e reel judged other in omega (arith, is)
+
+-- ---- receipts
+
+-- a command that receives a reel takes nothing, and tells the pieces of the receipt
+received-picks : (H : History) (minute : ℕ) (command : Command) (reel : Name) (receipt : Receipt) → receipt_by reel minute command ≡ Some receipt
+    → (picks_of H command ≡ []) × (told_by reel command ≡ Some receipt.quantity)
+received-picks H minute (ReelReceived r part lot moisture quantity) reel receipt is = (refl, by (same r reel) is)
+  where
+    by : (b : Bool) → (if b then Some (record { part = part; lot = lot; moisture = moisture; quantity = quantity; effective = minute }) else None) ≡ Some receipt
+        → (if b then Some quantity else None) ≡ Some receipt.quantity
+    by true is = cc
+    by false is = cc
+received-picks H minute _ reel receipt is = cc
+
+-- An entry that receives a reel leaves the pieces of its receipt.
+pub left-received : (H : History) (e : Entry) (reel : Name) (receipt : Receipt) → receipt_by reel e.effective e.stamped.command ≡ Some receipt
+    → left_of (e ∷ H) reel ≡ receipt.quantity
+unfolding left_of
+left-received H e reel receipt is =
+    ap (λ o. unwrap_or o (left_of H reel - picked (picks_of H e.stamped.command) reel)) (received-picks H e.effective e.stamped.command reel receipt is).1
+
+-- A reel that was not received has nothing left.
+pub unreceived-empty : (H : History) (reel : Name) → IsJudged H → receipt_of H reel ≡ None → left_of H reel ≡ 0
+unfolding left_of
+unreceived-empty [] reel judged none = refl
+unreceived-empty (e ∷ H) reel (next, judged) none =
+    let both = or-none (receipt_by reel e.effective e.stamped.command) (receipt_of H reel) none in
+    let before = unreceived-empty H reel judged both.1 in
+    let fell = falls H e reel (next, judged) both.0 in
+    omega (arith, before, fell)
+
+-- No command takes more of a reel than it has left.
+pub picks-left : (H : History) (e : Entry) (reel : Name) → IsJudged (e ∷ H) → picked (picks_of H e.stamped.command) reel ≤ left_of H reel
+picks-left H e reel judged = by (receipt_by reel e.effective e.stamped.command) refl
+  where
+    by : (said : Option Receipt) → receipt_by reel e.effective e.stamped.command ≡ said → picked (picks_of H e.stamped.command) reel ≤ left_of H reel
+    by None other = picks-within H e reel judged other
+    by (Some receipt) is = let none = ap (λ ps. picked ps reel) (received-picks H e.effective e.stamped.command reel receipt is).0 in omega (arith, none)
+
+-- ---- totals
+
+-- the picks of a list are those that were placed and the others
+placed-scrapped : (picks : List Pick) (reel : Name)
+    → picked (filter (λ (p : Pick). is_placed p.purpose) picks) reel + picked (filter (λ (p : Pick). not (is_placed p.purpose)) picks) reel ≡ picked picks reel
+placed-scrapped picks reel =
+    sum_by-filter_both (λ (p : Pick). is_placed p.purpose) (λ (p : Pick). not (is_placed p.purpose)) (λ p. refl) (λ (p : Pick). if same p.reel reel then p.quantity else 0) picks
+
+-- all that a list took of a reel
+abbrev taken_of : History → Name → ℕ
+taken_of H reel = picked (all_picks H) reel
+
+taken-next : (H : History) (e : Entry) (reel : Name) → taken_of (e ∷ H) reel ≡ taken_of H reel + picked (picks_of H e.stamped.command) reel
+unfolding all_picks
+taken-next H e reel = picked-append (all_picks H) (picks_of H e.stamped.command) reel
+
+-- what was received of a reel is what was taken of it and what is left
+received-taken : (H : History) (reel : Name) → IsJudged H → received_of H reel ≡ taken_of H reel + left_of H reel
+unfolding left_of all_picks
+received-taken [] reel judged = refl
+received-taken (e ∷ H) reel (next, judged) = by (receipt_by reel e.effective e.stamped.command) refl (received-taken H reel judged)
+  where
+    by : (said : Option Receipt) → receipt_by reel e.effective e.stamped.command ≡ said → received_of H reel ≡ taken_of H reel + left_of H reel
+        → option_map_or (λ (r : Receipt). r.quantity) (option_or said (receipt_of H reel)) 0 ≡ taken_of (e ∷ H) reel + left_of (e ∷ H) reel
+    by None other before =
+        let within = picks-within H e reel (next, judged) other in
+        let left = left-next H e reel (next, judged) other in
+        let taken = taken-next H e reel in
+        omega (arith, before, within, left, taken)
+    by (Some receipt) is before =
+        let fresh = received-once H e reel receipt next is in
+        let nothing : received_of H reel ≡ 0 = ap (λ o. option_map_or (λ (r : Receipt). r.quantity) o 0) fresh in
+        let left = left-received H e reel receipt is in
+        let none = ap (λ ps. picked ps reel) (received-picks H e.effective e.stamped.command reel receipt is).0 in
+        let taken = taken-next H e reel in
+        omega (arith, before, nothing, left, none, taken)
+
+-- For each reel the received pieces are the placed, the scrapped and the left ones together.
+pub balance : (H : History) (reel : Name) → IsJudged H → received_of H reel ≡ placed_of H reel + scrapped_of H reel + left_of H reel
+balance H reel judged =
+    let all = received-taken H reel judged in
+    let parts = placed-scrapped (all_picks H) reel in
+    omega (arith, all, parts)

@@ -1,0 +1,213 @@
+-- The pieces that a command takes off a reel.
+use Rattle.std.proofs.Common.{◌≡◌, ℕ, ◌+◌, ◌-◌, ◌≤◌, min, nat_lt, Bool, true, false, Option, Some, None, List, [], ◌∷◌, ◌++◌, find, refl, sym, ap, ◌∙◌, subst, unwrap_or, zero-add, arith}
+use Rattle.std.specs.Prelude.{if◌then◌else◌, is_none, ◌||◌}
+use Rattle.std.specs.Option.{option_and_then, option_map, option_to_list}
+use Rattle.std.specs.List.{list_any, AllByRecursion, IsDistinct}
+use Rattle.std.proofs.lemmas.Bool.{ltb-false, ltb-true}
+use Rattle.std.proofs.lemmas.List.Folds.{list_any-append}
+use Rattle.std.proofs.lemmas.List.Sums.{sum_by-append}
+use Rattle.std.proofs.lemmas.Map.Keys.{IsDistinct-head, IsDistinct-tail}
+use Rattle.desk_types.specs.declared.answer.Refusal.{Refusal}
+use Rattle.desk_types.specs.declared.answer.Refusal.TheVariants.{UnknownReel, ReelTwice, ReelMounted, CountAbove}
+use Rattle.desk_types.specs.declared.count.CountRow.{CountRow}
+use Rattle.desk_types.specs.declared.take.Pick.{Pick}
+use Rattle.desk_types.specs.declared.take.Purpose.{Purpose}
+use Rattle.desk_types.specs.declared.take.Purpose.TheVariants.{Placed, Counted}
+use Rattle.desk_types.specs.Id.{Name, same}
+use Rattle.desk_types.specs.History.{History}
+use Rattle.desk_types.specs.Setup.{receipt_of}
+use Rattle.desk_types.specs.Pieces.{picked, pieces_off, pick_for, install_picks, scrap_picks, count_picks, left_of, is_mounted}
+use Rattle.desk_types.specs.Refusals.{first_refusal, counts_refusal}
+use Rattle.desk_types.proofs.Keys.{same-refl, same-sym, same-true}
+use Rattle.desk_laws.proofs.Accepted.{none-holds}
+use Rattle.desk_laws.proofs.Judgements.{or-none}
+
+-- ---- lists of picks
+
+-- the picks of two lists together
+pub picked-append : (before after : List Pick) (reel : Name) → picked (before ++ after) reel ≡ picked before reel + picked after reel
+picked-append before after reel = sum_by-append (λ (p : Pick). if same p.reel reel then p.quantity else 0) before after
+
+-- a pick of n pieces is n pieces of its reel
+pub picked-off : (r : Name) (n : ℕ) (purpose : Purpose) (reel : Name) → picked (pieces_off r n purpose) reel ≡ if same r reel then n else 0
+picked-off r n purpose reel = by (nat_lt 0 n) refl
+  where
+    empty : (here : Bool) → n ≡ 0 → 0 ≡ if here then n else 0
+    empty true is = sym is
+    empty false is = refl
+
+    by : (some : Bool) → nat_lt 0 n ≡ some
+        → picked (if◌then◌else◌ {A = List Pick} some (record { reel = r; quantity = n; purpose = purpose } ∷ []) []) reel ≡ if same r reel then n else 0
+    by true is = zero-add _
+    by false is = let none = ltb-false 0 n is in empty (same r reel) (omega (arith, none))
+
+-- what a search finds passes its test
+pub find-passes : {X : Type 0} (p : X → Bool) (xs : List X) (x : X) → find p xs ≡ Some x → p x ≡ true
+find-passes p [] x is = cc
+find-passes p (y ∷ ys) x is = by (p y) refl is (find-passes p ys x)
+  where
+    by : (b : Bool) → p y ≡ b → (if b then Some y else find p ys) ≡ Some x → (find p ys ≡ Some x → p x ≡ true) → p x ≡ true
+    by true passes is rest = cc
+    by false fails is rest = rest is
+
+-- ---- installs
+
+-- one more pick of a reel that has a piece left after those before
+one-within : (pieces : Name → ℕ) (purpose : Purpose) (before : List Pick) (reel : Name) (found : Option Name)
+    → ((r : Name) → found ≡ Some r → nat_lt (picked before r) (pieces r) ≡ true) → picked before reel ≤ pieces reel
+    → picked (before ++ option_to_list (option_map (λ r. record { reel = r; quantity = 1; purpose = purpose }) found)) reel ≤ pieces reel
+one-within pieces purpose before reel None has within = let all = picked-append before [] reel in omega (arith, all, within)
+one-within pieces purpose before reel (Some r) has within = by (same r reel) refl (picked-append before (record { reel = r; quantity = 1; purpose = purpose } ∷ []) reel)
+  where
+    by : (b : Bool) → same r reel ≡ b
+        → picked (before ++ record { reel = r; quantity = 1; purpose = purpose } ∷ []) reel ≡ picked before reel + (0 + (if b then 1 else 0))
+        → picked (before ++ record { reel = r; quantity = 1; purpose = purpose } ∷ []) reel ≤ pieces reel
+    by true here all =
+        let less = ltb-true _ _ (ap (λ x. nat_lt (picked before x) (pieces x)) (sym (same-true r reel here)) ∙ has r refl) in omega (arith, all, less)
+    by false away all = omega (arith, all, within)
+
+picks-one : (slot_of : Name → Option Name) (tape : Name → List Name) (pieces : Name → ℕ) (machine board : Name) (before : List Pick) (d reel : Name)
+    → picked before reel ≤ pieces reel → picked (before ++ option_to_list (pick_for slot_of tape pieces machine board before d)) reel ≤ pieces reel
+picks-one slot_of tape pieces machine board before d reel within = by (slot_of d)
+  where
+    by : (slot : Option Name)
+        → picked (before ++ option_to_list (option_and_then (λ s. option_map (λ r. record { reel = r; quantity = 1; purpose = Placed board d machine s })
+        (find (λ r. nat_lt (picked before r) (pieces r)) (tape s))) slot)) reel ≤ pieces reel
+    by None = let all = picked-append before [] reel in omega (arith, all, within)
+    by (Some s) =
+        one-within pieces (Placed board d machine s) before reel (find (λ r. nat_lt (picked before r) (pieces r)) (tape s))
+        (λ r found. find-passes (λ x. nat_lt (picked before x) (pieces x)) (tape s) r found) within
+
+-- The picks of an install are no more of a reel than it has, where those before are not.
+pub install-within : (slot_of : Name → Option Name) (tape : Name → List Name) (pieces : Name → ℕ) (machine board : Name) (before : List Pick) (ds : List Name) (reel : Name)
+    → picked before reel ≤ pieces reel → picked (install_picks slot_of tape pieces machine board before ds) reel ≤ pieces reel
+unfolding install_picks
+install-within slot_of tape pieces machine board before [] reel within = within
+install-within slot_of tape pieces machine board before (d ∷ ds) reel within =
+    install-within slot_of tape pieces machine board (before ++ option_to_list (pick_for slot_of tape pieces machine board before d)) ds reel
+    (picks-one slot_of tape pieces machine board before d reel within)
+
+-- ---- scraps
+
+-- a reel that does not stand on the tape
+scrap-absent : (pieces : Name → ℕ) (purpose : Purpose) (reels : List Name) (n : ℕ) (reel : Name) → AllByRecursion (λ y. same reel y ≡ false) reels
+    → picked (scrap_picks pieces purpose reels n) reel ≡ 0
+scrap-absent pieces purpose [] n reel absent = refl
+scrap-absent pieces purpose (r ∷ rs) n reel (differs, absent) =
+    picked-append (pieces_off r (min n (pieces r)) purpose) (scrap_picks pieces purpose rs (n - pieces r)) reel
+    ∙ ap (λ k. k + picked (scrap_picks pieces purpose rs (n - pieces r)) reel) (picked-off r (min n (pieces r)) purpose reel)
+    ∙ ap (λ b. (if b then min n (pieces r) else 0) + picked (scrap_picks pieces purpose rs (n - pieces r)) reel) (same-sym r reel ∙ differs)
+    ∙ zero-add (picked (scrap_picks pieces purpose rs (n - pieces r)) reel)
+    ∙ scrap-absent pieces purpose rs (n - pieces r) reel absent
+
+-- The picks of a scrap are no more of a reel than it has, where it stands on the tape once at most.
+pub scrap-within : (pieces : Name → ℕ) (purpose : Purpose) (reels : List Name) (n : ℕ) (reel : Name) → IsDistinct same reels
+    → picked (scrap_picks pieces purpose reels n) reel ≤ pieces reel
+scrap-within pieces purpose [] n reel distinct = omega arith
+scrap-within pieces purpose (r ∷ rs) n reel distinct = by (same r reel) refl (both ∙ ap (λ k. k + rest) (picked-off r (min n (pieces r)) purpose reel)) (scrap-within pieces purpose rs (n - pieces r) reel (IsDistinct-tail same r rs distinct))
+  where
+    rest : ℕ
+    rest = picked (scrap_picks pieces purpose rs (n - pieces r)) reel
+
+    both : picked (scrap_picks pieces purpose (r ∷ rs) n) reel ≡ picked (pieces_off r (min n (pieces r)) purpose) reel + rest
+    both = picked-append (pieces_off r (min n (pieces r)) purpose) (scrap_picks pieces purpose rs (n - pieces r)) reel
+
+    by : (b : Bool) → same r reel ≡ b → picked (scrap_picks pieces purpose (r ∷ rs) n) reel ≡ (if b then min n (pieces r) else 0) + rest → rest ≤ pieces reel
+        → picked (scrap_picks pieces purpose (r ∷ rs) n) reel ≤ pieces reel
+    by true here all few_after =
+        let one = same-true r reel here in
+        let none : rest ≡ 0 = scrap-absent pieces purpose rs (n - pieces r) reel (subst (λ x. AllByRecursion (λ y. same x y ≡ false) rs) one (IsDistinct-head same r rs distinct)) in
+        let few : min n (pieces r) ≤ pieces reel = subst (λ x. min n (pieces r) ≤ pieces x) one (omega arith) in
+        omega (arith, all, none, few)
+    by false away all few_after = omega (arith, all, few_after)
+
+-- ---- counts
+
+-- the tests of one row of a count
+pub record IsCountable (H : History) (seen : List Name) (row : CountRow) : Type 0 where
+  pub received : is_none (receipt_of H row.reel) ≡ false
+  pub once : list_any (same row.reel) seen ≡ false
+  pub not_mounted : is_mounted H row.reel ≡ false
+  pub within : row.quantity ≤ left_of H row.reel
+
+-- what an accepted count says of its first row, and of the others
+pub countable : (H : History) (seen : List Name) (row : CountRow) (rows : List CountRow) → counts_refusal H seen (row ∷ rows) ≡ None
+    → IsCountable H seen row × (counts_refusal H (seen ++ row.reel ∷ []) rows ≡ None)
+countable H seen row rows none =
+    let both = or-none (first_refusal tests) (counts_refusal H (seen ++ row.reel ∷ []) rows) none in
+    let all = none-holds tests both.0 in
+    (record { received = all.0; once = all.1.0; not_mounted = all.1.1.0; within = ltb-false _ _ all.1.1.1.0 }, both.1)
+  where
+    tests : List (Bool × Refusal)
+    tests =
+        (is_none (receipt_of H row.reel), UnknownReel row.reel)
+        ∷ (list_any (same row.reel) seen, ReelTwice row.reel)
+        ∷ (is_mounted H row.reel, ReelMounted row.reel)
+        ∷ (nat_lt (left_of H row.reel) row.quantity, CountAbove row.reel)
+        ∷ []
+
+-- a reel of a row before is in no further row
+count-absent : (H : History) (pieces : Name → ℕ) (seen : List Name) (rows : List CountRow) (reel : Name) → counts_refusal H seen rows ≡ None
+    → list_any (same reel) seen ≡ true → picked (count_picks pieces rows) reel ≡ 0
+count-absent H pieces seen [] reel none before = refl
+count-absent H pieces seen (row ∷ rows) reel none before =
+    picked-append (pieces_off row.reel (pieces row.reel - row.quantity) Counted) (count_picks pieces rows) reel
+    ∙ ap (λ k. k + picked (count_picks pieces rows) reel) (picked-off row.reel (pieces row.reel - row.quantity) Counted reel)
+    ∙ ap (λ b. (if b then pieces row.reel - row.quantity else 0) + picked (count_picks pieces rows) reel) (away (same row.reel reel) refl)
+    ∙ zero-add (picked (count_picks pieces rows) reel)
+    ∙ count-absent H pieces (seen ++ row.reel ∷ []) rows reel (countable H seen row rows none).1
+    (list_any-append (same reel) seen (row.reel ∷ []) ∙ ap (λ b. b || list_any (same reel) (row.reel ∷ [])) before)
+  where
+    away : (b : Bool) → same row.reel reel ≡ b → same row.reel reel ≡ false
+    away true here = let one = same-true row.reel reel here in let once = (countable H seen row rows none).0.once in cc
+    away false is = is
+
+-- what an accepted count does with one reel: it takes no more than there is, and where it tells the pieces, they are what it leaves
+pub record IsCounted (H : History) (rows : List CountRow) (reel : Name) : Type 0 where
+  pub within : picked (count_picks (left_of H) rows) reel ≤ left_of H reel
+  pub told : unwrap_or (option_map (λ (row : CountRow). row.quantity) (find (λ row. same row.reel reel) rows)) (left_of H reel - picked (count_picks (left_of H) rows) reel)
+      ≡ left_of H reel - picked (count_picks (left_of H) rows) reel
+
+-- An accepted count does so.
+pub counted : (H : History) (seen : List Name) (rows : List CountRow) (reel : Name) → counts_refusal H seen rows ≡ None → IsCounted H rows reel
+counted H seen [] reel none = record { within = omega arith; told = refl }
+counted H seen (row ∷ rows) reel none = by (same row.reel reel) refl (both ∙ ap (λ k. k + rest) (picked-off row.reel (left_of H row.reel - row.quantity) Counted reel))
+    (counted H (seen ++ row.reel ∷ []) rows reel (countable H seen row rows none).1)
+  where
+    rest : ℕ
+    rest = picked (count_picks (left_of H) rows) reel
+
+    whole : ℕ
+    whole = picked (count_picks (left_of H) (row ∷ rows)) reel
+
+    both : whole ≡ picked (pieces_off row.reel (left_of H row.reel - row.quantity) Counted) reel + rest
+    both = picked-append (pieces_off row.reel (left_of H row.reel - row.quantity) Counted) (count_picks (left_of H) rows) reel
+
+    by : (b : Bool) → same row.reel reel ≡ b → whole ≡ (if b then left_of H row.reel - row.quantity else 0) + rest → IsCounted H rows reel → IsCounted H (row ∷ rows) reel
+    by true here all others =
+        let first = countable H seen row rows none in
+        let one = same-true row.reel reel here in
+        let none_after : rest ≡ 0 = count-absent H (left_of H) (seen ++ row.reel ∷ []) rows reel first.1
+        (list_any-append (same reel) seen (row.reel ∷ []) ∙ ap (λ x. list_any (same x) seen || (same x row.reel || false)) (sym one) ∙ last (list_any (same row.reel) seen)) in
+        let few : row.quantity ≤ left_of H reel = subst (λ x. row.quantity ≤ left_of H x) one first.0.within in
+        let taken : whole ≡ left_of H reel - row.quantity + rest = all ∙ ap (λ x. left_of H x - row.quantity + rest) one in
+        record {
+          within = omega (arith, taken, none_after, few);
+          told = ap (λ b. unwrap_or (option_map (λ (r : CountRow). r.quantity) (if b then Some row else find (λ r. same r.reel reel) rows)) (left_of H reel - whole)) here
+              ∙ exact taken none_after few;
+        }
+      where
+        last : (b : Bool) → (b || (same row.reel row.reel || false)) ≡ true
+        last true = refl
+        last false = ap (λ c. c || false) (same-refl row.reel)
+
+        exact : whole ≡ left_of H reel - row.quantity + rest → rest ≡ 0 → row.quantity ≤ left_of H reel → row.quantity ≡ left_of H reel - whole
+        exact taken none_after few = omega (arith, taken, none_after, few)
+    by false away all others =
+        record {
+          within = let few = others.within in omega (arith, all, few);
+          told = ap (λ b. unwrap_or (option_map (λ (r : CountRow). r.quantity) (if b then Some row else find (λ r. same r.reel reel) rows)) (left_of H reel - whole)) away
+              ∙ ap (λ k. unwrap_or (option_map (λ (r : CountRow). r.quantity) (find (λ r. same r.reel reel) rows)) (left_of H reel - k)) (all ∙ zero-add rest)
+              ∙ others.told
+              ∙ ap (λ k. left_of H reel - k) (sym (all ∙ zero-add rest));
+        }

@@ -1,0 +1,84 @@
+-- The tapes of judged lists.
+use Rattle.std.proofs.Common.{◌≡◌, ℕ, nat_lt, Bool, true, false, None, List, [], ◌∷◌, ◌++◌, refl, ap, ◌∙◌, arith}
+use Rattle.std.specs.Prelude.{if◌then◌else◌, ◌&&◌, ◌||◌, ◌==◌}
+use Rattle.std.specs.List.{AllByRecursion, IsDistinct}
+use Rattle.std.proofs.lemmas.Bool.{ltb-false}
+use Rattle.desk_types.specs.declared.command.Command.{Command}
+use Rattle.desk_types.specs.declared.command.Command.TheVariants.{MaterialsLoaded, MaterialsSpliced, MaterialsUnloaded}
+use Rattle.desk_types.specs.Id.{Name, same}
+use Rattle.desk_types.specs.History.{History}
+use Rattle.desk_types.specs.Tape.{spliced, tape_after, tape_of}
+use Rattle.desk_types.specs.Pieces.{left_of, is_mounted}
+use Rattle.desk_types.specs.Refusals.{command_refusal}
+use Rattle.desk_types.specs.Judged.{IsJudged}
+use Rattle.desk_types.proofs.Keys.{same-sym}
+use Rattle.desk_laws.proofs.Accepted.{next-accepted, mountable}
+use Rattle.desk_laws.proofs.Mounts.{has, has-live_on, live-mounted}
+
+-- what is not 0 is some
+pub not-zero : (n : ℕ) → (n == 0) ≡ false → nat_lt 0 n ≡ true
+not-zero n some = by (nat_lt 0 n) refl
+  where
+    by : (b : Bool) → nat_lt 0 n ≡ b → nat_lt 0 n ≡ true
+    by true is = is
+    by false is = let few = ltb-false 0 n is in let none : n ≡ 0 = omega (arith, few) in cc
+
+-- A reel that has pieces left and is not mounted stands on no tape. This holds of every list.
+pub unmounted-nowhere : (H : History) (machine slot reel : Name) → is_mounted H reel ≡ false → nat_lt 0 (left_of H reel) ≡ true → has (tape_of H machine slot) reel ≡ false
+unmounted-nowhere H machine slot reel rests some = by (has (tape_of H machine slot) reel) refl
+  where
+    by : (b : Bool) → has (tape_of H machine slot) reel ≡ b → has (tape_of H machine slot) reel ≡ false
+    by false off = off
+    by true on = let mounted = live-mounted H machine slot reel (has-live_on H machine slot reel ∙ ap (λ b. b && has (tape_of H machine slot) reel) some ∙ on) in cc
+
+neither : (a b : Bool) → (a || b) ≡ false → (a ≡ false) × (b ≡ false)
+neither false false is = (refl, refl)
+neither true b is = cc
+neither false true is = cc
+
+apart-append : (x : Name) (ys : List Name) (name : Name) → same x name ≡ false → AllByRecursion (λ y. same x y ≡ false) ys
+    → AllByRecursion (λ y. same x y ≡ false) (ys ++ name ∷ [])
+apart-append x [] name last all = (last, tt)
+apart-append x (y ∷ ys) name last (first, all) = (first, apart-append x ys name last all)
+
+-- names that differ, and one more that is not among them
+pub distinct-append : (names : List Name) (name : Name) → IsDistinct same names → has names name ≡ false → IsDistinct same (names ++ name ∷ [])
+unfolding IsDistinct
+distinct-append [] name distinct away = (tt, tt)
+distinct-append (x ∷ xs) name (apart, distinct) away =
+    let both = neither (same name x) (has xs name) away in
+    (apart-append x xs name (same-sym x name ∙ both.0) apart, distinct-append xs name distinct both.1)
+
+spliced-distinct : (reels : List Name) (reel : Name) → IsDistinct same reels → has reels reel ≡ false → IsDistinct same (spliced reels reel)
+spliced-distinct [] reel distinct away = distinct
+spliced-distinct (x ∷ xs) reel distinct away = distinct-append (x ∷ xs) reel distinct away
+
+-- after an accepted command
+distinct-step : (H : History) (minute : ℕ) (machine slot : Name) (command : Command) → command_refusal H minute command ≡ None
+    → IsDistinct same (tape_of H machine slot) → IsDistinct same (tape_after machine slot command (tape_of H machine slot))
+unfolding command_refusal IsDistinct
+distinct-step H minute machine slot (MaterialsLoaded m s r) none distinct = by (same m machine && same s slot)
+  where
+    by : (b : Bool) → IsDistinct same (if b then r ∷ [] else tape_of H machine slot)
+    by true = (tt, tt)
+    by false = distinct
+distinct-step H minute machine slot (MaterialsSpliced m s r) none distinct = by (same m machine && same s slot)
+  where
+    by : (b : Bool) → IsDistinct same (if b then spliced (tape_of H machine slot) r else tape_of H machine slot)
+    by true =
+        let tests = mountable H minute m s r _ none in
+        spliced-distinct (tape_of H machine slot) r distinct (unmounted-nowhere H machine slot r tests.not_mounted (not-zero (left_of H r) tests.some))
+    by false = distinct
+distinct-step H minute machine slot (MaterialsUnloaded m s) none distinct = by (same m machine && same s slot)
+  where
+    by : (b : Bool) → IsDistinct same (if b then [] else tape_of H machine slot)
+    by true = tt
+    by false = distinct
+distinct-step H minute machine slot _ none distinct = distinct
+
+-- A reel stands on a tape once: what is spliced has pieces left and is not mounted, so it stands on none.
+pub tape-distinct : (H : History) (machine slot : Name) → IsJudged H → IsDistinct same (tape_of H machine slot)
+unfolding tape_of IsDistinct
+tape-distinct [] machine slot judged = tt
+tape-distinct (e ∷ H) machine slot (next, judged) =
+    distinct-step H e.effective machine slot e.stamped.command (next-accepted H e next) (tape-distinct H machine slot judged)

@@ -1,0 +1,46 @@
+//! What a desk tells of a reel.
+
+use crate::id::Id;
+use crate::level::Level;
+use crate::number::Minute;
+
+/// The minutes of floor life that are left to a reel.
+#[derive(Clone, Copy, Debug, PartialEq, Eq)]
+pub enum Left {
+    /// Its level has no limit.
+    Unlimited,
+    /// It waits for its bake.
+    Unbaked,
+    /// So many, 0 where it is expired.
+    Minutes(u64),
+}
+
+/// A received reel at the desk minute. Pieces are received, and then placed, scrapped or remaining.
+/// Minutes are whole minutes since 1970-01-01T00:00Z, and `used` is a number of minutes. The idea of
+/// floor life is J-STD-033's; the limits are this project's own profile.
+#[derive(Clone, Copy, Debug, PartialEq, Eq)]
+pub struct ReelView {
+    pub reel: Id,
+    pub part: Id,
+    pub lot: Id,
+    pub level: Level,
+    /// The minutes of the label, 0 where the level is not 6.
+    pub label: u64,
+    pub received: u64,
+    pub placed: u64,
+    /// Thrown away, or shown missing by a count.
+    pub scrapped: u64,
+    pub remaining: u64,
+    /// Of its floor life, at the desk minute.
+    pub left: Left,
+    /// It is live on some slot.
+    pub mounted: bool,
+    /// It is out of its bag.
+    pub is_open: bool,
+    /// The exposure at `open_since`, or at the desk minute while it is in its bag.
+    pub used: u64,
+    /// The minute since which it is out of its bag.
+    pub open_since: Option<Minute>,
+    /// It was baked since its receipt.
+    pub baked: bool,
+}
