@@ -1,4 +1,5 @@
 -- Which reels stand on slots, and which entries put them there.
+use Rattle.std.proofs.lemmas.Bool.{and_parts, or_left, or_right}
 use Rattle.std.proofs.Common.{◌≡◌, Bool, true, false, Some, None, List, [], ◌∷◌, refl, sym, ap, ◌∙◌}
 use Rattle.std.specs.Prelude.{nat_lt, is_none, ◌&&◌, ◌||◌, if◌then◌else◌}
 use Rattle.std.specs.List.{list_any, filter}
@@ -14,6 +15,7 @@ use Rattle.desk_types.specs.Setup.{receipt_of}
 use Rattle.desk_types.specs.Pieces.{left_of, live_on, first, is_live_where_loaded, is_mounted}
 use Rattle.desk_types.specs.FloorLife.{open_by, IsUntouched}
 use Rattle.desk_types.specs.Judged.{IsJudged}
+use Rattle.desk_laws.specs.Verified.{mounts}
 use Rattle.desk_laws.proofs.Judgements.{untouched}
 use Rattle.desk_types.proofs.Keys.{same-refl, same-sym, same-true}
 
@@ -34,34 +36,16 @@ has-live_on H machine slot reel = has-filter (λ r. nat_lt 0 (left_of H r)) (tap
 
 -- ---- which entry put it there
 
--- whether the command puts the reel on the slot
-abbrev pub mounts : Name → Name → Name → Command → Bool
-mounts machine slot reel (MaterialsLoaded m s r) = (same m machine && same s slot) && same r reel
-mounts machine slot reel (MaterialsSpliced m s r) = (same m machine && same s slot) && same r reel
-mounts machine slot reel _ = false
-
 -- whether the command loads the slot
 abbrev pub loads : Name → Name → Command → Bool
 loads machine slot (MaterialsLoaded m s r) = same m machine && same s slot
 loads machine slot _ = false
 
-and-both : (a b : Bool) → (a && b) ≡ true → (a ≡ true) × (b ≡ true)
-and-both true b is = (refl, is)
-and-both false b is = cc
-
-or-left : (a b : Bool) → a ≡ true → (a || b) ≡ true
-or-left true b is = refl
-or-left false b is = cc
-
-or-right : (a b : Bool) → b ≡ true → (a || b) ≡ true
-or-right true b is = refl
-or-right false b is = is
-
 has-one : (r reel : Name) (rest : Bool) → has (r ∷ []) reel ≡ true → (same r reel || rest) ≡ true
 has-one r reel rest is = by (same reel r) (same-sym reel r) is
   where
     by : (b : Bool) → b ≡ same r reel → (b || false) ≡ true → (same r reel || rest) ≡ true
-    by true eq is = or-left _ rest (sym eq)
+    by true eq is = or_left _ rest (sym eq)
     by false eq is = cc
 
 -- a reel that stands on a tape after a splice stood there before or is the one that was joined
@@ -71,11 +55,11 @@ has-spliced [] r reel rest is there = cc
 has-spliced (x ∷ xs) r reel rest is there = by (has (x ∷ xs) reel) refl (sym (list_any-append (same reel) (x ∷ xs) (r ∷ [])) ∙ is)
   where
     by : (b : Bool) → has (x ∷ xs) reel ≡ b → (b || has (r ∷ []) reel) ≡ true → (same r reel || rest) ≡ true
-    by true before is = or-right _ rest (there before)
+    by true before is = or_right _ rest (there before)
     by false before is = has-one r reel rest is
 
 -- after a command, the reel was put there by it or stood there before
-mounted-step : (machine slot reel : Name) (command : Command) (reels : List Name) (rest : Bool) → has (tape_after machine slot command reels) reel ≡ true
+pub mounted-step : (machine slot reel : Name) (command : Command) (reels : List Name) (rest : Bool) → has (tape_after machine slot command reels) reel ≡ true
     → (has reels reel ≡ true → rest ≡ true) → (mounts machine slot reel command || rest) ≡ true
 mounted-step machine slot reel (MaterialsLoaded m s r) reels rest is there = by (same m machine && same s slot) is
   where
@@ -138,22 +122,22 @@ loaded-step machine slot test of_load (MaterialsLoaded m s r) reels rest some th
     by : (b : Bool) → (same m machine && same s slot) ≡ b → is_none (first (if b then r ∷ [] else reels)) ≡ false
         → (test (MaterialsLoaded m s r) || rest) ≡ true
     by true here some =
-        let machine_is = same-true m machine (and-both _ _ here).0 in
-        let slot_is = same-true s slot (and-both _ _ here).1 in
-        or-left _ rest (ap (λ m'. test (MaterialsLoaded m' s r)) machine_is ∙ ap (λ s'. test (MaterialsLoaded machine s' r)) slot_is ∙ of_load r)
-    by false here some = or-right _ rest (there some)
-loaded-step machine slot test of_load (MaterialsSpliced m s r) reels rest some there = or-right _ rest (there (by (same m machine && same s slot) reels some))
+        let machine_is = same-true m machine (and_parts _ _ here).0 in
+        let slot_is = same-true s slot (and_parts _ _ here).1 in
+        or_left _ rest (ap (λ m'. test (MaterialsLoaded m' s r)) machine_is ∙ ap (λ s'. test (MaterialsLoaded machine s' r)) slot_is ∙ of_load r)
+    by false here some = or_right _ rest (there some)
+loaded-step machine slot test of_load (MaterialsSpliced m s r) reels rest some there = or_right _ rest (there (by (same m machine && same s slot) reels some))
   where
     by : (b : Bool) (reels : List Name) → is_none (first (if b then spliced reels r else reels)) ≡ false → is_none (first reels) ≡ false
     by true [] some = some
     by true (x ∷ xs) some = refl
     by false reels some = some
-loaded-step machine slot test of_load (MaterialsUnloaded m s) reels rest some there = or-right _ rest (there (by (same m machine && same s slot) some))
+loaded-step machine slot test of_load (MaterialsUnloaded m s) reels rest some there = or_right _ rest (there (by (same m machine && same s slot) some))
   where
     by : (b : Bool) → is_none (first (if b then [] else reels)) ≡ false → is_none (first reels) ≡ false
     by true some = cc
     by false some = some
-loaded-step machine slot test of_load _ reels rest some there = or-right _ rest (there some)
+loaded-step machine slot test of_load _ reels rest some there = or_right _ rest (there some)
 
 -- A slot that has a tape was loaded: some entry passes each test that holds of its loads.
 pub loaded-by : (H : History) (machine slot : Name) (test : Command → Bool) → ((r : Name) → test (MaterialsLoaded machine slot r) ≡ true)
@@ -179,4 +163,4 @@ live-mounted H machine slot reel is =
     loaded-by H machine slot (is_live_where_loaded H reel) (λ r. is) (has-first (tape_of H machine slot) reel on_tape)
   where
     on_tape : has (tape_of H machine slot) reel ≡ true
-    on_tape = (and-both (nat_lt 0 (left_of H reel)) _ (sym (has-live_on H machine slot reel) ∙ is)).1
+    on_tape = (and_parts (nat_lt 0 (left_of H reel)) _ (sym (has-live_on H machine slot reel) ∙ is)).1

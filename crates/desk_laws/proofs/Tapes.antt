@@ -1,18 +1,19 @@
 -- The tapes of judged lists.
 use Rattle.std.proofs.Common.{◌≡◌, ℕ, nat_lt, Bool, true, false, None, List, [], ◌∷◌, ◌++◌, refl, ap, ◌∙◌, arith}
-use Rattle.std.specs.Prelude.{if◌then◌else◌, ◌&&◌, ◌||◌, ◌==◌}
-use Rattle.std.specs.List.{AllByRecursion, IsDistinct}
+use Rattle.std.specs.Prelude.{if◌then◌else◌, ◌&&◌, ◌==◌}
+use Rattle.std.specs.List.{IsDistinct}
 use Rattle.std.proofs.lemmas.Bool.{ltb-false}
 use Rattle.desk_types.specs.declared.command.Command.{Command}
 use Rattle.desk_types.specs.declared.command.Command.TheVariants.{MaterialsLoaded, MaterialsSpliced, MaterialsUnloaded}
 use Rattle.desk_types.specs.Id.{Name, same}
 use Rattle.desk_types.specs.History.{History}
 use Rattle.desk_types.specs.Tape.{spliced, tape_after, tape_of}
-use Rattle.desk_types.specs.Pieces.{left_of, is_mounted}
+use Rattle.desk_types.specs.Pieces.{left_of, live_on, is_mounted}
 use Rattle.desk_types.specs.Refusals.{command_refusal}
 use Rattle.desk_types.specs.Judged.{IsJudged}
 use Rattle.desk_types.proofs.Keys.{same-sym}
 use Rattle.desk_laws.proofs.Accepted.{next-accepted, mountable}
+use Rattle.desk_laws.proofs.Distinct.{distinct-filter, distinct-join}
 use Rattle.desk_laws.proofs.Mounts.{has, has-live_on, live-mounted}
 
 -- what is not 0 is some
@@ -31,27 +32,14 @@ unmounted-nowhere H machine slot reel rests some = by (has (tape_of H machine sl
     by false off = off
     by true on = let mounted = live-mounted H machine slot reel (has-live_on H machine slot reel ∙ ap (λ b. b && has (tape_of H machine slot) reel) some ∙ on) in cc
 
-neither : (a b : Bool) → (a || b) ≡ false → (a ≡ false) × (b ≡ false)
-neither false false is = (refl, refl)
-neither true b is = cc
-neither false true is = cc
-
-apart-append : (x : Name) (ys : List Name) (name : Name) → same x name ≡ false → AllByRecursion (λ y. same x y ≡ false) ys
-    → AllByRecursion (λ y. same x y ≡ false) (ys ++ name ∷ [])
-apart-append x [] name last all = (last, tt)
-apart-append x (y ∷ ys) name last (first, all) = (first, apart-append x ys name last all)
-
--- names that differ, and one more that is not among them
-pub distinct-append : (names : List Name) (name : Name) → IsDistinct same names → has names name ≡ false → IsDistinct same (names ++ name ∷ [])
+-- One more name that is not among them
+pub one-more : (names : List Name) (name : Name) → IsDistinct same names → has names name ≡ false → IsDistinct same (names ++ name ∷ [])
 unfolding IsDistinct
-distinct-append [] name distinct away = (tt, tt)
-distinct-append (x ∷ xs) name (apart, distinct) away =
-    let both = neither (same name x) (has xs name) away in
-    (apart-append x xs name (same-sym x name ∙ both.0) apart, distinct-append xs name distinct both.1)
+one-more names name distinct away = distinct-join same same-sym names (name ∷ []) distinct (tt, tt) (away, tt)
 
 spliced-distinct : (reels : List Name) (reel : Name) → IsDistinct same reels → has reels reel ≡ false → IsDistinct same (spliced reels reel)
 spliced-distinct [] reel distinct away = distinct
-spliced-distinct (x ∷ xs) reel distinct away = distinct-append (x ∷ xs) reel distinct away
+spliced-distinct (x ∷ xs) reel distinct away = one-more (x ∷ xs) reel distinct away
 
 -- after an accepted command
 distinct-step : (H : History) (minute : ℕ) (machine slot : Name) (command : Command) → command_refusal H minute command ≡ None
@@ -82,3 +70,8 @@ unfolding tape_of IsDistinct
 tape-distinct [] machine slot judged = tt
 tape-distinct (e ∷ H) machine slot (next, judged) =
     distinct-step H e.effective machine slot e.stamped.command (next-accepted H e next) (tape-distinct H machine slot judged)
+
+-- A reel stands among the live reels of a slot once.
+pub live-distinct : (H : History) (machine slot : Name) → IsJudged H → IsDistinct same (live_on H machine slot)
+unfolding live_on
+live-distinct H machine slot judged = distinct-filter same (λ reel. nat_lt 0 (left_of H reel)) (tape_of H machine slot) (tape-distinct H machine slot judged)

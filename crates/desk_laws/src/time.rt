@@ -1,9 +1,38 @@
 //! Laws of time. They are for proofs, and do nothing when they run.
 
-ghost use Rattle.std.specs.Prelude.{◌≤◌};
+ghost use Rattle.std.specs.Prelude.{◌≡◌, ◌≢◌, ℕ, ◌-◌, ◌≤◌, true, false, List, ◌∷◌, ◌++◌, All};
+ghost use Rattle.desk_types.specs.declared.command.Command.TheVariants.{ReelBaked};
+ghost use Rattle.desk_types.specs.declared.command.Entry.{Entry};
+ghost use Rattle.desk_types.specs.Id.{Name};
 ghost use Rattle.desk_types.specs.History.{History, IsPrefix, now_of};
+ghost use Rattle.desk_types.specs.FloorLife.{exposure_starts, exposure_of, is_expired};
+ghost use Rattle.desk_types.specs.Judged.{IsJudged};
+ghost use Rattle.desk_laws.specs.Verified.{mounts};
 
 /// The desk minute never falls. This holds of every list.
 pub fn desk_minute_never_falls()
     ensures { (G H : History) → IsPrefix G H → now_of G ≤ now_of H }
+{}
+
+/// An exposure never falls between bakes: not as the minutes of one list go on, which holds of every
+/// list; and not as more entries come, which holds of every judged list, from a minute that none of those
+/// comes before (where one does, it may be a seal that ends the exposure at its minute).
+pub fn exposure_never_falls()
+    ensures minutes { (H : History) (reel : Name) (earlier later : ℕ) → earlier ≤ later → exposure_of H reel earlier ≤ exposure_of H reel later }
+    ensures entries { (G : History) (more : List Entry) (reel : Name) (earlier later : ℕ) → IsJudged (more ++ G)
+        → All (λ (e : Entry). e.stamped.command ≢ ReelBaked reel) more → All (λ (e : Entry). earlier ≤ e.effective) more → earlier ≤ later
+        → exposure_of G reel earlier ≤ exposure_of (more ++ G) reel later }
+{}
+
+/// An exposure is never more than the minutes since the last bake, or else the receipt. This holds of
+/// every list.
+pub fn exposure_is_no_longer()
+    ensures { (H : History) (reel : Name) (minute : ℕ) → exposure_of H reel minute ≤ minute - exposure_starts H reel }
+{}
+
+/// A reel that was loaded or spliced was not expired at the minute at which that took effect. This holds
+/// of every judged list.
+pub fn mounted_reels_are_not_expired()
+    ensures { (G H : History) (e : Entry) (machine slot reel : Name) → IsPrefix (e ∷ G) H → IsJudged H
+        → mounts machine slot reel e.stamped.command ≡ true → is_expired G reel e.effective ≡ false }
 {}

@@ -1,9 +1,12 @@
+pub mod Apart
 pub mod Bounds
 pub mod Command
 pub mod Designator
 pub mod Desk
+pub mod Fields
 pub mod Fixed
 pub mod FloorLife
+pub mod Free
 pub mod Front
 pub mod History
 pub mod Id
@@ -16,6 +19,7 @@ pub mod Pieces
 pub mod Placements
 pub mod Refusals
 pub mod Setup
+pub mod StoredText
 pub mod Tape
 pub mod View
 pub mod Wire

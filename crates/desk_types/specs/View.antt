@@ -1,15 +1,31 @@
--- What a desk tells of a reel.
-use Rattle.std.specs.Prelude.{ℕ, Option, is_some, if◌then◌else◌, unwrap_or}
+-- What a desk tells of a reel, and of the slots of a machine.
+use Rattle.std.specs.Prelude.{ℕ, Bool, false, Option, Some, None, is_some, List, [], map, if◌then◌else◌, unwrap_or}
 use Rattle.std.specs.Option.{option_map, option_map_or}
+use Rattle.std.specs.List.{list_any, filter_map, flat_map, enumerate_from}
+use Rattle.desk_types.specs.declared.command.Command.{Command}
+use Rattle.desk_types.specs.declared.command.Command.TheVariants.{SheetDefined, MaterialsLoaded}
+use Rattle.desk_types.specs.declared.command.Entry.{Entry}
 use Rattle.desk_types.specs.declared.command.Receipt.{Receipt}
 use Rattle.desk_types.specs.declared.view.Left.{Left}
-use Rattle.desk_types.specs.declared.view.Left.TheVariants.{Unlimited, Unbaked, Minutes}
+use Rattle.desk_types.specs.declared.view.Left.TheVariants.{Minutes, Unlimited, Unbaked}
+use Rattle.desk_types.specs.declared.view.Mount.{Mount}
 use Rattle.desk_types.specs.declared.view.ReelView.{ReelView}
-use Rattle.desk_types.specs.Id.{Name}
+use Rattle.desk_types.specs.Id.{Name, same}
 use Rattle.desk_types.specs.History.{History, now_of}
 use Rattle.desk_types.specs.Setup.{receipt_of}
-use Rattle.desk_types.specs.Pieces.{received_of, placed_of, scrapped_of, left_of, is_mounted}
+use Rattle.desk_types.specs.Pieces.{received_of, placed_of, scrapped_of, left_of, live_on, is_mounted}
 use Rattle.desk_types.specs.FloorLife.{out_since, exposure_of, minutes_left, is_baked, is_unbaked}
+use Rattle.desk_types.specs.Placements.{set_of}
+
+-- ---- a reel
+
+-- the part of a received reel
+abbrev pub part_of : History → Name → Name
+part_of H reel = option_map_or (λ (r : Receipt). r.part) (receipt_of H reel) []
+
+-- the lot of a received reel
+abbrev pub lot_of : History → Name → Name
+lot_of H reel = option_map_or (λ (r : Receipt). r.lot) (receipt_of H reel) []
 
 -- the floor life that is left to the reel at the desk minute
 abbrev pub life_left : History → Name → Left
@@ -42,3 +58,43 @@ view_of H reel receipt = record {
 -- the reel as the list leaves it, where it was received
 abbrev pub reel_view : History → Name → Option ReelView
 reel_view H reel = option_map (view_of H reel) (receipt_of H reel)
+
+-- ---- the slots of a machine
+
+-- whether the command defines a sheet on the machine
+abbrev pub defines_on : Name → Command → Bool
+defines_on machine (SheetDefined p m rows) = same m machine
+defines_on machine _ = false
+
+-- whether some sheet names the machine
+abbrev pub has_sheet : History → Name → Bool
+has_sheet H machine = list_any (λ (e : Entry). defines_on machine e.stamped.command) H
+
+-- the slot of the machine that the command loads
+abbrev pub slot_by : Name → Command → Option Name
+slot_by machine (MaterialsLoaded m slot reel) = if same m machine then Some slot else None
+slot_by machine _ = None
+
+-- The slots of the machine, each once and in byte order. Each slot that has a tape was loaded by some entry, so those are looked at.
+abbrev pub loaded_slots : History → Name → List Name
+loaded_slots H machine = set_of (filter_map (λ (e : Entry). slot_by machine e.stamped.command) H)
+
+-- a live reel in its position on a slot
+abbrev pub mount_of : History → Name → ℕ × Name → Mount
+mount_of H slot (position, reel) = record {
+  slot = slot;
+  position = position;
+  reel = reel;
+  part = part_of H reel;
+  lot = lot_of H reel;
+  remaining = left_of H reel;
+  left = life_left H reel;
+}
+
+-- the live reels of a slot; the one in position 1 is the front
+abbrev pub slot_mounts : History → Name → Name → List Mount
+slot_mounts H machine slot = map (mount_of H slot) (enumerate_from 1 (live_on H machine slot))
+
+-- the live reels of the machine's slots, where some sheet names the machine
+abbrev pub mounts_on : History → Name → Option (List Mount)
+mounts_on H machine = if has_sheet H machine then Some (flat_map (slot_mounts H machine) (loaded_slots H machine)) else None

@@ -13,7 +13,7 @@ use crate::id::Id;
 use crate::list::Listing;
 use crate::number::Minute;
 use crate::sheet::SheetRows;
-use crate::view::ReelView;
+use crate::view::{Mounts, ReelView, ReelViews};
 use std::alloc::{AllocError, Global};
 
 /// The most commands that a desk is ever asked to accept.
@@ -49,7 +49,8 @@ pub trait Desk {
     ghost use Rattle.desk_types.specs.Front.{fronts_of};
     ghost use Rattle.desk_types.specs.History.{History, desk_minute, accept};
     ghost use Rattle.desk_types.specs.Setup.{selected_on, sheet_of};
-    ghost use Rattle.desk_types.specs.View.{reel_view};
+    ghost use Rattle.desk_types.specs.View.{reel_view, mounts_on};
+    ghost use Rattle.desk_types.specs.Free.{free_reels};
     ghost use Rattle.desk_types.specs.Desk.{HasRoom, IsChange, IsJudgement};
 
     /// The lists for which the desk stands.
@@ -93,6 +94,16 @@ pub trait Desk {
     /// The reel at the desk minute, or none where no such reel was received. Takes no memory.
     fn reel(&self, reel: &Id) -> Option<ReelView>
         ensures { (H : History) → Stands self.now H → result ≡ reel_view H reel.now };
+
+    /// The live reels of the machine's slots, by slot and then by position, also of slots that a later
+    /// sheet no longer has; or none where no sheet names the machine.
+    fn slots_of(&self, machine: &Id) -> Result<Option<Mounts>, AllocError>
+        ensures { (H : History) → Stands self.now H → IfOk result (λ mounts. mounts ≡ mounts_on H machine.now) };
+
+    /// The reels that could be loaded at the desk minute where a sheet says the part: those with the
+    /// fewest minutes left first, those without a limit last, and among equals by name.
+    fn free_reels(&self, part: &Id) -> Result<ReelViews, AllocError>
+        ensures { (H : History) → Stands self.now H → IfOk result (λ reels. reels ≡ free_reels H part.now) };
 }
 
 /// Judges commands one after the other, and settles each that is accepted. The replies are those of

@@ -18,6 +18,7 @@ mod list;
 mod number;
 mod range;
 mod sheet;
+mod stored;
 mod take;
 #[cfg(test)]
 mod tests;
@@ -36,6 +37,7 @@ pub use level::{GREATEST_LABEL, Level, Moisture};
 pub use list::{Bounded, IdList, LONGEST_LIST, Listing, Text};
 pub use number::{CountedQuantity, GREATEST_MINUTE, GREATEST_QUANTITY, Minute, Quantity};
 pub use sheet::{Designators, SheetRow, SheetRows};
+pub use stored::texts_tell_commands_apart;
 pub use take::{Pick, Purpose, Take};
-pub use view::{Left, ReelView};
+pub use view::{Left, Mount, Mounts, ReelView, ReelViews};
 pub use wire::Wire;

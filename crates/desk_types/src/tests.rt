@@ -6,6 +6,7 @@ ghost use Rattle.desk_types.specs.Desk.{HasRoom};
 ghost use Rattle.desk_types.specs.Id.{Name};
 
 mod parts_desk;
+mod stored;
 
 use crate::*;
 use parts_desk::PartsDesk;

@@ -1,18 +1,20 @@
-//! What a desk tells of a reel.
+//! What a desk tells of reels and slots.
 
 use crate::id::Id;
 use crate::level::Level;
+use crate::list::Listing;
 use crate::number::Minute;
 
-/// The minutes of floor life that are left to a reel.
-#[derive(Clone, Copy, Debug, PartialEq, Eq)]
+/// The minutes of floor life that are left to a reel. In order come fewer minutes first, then no
+/// limit, and then a reel that can't be used before its bake.
+#[derive(Clone, Copy, Debug, PartialEq, Eq, PartialOrd, Ord)]
 pub enum Left {
+    /// So many, 0 where it is expired.
+    Minutes(u64),
     /// Its level has no limit.
     Unlimited,
     /// It waits for its bake.
     Unbaked,
-    /// So many, 0 where it is expired.
-    Minutes(u64),
 }
 
 /// A received reel at the desk minute. Pieces are received, and then placed, scrapped or remaining.
@@ -44,3 +46,23 @@ pub struct ReelView {
     /// It was baked since its receipt.
     pub baked: bool,
 }
+
+/// Reels in order of what is left to them, and then of their names.
+pub type ReelViews = Listing<ReelView>;
+
+/// A live reel on a slot. The one in position 1 is the front, from which pieces are taken.
+#[derive(Clone, Copy, Debug, PartialEq, Eq)]
+pub struct Mount {
+    pub slot: Id,
+    pub position: u64,
+    pub reel: Id,
+    pub part: Id,
+    pub lot: Id,
+    /// Pieces.
+    pub remaining: u64,
+    /// Of its floor life, at the desk minute.
+    pub left: Left,
+}
+
+/// Live reels in byte order of their slots, and then by position.
+pub type Mounts = Listing<Mount>;

@@ -1,22 +1,25 @@
 -- The shop floor in maps, entry by entry.
-use Rattle.std.proofs.Common.{◌≡◌, ℕ, ◌-◌, ◌≤◌, Option, Some, None, List, [], ◌∷◌, unwrap_or, refl, sym, ap, ◌∙◌, arith}
-use Rattle.std.specs.Prelude.{nat_lt}
+use Rattle.std.proofs.Common.{◌≡◌, ℕ, ◌-◌, ◌≤◌, true, false, Option, Some, None, List, [], ◌∷◌, unwrap_or, refl, sym, ap, subst, ◌∙◌, arith}
+use Rattle.std.specs.Prelude.{nat_lt, ◌&&◌, is_none}
 use Rattle.std.specs.List.{find}
 use Rattle.std.specs.Option.{option_map_or}
 use Rattle.desk_types.specs.declared.command.Entry.{Entry}
 use Rattle.desk_types.specs.declared.take.Take.{Take}
 use Rattle.desk_types.specs.Id.{Name}
 use Rattle.desk_types.specs.History.{History, now_of}
+use Rattle.desk_types.specs.Setup.{receipt_of}
+use Rattle.desk_types.specs.Judged.{IsJudged}
 use Rattle.desk_types.specs.Tape.{tape_of, tape_after}
-use Rattle.desk_types.specs.Pieces.{told_by, picks_of, left_of, front_of}
+use Rattle.desk_types.specs.Pieces.{told_by, picks_of, left_of, front_of, is_mounted}
 use Rattle.desk_types.specs.Outcome.{takes_by}
 use Rattle.look_back.specs.declared.floor.Floor.{Floor}
 use Rattle.reels.specs.declared.reel.Reel.{Reel}
 use Rattle.look_back.specs.Kept.{taken}
 use Rattle.look_back.specs.Life.{IsReelOf}
-use Rattle.look_back.specs.Floor.{IsFloor, AreReelsBy, pieces_at, tape_at, reel_at}
+use Rattle.look_back.specs.Floor.{IsFloor, AreReelsBy, pieces_at, tape_at, reel_at, mount_at, last_mount, is_on}
 use Rattle.look_back.proofs.Leaving.{taken-map}
 use Rattle.look_back.proofs.Live.{front_of-tape}
+use Rattle.look_back.proofs.Mounting.{mounted-last}
 
 -- what is left after an entry: what it tells, or else what was left less its takes
 pub left_of-next : (H : History) (e : Entry) (takes : List Take) (reel : Name) → takes ≡ takes_by H e.effective e.stamped.command
@@ -55,3 +58,20 @@ floor-by H floor minute is_floor later name reel is = by (reel_at floor.reels na
     by : (found : Option Reel) → IsReelOf H name found → found ≡ Some reel → reel.last ≤ minute
     by None is_reel is = cc
     by (Some found) is_reel is = omega (arith, is_reel.1, later, ap (λ o. option_map_or (λ (r : Reel). r.last) o 0) is)
+
+-- a reel is on the floor where it was received
+pub floor-unknown : (H : History) (floor : Floor) (name : Name) → IsFloor H floor → reel_at floor.reels name ≡ None → is_none (receipt_of H name) ≡ true
+floor-unknown H floor name is_floor none = ap is_none (subst (IsReelOf H name) none (is_floor.reels name))
+
+pub floor-known : (H : History) (floor : Floor) (name : Name) (reel : Reel) → IsFloor H floor → reel_at floor.reels name ≡ Some reel → is_none (receipt_of H name) ≡ false
+floor-known H floor name reel is_floor some = ap is_none (subst (IsReelOf H name) some (is_floor.reels name)).0.receipt.is
+
+-- a reel that is live on some slot, on the floor
+pub floor-mounted : (H : History) (floor : Floor) (reel : Name) → IsJudged H → IsFloor H floor
+    → (nat_lt 0 (pieces_at floor.stock reel) && is_on (tape_at floor.tapes) reel (mount_at floor.mounts reel)) ≡ is_mounted H reel
+floor-mounted H floor reel judged is_floor =
+    let tapes : tape_at floor.tapes ≡ tape_of H = λ j machine slot. is_floor.tapes machine slot j in
+    ap (λ n. nat_lt 0 n && is_on (tape_at floor.tapes) reel (mount_at floor.mounts reel)) (is_floor.stock reel)
+    ∙ ap (λ m. nat_lt 0 (left_of H reel) && is_on (tape_at floor.tapes) reel m) (is_floor.mounts reel)
+    ∙ ap (λ (tape : Name → Name → List Name). nat_lt 0 (left_of H reel) && is_on tape reel (last_mount H reel)) tapes
+    ∙ mounted-last H reel judged

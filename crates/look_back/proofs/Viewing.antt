@@ -35,7 +35,7 @@ used-is H name found stands by_now = by found.open_since refl ∙ ap (λ since. 
         omega (arith, exposure, none)
 
 -- a receipt is of no more pieces than there may be
-receipt-range : (H : History) (name : Name) → IsJudged H → received_of H name ≤ GREATEST_QUANTITY
+pub receipt-range : (H : History) (name : Name) → IsJudged H → received_of H name ≤ GREATEST_QUANTITY
 receipt-range [] name judged = omega arith
 receipt-range (e ∷ H) name (next, judged) = by (receipt_by name e.effective e.stamped.command) refl (receipt-range H name judged)
   where

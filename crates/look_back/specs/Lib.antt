@@ -1,9 +1,11 @@
+pub mod Counting
 pub mod Feeding
 pub mod Floor
 pub mod Fronts
 pub mod Kept
 pub mod Life
-pub mod Look
 pub mod Placing
+pub mod Scrapping
 pub mod Totals
+pub mod Turns
 pub mod Words

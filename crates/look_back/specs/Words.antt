@@ -1,13 +1,11 @@
--- The commands that the plain desk knows.
+-- The commands that take no pieces.
 use Rattle.std.specs.Prelude.{⊤}
 use Rattle.desk_types.specs.declared.command.Command.{Command}
-use Rattle.desk_types.specs.declared.command.Command.TheVariants.{MaterialsSpliced, MaterialsUnloaded, MaterialsInstalled, MaterialsScrapped, CountsTaken}
+use Rattle.desk_types.specs.declared.command.Command.TheVariants.{MaterialsInstalled, MaterialsScrapped, CountsTaken}
 
--- all but splices, unloads, installs, scraps and counts
-abbrev pub IsKnown : Command → Type 0
-IsKnown (MaterialsSpliced machine slot reel) = ⊥
-IsKnown (MaterialsUnloaded machine slot) = ⊥
-IsKnown (MaterialsInstalled machine board designators) = ⊥
-IsKnown (MaterialsScrapped machine slot quantity) = ⊥
-IsKnown (CountsTaken counts) = ⊥
-IsKnown _ = ⊤
+-- all but installs, scraps and counts
+abbrev pub TakesNone : Command → Type 0
+TakesNone (MaterialsInstalled machine board designators) = ⊥
+TakesNone (MaterialsScrapped machine slot quantity) = ⊥
+TakesNone (CountsTaken counts) = ⊥
+TakesNone _ = ⊤

@@ -1,6 +1,7 @@
 //! The shop floor as the entries leave it: every reel, what is left of it, and every tape. It is
 //! made in one pass, for the commands that look at many slots or reels.
 
+mod mount_map;
 mod reel_map;
 mod stock;
 mod tape_map;
@@ -10,10 +11,11 @@ ghost use Rattle.std.specs.List.{find};
 ghost use Rattle.desk_types.specs.History.{History};
 ghost use Rattle.desk_types.specs.Judged.{IsJudged};
 ghost use Rattle.desk_types.specs.Outcome.{takes_by};
-ghost use Rattle.desk_types.specs.Pieces.{front_of};
+ghost use Rattle.desk_types.specs.Pieces.{front_of, is_mounted};
 ghost use Rattle.look_back.specs.Kept.{AreTakes};
-ghost use Rattle.look_back.specs.Floor.{IsFloor, AreReelsBy, pieces_at, reel_at};
+ghost use Rattle.look_back.specs.Floor.{IsFloor, AreReelsBy, pieces_at, tape_at, reel_at, mount_at, is_on};
 
+use self::mount_map::note_mount;
 use self::reel_map::{note_reel, reel_in};
 use self::stock::note_stock;
 pub use self::stock::{lower, pieces};
@@ -24,12 +26,14 @@ use reels::Reel;
 use std::alloc::{AllocError, Global};
 use std::collections::BTreeMap;
 
-/// The shop floor: reels by name, the pieces left of each, and tapes by machine and slot.
+/// The shop floor: reels by name, the pieces left of each, tapes by machine and slot, and the
+/// machine and slot onto which each reel was last put.
 #[derive(Drop)]
 pub struct Floor {
     pub reels: BTreeMap<Id, Reel>,
     pub stock: BTreeMap<Id, u64>,
     pub tapes: BTreeMap<(Id, Id), Tape>,
+    pub mounts: BTreeMap<Id, (Id, Id)>,
 }
 
 /// The floor where nothing is accepted. Takes no memory.
@@ -40,6 +44,7 @@ fn bare(alloc: Global) -> Floor
         reels: BTreeMap::new(alloc),
         stock: BTreeMap::new(alloc),
         tapes: BTreeMap::new(alloc),
+        mounts: BTreeMap::new(alloc),
     }
 }
 
@@ -52,6 +57,7 @@ fn note(alloc: Global, floor: &mut Floor, entry: &Entry, takes: &[Take]) -> Resu
     note_reel(&mut floor.reels, entry)?;
     note_stock(&mut floor.stock, &entry.stamped.command, takes)?;
     note_tape(alloc, &mut floor.tapes, &entry.stamped.command)?;
+    note_mount(&mut floor.mounts, &entry.stamped.command)?;
     Ok(())
 }
 
@@ -96,4 +102,24 @@ pub fn reel_on(floor: &Floor, name: &Id) -> Option<Reel>
     ensures { result ≡ reel_at floor.now.reels name.now }
 {
     reel_in(&floor.reels, name)
+}
+
+/// Whether the reel stands on the tape of the slot onto which it was last put.
+fn is_on_tape(floor: &Floor, reel: &Id) -> bool
+    ensures { result ≡ is_on (tape_at floor.now.tapes) reel.now (mount_at floor.now.mounts reel.now) }
+{
+    let Some(slot) = floor.mounts.get(reel) else {
+        return false;
+    };
+    match floor.tapes.get(slot) {
+        Some(tape) => tape.has(reel),
+        None => false,
+    }
+}
+
+/// Whether the reel is live on some slot.
+pub fn is_mounted(floor: &Floor, reel: &Id) -> bool
+    ensures { (H : History) → IsJudged H → IsFloor H floor.now → result ≡ is_mounted H reel.now }
+{
+    pieces(&floor.stock, reel) > 0 && is_on_tape(floor, reel)
 }

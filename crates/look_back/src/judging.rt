@@ -4,29 +4,36 @@ ghost use Rattle.std.specs.Prelude.{◌≡◌, ◌≤◌, nat_lt, ◌+◌, not, 
 ghost use Rattle.std.specs.Option.{option_map_or};
 ghost use Rattle.desk_types.specs.Judged.{IsJudged};
 ghost use Rattle.desk_types.specs.Refusals.{command_refusal, is_too_far_ahead};
-ghost use Rattle.desk_types.specs.Outcome.{detail_of};
+ghost use Rattle.desk_types.specs.Outcome.{detail_of, takes_by};
+ghost use Rattle.desk_types.specs.Pieces.{picks_of};
 ghost use Rattle.desk_types.specs.FloorLife.{minutes_left};
 ghost use Rattle.desk_types.specs.Desk.{IsJudgement};
-ghost use Rattle.look_back.specs.Kept.{AreTakes};
 ghost use Rattle.desk_types.specs.History.{now_of};
-ghost use Rattle.look_back.specs.Words.{IsKnown};
+ghost use Rattle.look_back.specs.Kept.{AreTakes};
+ghost use Rattle.look_back.specs.Placing.{IsPicked};
+ghost use Rattle.look_back.specs.Words.{TakesNone};
 
+use crate::counts::counted;
+use crate::floor::floor_of;
 use crate::floor_life::reel_of;
-use crate::loads::load_refusal;
+use crate::installs::installed;
+use crate::loads::{load_refusal, splice_refusal};
 use crate::refusals::{
     alternate_refusal, closing_refusal, completion_refusal, opening_refusal, part_refusal,
-    receipt_refusal, selection_refusal,
+    receipt_refusal, selection_refusal, unload_refusal,
 };
+use crate::scraps::scrapped;
 use crate::setup::{desk_minute, effective_minute};
 use crate::sheets::definition_refusal;
 use crate::starts::start_refusal;
+use crate::takes::{pieces_of, reels_of, takes_for};
 use desk_types::{
-    Change, Command, Detail, Entry, FURTHEST_AHEAD, Id, JudgeFault, Listing, Minute, Refusal,
+    Change, Command, Detail, Entry, FURTHEST_AHEAD, Id, JudgeFault, Listing, Minute, Pick, Refusal,
     Stamped, Takes,
 };
 use std::alloc::{AllocError, Global};
 
-/// Why a command is refused that takes effect at the minute.
+/// Why a command is refused that takes no pieces and takes effect at the minute.
 #[tactic(auto, unfolding(desk_types::specs::Refusals::command_refusal))]
 fn command_refusal(
     alloc: Global,
@@ -35,7 +42,7 @@ fn command_refusal(
     minute: Minute,
     command: &Command,
 ) -> Result<Option<Refusal>, AllocError>
-    requires known { IsKnown command.now }
+    requires known { TakesNone command.now }
     requires judged { IsJudged (reverse entries.now) }
     requires takes { AreTakes (reverse entries.now) (reverse takes.now) }
     requires minute { now_of (reverse entries.now) ≤ minute }
@@ -61,6 +68,14 @@ fn command_refusal(
             slot,
             reel,
         } => { load_refusal(alloc, entries, takes, minute, machine, slot, reel)? }
+        Command::MaterialsSpliced {
+            machine,
+            slot,
+            reel,
+        } => { splice_refusal(alloc, entries, takes, minute, machine, slot, reel)? }
+        Command::MaterialsUnloaded { machine, slot } => {
+            unload_refusal(alloc, entries, takes, machine, slot)?
+        }
         Command::WorkStarted { machine, board } => {
             start_refusal(alloc, entries, takes, minute, machine, board)?
         }
@@ -70,19 +85,87 @@ fn command_refusal(
     })
 }
 
-/// What the answer to a command tells.
-fn detail(entries: &[Entry], minute: Minute, command: &Command) -> Detail
-    requires known { IsKnown command.now }
+/// The pieces that a command takes, or why it is refused.
+#[tactic(auto, unfolding(desk_types::specs::Refusals::command_refusal))]
+fn picked(
+    alloc: Global,
+    entries: &[Entry],
+    takes: &[Takes],
+    minute: Minute,
+    command: &Command,
+) -> Result<Result<Listing<Pick>, Refusal>, AllocError>
     requires judged { IsJudged (reverse entries.now) }
+    requires takes { AreTakes (reverse entries.now) (reverse takes.now) }
     requires minute { now_of (reverse entries.now) ≤ minute }
-    ensures { result ≡ detail_of (reverse entries.now) minute command.now }
+    ensures { IfOk result (IsPicked (command_refusal (reverse entries.now) minute command.now) (picks_of (reverse entries.now) command.now)) }
 {
     match command {
-        Command::MaterialsLoaded { reel, .. } => Detail::MinutesLeft(minutes_left(
-            entries, minute, reel,
-        )),
-        _ => Detail::Plain,
+        Command::MaterialsInstalled {
+            machine,
+            board,
+            designators,
+        } => Ok(installed(alloc, entries, takes, machine, board, designators)?),
+        Command::MaterialsScrapped {
+            machine,
+            slot,
+            quantity,
+        } => Ok(scrapped(alloc, entries, takes, machine, slot, *quantity)?),
+        Command::CountsTaken { counts } => Ok(counted(alloc, entries, takes, counts)?),
+        _ => match command_refusal(alloc, entries, takes, minute, command)? {
+            Some(refusal) => Ok(Err(refusal)),
+            None => Ok(Ok(Listing::new(Vec::new(alloc)))),
+        },
     }
+}
+
+/// What the answer to a command tells that is accepted and takes these pieces.
+fn detail(
+    alloc: Global,
+    entries: &[Entry],
+    minute: Minute,
+    command: &Command,
+    picks: &[Pick],
+) -> Result<Detail, AllocError>
+    requires judged { IsJudged (reverse entries.now) }
+    requires minute { now_of (reverse entries.now) ≤ minute }
+    ensures { picks.now ≡ picks_of (reverse entries.now) command.now
+        → IfOk result (λ detail. detail ≡ detail_of (reverse entries.now) minute command.now) }
+{
+    command.ranges_hold();
+    match command {
+        Command::MaterialsLoaded { reel, .. } => Ok(Detail::MinutesLeft(minutes_left(
+            entries, minute, reel,
+        ))),
+        Command::MaterialsSpliced { reel, .. } => Ok(Detail::MinutesLeft(minutes_left(
+            entries, minute, reel,
+        ))),
+        Command::MaterialsInstalled { .. } => Ok(Detail::Reels(reels_of(alloc, picks)?)),
+        Command::MaterialsScrapped { .. } => Ok(Detail::Taken(pieces_of(picks))),
+        Command::CountsTaken { .. } => Ok(Detail::Taken(pieces_of(picks))),
+        _ => Ok(Detail::Plain),
+    }
+}
+
+/// The takes of the pieces of a command.
+fn taken(
+    alloc: Global,
+    entries: &[Entry],
+    takes: &[Takes],
+    minute: Minute,
+    command: &Command,
+    picks: &[Pick],
+) -> Result<Takes, AllocError>
+    requires judged { IsJudged (reverse entries.now) }
+    requires takes { AreTakes (reverse entries.now) (reverse takes.now) }
+    requires minute { now_of (reverse entries.now) ≤ minute }
+    ensures { picks.now ≡ picks_of (reverse entries.now) command.now
+        → IfOk result (λ taken. taken ≡ takes_by (reverse entries.now) minute command.now) }
+{
+    if picks.is_empty() {
+        return Ok(Listing::new(Vec::new(alloc)));
+    }
+    let floor = floor_of(alloc, entries, takes)?;
+    Ok(takes_for(alloc, &floor, minute, picks)?)
 }
 
 /// The floor life left to the reel, or none where it has no limit.
@@ -115,7 +198,6 @@ pub fn judged(
     takes: &[Takes],
     stamped: &Stamped,
 ) -> Result<Change, JudgeFault>
-    requires known { IsKnown stamped.now.command }
     requires judged { IsJudged (reverse entries.now) }
     requires takes { AreTakes (reverse entries.now) (reverse takes.now) }
     ensures { IsJudgement (reverse entries.now) stamped.now result }
@@ -124,13 +206,16 @@ pub fn judged(
         return Err(JudgeFault::Refused(Refusal::TooFarAhead));
     }
     let minute = effective_minute(entries, stamped.minute);
-    if let Some(refusal) = command_refusal(alloc, entries, takes, minute, &stamped.command)? {
-        return Err(JudgeFault::Refused(refusal));
-    }
+    let command = &stamped.command;
+    let picks = match picked(alloc, entries, takes, minute, command)? {
+        Ok(picks) => picks,
+        Err(refusal) => return Err(JudgeFault::Refused(refusal)),
+    };
+    let picks = picks.as_slice();
     Ok(Change {
         stamped: stamped.clone()?,
         minute,
-        detail: detail(entries, minute, &stamped.command),
-        takes: Listing::new(Vec::new(alloc)),
+        detail: detail(alloc, entries, minute, command, picks)?,
+        takes: taken(alloc, entries, takes, minute, command, picks)?,
     })
 }

@@ -2,8 +2,10 @@
 #![tactic(auto)]
 
 mod alternates;
+mod counts;
 mod floor;
 mod floor_life;
+mod free;
 mod fronts;
 mod installs;
 mod judging;
@@ -13,9 +15,13 @@ mod pieces;
 mod placing;
 mod plain;
 mod refusals;
+mod scraps;
+mod sets;
 mod setup;
 mod sheets;
+mod slots;
 mod starts;
+mod takes;
 mod tapes;
 #[cfg(test)]
 mod tests;

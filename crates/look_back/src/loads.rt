@@ -1,16 +1,18 @@
-//! Why a load is refused.
+//! Why a load or a splice is refused.
 
-ghost use Rattle.std.specs.Prelude.{◌≡◌, ◌≤◌, not, reverse, IfOk};
-ghost use Rattle.desk_types.specs.declared.answer.Refusal.TheVariants.{SlotTaken};
+ghost use Rattle.std.specs.Prelude.{◌≡◌, ◌≤◌, Bool, not, [], ◌∷◌, reverse, IfOk};
+ghost use Rattle.desk_types.specs.declared.answer.Refusal.{Refusal as Refusing};
+ghost use Rattle.desk_types.specs.declared.answer.Refusal.TheVariants.{SlotTaken, SlotEmpty};
 ghost use Rattle.desk_types.specs.Judged.{IsJudged};
-ghost use Rattle.desk_types.specs.Refusals.{is_vacant, is_wrong_for, mounting_refusal};
+ghost use Rattle.desk_types.specs.Refusals.{first_refusal, is_vacant, is_wrong_for, mounting_refusal};
 ghost use Rattle.look_back.specs.Feeding.{reel_refusal};
 ghost use Rattle.look_back.specs.Kept.{AreTakes};
 ghost use Rattle.desk_types.specs.History.{now_of};
 
 use crate::floor_life::reel_of;
-use crate::mounts::{front, is_mounted};
+use crate::mounts::is_mounted;
 use crate::pieces::left;
+use crate::refusals::is_vacant;
 use crate::setup::{is_allowed, row_on, selected_on};
 use desk_types::{Entry, Id, Minute, Refusal, SheetRow, Takes};
 use std::alloc::{AllocError, Global};
@@ -50,8 +52,36 @@ fn reel_refusal(
     None
 }
 
-/// Why a load is refused.
+/// Why a load or a splice is refused, which differ in what is wrong with the slot.
 #[tactic(auto, unfolding(desk_types::specs::Refusals::mounting_refusal, crate::specs::Feeding::reel_refusal))]
+fn mounting_refusal(
+    entries: &[Entry],
+    takes: &[Takes],
+    minute: Minute,
+    machine: &Id,
+    slot: &Id,
+    reel: &Id,
+    slot_refusal: Option<Refusal>,
+) -> Option<Refusal>
+    requires judged { IsJudged (reverse entries.now) }
+    requires takes { AreTakes (reverse entries.now) (reverse takes.now) }
+    requires minute { now_of (reverse entries.now) ≤ minute }
+    ensures { (test : Bool × Refusing) → slot_refusal ≡ first_refusal (test ∷ [])
+        → result ≡ mounting_refusal (reverse entries.now) minute machine.now slot.now reel.now test }
+{
+    if selected_on(entries, machine).is_none() {
+        return Some(Refusal::NoProduct(*machine));
+    }
+    let Some(row) = row_on(entries, machine, slot) else {
+        return Some(Refusal::SlotNotOnSheet(*slot));
+    };
+    if slot_refusal.is_some() {
+        return slot_refusal;
+    }
+    reel_refusal(entries, takes, minute, row, reel)
+}
+
+/// Why a load is refused.
 pub fn load_refusal(
     alloc: Global,
     entries: &[Entry],
@@ -67,14 +97,34 @@ pub fn load_refusal(
     ensures { IfOk result (λ refusal. refusal ≡ mounting_refusal (reverse entries.now) minute machine.now slot.now reel.now
         (not (is_vacant (reverse entries.now) machine.now slot.now), SlotTaken slot.now)) }
 {
-    if selected_on(entries, machine).is_none() {
-        return Ok(Some(Refusal::NoProduct(*machine)));
-    }
-    let Some(row) = row_on(entries, machine, slot) else {
-        return Ok(Some(Refusal::SlotNotOnSheet(*slot)));
+    let slot_refusal = if is_vacant(alloc, entries, takes, machine, slot)? {
+        None
+    } else {
+        Some(Refusal::SlotTaken(*slot))
     };
-    if front(alloc, entries, takes, machine, slot)?.is_some() {
-        return Ok(Some(Refusal::SlotTaken(*slot)));
-    }
-    Ok(reel_refusal(entries, takes, minute, row, reel))
+    Ok(mounting_refusal(entries, takes, minute, machine, slot, reel, slot_refusal))
+}
+
+/// Why a splice is refused.
+pub fn splice_refusal(
+    alloc: Global,
+    entries: &[Entry],
+    takes: &[Takes],
+    minute: Minute,
+    machine: &Id,
+    slot: &Id,
+    reel: &Id,
+) -> Result<Option<Refusal>, AllocError>
+    requires judged { IsJudged (reverse entries.now) }
+    requires takes { AreTakes (reverse entries.now) (reverse takes.now) }
+    requires minute { now_of (reverse entries.now) ≤ minute }
+    ensures { IfOk result (λ refusal. refusal ≡ mounting_refusal (reverse entries.now) minute machine.now slot.now reel.now
+        (is_vacant (reverse entries.now) machine.now slot.now, SlotEmpty slot.now)) }
+{
+    let slot_refusal = if is_vacant(alloc, entries, takes, machine, slot)? {
+        Some(Refusal::SlotEmpty(*slot))
+    } else {
+        None
+    };
+    Ok(mounting_refusal(entries, takes, minute, machine, slot, reel, slot_refusal))
 }

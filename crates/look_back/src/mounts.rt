@@ -1,27 +1,60 @@
-//! The live reels of slots, looked up in the entries and their takes, oldest first.
+//! Where a reel stands, by the entries, oldest first.
 
-ghost use Rattle.std.specs.Prelude.{◌≡◌, nat_lt, reverse, IfOk};
-ghost use Rattle.std.specs.List.{find, list_any};
-ghost use Rattle.desk_types.specs.declared.command.Entry.{Entry};
-ghost use Rattle.desk_types.specs.Pieces.{left_of, front_of, is_mounted};
-ghost use Rattle.look_back.specs.Kept.{AreTakes, is_on_where_loaded};
+ghost use Rattle.std.specs.Prelude.{◌≡◌, nat_lt, None, if◌then◌else◌, reverse};
+ghost use Rattle.desk_types.specs.Pieces.{left_of, is_mounted};
+ghost use Rattle.desk_types.specs.Judged.{IsJudged};
+ghost use Rattle.desk_laws.specs.Place.{is_at, place_after, place_of};
+ghost use Rattle.look_back.specs.Kept.{AreTakes};
 
 use crate::pieces::left;
-use crate::tapes::{is_on_tape, tape};
 use desk_types::{Command, Entry, Id, Takes};
-use std::alloc::{AllocError, Global};
 
-/// The first of some reels with pieces left.
-fn first_with_pieces(entries: &[Entry], takes: &[Takes], reels: &[Id]) -> Option<Id>
-    requires { AreTakes (reverse entries.now) (reverse takes.now) }
-    ensures { result ≡ find (λ reel. nat_lt 0 (left_of (reverse entries.now) reel)) reels.now }
+/// A place, unless it is this slot.
+fn unless_at(machine: &Id, slot: &Id, place: Option<(Id, Id)>) -> Option<(Id, Id)>
+    ensures { result ≡ (if is_at machine.now slot.now place then None else place) }
 {
-    for reel in reels {
-        if has_pieces(entries, takes, reel) {
-            return Some(*reel);
-        }
+    let (m, s) = place?;
+    if m == *machine && s == *slot {
+        return None;
     }
-    None
+    Some((m, s))
+}
+
+/// The machine and slot of a reel after a command.
+fn place_after(reel: &Id, command: &Command, place: Option<(Id, Id)>) -> Option<(Id, Id)>
+    ensures { result ≡ place_after reel.now command.now place }
+{
+    match command {
+        Command::MaterialsLoaded {
+            machine,
+            slot,
+            reel: r,
+        } => {
+            if *r == *reel {
+                return Some((*machine, *slot));
+            }
+            unless_at(machine, slot, place)
+        }
+        Command::MaterialsSpliced {
+            machine,
+            slot,
+            reel: r,
+        } if *r == *reel => Some((*machine, *slot)),
+        Command::MaterialsUnloaded { machine, slot } => unless_at(machine, slot, place),
+        _ => place,
+    }
+}
+
+/// The machine and slot onto which the reel was last put, if it was not taken off since.
+#[tactic(auto, unfolding(desk_laws::specs::Place::place_of))]
+fn place(entries: &[Entry], reel: &Id) -> Option<(Id, Id)>
+    ensures { result ≡ place_of (reverse entries.now) reel.now }
+{
+    let mut place = None;
+    for entry in entries {
+        place = place_after(reel, &entry.stamped.command, place);
+    }
+    place
 }
 
 /// Whether the reel has pieces left.
@@ -32,42 +65,14 @@ fn has_pieces(entries: &[Entry], takes: &[Takes], reel: &Id) -> bool
     left(entries, takes, reel) > 0
 }
 
-/// The first live reel of the slot.
-pub fn front(
-    alloc: Global,
-    entries: &[Entry],
-    takes: &[Takes],
-    machine: &Id,
-    slot: &Id,
-) -> Result<Option<Id>, AllocError>
-    requires { AreTakes (reverse entries.now) (reverse takes.now) }
-    ensures { IfOk result (λ front. front ≡ front_of (reverse entries.now) machine.now slot.now) }
-{
-    let reels = tape(alloc, entries, machine, slot)?;
-    Ok(first_with_pieces(entries, takes, reels.as_slice()))
-}
-
-/// Whether the command loads a slot on whose tape the reel stands.
-fn is_on_where_loaded(entries: &[Entry], reel: &Id, command: &Command) -> bool
-    ensures { result ≡ is_on_where_loaded (reverse entries.now) reel.now command.now }
-{
-    match command {
-        Command::MaterialsLoaded { machine, slot, .. } => is_on_tape(entries, machine, slot, reel),
-        _ => false,
-    }
-}
-
-/// Whether the reel stands on the tape of some slot.
-fn is_on_some_tape(entries: &[Entry], reel: &Id) -> bool
-    ensures { result ≡ list_any (λ (e : Entry). is_on_where_loaded (reverse entries.now) reel.now e.stamped.command) (reverse entries.now) }
-{
-    entries.iter().rev().any(|entry| is_on_where_loaded(entries, reel, &entry.stamped.command))
-}
-
 /// Whether the reel is live on some slot. Takes no memory.
 pub fn is_mounted(entries: &[Entry], takes: &[Takes], reel: &Id) -> bool
-    requires { AreTakes (reverse entries.now) (reverse takes.now) }
+    requires judged { IsJudged (reverse entries.now) }
+    requires takes { AreTakes (reverse entries.now) (reverse takes.now) }
     ensures { result ≡ is_mounted (reverse entries.now) reel.now }
 {
-    has_pieces(entries, takes, reel) && is_on_some_tape(entries, reel)
+    match place(entries, reel) {
+        Some(_) => has_pieces(entries, takes, reel),
+        None => false,
+    }
 }

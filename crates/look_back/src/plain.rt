@@ -8,12 +8,15 @@ ghost use Rattle.desk_types.specs.Id.{same};
 ghost use Rattle.desk_types.specs.History.{accept};
 ghost use Rattle.desk_types.specs.Desk.{IsChange};
 
+use crate::free::free_reels;
 use crate::fronts::fronts;
 use crate::judging::judged;
 use crate::setup::{desk_minute, selected_on, sheet_of};
+use crate::slots::slots_of;
 use crate::views::reel_view;
 use desk_types::{
-    Change, Desk, Entry, Fronts, Id, JudgeFault, Minute, ReelView, SheetRows, Stamped, Takes,
+    Change, Desk, Entry, Fronts, Id, JudgeFault, Minute, Mounts, ReelView, ReelViews, SheetRows,
+    Stamped, Takes,
 };
 use std::alloc::{AllocError, Global};
 use std::marker::Model;
@@ -56,7 +59,7 @@ impl PlainDesk {
     pub fn entries(&self) -> &[Entry]
         ensures { reverse result.now ≡ self.now }
     {
-        self.entries.as_slice()
+        &self.entries
     }
 
     /// The entry with this UniqueID, where there is one. Takes no memory.
@@ -95,12 +98,11 @@ fn earlier<'a>(entries: &'a [Entry], uid: &Id) -> Option<&'a Entry>
 }
 
 impl Desk for PlainDesk {
-    ghost use Rattle.std.specs.Prelude.{◌≡◌};
-    ghost use Rattle.look_back.specs.Words.{IsKnown};
+    ghost use Rattle.std.specs.Prelude.{◌≡◌, ⊤};
 
     ghost Stands = { λ desk H. H ≡ desk };
 
-    ghost Knows = { λ command. IsKnown command };
+    ghost Knows = { λ command. ⊤ };
 
     fn judge(&self, stamped: &Stamped) -> Result<Change, JudgeFault> {
         judged(
@@ -141,5 +143,23 @@ impl Desk for PlainDesk {
 
     fn reel(&self, reel: &Id) -> Option<ReelView> {
         reel_view(self.entries.as_slice(), self.takes.as_slice(), reel)
+    }
+
+    fn slots_of(&self, machine: &Id) -> Result<Option<Mounts>, AllocError> {
+        slots_of(
+            self.alloc,
+            self.entries.as_slice(),
+            self.takes.as_slice(),
+            machine,
+        )
+    }
+
+    fn free_reels(&self, part: &Id) -> Result<ReelViews, AllocError> {
+        free_reels(
+            self.alloc,
+            self.entries.as_slice(),
+            self.takes.as_slice(),
+            part,
+        )
     }
 }

@@ -1,13 +1,16 @@
-//! Why each command is refused, but loads and starts of work.
+//! Why each command is refused that has no file of its own.
 
-ghost use Rattle.std.specs.Prelude.{◌≡◌, reverse};
-ghost use Rattle.desk_types.specs.Refusals.{part_refusal, alternate_refusal, selection_refusal, receipt_refusal, opening_refusal, closing_refusal, completion_refusal};
+ghost use Rattle.std.specs.Prelude.{◌≡◌, reverse, IfOk};
+ghost use Rattle.desk_types.specs.Refusals.{part_refusal, alternate_refusal, selection_refusal, receipt_refusal, opening_refusal, closing_refusal, completion_refusal, unload_refusal, is_vacant};
+ghost use Rattle.desk_types.specs.Judged.{IsJudged};
 ghost use Rattle.look_back.specs.Kept.{AreTakes};
 
+use crate::floor::{floor_of, front};
 use crate::mounts::is_mounted;
 use crate::setup::{is_part, receipt, sheet_of};
 use crate::work::{in_work_on, is_in_work_on};
 use desk_types::{Entry, Id, Refusal, Takes};
+use std::alloc::{AllocError, Global};
 
 /// Why a definition of a part is refused.
 #[tactic(auto, unfolding(desk_types::specs::Refusals::part_refusal))]
@@ -76,7 +79,8 @@ pub fn opening_refusal(entries: &[Entry], reel: &Id) -> Option<Refusal>
 /// Why a seal or a bake is refused.
 #[tactic(auto, unfolding(desk_types::specs::Refusals::closing_refusal))]
 pub fn closing_refusal(entries: &[Entry], takes: &[Takes], reel: &Id) -> Option<Refusal>
-    requires { AreTakes (reverse entries.now) (reverse takes.now) }
+    requires judged { IsJudged (reverse entries.now) }
+    requires takes { AreTakes (reverse entries.now) (reverse takes.now) }
     ensures { result ≡ closing_refusal (reverse entries.now) reel.now }
 {
     if receipt(entries, reel).is_none() {
@@ -86,6 +90,44 @@ pub fn closing_refusal(entries: &[Entry], takes: &[Takes], reel: &Id) -> Option<
         return Some(Refusal::ReelMounted(*reel));
     }
     None
+}
+
+/// Whether the slot has no live reel.
+pub fn is_vacant(
+    alloc: Global,
+    entries: &[Entry],
+    takes: &[Takes],
+    machine: &Id,
+    slot: &Id,
+) -> Result<bool, AllocError>
+    requires judged { IsJudged (reverse entries.now) }
+    requires takes { AreTakes (reverse entries.now) (reverse takes.now) }
+    ensures { IfOk result (λ vacant. vacant ≡ is_vacant (reverse entries.now) machine.now slot.now) }
+{
+    let floor = floor_of(alloc, entries, takes)?;
+    match front(&floor, machine, slot) {
+        Some(_) => Ok(false),
+        None => Ok(true),
+    }
+}
+
+/// Why an unload is refused.
+#[tactic(auto, unfolding(desk_types::specs::Refusals::unload_refusal))]
+pub fn unload_refusal(
+    alloc: Global,
+    entries: &[Entry],
+    takes: &[Takes],
+    machine: &Id,
+    slot: &Id,
+) -> Result<Option<Refusal>, AllocError>
+    requires judged { IsJudged (reverse entries.now) }
+    requires takes { AreTakes (reverse entries.now) (reverse takes.now) }
+    ensures { IfOk result (λ refusal. refusal ≡ unload_refusal (reverse entries.now) machine.now slot.now) }
+{
+    if is_vacant(alloc, entries, takes, machine, slot)? {
+        return Ok(Some(Refusal::SlotEmpty(*slot)));
+    }
+    Ok(None)
 }
 
 /// Why a completion of work is refused.

@@ -1,14 +1,11 @@
 //! Worked runs: what is said to a desk, line by line, and what it answers.
 
-ghost use Rattle.std.specs.Prelude.{IfOk};
-ghost use Rattle.look_back.specs.Words.{IsKnown};
-
 mod views;
 
 use crate::plain::PlainDesk;
 use desk_types::{
-    Bounded, Command, Designator, Desk, Id, JudgeFault, Level, Minute, Moisture, Quantity,
-    SheetRow, Stamped, run,
+    Bounded, Command, CountRow, CountedQuantity, Designator, Designators, Desk, Id, JudgeFault,
+    Level, Minute, Moisture, Quantity, SheetRow, Stamped, run,
 };
 use std::alloc::{AllocError, Global};
 use std::process::Abort;
@@ -22,21 +19,27 @@ fn minute(minutes: u64) -> Result<Minute, Fail> {
     Ok(Minute::new(minutes).ok_or("no minute")?)
 }
 
-/// A sheet of one slot, which feeds one designator.
+/// The designators of a text, with commas between them.
+fn designators(alloc: Global, text: &str) -> Result<Designators, Fail> {
+    let mut designators = Vec::new(alloc);
+    for name in text.split(',') {
+        designators.push(Designator::read(name.as_bytes()).ok_or("no designator")?)?;
+    }
+    Ok(Bounded::new(designators).ok_or("no designators")?)
+}
+
+/// A sheet of one slot, which feeds five designators.
 fn sheet(
     alloc: Global,
     product: &str,
     machine: &str,
     slot: &str,
     part: &str,
-) -> Result<Command, Fail>
-    ensures { IfOk result IsKnown }
-{
-    let designator = Designator::read(b"R1").ok_or("no designator")?;
+) -> Result<Command, Fail> {
     let row = SheetRow {
         slot: id(slot)?,
         part: id(part)?,
-        designators: Bounded::new(vec![in alloc; designator]?).ok_or("no designators")?,
+        designators: designators(alloc, "R1,R2,R3,R4,R5")?,
     };
     Ok(Command::SheetDefined {
         product: id(product)?,
@@ -45,10 +48,8 @@ fn sheet(
     })
 }
 
-/// The receipt of a reel of ten pieces of lot L1. The label's minutes are those of level six.
-fn receipt(reel: &str, part: &str, level: &str) -> Result<Command, Fail>
-    ensures { IfOk result IsKnown }
-{
+/// The receipt of a reel of lot L1. The label's minutes are those of level six.
+fn receipt(reel: &str, part: &str, level: &str, pieces: u64) -> Result<Command, Fail> {
     let level = Level::read(level.as_bytes()).ok_or("no level")?;
     let label = if level == Level::Six { 60 } else { 0 };
     Ok(Command::ReelReceived {
@@ -56,14 +57,53 @@ fn receipt(reel: &str, part: &str, level: &str) -> Result<Command, Fail>
         part: id(part)?,
         lot: id("L1")?,
         moisture: Moisture::new(level, label).ok_or("no moisture")?,
-        quantity: Quantity::new(10).ok_or("no quantity")?,
+        quantity: Quantity::new(pieces).ok_or("no quantity")?,
     })
 }
 
+/// The number that the digits say.
+fn number(digits: &str) -> Result<u64, Fail> {
+    Ok(digits.parse::<u64>().ok().ok_or("no number")?)
+}
+
+/// The command on pieces that these words say.
+fn pieces_command(alloc: Global, words: &[&str]) -> Result<Command, Fail> {
+    match *words {
+        ["splice", machine, slot, reel] => Ok(Command::MaterialsSpliced {
+            machine: id(machine)?,
+            slot: id(slot)?,
+            reel: id(reel)?,
+        }),
+        ["unload", machine, slot] => Ok(Command::MaterialsUnloaded {
+            machine: id(machine)?,
+            slot: id(slot)?,
+        }),
+        ["install", machine, board, names] => Ok(Command::MaterialsInstalled {
+            machine: id(machine)?,
+            board: id(board)?,
+            designators: designators(alloc, names)?,
+        }),
+        ["scrap", machine, slot, pieces] => Ok(Command::MaterialsScrapped {
+            machine: id(machine)?,
+            slot: id(slot)?,
+            quantity: Quantity::new(number(pieces)?).ok_or("no quantity")?,
+        }),
+        ["count", reel, pieces] => {
+            let quantity = CountedQuantity::new(number(pieces)?).ok_or("no quantity")?;
+            let row = CountRow {
+                reel: id(reel)?,
+                quantity,
+            };
+            Ok(Command::CountsTaken {
+                counts: Bounded::new(vec![in alloc; row]?).ok_or("no counts")?,
+            })
+        }
+        _ => Err("no command")?,
+    }
+}
+
 /// The command that these words say.
-fn command(alloc: Global, line: &str) -> Result<Command, Fail>
-    ensures { IfOk result IsKnown }
-{
+fn command(alloc: Global, line: &str) -> Result<Command, Fail> {
     let mut words = Vec::new(alloc);
     for word in line.split_whitespace() {
         words.push(word)?;
@@ -79,7 +119,8 @@ fn command(alloc: Global, line: &str) -> Result<Command, Fail>
             machine: id(machine)?,
             product: id(product)?,
         }),
-        ["receive", reel, part, level] => receipt(reel, part, level),
+        ["receive", reel, part, level] => receipt(reel, part, level, 10),
+        ["receive", reel, part, level, pieces] => receipt(reel, part, level, number(pieces)?),
         ["open", reel] => Ok(Command::ReelOpened { reel: id(reel)? }),
         ["seal", reel] => Ok(Command::ReelSealed { reel: id(reel)? }),
         ["bake", reel] => Ok(Command::ReelBaked { reel: id(reel)? }),
@@ -97,15 +138,13 @@ fn command(alloc: Global, line: &str) -> Result<Command, Fail>
             board: id(board)?,
         }),
         ["clock"] => Ok(Command::ClockSet),
-        _ => Err("no command")?,
+        _ => pieces_command(alloc, words.as_slice()),
     }
 }
 
 /// The command of a line, at an own minute. Its UniqueID is named after the place that it would
 /// get: u1, u2 and so on.
-fn stamped(alloc: Global, desk: &PlainDesk, minutes: u64, line: &str) -> Result<Stamped, Fail>
-    ensures { IfOk result (λ s. IsKnown s.command) }
-{
+fn stamped(alloc: Global, desk: &PlainDesk, minutes: u64, line: &str) -> Result<Stamped, Fail> {
     let place = desk.entries().len() as u64 + 1;
     Ok(Stamped {
         uid: id(format!(in alloc; "u{place}")?.as_str())?,
@@ -270,6 +309,62 @@ fn a_bake_and_a_bag_save_floor_life(rt: HostRuntime) -> Result<(), Fail> {
 }
 
 #[test]
+fn pieces_come_off_one_reel_and_then_the_next(rt: HostRuntime) -> Result<(), Fail> {
+    let mut desk = set_up(&rt, rt.alloc())?;
+    let lines = [
+        (0, "receive K1 P 1 2", PLAIN),
+        (0, "receive K2 P 1 50", PLAIN),
+        (0, "splice M 1 K2", "Refused(SlotEmpty(1))"),
+        (0, "unload M 1", "Refused(SlotEmpty(1))"),
+        (0, "load M 1 K1", NO_LIMIT),
+        (0, "splice M 1 K2", NO_LIMIT),
+        (0, "start M B1", PLAIN),
+        (
+            0,
+            "install M B1 R1,R2,R3,R4,R5",
+            "Accepted(Reels(Listing { items: [K1, K1, K2, K2, K2] }))",
+        ),
+        (0, "count K1 1", "Refused(CountAbove(K1))"),
+        (0, "count K1 0", "Accepted(Taken(0))"),
+        (0, "count K2 40", "Refused(ReelMounted(K2))"),
+        (0, "scrap M 1 48", "Refused(ReelShort(1))"),
+        (0, "scrap M 1 47", "Accepted(Taken(47))"),
+        (0, "unload M 1", "Refused(SlotEmpty(1))"),
+        (0, "install M B1 R1", "Refused(AlreadyPlaced(R1))"),
+        (0, "complete M B1", PLAIN),
+        (0, "receive K3 P 1 9", PLAIN),
+        (0, "load M 1 K3", NO_LIMIT),
+        (0, "unload M 1", PLAIN),
+        (0, "count K3 5", "Accepted(Taken(4))"),
+    ];
+    say(&rt, rt.alloc(), &mut desk, &lines)
+}
+
+#[test]
+fn the_first_faulty_designator_is_named(rt: HostRuntime) -> Result<(), Fail> {
+    let mut desk = set_up(&rt, rt.alloc())?;
+    let lines = [
+        (0, "receive K1 P 1 2", PLAIN),
+        (0, "load M 1 K1", NO_LIMIT),
+        (0, "start M B1", PLAIN),
+        (0, "install M B2 R1", "Refused(NotInWork(B2))"),
+        (0, "install M B1 R9", "Refused(DesignatorNotOnSheet(R9))"),
+        (0, "install M B1 R1,R1", "Refused(DesignatorTwice(R1))"),
+        (0, "install M B1 R1,R2,R3", "Refused(ReelShort(R3))"),
+        (0, "scrap M 1 3", "Refused(ReelShort(1))"),
+        (
+            0,
+            "install M B1 R1,R2",
+            "Accepted(Reels(Listing { items: [K1, K1] }))",
+        ),
+        (0, "install M B1 R3", "Refused(ReelShort(R3))"),
+        (0, "scrap M 1 1", "Refused(SlotEmpty(1))"),
+        (0, "count K9 1", "Refused(UnknownReel(K9))"),
+    ];
+    say(&rt, rt.alloc(), &mut desk, &lines)
+}
+
+#[test]
 fn late_commands_take_effect_at_the_desk_minute(rt: HostRuntime) -> Result<(), Fail> {
     let mut desk = set_up(&rt, rt.alloc())?;
     let lines = [
@@ -316,8 +411,15 @@ fn a_command_is_accepted_or_memory_was_refused(rt: HostRuntime) -> Result<(), Fa
         "sheet PR M 1 P",
         "select M PR",
         "receive K1 P 1",
+        "receive K2 P 1",
         "load M 1 K1",
+        "splice M 1 K2",
         "start M B1",
+        "scrap M 1 9",
+        "install M B1 R1,R2",
+        "complete M B1",
+        "unload M 1",
+        "count K2 4",
     ] {
         accept(&rt, rt.alloc(), &mut desk, line)?;
     }

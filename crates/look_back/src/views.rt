@@ -17,7 +17,7 @@ use desk_types::{Entry, Id, Left, Minute, ReelView, Takes};
 use reels::{Reel, Usage};
 
 /// The floor life that is left to a reel at the desk minute.
-fn life_left(reel: &Reel, minute: Minute) -> Left
+pub fn life_left(reel: &Reel, minute: Minute) -> Left
     requires { reel.now.last ≤ minute }
     ensures { (H : History) (name : Name) → StandsFor H name reel.now → now_of H ≡ minute → result ≡ life_left H name }
 {

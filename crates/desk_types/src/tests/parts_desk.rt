@@ -30,16 +30,18 @@ impl PartsDesk {
 }
 
 impl Desk for PartsDesk {
-    ghost use Rattle.std.specs.Prelude.{◌≡◌, None};
+    ghost use Rattle.std.specs.Prelude.{◌≡◌, None, [], false};
     ghost use Rattle.std.specs.List.{list_any};
     ghost use Rattle.desk_types.specs.declared.command.Command.TheVariants.{PartDefined};
     ghost use Rattle.desk_types.specs.Id.{Name, same};
     ghost use Rattle.desk_types.specs.History.{desk_minute};
     ghost use Rattle.desk_types.specs.Setup.{is_part, receipt_of, selected_on, sheet_of};
+    ghost use Rattle.desk_types.specs.View.{has_sheet};
+    ghost use Rattle.desk_types.specs.Free.{reels_received};
 
     ghost Stands = { λ desk H. ((part : Name) → list_any (λ p. same p part) desk.parts.items ≡ is_part H part) × (desk.minute ≡ desk_minute H)
         × ((machine : Name) → selected_on H machine ≡ None) × ((product machine : Name) → sheet_of H product machine ≡ None)
-        × ((reel : Name) → receipt_of H reel ≡ None) };
+        × ((reel : Name) → receipt_of H reel ≡ None) × ((machine : Name) → has_sheet H machine ≡ false) × (reels_received H ≡ []) };
 
     ghost Knows = { λ command. (part : Name) × (command ≡ PartDefined part) };
 
@@ -83,6 +85,14 @@ impl Desk for PartsDesk {
 
     fn reel(&self, _reel: &Id) -> Option<ReelView> {
         None
+    }
+
+    fn slots_of(&self, _machine: &Id) -> Result<Option<Mounts>, AllocError> {
+        Ok(None)
+    }
+
+    fn free_reels(&self, _part: &Id) -> Result<ReelViews, AllocError> {
+        Ok(Listing::new(Vec::new(self.alloc)))
     }
 }
 

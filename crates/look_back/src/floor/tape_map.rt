@@ -1,6 +1,7 @@
 //! Tapes by machine and slot.
 
 ghost use Rattle.std.specs.Prelude.{◌≡◌, ◌&&◌, [], ◌∷◌, if◌then◌else◌, drop, IfOk, OnOk};
+ghost use Rattle.std.specs.List.{list_any};
 ghost use Rattle.desk_types.specs.Id.{Name, same};
 ghost use Rattle.desk_types.specs.Pieces.{first};
 ghost use Rattle.desk_types.specs.Tape.{spliced, tape_after};
@@ -44,6 +45,18 @@ impl Tape {
             Some(reel) => Some(*reel),
             None => None,
         }
+    }
+
+    /// Whether the reel stands on the tape, spent or not.
+    pub fn has(&self, reel: &Id) -> bool
+        ensures { result ≡ list_any (same reel.now) self.now }
+    {
+        for i in 0..self.reels.len() {
+            if *reel == self.reels[i] {
+                return true;
+            }
+        }
+        false
     }
 
     /// Takes the first reel off.

@@ -1,6 +1,8 @@
 use Rattle.std.proofs.Common.{◌-◌, unwrap_or, ap, ◌∙◌}
 use Rattle.desk_types.specs.Tape.{tape_after}
 use Rattle.desk_types.specs.Pieces.{told_by}
+use Rattle.std.specs.Option.{option_or}
+use Rattle.look_back.specs.Floor.{mount_by}
 use Rattle.look_back.specs.Kept.{taken}
 use Rattle.look_back.proofs.Flooring.{left_of-next, tape_of-next}
 use Rattle.look_back.proofs.floor.note.Goals as goal
@@ -18,4 +20,5 @@ returns c = λ H judged are is_floor.
           ∙ left_of-next H entry takes reel are;
       tapes = λ machine slot.
           c.in_ok-note_tape.ensures machine slot ∙ ap (tape_after machine slot command) (is_floor.tapes machine slot) ∙ tape_of-next H entry machine slot;
+      mounts = λ reel. c.in_ok-note_mount.ensures reel ∙ ap (option_or (mount_by reel command)) (is_floor.mounts reel);
     }

@@ -1,23 +1,18 @@
 use Rattle.std.proofs.Common.{reverse, ap, sym, ◌∙◌}
-use Rattle.std.specs.Prelude.{◌&&◌}
-use Rattle.std.specs.List.{list_any}
-use Rattle.desk_types.specs.declared.command.Entry.{Entry}
-use Rattle.look_back.specs.Kept.{is_on_where_loaded}
-use Rattle.look_back.proofs.Live.{is_mounted-tape}
+use Rattle.std.specs.Prelude.{◌&&◌, nat_lt, is_some}
+use Rattle.desk_types.specs.Pieces.{left_of}
+use Rattle.desk_laws.proofs.Mounted.{mounted-is}
 use Rattle.look_back.proofs.mounts.is_mounted.Goals as goal
 
-pub returns-then-has_pieces : goal.returns-then-has_pieces
-returns-then-has_pieces c =
+pub returns-in-Some : goal.returns-in-Some
+returns-in-Some c =
     let H = reverse c.args.entries.now in
     let reel = c.args.reel.now in
-    c.is_on_some_tape.ensures
-    ∙ sym (is_mounted-tape H reel
-    ∙ ap (λ b. b && list_any (λ (e : Entry). is_on_where_loaded H reel e.stamped.command) H) (sym c.has_pieces.ensures ∙ c.if-has_pieces.true))
+    c.has_pieces.ensures
+    ∙ sym (mounted-is H reel c.requires.judged ∙ ap (λ o. is_some o && nat_lt 0 (left_of H reel)) (sym c.place.ensures ∙ c.in-Some.is))
 
-pub returns-else-has_pieces : goal.returns-else-has_pieces
-returns-else-has_pieces c =
+pub returns-in-None : goal.returns-in-None
+returns-in-None c =
     let H = reverse c.args.entries.now in
     let reel = c.args.reel.now in
-    c.if-has_pieces.false
-    ∙ sym (is_mounted-tape H reel
-    ∙ ap (λ b. b && list_any (λ (e : Entry). is_on_where_loaded H reel e.stamped.command) H) (sym c.has_pieces.ensures ∙ c.if-has_pieces.false))
+    sym (mounted-is H reel c.requires.judged ∙ ap (λ o. is_some o && nat_lt 0 (left_of H reel)) (sym c.place.ensures ∙ c.in-None.is))

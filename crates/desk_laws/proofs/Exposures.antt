@@ -1,0 +1,108 @@
+-- Exposure as minutes and entries come.
+use Rattle.std.proofs.Common.{◌≡◌, ◌≢◌, ℕ, All, ◌-◌, ◌<◌, ◌≤◌, Bool, true, false, Option, Some, None, List, [], ◌∷◌, ◌++◌, refl, ap, ◌∙◌, subst, unwrap_or, count_by, arith}
+use Rattle.std.specs.Prelude.{nat_le, is_some, if◌then◌else◌}
+use Rattle.std.specs.Option.{option_map, option_or}
+use Rattle.std.proofs.lemmas.Bool.{leb-true, leb-false}
+use Rattle.std.proofs.lemmas.List.Elements.{All-head, All-tail}
+use Rattle.std.proofs.lemmas.List.FromFn.{length-range_with_len}
+use Rattle.std.proofs.lemmas.List.Sums.{count_by-le-length}
+use Rattle.desk_types.specs.declared.command.Command.{Command}
+use Rattle.desk_types.specs.declared.command.Command.TheVariants.{ReelBaked}
+use Rattle.desk_types.specs.declared.command.Entry.{Entry}
+use Rattle.desk_types.specs.declared.command.Receipt.{Receipt}
+use Rattle.desk_types.specs.Id.{Name, same}
+use Rattle.desk_types.specs.History.{History}
+use Rattle.desk_types.specs.Setup.{receipt_of}
+use Rattle.desk_types.specs.FloorLife.{IsUntouched, is_out_at, bake_by, last_bake, exposure_starts, minutes_between, exposure_of}
+use Rattle.desk_types.specs.Judged.{IsJudged}
+use Rattle.desk_types.proofs.Exposure.{is_out-before, is_out-untouched}
+use Rattle.desk_types.proofs.Keys.{same-true}
+use Rattle.desk_types.proofs.Minutes.{count-split, count-agree, count-one}
+use Rattle.desk_laws.proofs.Judgements.{untouched, judged-prefix}
+use Rattle.desk_laws.proofs.Spent.{receipt-prefix}
+
+-- ---- one list
+
+-- An exposure is of no more minutes than came since it began.
+pub exposure-within : (H : History) (reel : Name) (minute : ℕ) → exposure_of H reel minute ≤ minute - exposure_starts H reel
+unfolding exposure_of
+exposure-within H reel minute =
+    subst (λ n. count_by (is_out_at H reel) (minutes_between (exposure_starts H reel) minute) ≤ n)
+    (length-range_with_len (exposure_starts H reel) (minute - exposure_starts H reel))
+    (count_by-le-length (is_out_at H reel) (minutes_between (exposure_starts H reel) minute))
+
+-- An exposure never falls from one minute to a later one.
+pub exposure-rises : (H : History) (reel : Name) (earlier later : ℕ) → earlier ≤ later → exposure_of H reel earlier ≤ exposure_of H reel later
+unfolding exposure_of
+exposure-rises H reel earlier later le = by (nat_le (exposure_starts H reel) earlier) refl
+  where
+    by : (b : Bool) → nat_le (exposure_starts H reel) earlier ≡ b → exposure_of H reel earlier ≤ exposure_of H reel later
+    by true begun =
+        let start : exposure_starts H reel ≤ earlier = leb-true _ _ begun in
+        let parts = count-split (is_out_at H reel) (exposure_starts H reel) earlier later start le in
+        omega (arith, parts)
+    by false not_begun =
+        let start : earlier < exposure_starts H reel = leb-false _ _ not_begun in
+        let few = exposure-within H reel earlier in
+        omega (arith, start, few)
+
+-- ---- more entries
+
+-- what takes effect later than a minute says nothing of it
+out-later : (more : List Entry) (G : History) (reel : Name) (minute bound : ℕ) → All (λ (x : Entry). bound ≤ x.effective) more → minute < bound
+    → is_out_at (more ++ G) reel minute ≡ is_out_at G reel minute
+out-later [] G reel minute bound all before = refl
+out-later (e ∷ more) G reel minute bound all before =
+    let first = All-head (λ (x : Entry). bound ≤ x.effective) e more all in
+    is_out-before (more ++ G) e reel minute (omega (arith, before, first)) ∙ out-later more G reel minute bound (All-tail (λ (x : Entry). bound ≤ x.effective) e more all) before
+
+-- a reel that no command handles has no exposure
+pub untouched-exposure : (H : History) (reel : Name) (minute : ℕ) → IsUntouched H reel → exposure_of H reel minute ≡ 0
+unfolding exposure_of is_out_at
+untouched-exposure H reel minute all = count-one (is_out_at H reel) false (exposure_starts H reel) minute (λ t low high. inside H t all)
+  where
+    inside : (G : History) (t : ℕ) → IsUntouched G reel → is_out_at G reel t ≡ false
+    inside [] t all = refl
+    inside (e ∷ G) t (none, all) = is_out-untouched G e reel t none ∙ inside G t all
+
+-- up to a minute that no later entry comes before, an exposure that began with the same minute is the same
+exposure-kept : (more : List Entry) (G : History) (reel : Name) (minute : ℕ) → exposure_starts (more ++ G) reel ≡ exposure_starts G reel
+    → All (λ (e : Entry). minute ≤ e.effective) more → exposure_of (more ++ G) reel minute ≡ exposure_of G reel minute
+unfolding exposure_of
+exposure-kept more G reel minute starts all =
+    ap (λ s. count_by (is_out_at (more ++ G) reel) (minutes_between s minute)) starts
+    ∙ count-agree (is_out_at (more ++ G) reel) (is_out_at G reel) (exposure_starts G reel) minute (λ t low high. out-later more G reel t minute all high)
+
+-- what is no bake of the reel tells no bake of it
+bake-other : (reel : Name) (minute : ℕ) (command : Command) → command ≢ ReelBaked reel → bake_by reel minute command ≡ None
+bake-other reel minute (ReelBaked r) other = by (same r reel) refl
+  where
+    by : (b : Bool) → same r reel ≡ b → (if b then Some minute else None) ≡ None
+    by true here = absurd (other (ap ReelBaked (same-true r reel here)))
+    by false here = refl
+bake-other reel minute _ other = refl
+
+bake-kept : (more : List Entry) (G : History) (reel : Name) → All (λ (e : Entry). e.stamped.command ≢ ReelBaked reel) more → last_bake (more ++ G) reel ≡ last_bake G reel
+bake-kept [] G reel none = refl
+bake-kept (e ∷ more) G reel none =
+    ap (λ said. option_or said (last_bake (more ++ G) reel))
+    (bake-other reel e.effective e.stamped.command (All-head (λ (x : Entry). x.stamped.command ≢ ReelBaked reel) e more none))
+    ∙ bake-kept more G reel (All-tail (λ (x : Entry). x.stamped.command ≢ ReelBaked reel) e more none)
+
+-- Between bakes an exposure never falls.
+pub exposure-later : (G : History) (more : List Entry) (reel : Name) (earlier later : ℕ) → IsJudged (more ++ G)
+    → All (λ (e : Entry). e.stamped.command ≢ ReelBaked reel) more → All (λ (e : Entry). earlier ≤ e.effective) more → earlier ≤ later
+    → exposure_of G reel earlier ≤ exposure_of (more ++ G) reel later
+exposure-later G more reel earlier later judged unbaked after le = by (receipt_of G reel) refl
+  where
+    by : (said : Option Receipt) → receipt_of G reel ≡ said → exposure_of G reel earlier ≤ exposure_of (more ++ G) reel later
+    by None none =
+        let nothing = untouched-exposure G reel earlier (untouched G reel (judged-prefix G (more ++ G) (more, refl) judged) none) in omega (arith, nothing)
+    by (Some receipt) said =
+        let stays = receipt-prefix G (more ++ G) reel (more, refl) judged (ap is_some said) in
+        let starts : exposure_starts (more ++ G) reel ≡ exposure_starts G reel =
+        ap (λ b. unwrap_or (option_or b (option_map (λ (r : Receipt). r.effective) (receipt_of (more ++ G) reel))) 0) (bake-kept more G reel unbaked)
+        ∙ ap (λ r. unwrap_or (option_or (last_bake G reel) (option_map (λ (r : Receipt). r.effective) r)) 0) stays in
+        let kept = exposure-kept more G reel earlier starts after in
+        let rose = exposure-rises (more ++ G) reel earlier later le in
+        omega (arith, kept, rose)

@@ -1,0 +1,37 @@
+-- Runs in parts, and what later entries leave as it was.
+use Rattle.std.proofs.Common.{◌≡◌, List, [], ◌∷◌, ◌++◌, filter_map, refl, sym, ap, ◌∙◌}
+use Rattle.std.proofs.lemmas.List.{append_assoc, append-nil}
+use Rattle.std.proofs.lemmas.List.Elements.{filter_map-append}
+use Rattle.desk_types.specs.declared.command.Entry.{Entry}
+use Rattle.desk_types.specs.declared.command.Stamped.{Stamped}
+use Rattle.desk_types.specs.History.{History, IsPrefix}
+use Rattle.desk_types.specs.Outcome.{reply_to, after_command, replies_to, after_commands}
+use Rattle.desk_types.specs.Placements.{EntryTake, Placement, entry_takes, takes_of, placement_of, placements_of}
+
+-- The replies to two runs in turn are those to the first, and those to the second on the list that the first left.
+pub replies-append : (H : History) (first second : List Stamped) → replies_to H (first ++ second) ≡ replies_to H first ++ replies_to (after_commands H first) second
+replies-append H [] second = refl
+replies-append H (s ∷ ss) second = ap (λ replies. reply_to H s ∷ replies) (replies-append (after_command H s) ss second)
+
+-- The list after both is that after the second on the list that the first left.
+pub after-append : (H : History) (first second : List Stamped) → after_commands H (first ++ second) ≡ after_commands (after_commands H first) second
+after-append H [] second = refl
+after-append H (s ∷ ss) second = after-append (after_command H s) ss second
+
+-- the takes of later entries come after those of a list
+takes-later : (later : List Entry) (G : History) → (more : List EntryTake) × (takes_of (later ++ G) ≡ takes_of G ++ more)
+unfolding takes_of
+takes-later [] G = ([], sym (append-nil (takes_of G)))
+takes-later (e ∷ later) G =
+    let before = takes-later later G in (
+      before.0 ++ entry_takes (later ++ G) e,
+      ap (λ ts. ts ++ entry_takes (later ++ G) e) before.1 ∙ append_assoc (takes_of G) before.0 (entry_takes (later ++ G) e),
+    )
+
+-- The placements of a list begin those of each list that it begins.
+pub placements-final : (G H : History) → IsPrefix G H → (more : List Placement) × (placements_of H ≡ placements_of G ++ more)
+placements-final G H (later, is) =
+    let takes = takes-later later G in (
+      filter_map placement_of takes.0,
+      ap placements_of is ∙ ap (filter_map placement_of) takes.1 ∙ filter_map-append placement_of (takes_of G) takes.0,
+    )

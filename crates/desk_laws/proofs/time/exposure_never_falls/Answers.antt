@@ -1,0 +1,8 @@
+use Rattle.desk_laws.proofs.Exposures.{exposure-rises, exposure-later}
+use Rattle.desk_laws.proofs.time.exposure_never_falls.Goals as goal
+
+pub returns-clause-minutes : goal.returns-clause-minutes
+returns-clause-minutes c = exposure-rises
+
+pub returns-clause-entries : goal.returns-clause-entries
+returns-clause-entries c = exposure-later

@@ -1,0 +1,65 @@
+-- What was verified of a reel of which a piece was placed.
+use Rattle.std.specs.Prelude.{◌≡◌, ℕ, ◌-◌, Bool, true, false, ◌&&◌, Option, Some, List, ◌∷◌, ◌++◌, take, nat_lt, Contains}
+use Rattle.std.specs.List.{list_any, find}
+use Rattle.desk_types.specs.declared.command.Command.{Command}
+use Rattle.desk_types.specs.declared.command.Command.TheVariants.{MaterialsLoaded, MaterialsSpliced, MaterialsInstalled}
+use Rattle.desk_types.specs.declared.command.Entry.{Entry}
+use Rattle.desk_types.specs.declared.command.Receipt.{Receipt}
+use Rattle.desk_types.specs.declared.sheet.SheetRow.{SheetRow}
+use Rattle.desk_types.specs.declared.take.Pick.{Pick}
+use Rattle.desk_types.specs.Id.{Name, same}
+use Rattle.desk_types.specs.History.{History, IsPrefix}
+use Rattle.desk_types.specs.Setup.{is_allowed, row_on, slot_on, receipt_of}
+use Rattle.desk_types.specs.Tape.{tape_of}
+use Rattle.desk_types.specs.Pieces.{picked, left_of, picks_of}
+use Rattle.desk_types.specs.FloorLife.{is_unbaked, is_expired}
+use Rattle.desk_types.specs.Placements.{Placement}
+
+-- whether the command loads or splices the reel onto the slot
+abbrev pub mounts : Name → Name → Name → Command → Bool
+mounts machine slot reel (MaterialsLoaded m s r) = (same m machine && same s slot) && same r reel
+mounts machine slot reel (MaterialsSpliced m s r) = (same m machine && same s slot) && same r reel
+mounts machine slot reel _ = false
+
+-- after H, at the minute, the reel may feed the slot: its part is allowed for the slot's row in the sheet of the selected product, and it is baked and not expired
+pub record IsVerified (H : History) (minute : ℕ) (machine slot reel : Name) : Type 0 where
+  pub receipt : Receipt
+  pub received : receipt_of H reel ≡ Some receipt
+  pub row : SheetRow
+  pub on_sheet : row_on H machine slot ≡ Some row
+  pub part_allowed : is_allowed H row.part receipt.part ≡ true
+  pub baked : is_unbaked H reel ≡ false
+  pub not_expired : is_expired H reel minute ≡ false
+
+-- the last entry of H that loads or splices the reel onto the slot came where, and when, the reel was verified
+pub record WasVerified (H : History) (machine slot reel : Name) : Type 0 where
+  pub before : History
+  pub entry : Entry
+  pub later : List Entry
+  pub order : H ≡ later ++ entry ∷ before
+  pub mounted : mounts machine slot reel entry.stamped.command ≡ true
+  pub last : list_any (λ (e : Entry). mounts machine slot reel e.stamped.command) later ≡ false
+  pub verified : IsVerified before entry.effective machine slot reel
+
+-- the first reel of a slot's tape that has a piece left after the picks before
+abbrev pub next_reel : History → Name → Name → List Pick → Option Name
+next_reel H machine slot before = find (λ reel. nat_lt (picked before reel) (left_of H reel)) (tape_of H machine slot)
+
+-- The piece was placed by the entry of its number, on the machine, board and designator that this names, at the designator's slot, off
+-- the reel that was the slot's first with a piece left, whose receipt gives the part and the lot; and the reel was verified for the slot.
+pub record IsRightlyPlaced (H : History) (p : Placement) : Type 0 where
+  pub before : History
+  pub entry : Entry
+  pub accepted : IsPrefix (entry ∷ before) H
+  pub number : entry.number ≡ p.number
+  pub effective : entry.effective ≡ p.effective
+  pub designators : List Name
+  pub command : entry.stamped.command ≡ MaterialsInstalled p.machine p.board designators
+  pub named : Contains designators p.designator
+  pub slot : slot_on before p.machine p.designator ≡ Some p.slot
+  pub next : next_reel before p.machine p.slot (take (p.place - 1) (picks_of before entry.stamped.command)) ≡ Some p.reel
+  pub receipt : Receipt
+  pub received : receipt_of before p.reel ≡ Some receipt
+  pub part : p.part ≡ receipt.part
+  pub lot : p.lot ≡ receipt.lot
+  pub verified : WasVerified before p.machine p.slot p.reel

@@ -1,0 +1,133 @@
+-- Worked runs of what a desk tells of reels and slots, computed by the definitions.
+use Rattle.std.specs.Prelude.{◌≡◌, ℕ, true, false, Some, None, List, [], ◌∷◌, ◌++◌, map, refl}
+use Rattle.desk_types.specs.declared.command.Command.TheVariants.{PartDefined, SheetDefined, ProductSelected, ReelOpened, ReelSealed, MaterialsLoaded, MaterialsSpliced, WorkStarted, MaterialsInstalled, CountsTaken, ClockSet}
+use Rattle.desk_types.specs.declared.command.Stamped.{Stamped}
+use Rattle.desk_types.specs.declared.level.Level.TheVariants.{One, Three, FiveA}
+use Rattle.desk_types.specs.declared.view.Left.{Left}
+use Rattle.desk_types.specs.declared.view.Left.TheVariants.{Minutes, Unlimited}
+use Rattle.desk_types.specs.declared.view.Mount.{Mount}
+use Rattle.desk_types.specs.declared.view.ReelView.{ReelView}
+use Rattle.desk_types.specs.Id.{Name}
+use Rattle.desk_types.specs.History.{History}
+use Rattle.desk_types.specs.Tape.{tape_of}
+use Rattle.desk_types.specs.Pieces.{install_picks, all_picks, left_of, live_on}
+use Rattle.desk_types.specs.FloorLife.{is_out_at, exposure_of}
+use Rattle.desk_types.specs.Refusals.{part_refusal, sheet_refusal, definition_refusal, selection_refusal, receipt_refusal, opening_refusal, closing_refusal, mounting_refusal, start_refusal, install_refusal, command_refusal, refusal_of}
+use Rattle.desk_types.specs.Outcome.{after_commands}
+use Rattle.desk_types.specs.View.{reel_view, mounts_on}
+use Rattle.desk_types.specs.Free.{free_reels}
+use Rattle.desk_types.proofs.RowsCommon.{P, Q, L1, PR, M, N, S1, S2, K1, K2, K3, K4, B1, R1, R2, R3, at, said, counted, sheet_row, received, received_at, received_at_six, base}
+
+-- Slot 2 stands first on the sheet. On slot 1 a reel of fifty pieces is joined to one of two.
+abbrev two_slots : List Stamped
+two_slots = said (
+    PartDefined P
+    ∷ SheetDefined PR M (sheet_row S2 P (R2 ∷ []) ∷ sheet_row S1 P (R1 ∷ R3 ∷ []) ∷ [])
+    ∷ ProductSelected M PR
+    ∷ received K1 P L1 2
+    ∷ received K2 P L1 50
+    ∷ received K3 P L1 5
+    ∷ MaterialsLoaded M S2 K3
+    ∷ MaterialsLoaded M S1 K1
+    ∷ MaterialsSpliced M S1 K2
+    ∷ [])
+
+-- a live reel of part P and lot L1 without a limit
+abbrev mount : Name → ℕ → Name → ℕ → Mount
+mount slot position reel remaining =
+    record { slot = slot; position = position; reel = reel; part = P; lot = L1; remaining = remaining; left = Unlimited }
+
+-- The live reels are told by slot and then by position, and none of a machine without a sheet.
+pub live_reels_by_slot_and_position :
+    (mounts_on (after_commands [] two_slots) M ≡ Some (mount S1 1 K1 2 ∷ mount S1 2 K2 50 ∷ mount S2 1 K3 5 ∷ []))
+    × (mounts_on (after_commands [] two_slots) N ≡ None)
+unfolding refusal_of command_refusal part_refusal definition_refusal sheet_refusal selection_refusal receipt_refusal mounting_refusal tape_of left_of live_on
+live_reels_by_slot_and_position = (refl, refl)
+
+-- the list after a board took both pieces of the first reel of slot 1
+abbrev after_two_pieces : History
+after_two_pieces = after_commands [] (two_slots ++ said (WorkStarted M B1 ∷ MaterialsInstalled M B1 (R1 ∷ R3 ∷ []) ∷ []))
+
+-- A spent reel is not told: the next one is the front.
+pub a_spent_reel_is_not_told : mounts_on after_two_pieces M ≡ Some (mount S1 1 K2 50 ∷ mount S2 1 K3 5 ∷ [])
+unfolding refusal_of command_refusal part_refusal definition_refusal sheet_refusal selection_refusal receipt_refusal mounting_refusal tape_of left_of live_on start_refusal install_refusal install_picks
+a_spent_reel_is_not_told = refl
+
+-- a reel of part P and lot L1 and level 1 that was opened at minute 0
+abbrev opened : Name → ℕ → ℕ → ℕ → ReelView
+opened reel got placed remaining = record {
+  reel = reel;
+  part = P;
+  lot = L1;
+  level = One;
+  label = 0;
+  received = got;
+  placed = placed;
+  scrapped = 0;
+  remaining = remaining;
+  left = Unlimited;
+  mounted = false;
+  is_open = true;
+  used = 0;
+  open_since = Some 0;
+  baked = false;
+}
+
+-- The spent reel is on no slot, and both its pieces were placed. Of a reel that was not received nothing is told.
+pub a_spent_reel_was_placed : (reel_view after_two_pieces K1 ≡ Some (opened K1 2 2 0)) × (reel_view after_two_pieces K4 ≡ None)
+unfolding refusal_of command_refusal part_refusal definition_refusal sheet_refusal selection_refusal receipt_refusal mounting_refusal tape_of left_of live_on is_out_at exposure_of start_refusal install_refusal install_picks all_picks
+a_spent_reel_was_placed = (refl, refl)
+
+-- A reel of level 3 lay open for ten minutes, and then in its bag. A count shows four pieces missing. It is loaded, and ten minutes go by.
+abbrev after_ten_minutes : History
+after_ten_minutes = after_commands [] (base
+    ++ at 0 (received_at Three K1 10)
+    ∷ at 5 (ReelOpened K1)
+    ∷ at 15 (ReelSealed K1)
+    ∷ at 15 (CountsTaken (counted K1 6 ∷ []))
+    ∷ at 20 (MaterialsLoaded M S1 K1)
+    ∷ at 30 ClockSet
+    ∷ [])
+
+-- Twenty minutes of its floor life are gone: ten were used when it was loaded.
+pub a_loaded_reel_is_told_at_the_desk_minute : reel_view after_ten_minutes K1 ≡ Some (record {
+  reel = K1;
+  part = P;
+  lot = L1;
+  level = Three;
+  label = 0;
+  received = 10;
+  placed = 0;
+  scrapped = 4;
+  remaining = 6;
+  left = Minutes 10060;
+  mounted = true;
+  is_open = true;
+  used = 10;
+  open_since = Some 20;
+  baked = false;
+})
+unfolding refusal_of command_refusal part_refusal definition_refusal sheet_refusal selection_refusal receipt_refusal opening_refusal closing_refusal mounting_refusal tape_of left_of live_on is_out_at exposure_of all_picks
+a_loaded_reel_is_told_at_the_desk_minute = refl
+
+-- Of four reels one has no limit, one is open with floor life left, one waits for its bake, and one is expired.
+abbrev after_a_day : History
+after_a_day = after_commands [] (base
+    ++ at 0 (received_at One K1 100)
+    ∷ at 0 (received_at Three K2 30)
+    ∷ at 0 (received_at_six 60 K3)
+    ∷ at 0 (received_at FiveA K4 10)
+    ∷ at 0 (ReelOpened K2)
+    ∷ at 0 (ReelOpened K4)
+    ∷ at 1440 ClockSet
+    ∷ [])
+
+-- the free reels for a part, and what is left to each
+abbrev free_on : History → Name → List (Name × Left)
+free_on H part = map (λ (v : ReelView). (v.reel, v.left)) (free_reels H part)
+
+-- The reel with a limit is used first. The reel on a slot is not free.
+pub free_reels_by_what_is_left :
+    (free_on after_a_day P ≡ (K2, Minutes 8640) ∷ (K1, Unlimited) ∷ []) × (free_on after_a_day Q ≡ []) × (free_on after_ten_minutes P ≡ [])
+unfolding refusal_of command_refusal part_refusal definition_refusal sheet_refusal selection_refusal receipt_refusal opening_refusal closing_refusal mounting_refusal tape_of left_of live_on is_out_at exposure_of all_picks
+free_reels_by_what_is_left = (refl, refl, refl)

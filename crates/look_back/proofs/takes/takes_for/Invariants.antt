@@ -1,0 +1,11 @@
+use Rattle.std.proofs.Common.{◌≡◌, map, take}
+use Rattle.std.specs.List.{AllByRecursion}
+use Rattle.desk_types.specs.declared.take.Pick.{Pick}
+use Rattle.desk_types.specs.History.{History}
+use Rattle.desk_types.specs.Outcome.{take_of}
+use Rattle.look_back.specs.Floor.{IsFloor, IsKnownReel}
+use Rattle.look_back.proofs.takes.takes_for.Given as goal
+
+abbrev pub invariant-loop-pick : goal.invariant-loop-pick
+invariant-loop-pick l = (H : History) → IsFloor H l.floor → AllByRecursion (λ (p : Pick). IsKnownReel H p.reel) l.picks
+    → l.takes.items ≡ map (take_of H l.minute) (take l.pick-index l.picks)

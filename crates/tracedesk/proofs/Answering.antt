@@ -1,0 +1,84 @@
+-- Lines that are answered one after another.
+use Rattle.std.proofs.Common.{◌≡◌, ◌∙◌, ◌+◌, ℕ, Bool, true, false, cond, List, [], ◌∷◌, ◌++◌, sym, ap, refl, subst, Option, append-nil, length, length-append, take, arith, count_by, Result, Err}
+use Rattle.std.specs.List.{flat_map}
+use Rattle.std.proofs.lemmas.Grind.{flat_map-append, common_steps}
+use Rattle.std.proofs.Math.Seq.{take-append-add}
+use Rattle.std.specs.Io.KnownBytes.{Appends}
+use Rattle.std.proofs.KnownBytes.{Appends-trans}
+use Rattle.desk_types.specs.History.{History}
+use Rattle.tracedesk.specs.declared.feed.ServeFault.{ServeFault}
+use Rattle.tracedesk.specs.declared.feed.ServeFault.TheVariants.{Write}
+use Rattle.tracedesk.specs.declared.feed.Served.{Served}
+use Rattle.tracedesk.specs.declared.message.Told.{Told}
+use Rattle.tracedesk.specs.Sent.{SendsFront}
+use Rattle.tracedesk.specs.Stream.{Answered, line_answer, line_after, answers_to, after_lines, written}
+
+-- a text went out, and then a front of more
+pub front_after : (a b c : Option (List ℕ)) (text more : List ℕ) → Appends a b text → SendsFront b c more → SendsFront a c (text ++ more)
+front_after a b c text more p q =
+    (length text + q.0, omega (arith, q.1, length-append text more), subst (Appends a c) (sym (take-append-add text more q.0)) (Appends-trans a b c text (take q.0 more) p q.2))
+
+-- whether an answer counts as refused
+abbrev pub is_refused : Told → Bool
+is_refused told = told.refused
+
+one_counted : (b : Bool) (n m : ℕ) (told : Told) → told.refused ≡ b → m ≡ cond b (n + 1) n → m ≡ n + count_by is_refused (told ∷ [])
+one_counted true n m told e h = grind (arith, common_steps, e, h)
+one_counted false n m told e h = grind (arith, common_steps, e, h)
+
+-- one line was answered
+pub one_answered : (greatest : ℕ) (mark : Bool) (H H' : History) (line : List ℕ) (out out' : Option (List ℕ)) (s s' : Served) (told : Told)
+    → told ≡ line_answer greatest mark H line → H' ≡ line_after greatest mark H line → Appends out out' (written told)
+    → s'.answered ≡ s.answered + 1 → s'.refused ≡ cond told.refused (s.refused + 1) s.refused
+    → Answered greatest (line ∷ []) (mark ∷ []) H out s H' out' s'
+one_answered greatest mark H H' line out out' s s' told e after went answered refused =
+    record {
+      each = refl;
+      bytes = subst (Appends out out') (ap written e ∙ sym (append-nil (written (line_answer greatest mark H line)))) went;
+      history = after;
+      answered = answered;
+      refused = subst (λ (x : Told). s'.refused ≡ s.refused + count_by is_refused (x ∷ [])) e (one_counted told.refused s.refused s'.refused told refl refused);
+    }
+
+pub none_answered : (greatest : ℕ) (H : History) (out : Option (List ℕ)) (s : Served) → Appends out out [] → Answered greatest [] [] H out s H out s
+none_answered greatest H out s kept =
+    record { each = refl; bytes = kept; history = refl; answered = omega arith; refused = omega arith }
+
+answers_to-append : (greatest : ℕ) (ms ns : List Bool) (H : History) (ls ks : List (List ℕ)) → length ms ≡ length ls
+    → answers_to greatest (ms ++ ns) H (ls ++ ks) ≡ answers_to greatest ms H ls ++ answers_to greatest ns (after_lines greatest ms H ls) ks
+answers_to-append greatest [] ns H [] ks e = refl
+answers_to-append greatest [] ns H (l ∷ ls) ks e = absurd (omega (arith, e))
+answers_to-append greatest (m ∷ ms) ns H [] ks e = absurd (omega (arith, e))
+answers_to-append greatest (m ∷ ms) ns H (l ∷ ls) ks e =
+    ap (λ rs. line_answer greatest m H l ∷ rs) (answers_to-append greatest ms ns (line_after greatest m H l) ls ks (omega (arith, e)))
+
+after_lines-append : (greatest : ℕ) (ms ns : List Bool) (H : History) (ls ks : List (List ℕ)) → length ms ≡ length ls
+    → after_lines greatest (ms ++ ns) H (ls ++ ks) ≡ after_lines greatest ns (after_lines greatest ms H ls) ks
+after_lines-append greatest [] ns H [] ks e = refl
+after_lines-append greatest [] ns H (l ∷ ls) ks e = absurd (omega (arith, e))
+after_lines-append greatest (m ∷ ms) ns H [] ks e = absurd (omega (arith, e))
+after_lines-append greatest (m ∷ ms) ns H (l ∷ ls) ks e = after_lines-append greatest ms ns (line_after greatest m H l) ls ks (omega (arith, e))
+
+count_by-append : (p : Told → Bool) (xs ys : List Told) → count_by p (xs ++ ys) ≡ count_by p xs + count_by p ys
+count_by-append p [] ys = grind (arith, common_steps)
+count_by-append p (x ∷ xs) ys = grind (arith, common_steps, count_by-append p xs ys)
+
+-- lines, and then more, were answered
+pub answered_more : (greatest : ℕ) (ls ks : List (List ℕ)) (ms ns : List Bool) (H₀ H₁ H₂ : History) (out₀ out₁ out₂ : Option (List ℕ)) (s₀ s₁ s₂ : Served)
+    → Answered greatest ls ms H₀ out₀ s₀ H₁ out₁ s₁ → Answered greatest ks ns H₁ out₁ s₁ H₂ out₂ s₂
+    → Answered greatest (ls ++ ks) (ms ++ ns) H₀ out₀ s₀ H₂ out₂ s₂
+answered_more greatest ls ks ms ns H₀ H₁ H₂ out₀ out₁ out₂ s₀ s₁ s₂ a b =
+    let all : answers_to greatest (ms ++ ns) H₀ (ls ++ ks) ≡ answers_to greatest ms H₀ ls ++ answers_to greatest ns H₁ ks =
+    answers_to-append greatest ms ns H₀ ls ks a.each ∙ ap (λ H. answers_to greatest ms H₀ ls ++ answers_to greatest ns H ks) (sym a.history) in
+    record {
+      each = omega (arith, length-append ms ns, length-append ls ks, a.each, b.each);
+      bytes = subst (Appends out₀ out₂) (sym (ap (flat_map written) all ∙ flat_map-append written (answers_to greatest ms H₀ ls) (answers_to greatest ns H₁ ks)))
+          (Appends-trans out₀ out₁ out₂ _ _ a.bytes b.bytes);
+      history = b.history ∙ ap (λ H. after_lines greatest ns H ks) a.history ∙ sym (after_lines-append greatest ms ns H₀ ls ks a.each);
+      answered = omega (arith, a.answered, b.answered, length-append ls ks);
+      refused = omega (arith, a.refused, b.refused, ap (count_by is_refused) all, count_by-append is_refused (answers_to greatest ms H₀ ls) (answers_to greatest ns H₁ ks));
+    }
+
+-- a fault's count is the one that it was made with
+pub same_write : (a b : Served) → ◌≡◌ {A = Result Served ServeFault} (Err (Write a)) (Err (Write b)) → a ≡ b
+same_write a b e = cc

@@ -1,0 +1,26 @@
+use Rattle.std.proofs.Common.{◌≡◌, ◌≤◌, ◌+◌, ◌*◌, ℕ, List, Bool}
+use Rattle.desk_types.specs.Wire.{inner_of, reads_of, failures_of}
+use Rattle.tracedesk.specs.declared.feed.TheConstants.{MOST_READS}
+use Rattle.tracedesk.specs.declared.inbox.TheConstants.{BLOCK}
+use Rattle.tracedesk.specs.Inbox.{IsInbox, source, fuel, LinesGone}
+use Rattle.tracedesk.specs.Stream.{Answered, none_served}
+use Rattle.tracedesk.proofs.feed.feed.Given as goal
+
+abbrev pub invariant-lines : goal.invariant-lines
+invariant-lines g l = record {
+  inbox : IsInbox l.inbox;
+  reads : reads_of l.input ≤ l.most_reads;
+  read_failures : failures_of l.input ≡ failures_of l.fn.input;
+  write_failures : failures_of l.output ≡ failures_of l.fn.output;
+  counted : l.served.answered + fuel l.most_reads (reads_of l.input) l.inbox ≤ MOST_READS * (BLOCK + 1);
+  refused : l.served.refused ≤ l.served.answered;
+  greatest : l.line.greatest ≡ l.fn.line.greatest;
+  lines : List (List ℕ);
+  marks : List Bool;
+  gone : LinesGone (g.R.Read.remaining (inner_of l.fn.input)) lines (source l.inbox (g.R.Read.remaining (inner_of l.input)));
+  answered : Answered l.fn.line.greatest lines marks l.fn.line.history (g.W.Write.contents (inner_of l.fn.output)) none_served
+      l.line.history (g.W.Write.contents (inner_of l.output)) l.served;
+}
+
+abbrev pub decreases-lines : goal.decreases-lines
+decreases-lines g l = fuel l.most_reads (reads_of l.input) l.inbox

@@ -1,0 +1,146 @@
+//! Lines in, answers out.
+
+ghost use Rattle.std.specs.Prelude.{◌≡◌, ◌+◌, ◌^◌, ◌<◌, ◌≤◌, ℕ, List, Bool, length, if◌then◌else◌, IfOk, OnOk, OnErr, Err};
+ghost use Rattle.std.specs.Io.KnownBytes.{IsAtEnd};
+ghost use Rattle.desk_types.specs.Wire.{inner_of, reads_of, failures_of};
+ghost use Rattle.tracedesk.specs.Inbox.{HoldsLine};
+ghost use Rattle.tracedesk.specs.LineAnswers.{Serves, Breaks};
+ghost use Rattle.tracedesk.specs.Lines.{lines_in, lines_of};
+ghost use Rattle.tracedesk.specs.Stream.{AnsweredAll, AnsweredFront, AnsweredInto, stream_of};
+
+use crate::inbox::{Inbox, InboxFault, RawLine, Taken};
+use crate::line::answer_line;
+use crate::plain_line::PlainLine;
+use crate::send::{WriteFailed, send_line};
+use desk_types::Wire;
+use std::alloc::Global;
+use std::io::{Read, Write};
+
+/// The most reads of one input.
+pub const MOST_READS: u64 = 4_294_967_294;
+
+/// How many lines were answered, and how many of these answers count as refused.
+#[derive(Clone, Copy, Debug, PartialEq, Eq)]
+pub struct Served {
+    pub answered: u64,
+    pub refused: u64,
+}
+
+impl Served {
+    /// One more answer.
+    fn count(&mut self, refused: bool)
+        requires few_answers { self.old.answered < 2 ^ 63 }
+        requires refused { self.old.refused ≤ self.old.answered }
+        ensures answered { self.new.answered ≡ self.old.answered + 1 }
+        ensures refused { self.new.refused ≡ (if refused then self.old.refused + 1 else self.old.refused) }
+    {
+        self.answered += 1;
+        if refused {
+            self.refused += 1;
+        }
+    }
+}
+
+/// Why not all lines were answered, and how many were, each answer whole.
+#[derive(Clone, Copy, Debug, PartialEq, Eq)]
+pub enum ServeFault {
+    /// A read failed.
+    Read(Served),
+    /// A write failed. The first bytes of one answer more may have gone out, and its command may
+    /// be accepted.
+    Write(Served),
+    /// As many reads were made as may be, and the input had not ended.
+    TooManyReads(Served),
+}
+
+/// Answers the lines of an input, each before the next line is read.
+///
+/// A line ends at a line feed or at the end of input, and one carriage return before that is
+/// dropped. An empty line is skipped. A line of more than 1,048,576 bytes is answered LineTooLong
+/// and skipped to its end; one in whose reading memory is refused is skipped and answered
+/// Unavailable. Each other line is a message.
+pub fn feed<R: Read, W: Write>(
+    alloc: Global,
+    input: &mut Wire<R>,
+    output: &mut Wire<W>,
+    line: &mut PlainLine,
+) -> Result<Served, ServeFault>
+    requires read_failures { failures_of input.old < 2 ^ 63 }
+    requires reads { reads_of input.old < 2 ^ 63 }
+    requires write_failures { failures_of output.old < 2 ^ 63 }
+    ensures ok { IfOk result (λ served. AnsweredAll line.old.greatest (R.remaining (inner_of input.old))
+        line.old.history (W.contents (inner_of output.old)) line.new.history (W.contents (inner_of output.new)) served) }
+    ensures end { OnOk result (IsAtEnd (R.remaining (inner_of input.new))) }
+    ensures kept { OnOk result ((failures_of input.new ≡ failures_of input.old) × (failures_of output.new ≡ failures_of output.old)) }
+    ensures greatest { line.new.greatest ≡ line.old.greatest }
+    ensures few_reads { reads_of input.new ≤ reads_of input.old + MOST_READS }
+    ensures read { (served : Served) → result ≡ Err (ServeFault.Read served) → (failures_of input.old < failures_of input.new)
+        × AnsweredFront line.old.greatest (R.remaining (inner_of input.old))
+        line.old.history (W.contents (inner_of output.old)) line.new.history (W.contents (inner_of output.new)) served }
+    ensures too_many { (served : Served) → result ≡ Err (ServeFault.TooManyReads served) → (reads_of input.new ≡ reads_of input.old + MOST_READS)
+        × AnsweredFront line.old.greatest (R.remaining (inner_of input.old))
+        line.old.history (W.contents (inner_of output.old)) line.new.history (W.contents (inner_of output.new)) served }
+    ensures write { (served : Served) → result ≡ Err (ServeFault.Write served) → (failures_of output.old < failures_of output.new)
+        × AnsweredInto line.old.greatest (R.remaining (inner_of input.old))
+        line.old.history (W.contents (inner_of output.old)) line.new.history (W.contents (inner_of output.new)) served }
+{
+    let most_reads = input.reads() + MOST_READS;
+    let mut inbox = Inbox::new();
+    let mut served = Served {
+        answered: 0,
+        refused: 0,
+    };
+    'lines: loop {
+        match inbox.next_line(alloc, input, most_reads) {
+            Ok(Taken { line: raw, last }) => {
+                match serve_line(alloc, output, line, raw, &mut served) {
+                    Ok(()) if last => return Ok(served),
+                    Ok(()) => {}
+                    Err(WriteFailed) => return Err(ServeFault::Write(served)),
+                }
+            }
+            Err(InboxFault::Read) => return Err(ServeFault::Read(served)),
+            Err(InboxFault::TooManyReads) => return Err(ServeFault::TooManyReads(served)),
+        }
+    }
+}
+
+/// Answers what is kept of one line, and writes the answer.
+fn serve_line<W: Write>(
+    alloc: Global,
+    output: &mut Wire<W>,
+    line: &mut PlainLine,
+    raw: RawLine,
+    served: &mut Served,
+) -> Result<(), WriteFailed>
+    requires few_failures { failures_of output.old < 2 ^ 63 }
+    requires few_answers { served.old.answered < 2 ^ 63 }
+    requires refused { served.old.refused ≤ served.old.answered }
+    ensures ok { (bytes : List ℕ) → HoldsLine raw bytes → OnOk result (Serves line.old.greatest (lines_in bytes)
+        line.old.history (W.contents (inner_of output.old)) served.old line.new.history (W.contents (inner_of output.new)) served.new) }
+    ensures err { (bytes : List ℕ) → HoldsLine raw bytes → OnErr result (Breaks line.old.greatest (lines_in bytes)
+        line.old.history (W.contents (inner_of output.old)) served.old line.new.history (W.contents (inner_of output.new)) served.new) }
+    ensures few_answers { OnOk result (served.new.answered ≤ served.old.answered + 1) }
+    ensures refused { served.new.refused ≤ served.new.answered }
+    ensures greatest { line.new.greatest ≡ line.old.greatest }
+    ensures kept { OnOk result (failures_of output.new ≡ failures_of output.old) }
+    ensures failed { OnErr result (failures_of output.old < failures_of output.new) }
+{
+    if let Some(answer) = answer_line(alloc, line, raw) {
+        send_line(output, answer.text())?;
+        served.count(answer.is_refused());
+    }
+    Ok(())
+}
+
+/// The answers to the lines of a text.
+pub fn answers(alloc: Global, input: &[u8], line: &mut PlainLine) -> Result<Vec<u8>, ServeFault>
+    ensures stream { IfOk result (λ text. (marks : List Bool) × (length marks ≡ length (lines_of input.now))
+        × (stream_of line.old.greatest line.old.history input.now marks ≡ (text.items, line.new.history))) }
+    ensures greatest { line.new.greatest ≡ line.old.greatest }
+{
+    let mut input = Wire::new(input);
+    let mut output = Wire::new(Vec::new(alloc));
+    feed(alloc, &mut input, &mut output, line)?;
+    Ok(output.into_inner())
+}

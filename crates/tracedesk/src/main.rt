@@ -1,0 +1,24 @@
+//! The program of the trace desk: messages in, one a line, and their answers out.
+//!
+//! `feed` answers lines over any reader and writer, `PlainLine` answers commands, and
+//! `answer_message` stands between them. What all of them answer is defined in `specs/`.
+#![tactic(auto)]
+
+mod answer;
+mod command_line;
+mod feed;
+mod inbox;
+mod line;
+mod message;
+mod plain_line;
+mod program;
+mod repeat;
+mod send;
+#[cfg(test)]
+mod tests;
+
+use std::process::ExitCode;
+
+fn main(rt: HostRuntime) -> ExitCode {
+    ExitCode::from(program::run(&rt))
+}

@@ -1,0 +1,60 @@
+//! What a message is answered.
+
+ghost use Rattle.std.specs.Prelude.{◌≡◌, IfOk, OnOk, OnErr};
+ghost use Rattle.tracedesk.specs.Messages.{answer_heard, after_heard, answer_to, list_after};
+
+use crate::answer::Answer;
+use crate::plain_line::PlainLine;
+use cfx_profile::{MessageFault, Said, ignored_text, read_message};
+use desk_types::{Stamped, Text};
+use std::alloc::{AllocError, Global};
+
+/// The text of an answer, and whether it counts as refused: all but Accepted and Ignored do.
+#[derive(Debug, PartialEq, Eq, Drop)]
+pub struct Told {
+    pub text: Text,
+    pub refused: bool,
+}
+
+/// Answers the bytes of one message. Where memory is refused, the desk is as before.
+pub fn answer_message(alloc: Global, line: &mut PlainLine, bytes: &[u8]) -> Result<Told, AllocError>
+    ensures told { IfOk result (λ told. told ≡ answer_to line.old.greatest line.old.history bytes.now) }
+    ensures after { OnOk result (line.new ≡ record { greatest = line.old.greatest; history = list_after line.old.greatest line.old.history bytes.now }) }
+    ensures err { OnErr result (line.new ≡ line.old) }
+{
+    match read_message(alloc, bytes) {
+        Ok(Said::Ignored(name)) => Ok(Told {
+            text: ignored_text(alloc, &name)?,
+            refused: false,
+        }),
+        Ok(Said::Asked(stamped)) => answer_command(alloc, line, &stamped),
+        Err(MessageFault::NoMemory) => Err(AllocError),
+        Err(fault) => Ok(Told {
+            text: fault.write_text(alloc)?,
+            refused: true,
+        }),
+    }
+}
+
+/// Answers a command.
+fn answer_command(
+    alloc: Global,
+    line: &mut PlainLine,
+    stamped: &Stamped,
+) -> Result<Told, AllocError>
+    ensures told { IfOk result (λ told. told ≡ answer_heard line.old.greatest line.old.history (Ok (Said.Asked stamped.now))) }
+    ensures after { OnOk result (line.new ≡ record { greatest = line.old.greatest; history = after_heard line.old.greatest line.old.history (Ok (Said.Asked stamped.now)) }) }
+    ensures err { OnErr result (line.new ≡ line.old) }
+{
+    match line.command(stamped) {
+        Answer::Accepted(_, text) => Ok(Told {
+            text,
+            refused: false,
+        }),
+        Answer::Unavailable => Err(AllocError),
+        answer => Ok(Told {
+            text: answer.into_text(alloc, &stamped.uid)?,
+            refused: true,
+        }),
+    }
+}
