@@ -4,6 +4,7 @@ pub mod Designators
 pub mod Distinct
 pub mod Exposures
 pub mod Fronts
+pub mod Joining
 pub mod Judgements
 pub mod Lives
 pub mod Mounted

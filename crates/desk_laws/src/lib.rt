@@ -15,7 +15,7 @@ mod traces;
 pub use pieces::{pieces_balance, spent_stays_spent};
 pub use placements::{no_designator_twice, only_verified_reels_are_placed, placements_are_final};
 pub use runs::run_in_parts;
-pub use slots::one_place;
+pub use slots::{one_place, tapes_keep_their_order};
 pub use time::{
     desk_minute_never_falls, exposure_is_no_longer, exposure_never_falls,
     mounted_reels_are_not_expired,

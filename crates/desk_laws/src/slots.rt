@@ -1,14 +1,24 @@
 //! Laws of slots. They are for proofs, and do nothing when they run.
 
-ghost use Rattle.std.specs.Prelude.{◌≡◌, Contains};
+ghost use Rattle.std.specs.Prelude.{◌≡◌, false, List, ◌++◌, All, Contains};
 ghost use Rattle.std.specs.List.{IsDistinct};
+ghost use Rattle.desk_types.specs.declared.command.Entry.{Entry};
 ghost use Rattle.desk_types.specs.Id.{Name, same};
 ghost use Rattle.desk_types.specs.History.{History};
+ghost use Rattle.desk_types.specs.Tape.{tape_of};
 ghost use Rattle.desk_types.specs.Pieces.{live_on};
 ghost use Rattle.desk_types.specs.Judged.{IsJudged};
+ghost use Rattle.desk_laws.specs.TapeOrder.{restarts};
 
 /// A reel stands among the live reels of one slot at most, and there once. This holds of every judged list.
 pub fn one_place()
     ensures one_slot { (H : History) (m s machine slot reel : Name) → IsJudged H → Contains (live_on H m s) reel → Contains (live_on H machine slot) reel → (m ≡ machine) × (s ≡ slot) }
     ensures once { (H : History) (machine slot : Name) → IsJudged H → IsDistinct same (live_on H machine slot) }
+{}
+
+/// A tape keeps its reels and their order until its slot is loaded or unloaded: others are joined to its
+/// end, and nowhere else. This holds of every list.
+pub fn tapes_keep_their_order()
+    ensures { (G : History) (more : List Entry) (machine slot : Name) → All (λ (e : Entry). restarts machine slot e.stamped.command ≡ false) more
+        → (joined : List Name) × (tape_of (more ++ G) machine slot ≡ tape_of G machine slot ++ joined) }
 {}

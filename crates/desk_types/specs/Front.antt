@@ -36,8 +36,10 @@ front_reel H minute reel = record {
   life = life_of H minute reel;
 }
 
+-- a row's slot with its front reel at a minute
+abbrev pub front_at : History → ℕ → Name → SheetRow → Front
+front_at H minute machine row = record { slot = row.slot; reel = option_map (front_reel H minute) (front_of H machine row.slot) }
+
 -- the slots of the selected product's sheet on the machine, in sheet order, each with its front reel at the desk minute
 abbrev pub fronts_of : History → Name → List Front
-fronts_of H machine =
-    map (λ (row : SheetRow). record { slot = row.slot; reel = option_map (front_reel H (now_of H)) (front_of H machine row.slot) })
-    (unwrap_or (sheet_on H machine) [])
+fronts_of H machine = map (front_at H (now_of H) machine) (unwrap_or (sheet_on H machine) [])

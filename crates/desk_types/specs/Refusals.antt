@@ -106,19 +106,24 @@ is_wrong_part H machine slot reel = option_map_or (λ row. is_wrong_for H row re
 abbrev pub is_vacant : History → Name → Name → Bool
 is_vacant H machine slot = is_none (front_of H machine slot)
 
+-- what is tested of a reel that is to be loaded or spliced at a minute; whether its part is wrong for the slot is given
+abbrev pub reel_tests : History → ℕ → Name → Bool → List (Bool × Refusal)
+reel_tests H minute reel wrong =
+    (is_none (receipt_of H reel), UnknownReel reel)
+    ∷ (is_mounted H reel, ReelMounted reel)
+    ∷ (left_of H reel == 0, ReelEmpty reel)
+    ∷ (wrong, WrongPart reel)
+    ∷ (is_unbaked H reel, NotBaked reel)
+    ∷ (is_expired H reel minute, Expired reel)
+    ∷ []
+
 -- of a load or a splice at a minute; they differ in the test of the slot's live reels, which is given
 unfoldable pub mounting_refusal : History → ℕ → Name → Name → Name → Bool × Refusal → Option Refusal
 mounting_refusal H minute machine slot reel slot_test = first_refusal (
     (is_none (selected_on H machine), NoProduct machine)
     ∷ (is_none (row_on H machine slot), SlotNotOnSheet slot)
     ∷ slot_test
-    ∷ (is_none (receipt_of H reel), UnknownReel reel)
-    ∷ (is_mounted H reel, ReelMounted reel)
-    ∷ (left_of H reel == 0, ReelEmpty reel)
-    ∷ (is_wrong_part H machine slot reel, WrongPart reel)
-    ∷ (is_unbaked H reel, NotBaked reel)
-    ∷ (is_expired H reel minute, Expired reel)
-    ∷ [])
+    ∷ reel_tests H minute reel (is_wrong_part H machine slot reel))
 
 unfoldable pub unload_refusal : History → Name → Name → Option Refusal
 unload_refusal H machine slot = first_refusal (

@@ -19,8 +19,8 @@ use Rattle.desk_types.specs.Refusals.{designators_refusal, install_refusal}
 use Rattle.desk_types.specs.Work.{is_in_work_on, is_placed_on}
 use Rattle.desk_types.proofs.Keys.{is_at-by_name, same-sym}
 use Rattle.std.proofs.lemmas.List.Folds.{list_any-append}
-use Rattle.look_back.specs.declared.floor.Floor.{Floor}
-use Rattle.look_back.specs.Floor.{IsFloor}
+use Rattle.entry_search.specs.declared.floor.Floor.{Floor}
+use Rattle.entry_search.specs.Floor.{IsFloor}
 use Rattle.look_back.specs.Placing.{IsPicked, IsFeeding, is_in}
 
 -- ---- sets of designators

@@ -13,9 +13,9 @@ use Rattle.desk_types.proofs.Keys.{pair-changed}
 use Rattle.desk_types.proofs.Steps.{take-next, drop-next}
 use Rattle.desk_laws.proofs.Picks.{picked-append}
 use Rattle.std.proofs.lemmas.Bool.{lt-ltb, ltb-true, ltb-false}
-use Rattle.look_back.specs.declared.floor.Floor.{Floor}
+use Rattle.entry_search.specs.declared.floor.Floor.{Floor}
 use Rattle.look_back.specs.declared.placing.Piece.{Piece}
-use Rattle.look_back.specs.Floor.{pieces_at, tape_at}
+use Rattle.entry_search.specs.Floor.{pieces_at, tape_at}
 use Rattle.look_back.specs.Placing.{HasPieces, IsFeeding, pick_of}
 
 -- ---- the front of a tape

@@ -22,8 +22,8 @@ use Rattle.desk_types.specs.Outcome.{pieces_of}
 use Rattle.desk_types.specs.Judged.{IsJudged}
 use Rattle.desk_laws.proofs.Balance.{balance, unreceived-empty}
 use Rattle.desk_laws.proofs.Picks.{find-passes}
-use Rattle.look_back.specs.Floor.{IsKnownReel}
-use Rattle.look_back.proofs.Viewing.{receipt-range}
+use Rattle.entry_search.specs.Floor.{IsKnownReel}
+use Rattle.entry_search.proofs.Viewing.{receipt-range}
 
 -- ---- whose they are
 

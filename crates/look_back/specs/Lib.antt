@@ -1,11 +1,5 @@
 pub mod Counting
 pub mod Feeding
-pub mod Floor
-pub mod Fronts
-pub mod Kept
-pub mod Life
 pub mod Placing
 pub mod Scrapping
-pub mod Totals
-pub mod Turns
 pub mod Words

@@ -11,9 +11,9 @@ use Rattle.desk_types.specs.Id.{Name, same, by_name}
 use Rattle.desk_types.specs.Pieces.{picked, pick_for}
 use Rattle.desk_types.specs.Refusals.{designator_refusal}
 use Rattle.setup_sheets.specs.Names.{HasSeen}
-use Rattle.look_back.specs.declared.floor.Floor.{Floor}
+use Rattle.entry_search.specs.declared.floor.Floor.{Floor}
 use Rattle.look_back.specs.declared.placing.Piece.{Piece}
-use Rattle.look_back.specs.Floor.{pieces_at, tape_at}
+use Rattle.entry_search.specs.Floor.{pieces_at, tape_at}
 
 -- it is refused for the refusal that there is, or else takes the picks
 abbrev pub IsPicked : Option Refusal → List Pick → Result (List Pick) Refusal → Type 0

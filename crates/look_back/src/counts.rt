@@ -8,14 +8,14 @@ ghost use Rattle.desk_types.specs.Pieces.{left_of, count_picks, picks_of};
 ghost use Rattle.desk_types.specs.Judged.{IsJudged};
 ghost use Rattle.desk_types.specs.Refusals.{count_refusal, counts_refusal};
 ghost use Rattle.setup_sheets.specs.Names.{HasSeen};
-ghost use Rattle.look_back.specs.Floor.{IsFloor};
-ghost use Rattle.look_back.specs.Kept.{AreTakes};
+ghost use Rattle.entry_search.specs.Floor.{IsFloor};
+ghost use Rattle.entry_search.specs.Kept.{AreTakes};
 ghost use Rattle.look_back.specs.Placing.{IsPicked};
 ghost use Rattle.look_back.specs.Counting.{IsCounted};
 
-use crate::floor::{Floor, floor_of, is_mounted, pieces, reel_on};
 use crate::scraps::put_off;
 use desk_types::{CountRow, Counts, Entry, Id, Listing, Pick, Purpose, Refusal, Takes};
+use entry_search::floor::{Floor, floor_of, is_mounted, pieces, reel_on};
 use std::alloc::{AllocError, Global};
 use std::collections::BTreeSet;
 

@@ -9,16 +9,16 @@ ghost use Rattle.desk_types.specs.Pieces.{picks_of};
 ghost use Rattle.desk_types.specs.Work.{places, is_placed_on};
 ghost use Rattle.desk_types.specs.Judged.{IsJudged};
 ghost use Rattle.desk_types.specs.Refusals.{install_refusal};
-ghost use Rattle.look_back.specs.Kept.{AreTakes};
+ghost use Rattle.entry_search.specs.Kept.{AreTakes};
 ghost use Rattle.look_back.specs.Placing.{IsPicked, slot_at, is_in};
 
-use crate::floor::floor_of;
 use crate::placing::place_all;
-use crate::setup::sheet_on;
-use crate::work::is_in_work_on;
 use desk_types::{
     Command, Designator, Designators, Entry, Id, Listing, Pick, Refusal, SheetRow, Takes,
 };
+use entry_search::floor::floor_of;
+use entry_search::setup::sheet_on;
+use entry_search::work::is_in_work_on;
 use std::alloc::{AllocError, Global};
 use std::collections::{BTreeMap, BTreeSet};
 

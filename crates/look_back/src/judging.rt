@@ -9,13 +9,11 @@ ghost use Rattle.desk_types.specs.Pieces.{picks_of};
 ghost use Rattle.desk_types.specs.FloorLife.{minutes_left};
 ghost use Rattle.desk_types.specs.Desk.{IsJudgement};
 ghost use Rattle.desk_types.specs.History.{now_of};
-ghost use Rattle.look_back.specs.Kept.{AreTakes};
+ghost use Rattle.entry_search.specs.Kept.{AreTakes};
 ghost use Rattle.look_back.specs.Placing.{IsPicked};
 ghost use Rattle.look_back.specs.Words.{TakesNone};
 
 use crate::counts::counted;
-use crate::floor::floor_of;
-use crate::floor_life::reel_of;
 use crate::installs::installed;
 use crate::loads::{load_refusal, splice_refusal};
 use crate::refusals::{
@@ -23,7 +21,6 @@ use crate::refusals::{
     receipt_refusal, selection_refusal, unload_refusal,
 };
 use crate::scraps::scrapped;
-use crate::setup::{desk_minute, effective_minute};
 use crate::sheets::definition_refusal;
 use crate::starts::start_refusal;
 use crate::takes::{pieces_of, reels_of, takes_for};
@@ -31,6 +28,9 @@ use desk_types::{
     Change, Command, Detail, Entry, FURTHEST_AHEAD, Id, JudgeFault, Listing, Minute, Pick, Refusal,
     Stamped, Takes,
 };
+use entry_search::floor::floor_of;
+use entry_search::floor_life::reel_of;
+use entry_search::setup::{desk_minute, effective_minute};
 use std::alloc::{AllocError, Global};
 
 /// Why a command is refused that takes no pieces and takes effect at the minute.

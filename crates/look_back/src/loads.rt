@@ -6,15 +6,15 @@ ghost use Rattle.desk_types.specs.declared.answer.Refusal.TheVariants.{SlotTaken
 ghost use Rattle.desk_types.specs.Judged.{IsJudged};
 ghost use Rattle.desk_types.specs.Refusals.{first_refusal, is_vacant, is_wrong_for, mounting_refusal};
 ghost use Rattle.look_back.specs.Feeding.{reel_refusal};
-ghost use Rattle.look_back.specs.Kept.{AreTakes};
+ghost use Rattle.entry_search.specs.Kept.{AreTakes};
 ghost use Rattle.desk_types.specs.History.{now_of};
 
-use crate::floor_life::reel_of;
-use crate::mounts::is_mounted;
-use crate::pieces::left;
 use crate::refusals::is_vacant;
-use crate::setup::{is_allowed, row_on, selected_on};
 use desk_types::{Entry, Id, Minute, Refusal, SheetRow, Takes};
+use entry_search::floor_life::reel_of;
+use entry_search::mounts::is_mounted;
+use entry_search::pieces::left;
+use entry_search::setup::{is_allowed, row_on, selected_on};
 use std::alloc::{AllocError, Global};
 
 /// What is wrong with a reel that is to be loaded or spliced for a row.

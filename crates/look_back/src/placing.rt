@@ -8,11 +8,11 @@ ghost use Rattle.desk_types.specs.Pieces.{first, install_picks};
 ghost use Rattle.desk_types.specs.Refusals.{designators_refusal};
 ghost use Rattle.desk_types.specs.declared.take.Pick.{Pick as Picking};
 ghost use Rattle.setup_sheets.specs.Names.{HasSeen};
-ghost use Rattle.look_back.specs.Floor.{pieces_at, tape_at};
+ghost use Rattle.entry_search.specs.Floor.{pieces_at, tape_at};
 ghost use Rattle.look_back.specs.Placing.{IsPicked, IsPlacing, IsFeeding, HasPieces, slot_at, is_in};
 
-use crate::floor::{Floor, Tape, lower, pieces};
 use desk_types::{Designator, Id, Listing, Pick, Purpose, Refusal};
+use entry_search::floor::{Floor, Tape, lower, pieces};
 use std::alloc::{AllocError, Global};
 use std::collections::{BTreeMap, BTreeSet};
 

@@ -8,16 +8,16 @@ ghost use Rattle.desk_types.specs.Id.{same};
 ghost use Rattle.desk_types.specs.History.{accept};
 ghost use Rattle.desk_types.specs.Desk.{IsChange};
 
-use crate::free::free_reels;
-use crate::fronts::fronts;
 use crate::judging::judged;
-use crate::setup::{desk_minute, selected_on, sheet_of};
-use crate::slots::slots_of;
-use crate::views::reel_view;
 use desk_types::{
     Change, Desk, Entry, Fronts, Id, JudgeFault, Minute, Mounts, ReelView, ReelViews, SheetRows,
     Stamped, Takes,
 };
+use entry_search::free::free_reels;
+use entry_search::fronts::fronts;
+use entry_search::setup::{desk_minute, selected_on, sheet_of};
+use entry_search::slots::slots_of;
+use entry_search::views::reel_view;
 use std::alloc::{AllocError, Global};
 use std::marker::Model;
 
@@ -34,7 +34,7 @@ impl Model for PlainDesk {
     ghost use Rattle.std.specs.Prelude.{reverse};
     ghost use Rattle.desk_types.specs.History.{History};
     ghost use Rattle.desk_types.specs.Judged.{IsJudged};
-    ghost use Rattle.look_back.specs.Kept.{AreTakes};
+    ghost use Rattle.entry_search.specs.Kept.{AreTakes};
 
     ghost Value = { History };
 

@@ -3,13 +3,13 @@
 ghost use Rattle.std.specs.Prelude.{◌≡◌, reverse, IfOk};
 ghost use Rattle.desk_types.specs.Refusals.{part_refusal, alternate_refusal, selection_refusal, receipt_refusal, opening_refusal, closing_refusal, completion_refusal, unload_refusal, is_vacant};
 ghost use Rattle.desk_types.specs.Judged.{IsJudged};
-ghost use Rattle.look_back.specs.Kept.{AreTakes};
+ghost use Rattle.entry_search.specs.Kept.{AreTakes};
 
-use crate::floor::{floor_of, front};
-use crate::mounts::is_mounted;
-use crate::setup::{is_part, receipt, sheet_of};
-use crate::work::{in_work_on, is_in_work_on};
 use desk_types::{Entry, Id, Refusal, Takes};
+use entry_search::floor::{floor_of, front};
+use entry_search::mounts::is_mounted;
+use entry_search::setup::{is_part, receipt, sheet_of};
+use entry_search::work::{in_work_on, is_in_work_on};
 use std::alloc::{AllocError, Global};
 
 /// Why a definition of a part is refused.

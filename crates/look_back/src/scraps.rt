@@ -6,13 +6,13 @@ ghost use Rattle.desk_types.specs.declared.take.Purpose.TheVariants.{Rejected};
 ghost use Rattle.desk_types.specs.Pieces.{pieces_off, picks_of};
 ghost use Rattle.desk_types.specs.Judged.{IsJudged};
 ghost use Rattle.desk_types.specs.Refusals.{scrap_refusal};
-ghost use Rattle.look_back.specs.Floor.{pieces_at};
-ghost use Rattle.look_back.specs.Kept.{AreTakes};
+ghost use Rattle.entry_search.specs.Floor.{pieces_at};
+ghost use Rattle.entry_search.specs.Kept.{AreTakes};
 ghost use Rattle.look_back.specs.Placing.{IsPicked};
 ghost use Rattle.look_back.specs.Scrapping.{IsScrapped};
 
-use crate::floor::{Floor, Tape, floor_of, front, pieces};
 use desk_types::{Entry, Id, Listing, Pick, Purpose, Quantity, Refusal, Takes};
+use entry_search::floor::{Floor, Tape, floor_of, front, pieces};
 use std::alloc::{AllocError, Global};
 use std::collections::BTreeMap;
 

@@ -6,8 +6,8 @@ ghost use Rattle.desk_types.specs.Setup.{defines, is_part};
 ghost use Rattle.desk_types.specs.Refusals.{definition_refusal};
 ghost use Rattle.setup_sheets.specs.Names.{is_among};
 
-use crate::work::in_work_on;
 use desk_types::{Command, Entry, Id, Refusal, SheetRows};
+use entry_search::work::in_work_on;
 use setup_sheets::{Parts, SheetFault, check_sheet};
 use std::alloc::{AllocError, Global};
 

@@ -6,15 +6,16 @@ ghost use Rattle.desk_types.specs.Judged.{IsJudged};
 ghost use Rattle.desk_types.specs.Refusals.{front_refusal, slots_refusal, start_refusal, differ};
 ghost use Rattle.desk_types.specs.Setup.{selected_on};
 ghost use Rattle.desk_types.specs.Work.{product_of};
-ghost use Rattle.look_back.specs.Kept.{AreTakes};
-ghost use Rattle.look_back.specs.Floor.{IsFloor, AreReelsBy, AreAlternates};
+ghost use Rattle.entry_search.specs.Kept.{AreTakes};
+ghost use Rattle.entry_search.specs.Floor.{IsFloor, AreReelsBy};
+ghost use Rattle.look_back.specs.Feeding.{AreAlternates};
 ghost use Rattle.desk_types.specs.History.{now_of};
 
 use crate::alternates::alternates_of;
-use crate::floor::{Floor, floor_of, front, reel_on};
-use crate::setup::{selected_on, sheet_on};
-use crate::work::{in_work_on, is_in_work, product_of};
 use desk_types::{Entry, Id, Minute, Refusal, SheetRow, Takes};
+use entry_search::floor::{Floor, floor_of, front, reel_on};
+use entry_search::setup::{selected_on, sheet_on};
+use entry_search::work::{in_work_on, is_in_work, product_of};
 use setup_sheets::{Alternates, allowed};
 use std::alloc::{AllocError, Global};
 

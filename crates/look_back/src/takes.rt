@@ -5,22 +5,15 @@ ghost use Rattle.std.specs.List.{AllByRecursion};
 ghost use Rattle.desk_types.specs.declared.take.Pick.{Pick as Picking};
 ghost use Rattle.desk_types.specs.Id.{Name};
 ghost use Rattle.desk_types.specs.History.{History};
-ghost use Rattle.desk_types.specs.Pieces.{is_placed};
 ghost use Rattle.desk_types.specs.Outcome.{take_of, reels_of, pieces_of};
 ghost use Rattle.reels.specs.Reel.{StandsFor};
-ghost use Rattle.look_back.specs.Floor.{IsFloor, AreReelsBy, IsKnownReel};
+ghost use Rattle.entry_search.specs.Floor.{IsFloor, AreReelsBy, IsKnownReel};
 
-use crate::floor::{Floor, reel_on};
 use desk_types::{Id, IdList, Listing, Minute, Pick, Purpose, Take, Takes};
+use entry_search::floor::{Floor, reel_on};
+use entry_search::totals::is_placed;
 use reels::Reel;
 use std::alloc::{AllocError, Global};
-
-/// Whether the piece was placed on a board.
-fn is_placed(purpose: &Purpose) -> bool
-    ensures { result ≡ is_placed purpose.now }
-{
-    matches!(purpose, Purpose::Placed { .. })
-}
 
 /// Puts a pick, with its reel's part and lot, to the takes.
 fn put_take(

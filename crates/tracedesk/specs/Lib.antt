@@ -1,11 +1,7 @@
-pub mod Commands
 pub mod Inbox
 pub mod LineAnswers
 pub mod Lines
 pub mod Messages
-pub mod PlainLine
 pub mod Program
-pub mod Repeats
 pub mod Sent
 pub mod Stream
-pub mod Texts

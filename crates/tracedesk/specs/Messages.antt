@@ -7,7 +7,7 @@ use Rattle.cfx_profile.specs.declared.message.Said.TheVariants.{Ignored, Asked}
 use Rattle.cfx_profile.specs.Answer.{fault_text, ignored_text}
 use Rattle.cfx_profile.specs.Message.{said}
 use Rattle.tracedesk.specs.declared.message.Told.{Told}
-use Rattle.tracedesk.specs.Commands.{command_answer, command_after, answer_text, is_refused}
+use Rattle.desk_answers.specs.Commands.{command_answer, command_after, answer_text, is_refused}
 
 -- the answer to what a message says: Faulty and refused commands count as refused, Ignored does not
 abbrev pub answer_heard : ℕ → History → Result Said MessageFault → Told

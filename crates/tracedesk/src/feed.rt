@@ -10,8 +10,8 @@ ghost use Rattle.tracedesk.specs.Stream.{AnsweredAll, AnsweredFront, AnsweredInt
 
 use crate::inbox::{Inbox, InboxFault, RawLine, Taken};
 use crate::line::answer_line;
-use crate::plain_line::PlainLine;
 use crate::send::{WriteFailed, send_line};
+use desk_answers::PlainLine;
 use desk_types::Wire;
 use std::alloc::Global;
 use std::io::{Read, Write};

@@ -7,8 +7,8 @@ ghost use Rattle.tracedesk.specs.Stream.{too_long_text};
 
 use crate::inbox::{LONGEST_LINE, RawLine, without_return};
 use crate::message::{Told, answer_message};
-use crate::plain_line::PlainLine;
 use cfx_profile::unavailable_text;
+use desk_answers::PlainLine;
 use std::alloc::Global;
 
 /// What one line is answered.

@@ -4,15 +4,12 @@
 //! `answer_message` stands between them. What all of them answer is defined in `specs/`.
 #![tactic(auto)]
 
-mod answer;
 mod command_line;
 mod feed;
 mod inbox;
 mod line;
 mod message;
-mod plain_line;
 mod program;
-mod repeat;
 mod send;
 #[cfg(test)]
 mod tests;

@@ -3,9 +3,8 @@
 ghost use Rattle.std.specs.Prelude.{◌≡◌, IfOk, OnOk, OnErr};
 ghost use Rattle.tracedesk.specs.Messages.{answer_heard, after_heard, answer_to, list_after};
 
-use crate::answer::Answer;
-use crate::plain_line::PlainLine;
 use cfx_profile::{MessageFault, Said, ignored_text, read_message};
+use desk_answers::{Answer, PlainLine};
 use desk_types::{Stamped, Text};
 use std::alloc::{AllocError, Global};
 

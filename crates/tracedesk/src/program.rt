@@ -8,8 +8,8 @@ ghost use Rattle.tracedesk.specs.Program.{fault_line, AnswersInput};
 
 use crate::command_line::{Asked, read_words};
 use crate::feed::{ServeFault, feed};
-use crate::plain_line::PlainLine;
 use crate::send::{send_line, send_text};
+use desk_answers::PlainLine;
 use desk_types::{MOST_ENTRIES, Wire};
 use std::alloc::{AllocError, Global};
 use std::io;

@@ -4,8 +4,8 @@
 mod wires;
 
 use crate::feed::{ServeFault, Served, answers, feed};
-use crate::plain_line::PlainLine;
 use crate::program::program;
+use desk_answers::PlainLine;
 use desk_types::Wire;
 use std::alloc::{AllocError, Global};
 use std::process::Abort;

@@ -6,7 +6,7 @@ use Rattle.desk_types.specs.Pieces.{left_of, count_picks}
 use Rattle.desk_types.specs.Refusals.{counts_refusal}
 use Rattle.std.specs.Prelude.{map}
 use Rattle.setup_sheets.specs.Names.{HasSeen}
-use Rattle.look_back.specs.Floor.{IsFloor}
+use Rattle.entry_search.specs.Floor.{IsFloor}
 use Rattle.look_back.proofs.counts.count_all.Given as goal
 
 -- the rows so far have no fault and these picks: the refusal is that of the others, and the picks are these and those of the others

@@ -1,7 +1,7 @@
 use Rattle.std.proofs.Common.{◌≡◌, true, false, nat_lt, sym, ◌∙◌, arith}
 use Rattle.desk_types.specs.Pieces.{left_of, is_mounted}
 use Rattle.setup_sheets.proofs.Seen.{HasSeen-push, was-new, was-seen}
-use Rattle.look_back.proofs.Flooring.{floor-unknown, floor-known}
+use Rattle.entry_search.proofs.Flooring.{floor-unknown, floor-known}
 use Rattle.look_back.proofs.Counting.{not-above}
 use Rattle.look_back.proofs.counts.missing.Goals as goal
 

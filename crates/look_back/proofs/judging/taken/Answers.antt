@@ -2,8 +2,8 @@ use Rattle.std.proofs.Common.{reverse, map, subst, sym, ap, ◌∙◌}
 use Rattle.std.specs.List.{AllByRecursion}
 use Rattle.desk_types.specs.declared.take.Pick.{Pick}
 use Rattle.desk_types.specs.Outcome.{take_of}
-use Rattle.look_back.specs.Floor.{IsKnownReel}
-use Rattle.look_back.proofs.Flooring.{floor-by}
+use Rattle.entry_search.specs.Floor.{IsKnownReel}
+use Rattle.entry_search.proofs.Flooring.{floor-by}
 use Rattle.look_back.proofs.Taking.{picks-known}
 use Rattle.look_back.proofs.judging.taken.Goals as goal
 

@@ -2,7 +2,7 @@ use Rattle.std.proofs.Common.{[], unwrap_or, ap, ◌∙◌, rules}
 use Rattle.std.specs.List.{find}
 use Rattle.desk_types.specs.Id.{Name}
 use Rattle.desk_types.proofs.Keys.{pair-written}
-use Rattle.look_back.specs.Floor.{tape_at}
+use Rattle.entry_search.specs.Floor.{tape_at}
 use Rattle.look_back.proofs.Spending.{tape-written}
 use Rattle.look_back.proofs.placing.next_on.Goals as goal
 

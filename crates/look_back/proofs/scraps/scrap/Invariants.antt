@@ -2,7 +2,7 @@ use Rattle.std.proofs.Common.{◌≡◌, ◌-◌, ◌++◌, drop}
 use Rattle.std.specs.List.{sum_by}
 use Rattle.desk_types.specs.declared.take.Purpose.TheVariants.{Rejected}
 use Rattle.desk_types.specs.Pieces.{scrap_picks}
-use Rattle.look_back.specs.Floor.{pieces_at}
+use Rattle.entry_search.specs.Floor.{pieces_at}
 use Rattle.look_back.proofs.scraps.scrap.Given as goal
 
 -- the picks so far and those off the reels that are left are all, and what is wanting after those is wanting at the end

@@ -4,8 +4,8 @@ use Rattle.std.specs.List.{find}
 use Rattle.desk_types.specs.declared.take.Purpose.TheVariants.{Rejected}
 use Rattle.desk_types.specs.Pieces.{front_of}
 use Rattle.desk_types.specs.Refusals.{is_vacant}
-use Rattle.look_back.specs.Floor.{pieces_at}
-use Rattle.look_back.proofs.Flooring.{floor-front}
+use Rattle.entry_search.specs.Floor.{pieces_at}
+use Rattle.entry_search.proofs.Flooring.{floor-front}
 use Rattle.look_back.proofs.Rejecting.{scrapped-is, scrap-empty, scrap-short, scrap-enough}
 use Rattle.look_back.proofs.scraps.scrapped.Goals as goal
 

@@ -1,7 +1,8 @@
 use Rattle.std.proofs.Common.{◌≡◌, drop}
 use Rattle.desk_types.specs.History.{History}
 use Rattle.desk_types.specs.Refusals.{slots_refusal}
-use Rattle.look_back.specs.Floor.{IsFloor, AreAlternates}
+use Rattle.entry_search.specs.Floor.{IsFloor}
+use Rattle.look_back.specs.Feeding.{AreAlternates}
 use Rattle.look_back.proofs.starts.slots_refusal.Given as goal
 
 -- the slots so far have no fault: the refusal is that of the others

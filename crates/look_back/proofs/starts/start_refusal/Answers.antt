@@ -1,5 +1,5 @@
 use Rattle.std.proofs.Common.{reverse}
-use Rattle.look_back.proofs.Flooring.{floor-by}
+use Rattle.entry_search.proofs.Flooring.{floor-by}
 use Rattle.look_back.proofs.starts.start_refusal.Goals as goal
 
 pub slots_refusal-requires : goal.slots_refusal-requires

@@ -2,7 +2,7 @@ use Rattle.std.proofs.Common.{[], ◌∷◌, ◌++◌, map, take, sym, ap, subst
 use Rattle.std.proofs.lemmas.List.{map-append}
 use Rattle.desk_types.specs.Outcome.{take_of}
 use Rattle.desk_types.proofs.Steps.{take-next}
-use Rattle.look_back.specs.Life.{IsReelOf}
+use Rattle.entry_search.specs.Life.{IsReelOf}
 use Rattle.look_back.proofs.takes.takes_for.Goals as goal
 
 pub loop-pick-preserved : goal.loop-pick-preserved

@@ -3,7 +3,7 @@ use Rattle.std.specs.List.{AllByRecursion}
 use Rattle.desk_types.specs.declared.take.Pick.{Pick}
 use Rattle.desk_types.specs.History.{History}
 use Rattle.desk_types.specs.Outcome.{take_of}
-use Rattle.look_back.specs.Floor.{IsFloor, IsKnownReel}
+use Rattle.entry_search.specs.Floor.{IsFloor, IsKnownReel}
 use Rattle.look_back.proofs.takes.takes_for.Given as goal
 
 abbrev pub invariant-loop-pick : goal.invariant-loop-pick

@@ -1,0 +1,4 @@
+pub mod Commands
+pub mod PlainLine
+pub mod Repeats
+pub mod Texts

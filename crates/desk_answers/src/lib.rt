@@ -1,0 +1,10 @@
+//! What a command is answered: by its judgement, or by the command that was accepted before under
+//! its UniqueID, with a number and as a text.
+#![tactic(auto)]
+
+mod answer;
+mod plain_line;
+mod repeat;
+
+pub use answer::Answer;
+pub use plain_line::PlainLine;

@@ -1,0 +1,125 @@
+//! A desk that keeps the answers to the commands that it accepted.
+
+ghost use Rattle.std.specs.Prelude.{◌≡◌, ◌<◌, ◌≤◌, [], length, true, IfOk, OnOk, OnErr};
+ghost use Rattle.desk_types.specs.declared.answer.Reply.TheVariants as Reply;
+ghost use Rattle.desk_types.specs.Desk.{IsChange};
+ghost use Rattle.desk_types.specs.History.{accept};
+ghost use Rattle.desk_types.specs.declared.desk.TheConstants.{MOST_ENTRIES};
+ghost use Rattle.desk_answers.specs.Commands.{earlier_answer, judged_answer, command_answer, command_after, is_refused};
+ghost use Rattle.desk_answers.specs.PlainLine.{Ledger, Answers};
+
+use crate::answer::{Answer, accepted_text};
+use crate::repeat::is_same;
+use desk_types::{Change, Desk, JudgeFault, Stamped, Text};
+use look_back::PlainDesk;
+use std::alloc::{AllocError, Global};
+use std::marker::Model;
+
+/// The desk of one line: it keeps the list of accepted commands, each with the text of its answer,
+/// and knows a message that comes again. Contracts see it as its list and its greatest number.
+#[derive(Drop)]
+pub struct PlainLine {
+    alloc: Global,
+    greatest: u64,
+    desk: PlainDesk,
+    texts: Vec<Text>,
+}
+
+impl Model for PlainLine {
+    ghost use Rattle.std.specs.Prelude.{◌≡◌, ◌≤◌, reverse};
+    ghost use Rattle.desk_types.specs.declared.desk.TheConstants.{MOST_ENTRIES};
+    ghost use Rattle.desk_answers.specs.Commands.{texts_of};
+    ghost use Rattle.desk_answers.specs.PlainLine.{Ledger, IsNumbered};
+
+    ghost Value = { Ledger };
+
+    ghost view = { λ a. record { greatest = a.greatest; history = a.desk } };
+
+    ghost invariant = { λ a. (a.greatest ≤ MOST_ENTRIES) × IsNumbered a.desk × (reverse a.texts.items ≡ texts_of a.desk) };
+}
+
+impl PlainLine {
+    /// A desk that has accepted nothing and gives numbers up to the greatest. Takes no memory.
+    pub fn new(alloc: Global, greatest: u64) -> PlainLine
+        requires { greatest ≤ MOST_ENTRIES }
+        ensures { result ≡ record { greatest = greatest; history = [] } }
+    {
+        PlainLine {
+            alloc,
+            greatest,
+            desk: PlainDesk::new(alloc),
+            texts: Vec::new(alloc),
+        }
+    }
+
+    /// How many commands are accepted.
+    pub fn count(&self) -> u64
+        ensures { result ≡ length self.now.history }
+    {
+        self.desk.entries().len() as u64
+    }
+
+    /// Answers a command. A message that was accepted before gets its first answer again, and
+    /// changes nothing.
+    pub fn command(&mut self, stamped: &Stamped) -> Answer
+        ensures answers { Answers self.old stamped.now result self.new }
+        ensures refused { is_refused result ≡ true → self.new ≡ self.old }
+    {
+        match self.answer(stamped) {
+            Ok(answer) => answer,
+            Err(_) => Answer::Unavailable,
+        }
+    }
+
+    fn answer(&mut self, stamped: &Stamped) -> Result<Answer, AllocError>
+        ensures ok { IfOk result (λ answer. answer ≡ command_answer self.old.greatest self.old.history stamped.now) }
+        ensures after { OnOk result (self.new ≡ record { greatest = self.old.greatest; history = command_after self.old.greatest self.old.history stamped.now }) }
+        ensures err { OnErr result (self.new ≡ self.old) }
+    {
+        if let Some(answer) = self.earlier(stamped)? {
+            return Ok(answer);
+        }
+        if self.count() >= self.greatest {
+            return Ok(Answer::DeskFull);
+        }
+        match self.desk.judge(stamped) {
+            Ok(change) => self.accept(change),
+            Err(JudgeFault::Refused(refusal)) => Ok(Answer::Refused(refusal)),
+            Err(JudgeFault::NoMemory) => Err(AllocError),
+        }
+    }
+
+    /// The answer by the entry that has the UniqueID, where there is one.
+    fn earlier(&self, stamped: &Stamped) -> Result<Option<Answer>, AllocError>
+        ensures { IfOk result (λ answer. answer ≡ earlier_answer self.now.history stamped.now) }
+    {
+        let Some(first) = self.desk.earlier(&stamped.uid) else {
+            return Ok(None);
+        };
+        if is_same(&first.stamped, stamped) {
+            let text = self.texts[(first.number - 1) as usize].clone()?;
+            return Ok(Some(Answer::Accepted(first.number, text)));
+        }
+        Ok(Some(Answer::IdReused(first.number)))
+    }
+
+    /// Accepts what was judged.
+    fn accept(&mut self, change: Change) -> Result<Answer, AllocError>
+        requires room { length self.old.history < self.old.greatest }
+        requires judged { IsChange self.old.history change.stamped change }
+        ensures ok { IfOk result (λ answer. answer ≡ judged_answer self.old.history change.stamped (Reply.Accepted change.detail)) }
+        ensures after { OnOk result (self.new ≡ record { greatest = self.old.greatest; history = accept self.old.history change.stamped }) }
+        ensures err { OnErr result (self.new ≡ self.old) }
+    {
+        let number = self.count() + 1;
+        let text = accepted_text(self.alloc, number, &change.stamped.uid, &change.detail)?;
+        self.texts.push(text.clone()?)?;
+        match self.desk.append(change) {
+            Ok(()) => Ok(Answer::Accepted(number, text)),
+            Err(AllocError) => {
+                self.texts.pop();
+                Err(AllocError)
+            }
+        }
+    }
+}

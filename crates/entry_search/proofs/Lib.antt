@@ -1,0 +1,13 @@
+pub mod Flooring
+pub mod Fronting
+pub mod Handling
+pub mod Keeping
+pub mod Leaving
+pub mod Listing
+pub mod Live
+pub mod Mounting
+pub mod Stocking
+pub mod Summing
+pub mod Turning
+pub mod Unhandled
+pub mod Viewing

@@ -1,0 +1,5 @@
+pub mod Floor
+pub mod Kept
+pub mod Life
+pub mod Totals
+pub mod Turns

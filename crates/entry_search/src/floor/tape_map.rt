@@ -1,0 +1,140 @@
+//! Tapes by machine and slot.
+
+ghost use Rattle.std.specs.Prelude.{◌≡◌, ◌&&◌, [], ◌∷◌, if◌then◌else◌, drop, IfOk, OnOk};
+ghost use Rattle.std.specs.List.{list_any};
+ghost use Rattle.desk_types.specs.Id.{Name, same};
+ghost use Rattle.desk_types.specs.Pieces.{first};
+ghost use Rattle.desk_types.specs.Tape.{spliced, tape_after};
+ghost use Rattle.entry_search.specs.Floor.{tape_at};
+
+use desk_types::{Command, Id};
+use std::alloc::{AllocError, Global};
+use std::collections::{BTreeMap, VecDeque};
+use std::marker::Model;
+
+/// The reels of a slot's tape, the first one first.
+#[derive(Drop)]
+pub struct Tape {
+    pub reels: VecDeque<Id>,
+}
+
+impl Model for Tape {
+    ghost use Rattle.std.specs.Prelude.{List};
+    ghost use Rattle.desk_types.specs.Id.{Name};
+
+    ghost Value = { List Name };
+
+    ghost view = { λ a. a.reels.items };
+}
+
+impl Tape {
+    /// A tape of one reel.
+    fn of(alloc: Global, reel: Id) -> Result<Tape, AllocError>
+        ensures { IfOk result (λ tape. tape ≡ reel ∷ []) }
+    {
+        let mut reels = VecDeque::new(alloc);
+        reels.push_back(reel)?;
+        Ok(Tape { reels })
+    }
+
+    /// The first reel.
+    pub fn front(&self) -> Option<Id>
+        ensures { result ≡ first self.now }
+    {
+        match self.reels.front() {
+            Some(reel) => Some(*reel),
+            None => None,
+        }
+    }
+
+    /// Whether the reel stands on the tape, spent or not.
+    pub fn has(&self, reel: &Id) -> bool
+        ensures { result ≡ list_any (same reel.now) self.now }
+    {
+        for i in 0..self.reels.len() {
+            if *reel == self.reels[i] {
+                return true;
+            }
+        }
+        false
+    }
+
+    /// Takes the first reel off.
+    pub fn pop(&mut self)
+        ensures { self.new ≡ drop 1 self.old }
+    {
+        self.reels.pop_front();
+    }
+
+    /// Joins a reel to the end, where there is one.
+    fn join(&mut self, reel: Id) -> Result<(), AllocError>
+        ensures { OnOk result (self.new ≡ spliced self.old reel) }
+    {
+        if !self.reels.is_empty() {
+            self.reels.push_back(reel)?;
+        }
+        Ok(())
+    }
+}
+
+/// Starts a slot's tape with one reel.
+fn load(
+    alloc: Global,
+    tapes: &mut BTreeMap<(Id, Id), Tape>,
+    machine: Id,
+    slot: Id,
+    reel: Id,
+) -> Result<(), AllocError>
+    ensures { (m s : Name) → OnOk result (tape_at tapes.new m s ≡ (if same machine m && same slot s then reel ∷ [] else tape_at tapes.old m s)) }
+{
+    let tape = Tape::of(alloc, reel)?;
+    tapes.insert((machine, slot), tape)?;
+    Ok(())
+}
+
+/// Joins a reel to a slot's tape.
+fn splice(
+    tapes: &mut BTreeMap<(Id, Id), Tape>,
+    machine: Id,
+    slot: Id,
+    reel: Id,
+) -> Result<(), AllocError>
+    ensures { (m s : Name) → OnOk result (tape_at tapes.new m s ≡ (if same machine m && same slot s then spliced (tape_at tapes.old m s) reel else tape_at tapes.old m s)) }
+{
+    if let Some(tape) = tapes.get_mut(&(machine, slot)) {
+        tape.join(reel)?;
+    }
+    Ok(())
+}
+
+/// Ends a slot's tape.
+fn unload(tapes: &mut BTreeMap<(Id, Id), Tape>, machine: Id, slot: Id)
+    ensures { (m s : Name) → tape_at tapes.new m s ≡ (if same machine m && same slot s then [] else tape_at tapes.old m s) }
+{
+    tapes.remove(&(machine, slot));
+}
+
+/// The tapes after a command.
+pub fn note_tape(
+    alloc: Global,
+    tapes: &mut BTreeMap<(Id, Id), Tape>,
+    command: &Command,
+) -> Result<(), AllocError>
+    ensures { (m s : Name) → OnOk result (tape_at tapes.new m s ≡ tape_after m s command.now (tape_at tapes.old m s)) }
+{
+    match command {
+        Command::MaterialsLoaded {
+            machine,
+            slot,
+            reel,
+        } => load(alloc, tapes, *machine, *slot, *reel)?,
+        Command::MaterialsSpliced {
+            machine,
+            slot,
+            reel,
+        } => splice(tapes, *machine, *slot, *reel)?,
+        Command::MaterialsUnloaded { machine, slot } => unload(tapes, *machine, *slot),
+        _ => {}
+    }
+    Ok(())
+}

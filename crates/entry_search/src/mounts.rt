@@ -1,0 +1,78 @@
+//! Where a reel stands, by the entries, oldest first.
+
+ghost use Rattle.std.specs.Prelude.{◌≡◌, nat_lt, None, if◌then◌else◌, reverse};
+ghost use Rattle.desk_types.specs.Pieces.{left_of, is_mounted};
+ghost use Rattle.desk_types.specs.Judged.{IsJudged};
+ghost use Rattle.desk_laws.specs.Place.{is_at, place_after, place_of};
+ghost use Rattle.entry_search.specs.Kept.{AreTakes};
+
+use crate::pieces::left;
+use desk_types::{Command, Entry, Id, Takes};
+
+/// A place, unless it is this slot.
+fn unless_at(machine: &Id, slot: &Id, place: Option<(Id, Id)>) -> Option<(Id, Id)>
+    ensures { result ≡ (if is_at machine.now slot.now place then None else place) }
+{
+    let (m, s) = place?;
+    if m == *machine && s == *slot {
+        return None;
+    }
+    Some((m, s))
+}
+
+/// The machine and slot of a reel after a command.
+fn place_after(reel: &Id, command: &Command, place: Option<(Id, Id)>) -> Option<(Id, Id)>
+    ensures { result ≡ place_after reel.now command.now place }
+{
+    match command {
+        Command::MaterialsLoaded {
+            machine,
+            slot,
+            reel: r,
+        } => {
+            if *r == *reel {
+                return Some((*machine, *slot));
+            }
+            unless_at(machine, slot, place)
+        }
+        Command::MaterialsSpliced {
+            machine,
+            slot,
+            reel: r,
+        } if *r == *reel => Some((*machine, *slot)),
+        Command::MaterialsUnloaded { machine, slot } => unless_at(machine, slot, place),
+        _ => place,
+    }
+}
+
+/// The machine and slot onto which the reel was last put, if it was not taken off since.
+#[tactic(auto, unfolding(desk_laws::specs::Place::place_of))]
+fn place(entries: &[Entry], reel: &Id) -> Option<(Id, Id)>
+    ensures { result ≡ place_of (reverse entries.now) reel.now }
+{
+    let mut place = None;
+    for entry in entries {
+        place = place_after(reel, &entry.stamped.command, place);
+    }
+    place
+}
+
+/// Whether the reel has pieces left.
+fn has_pieces(entries: &[Entry], takes: &[Takes], reel: &Id) -> bool
+    requires { AreTakes (reverse entries.now) (reverse takes.now) }
+    ensures { result ≡ nat_lt 0 (left_of (reverse entries.now) reel.now) }
+{
+    left(entries, takes, reel) > 0
+}
+
+/// Whether the reel is live on some slot. Takes no memory.
+pub fn is_mounted(entries: &[Entry], takes: &[Takes], reel: &Id) -> bool
+    requires judged { IsJudged (reverse entries.now) }
+    requires takes { AreTakes (reverse entries.now) (reverse takes.now) }
+    ensures { result ≡ is_mounted (reverse entries.now) reel.now }
+{
+    match place(entries, reel) {
+        Some(_) => has_pieces(entries, takes, reel),
+        None => false,
+    }
+}

@@ -1,0 +1,73 @@
+//! What is left of a reel, and where it is mounted, looked up in the entries and their takes, oldest
+//! first.
+
+ghost use Rattle.std.specs.Prelude.{◌≡◌, ◌-◌, ◌^◌, ◌≤◌, min, reverse, IfOk, IfSome};
+ghost use Rattle.std.specs.Option.{option_map};
+ghost use Rattle.std.specs.List.{find, list_any};
+ghost use Rattle.desk_types.specs.declared.count.CountRow.{CountRow};
+ghost use Rattle.desk_types.specs.Id.{same};
+ghost use Rattle.desk_types.specs.Tape.{tape_of};
+ghost use Rattle.desk_types.specs.Pieces.{told_by, left_of, front_of};
+ghost use Rattle.entry_search.specs.Kept.{AreTakes, taken};
+
+use crate::tapes::tape;
+use desk_types::{Command, CountRow, Entry, GREATEST_QUANTITY, Id, Take, Takes};
+use std::alloc::{AllocError, Global};
+
+fn counted(reel: &Id, rows: &[CountRow]) -> Option<u64>
+    ensures value { result ≡ option_map (λ (row : CountRow). row.quantity) (find (λ row. same row.reel reel.now) rows.now) }
+    ensures range { IfSome result (λ pieces. pieces ≤ GREATEST_QUANTITY) }
+{
+    let row = rows.iter().find(|row| row.reel == *reel)?;
+    Some(row.quantity.get())
+}
+
+/// What a receipt or a count says that the reel has.
+fn told_by(reel: &Id, command: &Command) -> Option<u64>
+    ensures value { result ≡ told_by reel.now command.now }
+    ensures range { IfSome result (λ pieces. pieces ≤ GREATEST_QUANTITY) }
+{
+    match command {
+        Command::ReelReceived {
+            reel: r,
+            quantity,
+            ..
+        } if *r == *reel => Some(quantity.get()),
+        Command::CountsTaken { counts } => counted(reel, counts.as_slice()),
+        _ => None,
+    }
+}
+
+/// How many pieces of the reel the takes are, or the greatest `u64` where they are more.
+fn taken(takes: &[Take], reel: &Id) -> u64
+    ensures { result ≡ min (taken takes.now reel.now) (2 ^ 64 - 1) }
+{
+    let mut pieces = 0u64;
+    for take in takes {
+        if take.reel == *reel {
+            pieces = pieces.saturating_add(take.quantity);
+        }
+    }
+    pieces
+}
+
+/// The pieces left on the reel: what was told last, less what later entries took.
+pub fn left(entries: &[Entry], takes: &[Takes], reel: &Id) -> u64
+    requires { AreTakes (reverse entries.now) (reverse takes.now) }
+    ensures { result ≡ left_of (reverse entries.now) reel.now }
+{
+    let mut gone = 0u64;
+    let mut rest = entries;
+    let mut kept = takes;
+    while let Some((entry, before)) = rest.split_last() {
+        if let Some(pieces) = told_by(reel, &entry.stamped.command) {
+            return pieces.saturating_sub(gone);
+        }
+        if let Some((last, earlier)) = kept.split_last() {
+            gone = gone.saturating_add(taken(last.as_slice(), reel));
+            kept = earlier;
+        }
+        rest = before;
+    }
+    0
+}

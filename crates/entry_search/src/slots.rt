@@ -1,0 +1,162 @@
+//! The live reels of a machine's slots, looked up in the entries and their takes, oldest first.
+
+ghost use Rattle.std.specs.Prelude.{◌≡◌, ◌≤◌, ◌++◌, true, is_some, map, reverse, All, IfOk, OnOk};
+ghost use Rattle.std.specs.List.{enumerate_from};
+ghost use Rattle.desk_types.specs.History.{now_of};
+ghost use Rattle.desk_types.specs.Setup.{receipt_of};
+ghost use Rattle.desk_types.specs.Pieces.{live_on};
+ghost use Rattle.desk_types.specs.Judged.{IsJudged};
+ghost use Rattle.desk_types.specs.View.{defines_on, has_sheet, slot_by, loaded_slots, mount_of, mounts_on};
+ghost use Rattle.entry_search.specs.Kept.{AreTakes};
+
+use crate::floor_life::reel_of;
+use crate::pieces::left;
+use crate::sets::insert_if;
+use crate::setup::desk_minute;
+use crate::tapes::tape;
+use crate::views::life_left;
+use desk_types::{Command, Entry, Id, Listing, Minute, Mount, Mounts, Takes};
+use std::alloc::{AllocError, Global};
+use std::collections::BTreeSet;
+
+fn defines_on(machine: &Id, command: &Command) -> bool
+    ensures { result ≡ defines_on machine.now command.now }
+{
+    match command {
+        Command::SheetDefined { machine: at, .. } => *at == *machine,
+        _ => false,
+    }
+}
+
+/// Whether some sheet names the machine.
+fn has_sheet(entries: &[Entry], machine: &Id) -> bool
+    ensures { result ≡ has_sheet (reverse entries.now) machine.now }
+{
+    entries
+        .iter()
+        .rev()
+        .any(|entry| defines_on(machine, &entry.stamped.command))
+}
+
+fn slot_by(machine: &Id, command: &Command) -> Option<Id>
+    ensures { result ≡ slot_by machine.now command.now }
+{
+    match command {
+        Command::MaterialsLoaded {
+            machine: at,
+            slot,
+            ..
+        } if *at == *machine => Some(*slot),
+        _ => None,
+    }
+}
+
+/// The slots of the machine that were loaded, each once and in byte order.
+fn loaded_slots(alloc: Global, entries: &[Entry], machine: &Id) -> Result<Vec<Id>, AllocError>
+    ensures { IfOk result (λ slots. slots.items ≡ loaded_slots (reverse entries.now) machine.now) }
+{
+    let mut slots = BTreeSet::new(alloc);
+    for entry in entries {
+        insert_if(&mut slots, slot_by(machine, &entry.stamped.command))?;
+    }
+    slots.into_iter().collect(alloc)
+}
+
+/// The live reels of a slot.
+#[tactic(auto, unfolding(desk_types::specs::Pieces::live_on))]
+fn live_on(
+    alloc: Global,
+    entries: &[Entry],
+    takes: &[Takes],
+    machine: &Id,
+    slot: &Id,
+) -> Result<Vec<Id>, AllocError>
+    requires { AreTakes (reverse entries.now) (reverse takes.now) }
+    ensures { IfOk result (λ reels. reels.items ≡ live_on (reverse entries.now) machine.now slot.now) }
+{
+    let reels = tape(alloc, entries, machine, slot)?;
+    let mut live = Vec::new(alloc);
+    for reel in &reels {
+        if left(entries, takes, reel) > 0 {
+            live.push(*reel)?;
+        }
+    }
+    Ok(live)
+}
+
+/// A received reel in its position on a slot.
+fn mount(
+    entries: &[Entry],
+    takes: &[Takes],
+    minute: Minute,
+    slot: &Id,
+    position: u64,
+    reel: &Id,
+) -> Mount
+    requires judged { IsJudged (reverse entries.now) }
+    requires takes { AreTakes (reverse entries.now) (reverse takes.now) }
+    requires minute { now_of (reverse entries.now) ≡ minute }
+    requires received { is_some (receipt_of (reverse entries.now) reel.now) ≡ true }
+    ensures { result ≡ mount_of (reverse entries.now) slot.now (position, reel.now) }
+{
+    let Some(found) = reel_of(entries, reel) else {
+        unreachable!()
+    };
+    Mount {
+        slot: *slot,
+        position,
+        reel: *reel,
+        part: found.part,
+        lot: found.lot,
+        remaining: left(entries, takes, reel),
+        left: life_left(&found, minute),
+    }
+}
+
+/// Tells the live reels of a slot, the front first.
+fn put_mounts(
+    mounts: &mut Vec<Mount>,
+    entries: &[Entry],
+    takes: &[Takes],
+    minute: Minute,
+    slot: &Id,
+    reels: &[Id],
+) -> Result<(), AllocError>
+    requires judged { IsJudged (reverse entries.now) }
+    requires takes { AreTakes (reverse entries.now) (reverse takes.now) }
+    requires minute { now_of (reverse entries.now) ≡ minute }
+    requires received { All (λ reel. is_some (receipt_of (reverse entries.now) reel) ≡ true) reels.now }
+    ensures { OnOk result (mounts.new.items ≡ mounts.old.items ++ map (mount_of (reverse entries.now) slot.now) (enumerate_from 1 reels.now)) }
+{
+    for (index, reel) in reels.iter().enumerate() {
+        mounts.push(mount(entries, takes, minute, slot, index as u64 + 1, reel))?;
+    }
+    Ok(())
+}
+
+/// The live reels of the machine's slots, by slot and then by position, or none where no sheet names
+/// the machine.
+pub fn slots_of(
+    alloc: Global,
+    entries: &[Entry],
+    takes: &[Takes],
+    machine: &Id,
+) -> Result<Option<Mounts>, AllocError>
+    requires judged { IsJudged (reverse entries.now) }
+    requires takes { AreTakes (reverse entries.now) (reverse takes.now) }
+    ensures { IfOk result (λ mounts. mounts ≡ mounts_on (reverse entries.now) machine.now) }
+{
+    if !has_sheet(entries, machine) {
+        return Ok(None);
+    }
+    let Some(minute) = desk_minute(entries) else {
+        return Ok(None);
+    };
+    let slots = loaded_slots(alloc, entries, machine)?;
+    let mut mounts = Vec::new(alloc);
+    for slot in &slots {
+        let reels = live_on(alloc, entries, takes, machine, slot)?;
+        put_mounts(&mut mounts, entries, takes, minute, slot, reels.as_slice())?;
+    }
+    Ok(Some(Listing::new(mounts)))
+}

@@ -1,0 +1,53 @@
+//! What became of the pieces of a reel, summed over the takes, oldest first.
+
+ghost use Rattle.std.specs.Prelude.{◌≡◌, ◌-◌, ◌^◌, min, reverse};
+ghost use Rattle.desk_types.specs.History.{History};
+ghost use Rattle.desk_types.specs.Pieces.{is_placed};
+ghost use Rattle.entry_search.specs.Kept.{AreTakes};
+ghost use Rattle.entry_search.specs.Totals.{went, total_of, taken_for};
+
+use desk_types::{Id, Purpose, Take, Takes};
+use reels::Usage;
+
+/// Whether a piece that was taken for this purpose was placed on a board.
+pub fn is_placed(purpose: &Purpose) -> bool
+    ensures { result ≡ is_placed purpose.now }
+{
+    matches!(purpose, Purpose::Placed { .. })
+}
+
+/// Whether pieces that were taken for this purpose went this way.
+fn went(usage: Usage, purpose: &Purpose) -> bool
+    ensures { result ≡ went usage purpose.now }
+{
+    let placed = is_placed(purpose);
+    match usage {
+        Usage::Placed => placed,
+        Usage::Scrapped => !placed,
+    }
+}
+
+/// How many pieces of the reel the takes are that went this way, or the greatest `u64` where they
+/// are more.
+fn taken_for(takes: &[Take], reel: &Id, usage: Usage) -> u64
+    ensures { result ≡ min (taken_for usage takes.now reel.now) (2 ^ 64 - 1) }
+{
+    let mut pieces = 0u64;
+    for take in takes {
+        if take.reel == *reel && went(usage, &take.purpose) {
+            pieces = pieces.saturating_add(take.quantity);
+        }
+    }
+    pieces
+}
+
+/// How many pieces of the reel went this way, or the greatest `u64` where they are more.
+pub fn total(takes: &[Takes], reel: &Id, usage: Usage) -> u64
+    ensures { (H : History) → AreTakes H (reverse takes.now) → result ≡ min (total_of usage H reel.now) (2 ^ 64 - 1) }
+{
+    let mut pieces = 0u64;
+    for last in takes {
+        pieces = pieces.saturating_add(taken_for(last.as_slice(), reel, usage));
+    }
+    pieces
+}

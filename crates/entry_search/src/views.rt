@@ -1,0 +1,58 @@
+//! What a desk tells of reels, looked up in the entries and their takes, oldest first.
+
+ghost use Rattle.std.specs.Prelude.{◌≡◌, ◌≤◌, reverse};
+ghost use Rattle.desk_types.specs.Id.{Name};
+ghost use Rattle.desk_types.specs.History.{History, now_of};
+ghost use Rattle.desk_types.specs.Judged.{IsJudged};
+ghost use Rattle.desk_types.specs.View.{life_left, reel_view};
+ghost use Rattle.reels.specs.Reel.{StandsFor};
+ghost use Rattle.entry_search.specs.Kept.{AreTakes};
+
+use crate::floor_life::reel_of;
+use crate::mounts::is_mounted;
+use crate::pieces::left;
+use crate::setup::desk_minute;
+use crate::totals::total;
+use desk_types::{Entry, Id, Left, Minute, ReelView, Takes};
+use reels::{Reel, Usage};
+
+/// The floor life that is left to a reel at the desk minute.
+pub fn life_left(reel: &Reel, minute: Minute) -> Left
+    requires { reel.now.last ≤ minute }
+    ensures { (H : History) (name : Name) → StandsFor H name reel.now → now_of H ≡ minute → result ≡ life_left H name }
+{
+    if reel.is_unbaked() {
+        return Left::Unbaked;
+    }
+    match reel.minutes_left(minute) {
+        Some(minutes) => Left::Minutes(minutes),
+        None => Left::Unlimited,
+    }
+}
+
+/// The reel at the desk minute, or none where it was not received. Takes no memory.
+pub fn reel_view(entries: &[Entry], takes: &[Takes], name: &Id) -> Option<ReelView>
+    requires judged { IsJudged (reverse entries.now) }
+    requires takes { AreTakes (reverse entries.now) (reverse takes.now) }
+    ensures { result ≡ reel_view (reverse entries.now) name.now }
+{
+    let minute = desk_minute(entries)?;
+    let found = reel_of(entries, name)?;
+    Some(ReelView {
+        reel: *name,
+        part: found.part,
+        lot: found.lot,
+        level: found.level,
+        label: found.label,
+        received: found.received,
+        placed: total(takes, name, Usage::Placed),
+        scrapped: total(takes, name, Usage::Scrapped),
+        remaining: left(entries, takes, name),
+        left: life_left(&found, minute),
+        mounted: is_mounted(entries, takes, name),
+        is_open: found.open_since.is_some(),
+        used: found.used,
+        open_since: found.open_since,
+        baked: found.baked,
+    })
+}
