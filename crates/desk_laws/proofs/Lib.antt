@@ -10,6 +10,7 @@ pub mod Lives
 pub mod Mounted
 pub mod Mounts
 pub mod NameSets
+pub mod Openings
 pub mod Picks
 pub mod Places
 pub mod Placing

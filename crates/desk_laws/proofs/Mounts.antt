@@ -1,18 +1,19 @@
 -- Which reels stand on slots, and which entries put them there.
 use Rattle.std.proofs.lemmas.Bool.{and_parts, or_left, or_right}
-use Rattle.std.proofs.Common.{◌≡◌, Bool, true, false, Some, None, List, [], ◌∷◌, refl, sym, ap, ◌∙◌}
-use Rattle.std.specs.Prelude.{nat_lt, is_none, ◌&&◌, ◌||◌, if◌then◌else◌}
+use Rattle.std.proofs.Common.{◌≡◌, Bool, true, false, Option, Some, None, List, [], ◌∷◌, refl, sym, ap, ◌∙◌}
+use Rattle.std.specs.Prelude.{nat_lt, is_none, is_some, ◌&&◌, ◌||◌, if◌then◌else◌}
 use Rattle.std.specs.List.{list_any, filter}
 use Rattle.std.proofs.lemmas.List.Folds.{list_any-append}
 use Rattle.std.proofs.lemmas.Map.Views.{any-filter_same}
 use Rattle.desk_types.specs.declared.command.Command.{Command}
 use Rattle.desk_types.specs.declared.command.Command.TheVariants.{MaterialsLoaded, MaterialsSpliced, MaterialsUnloaded}
 use Rattle.desk_types.specs.declared.command.Entry.{Entry}
+use Rattle.desk_types.specs.declared.command.Receipt.{Receipt}
 use Rattle.desk_types.specs.Id.{Name, same}
 use Rattle.desk_types.specs.History.{History}
 use Rattle.desk_types.specs.Tape.{spliced, tape_after, tape_of}
 use Rattle.desk_types.specs.Setup.{receipt_of}
-use Rattle.desk_types.specs.Pieces.{left_of, live_on, first, is_live_where_loaded, is_mounted}
+use Rattle.desk_types.specs.Pieces.{left_of, live_on, first, front_of, is_live_where_loaded, is_mounted}
 use Rattle.desk_types.specs.FloorLife.{open_by, IsUntouched}
 use Rattle.desk_types.specs.Judged.{IsJudged}
 use Rattle.desk_laws.specs.Verified.{mounts}
@@ -164,3 +165,24 @@ live-mounted H machine slot reel is =
   where
     on_tape : has (tape_of H machine slot) reel ≡ true
     on_tape = (and_parts (nat_lt 0 (left_of H reel)) _ (sym (has-live_on H machine slot reel) ∙ is)).1
+
+-- ---- front reels
+
+first-there : (reels : List Name) (reel : Name) → first reels ≡ Some reel → has reels reel ≡ true
+first-there [] reel is = cc
+first-there (x ∷ xs) reel is = let same-one = same-refl reel in cc
+
+-- The front reel of a slot is mounted.
+pub front-mounted : (H : History) (machine slot reel : Name) → front_of H machine slot ≡ Some reel → is_mounted H reel ≡ true
+front-mounted H machine slot reel is = live-mounted H machine slot reel (first-there (live_on H machine slot) reel is)
+
+-- The front reel of a slot was received.
+pub front-received : (H : History) (machine slot reel : Name) → IsJudged H → front_of H machine slot ≡ Some reel → is_some (receipt_of H reel) ≡ true
+front-received H machine slot reel judged is = by (receipt_of H reel) refl
+  where
+    on_tape : has (tape_of H machine slot) reel ≡ true
+    on_tape = (and_parts (nat_lt 0 (left_of H reel)) _ (sym (has-live_on H machine slot reel) ∙ first-there (live_on H machine slot) reel is)).1
+
+    by : (said : Option Receipt) → receipt_of H reel ≡ said → is_some (receipt_of H reel) ≡ true
+    by (Some receipt) says = ap is_some says
+    by None says = let nowhere = unreceived-nowhere H machine slot reel judged says in let there = on_tape in cc

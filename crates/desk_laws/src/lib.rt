@@ -18,6 +18,6 @@ pub use runs::run_in_parts;
 pub use slots::{one_place, tapes_keep_their_order};
 pub use time::{
     desk_minute_never_falls, exposure_is_no_longer, exposure_never_falls,
-    mounted_reels_are_not_expired,
+    mounted_reels_are_not_expired, mounted_reels_are_out,
 };
 pub use traces::traces_are_converse;

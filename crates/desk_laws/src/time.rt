@@ -1,11 +1,12 @@
 //! Laws of time. They are for proofs, and do nothing when they run.
 
-ghost use Rattle.std.specs.Prelude.{◌≡◌, ◌≢◌, ℕ, ◌-◌, ◌≤◌, true, false, List, ◌∷◌, ◌++◌, All};
+ghost use Rattle.std.specs.Prelude.{◌≡◌, ◌≢◌, ℕ, ◌+◌, ◌-◌, ◌≤◌, true, false, is_some, List, ◌∷◌, ◌++◌, All};
 ghost use Rattle.desk_types.specs.declared.command.Command.TheVariants.{ReelBaked};
 ghost use Rattle.desk_types.specs.declared.command.Entry.{Entry};
 ghost use Rattle.desk_types.specs.Id.{Name};
 ghost use Rattle.desk_types.specs.History.{History, IsPrefix, now_of};
-ghost use Rattle.desk_types.specs.FloorLife.{exposure_starts, exposure_of, is_expired};
+ghost use Rattle.desk_types.specs.Pieces.{is_mounted};
+ghost use Rattle.desk_types.specs.FloorLife.{exposure_starts, exposure_of, is_expired, out_since};
 ghost use Rattle.desk_types.specs.Judged.{IsJudged};
 ghost use Rattle.desk_laws.specs.Verified.{mounts};
 
@@ -35,4 +36,12 @@ pub fn exposure_is_no_longer()
 pub fn mounted_reels_are_not_expired()
     ensures { (G H : History) (e : Entry) (machine slot reel : Name) → IsPrefix (e ∷ G) H → IsJudged H
         → mounts machine slot reel e.stamped.command ≡ true → is_expired G reel e.effective ≡ false }
+{}
+
+/// A mounted reel lies out of its bag, so from the desk minute on its exposure grows with each minute.
+/// This holds of every judged list.
+pub fn mounted_reels_are_out()
+    ensures out { (H : History) (reel : Name) → IsJudged H → is_mounted H reel ≡ true → is_some (out_since H reel) ≡ true }
+    ensures exposure { (H : History) (reel : Name) (minute : ℕ) → IsJudged H → is_mounted H reel ≡ true → now_of H ≤ minute
+        → exposure_of H reel minute ≡ exposure_of H reel (now_of H) + (minute - now_of H) }
 {}

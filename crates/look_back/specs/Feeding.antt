@@ -1,17 +1,11 @@
--- What is wrong with a reel that is to feed a slot, and the alternates that may feed it.
-use Rattle.std.specs.Prelude.{◌≡◌, ℕ, Option, List}
+-- What is wrong with a reel that is to feed a slot.
+use Rattle.std.specs.Prelude.{ℕ, Option}
 use Rattle.desk_types.specs.declared.answer.Refusal.{Refusal}
 use Rattle.desk_types.specs.declared.sheet.SheetRow.{SheetRow}
 use Rattle.desk_types.specs.Id.{Name}
 use Rattle.desk_types.specs.History.{History}
-use Rattle.desk_types.specs.Setup.{is_alternate}
 use Rattle.desk_types.specs.Refusals.{first_refusal, is_wrong_for, reel_tests}
-use Rattle.setup_sheets.specs.Alternates.{is_pair_among}
 
 -- what is wrong at a minute with a reel that is to be loaded or spliced for a row
 unfoldable pub reel_refusal : History → ℕ → SheetRow → Name → Option Refusal
 reel_refusal H minute row reel = first_refusal (reel_tests H minute reel (is_wrong_for H row reel))
-
--- the alternates are those that the list names
-abbrev pub AreAlternates : History → List (Name × Name) → Type 0
-AreAlternates H alternates = (p q : Name) → is_pair_among alternates p q ≡ is_alternate H p q

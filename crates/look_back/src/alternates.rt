@@ -3,8 +3,7 @@
 ghost use Rattle.std.specs.Prelude.{◌≡◌, ◌||◌, reverse, IfOk, OnOk};
 ghost use Rattle.desk_types.specs.Id.{Name};
 ghost use Rattle.desk_types.specs.Setup.{allows};
-ghost use Rattle.setup_sheets.specs.Alternates.{is_pair_among};
-ghost use Rattle.look_back.specs.Feeding.{AreAlternates};
+ghost use Rattle.setup_sheets.specs.Alternates.{is_pair_among, AreAlternates};
 
 use desk_types::{Command, Entry};
 use setup_sheets::Alternates;

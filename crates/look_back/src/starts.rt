@@ -1,70 +1,43 @@
 //! Why a start of work is refused.
 
-ghost use Rattle.std.specs.Prelude.{◌≡◌, ◌≤◌, reverse, IfOk};
-ghost use Rattle.desk_types.specs.History.{History};
+ghost use Rattle.std.specs.Prelude.{◌≡◌, ◌≤◌, [], reverse, unwrap_or, IfOk};
 ghost use Rattle.desk_types.specs.Judged.{IsJudged};
-ghost use Rattle.desk_types.specs.Refusals.{front_refusal, slots_refusal, start_refusal, differ};
-ghost use Rattle.desk_types.specs.Setup.{selected_on};
+ghost use Rattle.desk_types.specs.Refusals.{slots_refusal, start_refusal, differ};
+ghost use Rattle.desk_types.specs.Setup.{selected_on, sheet_on};
 ghost use Rattle.desk_types.specs.Work.{product_of};
 ghost use Rattle.entry_search.specs.Kept.{AreTakes};
-ghost use Rattle.entry_search.specs.Floor.{IsFloor, AreReelsBy};
-ghost use Rattle.look_back.specs.Feeding.{AreAlternates};
 ghost use Rattle.desk_types.specs.History.{now_of};
 
 use crate::alternates::alternates_of;
-use desk_types::{Entry, Id, Minute, Refusal, SheetRow, Takes};
-use entry_search::floor::{Floor, floor_of, front, reel_on};
+use desk_types::{Entry, Id, Minute, Refusal, Takes};
+use entry_search::fronts::fronts;
 use entry_search::setup::{selected_on, sheet_on};
 use entry_search::work::{in_work_on, is_in_work, product_of};
-use setup_sheets::{Alternates, allowed};
+use setup_sheets::verify;
 use std::alloc::{AllocError, Global};
 
-/// What is wrong with the front of a row's slot.
-fn front_refusal(
-    floor: &Floor,
-    alternates: &Alternates,
-    minute: Minute,
-    row: &SheetRow,
-    front: Option<Id>,
-) -> Option<Refusal>
-    requires { AreReelsBy floor.now.reels minute }
-    ensures { (H : History) → IsFloor H floor.now → AreAlternates H alternates.now → result ≡ front_refusal H minute row.now front }
-{
-    let Some(name) = front else {
-        return Some(Refusal::SlotEmpty(row.slot));
-    };
-    let found = reel_on(floor, &name)?;
-    if !allowed(alternates, &row.part, &found.part) {
-        return Some(Refusal::WrongPart(row.slot));
-    }
-    if found.is_unbaked() {
-        return Some(Refusal::NotBaked(row.slot));
-    }
-    if found.is_expired(minute) {
-        return Some(Refusal::Expired(row.slot));
-    }
-    None
-}
-
-/// What is wrong with the first faulty slot of a sheet.
+/// What is wrong with the first faulty slot of the selected product's sheet.
 fn slots_refusal(
-    floor: &Floor,
-    alternates: &Alternates,
+    alloc: Global,
+    entries: &[Entry],
+    takes: &[Takes],
     minute: Minute,
     machine: &Id,
-    rows: &[SheetRow],
-) -> Option<Refusal>
-    requires { AreReelsBy floor.now.reels minute }
-    ensures { (H : History) → IsFloor H floor.now → AreAlternates H alternates.now → result ≡ slots_refusal H minute machine.now rows.now }
+) -> Result<Option<Refusal>, AllocError>
+    requires judged { IsJudged (reverse entries.now) }
+    requires takes { AreTakes (reverse entries.now) (reverse takes.now) }
+    requires minute { now_of (reverse entries.now) ≤ minute }
+    ensures { IfOk result (λ refusal. refusal ≡ slots_refusal (reverse entries.now) minute machine.now (unwrap_or (sheet_on (reverse entries.now) machine.now) [])) }
 {
-    for row in rows {
-        let reel = front(floor, machine, &row.slot);
-        let refusal = front_refusal(floor, alternates, minute, row, reel);
-        if refusal.is_some() {
-            return refusal;
-        }
+    let Some(rows) = sheet_on(entries, machine) else {
+        return Ok(None);
+    };
+    let fronts = fronts(alloc, entries, takes, machine)?;
+    let alternates = alternates_of(alloc, entries)?;
+    match verify(rows, &fronts, &alternates, minute) {
+        Ok(()) => Ok(None),
+        Err((_, refusal)) => Ok(Some(refusal)),
     }
-    None
 }
 
 /// Whether the board is of another product than that which is selected on the machine.
@@ -104,10 +77,5 @@ pub fn start_refusal(
     if is_other_product(entries, machine, board) {
         return Ok(Some(Refusal::OtherProduct(*board)));
     }
-    let Some(rows) = sheet_on(entries, machine) else {
-        return Ok(None);
-    };
-    let floor = floor_of(alloc, entries, takes)?;
-    let alternates = alternates_of(alloc, entries)?;
-    Ok(slots_refusal(&floor, &alternates, minute, machine, rows.as_slice()))
+    Ok(slots_refusal(alloc, entries, takes, minute, machine)?)
 }

@@ -1,8 +1,10 @@
 -- The alternates of parts.
-use Rattle.std.specs.Prelude.{Bool, ◌||◌, List}
+use Rattle.std.specs.Prelude.{◌≡◌, Bool, ◌||◌, List}
 use Rattle.std.specs.List.{list_any}
 use Rattle.desk_types.specs.Id.{Name, same}
 use Rattle.desk_types.specs.Pair.{same_pair}
+use Rattle.desk_types.specs.History.{History}
+use Rattle.desk_types.specs.Setup.{is_alternate}
 
 -- whether the pairs of a part and its alternate have q for p, in that direction
 abbrev pub is_pair_among : List (Name × Name) → Name → Name → Bool
@@ -11,3 +13,7 @@ is_pair_among alternates p q = list_any (same_pair (p, q)) alternates
 -- whether part q may stand where a sheet says p: it is p, or the pairs have it as an alternate of p
 abbrev pub is_allowed_by : List (Name × Name) → Name → Name → Bool
 is_allowed_by alternates p q = same q p || is_pair_among alternates p q
+
+-- the pairs are those that the list names
+abbrev pub AreAlternates : History → List (Name × Name) → Type 0
+AreAlternates H alternates = (p q : Name) → is_pair_among alternates p q ≡ is_alternate H p q

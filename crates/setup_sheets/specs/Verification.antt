@@ -1,12 +1,14 @@
 -- Feeder verification over the fronts of a machine's slots.
-use Rattle.std.specs.Prelude.{ℕ, not, Option, Some, None, List, [], ◌∷◌, map}
+use Rattle.std.specs.Prelude.{◌≡◌, ℕ, not, Option, Some, None, List, [], ◌∷◌, map}
+use Rattle.std.specs.Option.{option_map, option_or}
 use Rattle.desk_types.specs.declared.answer.Refusal.{Refusal}
 use Rattle.desk_types.specs.declared.answer.Refusal.TheVariants.{SlotEmpty}
 use Rattle.desk_types.specs.declared.front.Front.{Front}
 use Rattle.desk_types.specs.declared.front.FrontReel.{FrontReel}
 use Rattle.desk_types.specs.declared.sheet.SheetRow.{SheetRow}
 use Rattle.desk_types.specs.Id.{Name}
-use Rattle.desk_types.specs.Front.{is_unbaked_life, is_expired_life}
+use Rattle.desk_types.specs.History.{History, now_of}
+use Rattle.desk_types.specs.Front.{is_unbaked_life, is_expired_life, front_at}
 use Rattle.desk_types.specs.Refusals.{feeding_refusal}
 use Rattle.setup_sheets.specs.Alternates.{is_allowed_by}
 
@@ -24,8 +26,9 @@ front_fault alternates minute row (Some reel) =
 abbrev pub first_fault : List (Name × Name) → ℕ → List SheetRow → List Front → Option (Name × Refusal)
 first_fault alternates minute [] fronts = None
 first_fault alternates minute (row ∷ rows) [] = None
-first_fault alternates minute (row ∷ rows) (front ∷ fronts) = here (front_fault alternates minute row front.reel) (first_fault alternates minute rows fronts)
-  where
-    here : Option Refusal → Option (Name × Refusal) → Option (Name × Refusal)
-    here None later = later
-    here (Some refusal) later = Some (row.slot, refusal)
+first_fault alternates minute (row ∷ rows) (front ∷ fronts) =
+    option_or (option_map (λ refusal. (row.slot, refusal)) (front_fault alternates minute row front.reel)) (first_fault alternates minute rows fronts)
+
+-- the fronts are those of the rows' slots on the machine at the desk minute
+abbrev pub AreFronts : History → Name → List SheetRow → List Front → Type 0
+AreFronts H machine rows fronts = fronts ≡ map (front_at H (now_of H) machine) rows

@@ -1,15 +1,21 @@
 //! Feeder verification: does each slot of a sheet hold a reel that may feed it?
 
-ghost use Rattle.std.specs.Prelude.{◌≡◌, None, Some, OnOk, IfErr};
-ghost use Rattle.setup_sheets.specs.Verification.{first_fault, front_fault, slots_of_fronts};
-ghost use Rattle.desk_types.specs.Refusals.{slots_of_rows};
+ghost use Rattle.std.specs.Prelude.{◌≡◌, ◌≤◌, None, Some, OnOk, IfErr};
+ghost use Rattle.desk_types.specs.Id.{Name};
+ghost use Rattle.desk_types.specs.History.{History, now_of};
+ghost use Rattle.desk_types.specs.Judged.{IsJudged};
+ghost use Rattle.desk_types.specs.Refusals.{slots_of_rows, slots_refusal};
+ghost use Rattle.setup_sheets.specs.Alternates.{AreAlternates};
+ghost use Rattle.setup_sheets.specs.Verification.{first_fault, front_fault, slots_of_fronts, AreFronts};
 
 use crate::alternates::{Alternates, allowed};
 use desk_types::{Front, FrontReel, Fronts, Id, Life, Minute, Refusal, SheetRow, SheetRows};
 
 /// Looks at the fronts of a machine's slots before a board is started. The first slot of the sheet
 /// that holds no reel, or one that may not feed it at this minute, is named with the reason:
-/// SlotEmpty, WrongPart, NotBaked or Expired, tested in this order. Takes no memory.
+/// SlotEmpty, WrongPart, NotBaked or Expired, tested in this order. Over the fronts of a desk, at a
+/// minute not before the desk minute, that is the reason for which a start of work is refused. Takes
+/// no memory.
 pub fn verify(
     rows: &SheetRows,
     fronts: &Fronts,
@@ -19,6 +25,10 @@ pub fn verify(
     requires { slots_of_fronts fronts.now ≡ slots_of_rows rows.now }
     ensures ok { OnOk result (first_fault alternates.now at rows.now fronts.now ≡ None) }
     ensures fault { IfErr result (λ fault. first_fault alternates.now at rows.now fronts.now ≡ Some fault) }
+    ensures may_start { (H : History) (machine : Name) → IsJudged H → now_of H ≤ at → AreAlternates H alternates.now → AreFronts H machine rows.now fronts.now
+        → OnOk result (slots_refusal H at machine rows.now ≡ None) }
+    ensures may_not_start { (H : History) (machine : Name) → IsJudged H → now_of H ≤ at → AreAlternates H alternates.now → AreFronts H machine rows.now fronts.now
+        → IfErr result (λ fault. slots_refusal H at machine rows.now ≡ Some fault.1) }
 {
     match first_faulty(rows.as_slice(), fronts.as_slice(), alternates, at) {
         Some(fault) => Err(fault),

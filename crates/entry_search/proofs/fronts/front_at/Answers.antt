@@ -1,7 +1,7 @@
 use Rattle.std.proofs.Common.{sym, ap, ◌∙◌}
 use Rattle.std.specs.Option.{option_map}
 use Rattle.desk_types.specs.Front.{front_reel}
-use Rattle.entry_search.proofs.Fronting.{front-received}
+use Rattle.desk_laws.proofs.Mounts.{front-received}
 use Rattle.entry_search.proofs.fronts.front_at.Goals as goal
 
 pub returns : goal.returns

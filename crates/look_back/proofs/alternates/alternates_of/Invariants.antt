@@ -1,5 +1,5 @@
 use Rattle.std.proofs.Common.{reverse, take}
-use Rattle.look_back.specs.Feeding.{AreAlternates}
+use Rattle.setup_sheets.specs.Alternates.{AreAlternates}
 use Rattle.look_back.proofs.alternates.alternates_of.Given as goal
 
 abbrev pub invariant-loop-entry : goal.invariant-loop-entry
