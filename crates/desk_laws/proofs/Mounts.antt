@@ -166,6 +166,17 @@ live-mounted H machine slot reel is =
     on_tape : has (tape_of H machine slot) reel ≡ true
     on_tape = (and_parts (nat_lt 0 (left_of H reel)) _ (sym (has-live_on H machine slot reel) ∙ is)).1
 
+-- A live reel was received.
+pub live-received : (H : History) (machine slot reel : Name) → IsJudged H → has (live_on H machine slot) reel ≡ true → is_some (receipt_of H reel) ≡ true
+live-received H machine slot reel judged is = by (receipt_of H reel) refl
+  where
+    on_tape : has (tape_of H machine slot) reel ≡ true
+    on_tape = (and_parts (nat_lt 0 (left_of H reel)) _ (sym (has-live_on H machine slot reel) ∙ is)).1
+
+    by : (said : Option Receipt) → receipt_of H reel ≡ said → is_some (receipt_of H reel) ≡ true
+    by (Some receipt) says = ap is_some says
+    by None says = let nowhere = unreceived-nowhere H machine slot reel judged says in let there = on_tape in cc
+
 -- ---- front reels
 
 first-there : (reels : List Name) (reel : Name) → first reels ≡ Some reel → has reels reel ≡ true
@@ -178,11 +189,4 @@ front-mounted H machine slot reel is = live-mounted H machine slot reel (first-t
 
 -- The front reel of a slot was received.
 pub front-received : (H : History) (machine slot reel : Name) → IsJudged H → front_of H machine slot ≡ Some reel → is_some (receipt_of H reel) ≡ true
-front-received H machine slot reel judged is = by (receipt_of H reel) refl
-  where
-    on_tape : has (tape_of H machine slot) reel ≡ true
-    on_tape = (and_parts (nat_lt 0 (left_of H reel)) _ (sym (has-live_on H machine slot reel) ∙ first-there (live_on H machine slot) reel is)).1
-
-    by : (said : Option Receipt) → receipt_of H reel ≡ said → is_some (receipt_of H reel) ≡ true
-    by (Some receipt) says = ap is_some says
-    by None says = let nowhere = unreceived-nowhere H machine slot reel judged says in let there = on_tape in cc
+front-received H machine slot reel judged is = live-received H machine slot reel judged (first-there (live_on H machine slot) reel is)

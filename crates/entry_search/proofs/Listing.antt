@@ -1,37 +1,19 @@
 -- The live reels of slots, listed.
-use Rattle.std.proofs.Common.{◌≡◌, ℕ, ◌+◌, ◌<◌, Bool, true, false, Option, Some, None, List, [], ◌∷◌, ◌++◌, length, take, get_or, map, All, refl, sym, ap, ◌∙◌, arith, is_some, append_assoc}
-use Rattle.std.specs.Prelude.{◌&&◌, nat_lt}
+use Rattle.std.proofs.Common.{◌≡◌, ℕ, ◌+◌, ◌<◌, true, None, List, [], ◌∷◌, ◌++◌, length, take, get_or, map, All, refl, sym, ap, ◌∙◌, arith, is_some, append_assoc}
 use Rattle.std.specs.Cmp.Lexicographic.{nat_list_eq_equiv}
 use Rattle.std.specs.List.{enumerate_from}
 use Rattle.std.proofs.lemmas.List.{length-take-le, map-append}
 use Rattle.std.proofs.lemmas.Map.Views.{All-from_any}
-use Rattle.desk_types.specs.declared.command.Receipt.{Receipt}
 use Rattle.desk_types.specs.Id.{Name}
 use Rattle.desk_types.specs.History.{History, desk_minute}
 use Rattle.desk_types.specs.Setup.{receipt_of}
-use Rattle.desk_types.specs.Tape.{tape_of}
-use Rattle.desk_types.specs.Pieces.{left_of, live_on}
+use Rattle.desk_types.specs.Pieces.{live_on}
 use Rattle.desk_types.specs.Judged.{IsJudged}
 use Rattle.desk_types.specs.View.{mounts_on}
 use Rattle.desk_types.proofs.Steps.{take-next}
-use Rattle.desk_laws.proofs.Mounts.{has, has-live_on, unreceived-nowhere}
+use Rattle.desk_laws.proofs.Mounts.{live-received}
 
 -- ---- received reels
-
-second-true : (a b : Bool) → (a && b) ≡ true → b ≡ true
-second-true true b is = is
-second-true false b is = cc
-
--- a live reel was received
-live-received : (H : History) (machine slot reel : Name) → IsJudged H → has (live_on H machine slot) reel ≡ true → is_some (receipt_of H reel) ≡ true
-live-received H machine slot reel judged is = by (receipt_of H reel) refl
-  where
-    on_tape : has (tape_of H machine slot) reel ≡ true
-    on_tape = second-true (nat_lt 0 (left_of H reel)) (has (tape_of H machine slot) reel) (sym (has-live_on H machine slot reel) ∙ is)
-
-    by : (said : Option Receipt) → receipt_of H reel ≡ said → is_some (receipt_of H reel) ≡ true
-    by (Some receipt) says = ap is_some says
-    by None says = let nowhere = unreceived-nowhere H machine slot reel judged says in let there = on_tape in cc
 
 -- Each live reel of a slot was received.
 pub all-received : (H : History) (machine slot : Name) → IsJudged H → All (λ reel. is_some (receipt_of H reel) ≡ true) (live_on H machine slot)

@@ -5,7 +5,7 @@ mod views;
 use crate::plain::PlainDesk;
 use desk_types::{
     Bounded, Command, CountRow, CountedQuantity, Designator, Designators, Desk, Id, JudgeFault,
-    Level, Minute, Moisture, Quantity, SheetRow, Stamped, run,
+    Level, Minute, Moisture, Quantity, SheetRow, SheetRows, Stamped, run,
 };
 use std::alloc::{AllocError, Global};
 use std::process::Abort;
@@ -28,24 +28,27 @@ fn designators(alloc: Global, text: &str) -> Result<Designators, Fail> {
     Ok(Bounded::new(designators).ok_or("no designators")?)
 }
 
-/// A sheet of one slot, which feeds five designators.
-fn sheet(
-    alloc: Global,
-    product: &str,
-    machine: &str,
-    slot: &str,
-    part: &str,
-) -> Result<Command, Fail> {
-    let row = SheetRow {
+fn row(alloc: Global, slot: &str, part: &str, names: &str) -> Result<SheetRow, Fail> {
+    Ok(SheetRow {
         slot: id(slot)?,
         part: id(part)?,
-        designators: designators(alloc, "R1,R2,R3,R4,R5")?,
-    };
-    Ok(Command::SheetDefined {
-        product: id(product)?,
-        machine: id(machine)?,
-        rows: Bounded::new(vec![in alloc; row]?).ok_or("no rows")?,
+        designators: designators(alloc, names)?,
     })
+}
+
+/// The rows of a sheet of one slot, which feeds five designators, or of two.
+fn sheet_rows(alloc: Global, words: &[&str]) -> Result<SheetRows, Fail> {
+    let rows = match *words {
+        [slot, part] => vec![in alloc; row(alloc, slot, part, "R1,R2,R3,R4,R5")?]?,
+        [slot, part, names, other, of, more] => {
+            vec![in alloc;
+                row(alloc, slot, part, names)?,
+                row(alloc, other, of, more)?,
+            ]?
+        }
+        _ => Err("no rows")?,
+    };
+    Ok(Bounded::new(rows).ok_or("no rows")?)
 }
 
 /// The receipt of a reel of lot L1. The label's minutes are those of level six.
@@ -114,7 +117,11 @@ fn command(alloc: Global, line: &str) -> Result<Command, Fail> {
             part: id(part)?,
             alternate: id(alternate)?,
         }),
-        ["sheet", product, machine, slot, part] => sheet(alloc, product, machine, slot, part),
+        ["sheet", product, machine, ..] => Ok(Command::SheetDefined {
+            product: id(product)?,
+            machine: id(machine)?,
+            rows: sheet_rows(alloc, &words.as_slice()[3..])?,
+        }),
         ["select", machine, product] => Ok(Command::ProductSelected {
             machine: id(machine)?,
             product: id(product)?,
@@ -154,227 +161,210 @@ fn stamped(alloc: Global, desk: &PlainDesk, minutes: u64, line: &str) -> Result<
     })
 }
 
-/// Says the lines one after the other, each at its own minute, and looks at each answer.
-fn say(
-    rt: &impl Abort,
-    alloc: Global,
-    desk: &mut PlainDesk,
-    lines: &[(u64, &str, &str)],
-) -> Result<(), Fail> {
-    for (minutes, line, wanted) in lines {
-        assert!(rt; desk.entries().len() < 1000);
-        let messages = [stamped(alloc, desk, *minutes, line)?];
-        let replies = run(alloc, desk, &messages)?;
-        let [reply] = replies.as_slice() else {
-            return Err("not one reply")?;
-        };
-        let shown = format!(in alloc; "{reply:?}")?;
-        assert_eq!(rt; shown.as_str(), *wanted, "{line} at {minutes}");
+/// Says one line, its own minute first, and looks at the answer, which stands behind the colon.
+fn say_line(rt: &impl Abort, alloc: Global, desk: &mut PlainDesk, line: &str) -> Result<(), Fail> {
+    assert!(rt; desk.entries().len() < 1000);
+    let (minutes, said) = line.split_once(' ').ok_or("no minute")?;
+    let (words, wanted) = said.split_once(": ").ok_or("no answer")?;
+    let messages = [stamped(alloc, desk, number(minutes)?, words)?];
+    let replies = run(alloc, desk, &messages)?;
+    let [reply] = replies.as_slice() else {
+        return Err("not one reply")?;
+    };
+    let shown = format!(in alloc; "{reply:?}")?;
+    assert_eq!(rt; shown.as_str(), wanted, "{line}");
+    Ok(())
+}
+
+/// Says the lines of a run one after the other, and looks at each answer.
+fn say(rt: &impl Abort, alloc: Global, desk: &mut PlainDesk, told: &str) -> Result<(), Fail> {
+    for line in told.split('\n') {
+        let line = line.trim();
+        if !line.is_empty() {
+            say_line(rt, alloc, desk, line)?;
+        }
     }
     Ok(())
 }
 
-const PLAIN: &str = "Accepted(Plain)";
-
-const NO_LIMIT: &str = "Accepted(MinutesLeft(None))";
-
 /// A desk with parts P and Q, and a machine M whose slot 1 feeds P.
 fn set_up(rt: &impl Abort, alloc: Global) -> Result<PlainDesk, Fail> {
     let mut desk = PlainDesk::new(alloc);
-    let lines = [
-        (0, "part P", PLAIN),
-        (0, "part Q", PLAIN),
-        (0, "sheet PR M 1 P", PLAIN),
-        (0, "select M PR", PLAIN),
-    ];
-    say(rt, alloc, &mut desk, &lines)?;
+    let told = "
+        0 part P: Accepted(Plain)
+        0 part Q: Accepted(Plain)
+        0 sheet PR M 1 P: Accepted(Plain)
+        0 select M PR: Accepted(Plain)";
+    say(rt, alloc, &mut desk, told)?;
     Ok(desk)
 }
 
 #[test]
 fn what_does_not_fit_is_refused_by_name(rt: HostRuntime) -> Result<(), Fail> {
     let mut desk = set_up(&rt, rt.alloc())?;
-    let lines = [
-        (0, "part P", "Refused(PartExists(P))"),
-        (0, "alternate P Z", "Refused(UnknownPart(Z))"),
-        (0, "sheet PR M 1 Z", "Refused(UnknownPart(Z))"),
-        (0, "select M PX", "Refused(UnknownSheet(PX))"),
-        (0, "receive K1 Z 1", "Refused(UnknownPart(Z))"),
-        (0, "receive K1 P 1", PLAIN),
-        (0, "receive K1 Q 1", "Refused(ReelExists(K1))"),
-        (0, "receive K2 P 1", PLAIN),
-        (0, "load N 1 K1", "Refused(NoProduct(N))"),
-        (0, "load M 2 K1", "Refused(SlotNotOnSheet(2))"),
-        (0, "load M 1 K9", "Refused(UnknownReel(K9))"),
-        (0, "start M B1", "Refused(SlotEmpty(1))"),
-        (0, "load M 1 K1", NO_LIMIT),
-        (0, "load M 1 K2", "Refused(SlotTaken(1))"),
-        (0, "open K9", "Refused(UnknownReel(K9))"),
-        (0, "seal K1", "Refused(ReelMounted(K1))"),
-        (0, "sheet PS N 1 P", PLAIN),
-        (0, "select N PS", PLAIN),
-        (0, "load N 1 K1", "Refused(ReelMounted(K1))"),
-    ];
-    say(&rt, rt.alloc(), &mut desk, &lines)
+    let told = "
+        0 part P: Refused(PartExists(P))
+        0 alternate P Z: Refused(UnknownPart(Z))
+        0 sheet PR M 1 Z: Refused(UnknownPart(Z))
+        0 select M PX: Refused(UnknownSheet(PX))
+        0 receive K1 Z 1: Refused(UnknownPart(Z))
+        0 receive K1 P 1: Accepted(Plain)
+        0 receive K1 Q 1: Refused(ReelExists(K1))
+        0 receive K2 P 1: Accepted(Plain)
+        0 load N 1 K1: Refused(NoProduct(N))
+        0 load M 2 K1: Refused(SlotNotOnSheet(2))
+        0 load M 1 K9: Refused(UnknownReel(K9))
+        0 start M B1: Refused(SlotEmpty(1))
+        0 load M 1 K1: Accepted(MinutesLeft(None))
+        0 load M 1 K2: Refused(SlotTaken(1))
+        0 open K9: Refused(UnknownReel(K9))
+        0 seal K1: Refused(ReelMounted(K1))
+        0 sheet PS N 1 P: Accepted(Plain)
+        0 select N PS: Accepted(Plain)
+        0 load N 1 K1: Refused(ReelMounted(K1))";
+    say(&rt, rt.alloc(), &mut desk, told)
 }
 
 #[test]
 fn an_alternate_is_allowed_in_one_direction(rt: HostRuntime) -> Result<(), Fail> {
     let mut desk = set_up(&rt, rt.alloc())?;
-    let lines = [
-        (0, "receive K1 Q 1", PLAIN),
-        (0, "load M 1 K1", "Refused(WrongPart(K1))"),
-        (0, "alternate P Q", PLAIN),
-        (0, "load M 1 K1", NO_LIMIT),
-        (0, "sheet PS N 1 Q", PLAIN),
-        (0, "select N PS", PLAIN),
-        (0, "receive K2 P 1", PLAIN),
-        (0, "load N 1 K2", "Refused(WrongPart(K2))"),
-    ];
-    say(&rt, rt.alloc(), &mut desk, &lines)
+    let told = "
+        0 receive K1 Q 1: Accepted(Plain)
+        0 load M 1 K1: Refused(WrongPart(K1))
+        0 alternate P Q: Accepted(Plain)
+        0 load M 1 K1: Accepted(MinutesLeft(None))
+        0 sheet PS N 1 Q: Accepted(Plain)
+        0 select N PS: Accepted(Plain)
+        0 receive K2 P 1: Accepted(Plain)
+        0 load N 1 K2: Refused(WrongPart(K2))";
+    say(&rt, rt.alloc(), &mut desk, told)
 }
 
 #[test]
 fn a_board_is_in_work_on_one_machine(rt: HostRuntime) -> Result<(), Fail> {
     let mut desk = set_up(&rt, rt.alloc())?;
-    let lines = [
-        (0, "receive K1 P 1", PLAIN),
-        (0, "load M 1 K1", NO_LIMIT),
-        (0, "start M B1", PLAIN),
-        (0, "sheet PR M 1 P", "Refused(MachineBusy(M))"),
-        (0, "select M PR", "Refused(MachineBusy(M))"),
-        (0, "start M B2", "Refused(MachineBusy(M))"),
-        (0, "sheet PR N 1 P", PLAIN),
-        (0, "select N PR", PLAIN),
-        (0, "start N B1", "Refused(BoardBusy(B1))"),
-        (0, "complete N B1", "Refused(NotInWork(B1))"),
-        (0, "complete M B1", PLAIN),
-        (0, "complete M B1", "Refused(NotInWork(B1))"),
-        (0, "sheet PS M 1 P", PLAIN),
-        (0, "select M PS", PLAIN),
-        (0, "start M B1", "Refused(OtherProduct(B1))"),
-        (0, "sheet PS M 1 Q", PLAIN),
-        (0, "start M B2", "Refused(WrongPart(1))"),
-    ];
-    say(&rt, rt.alloc(), &mut desk, &lines)
+    let told = "
+        0 receive K1 P 1: Accepted(Plain)
+        0 load M 1 K1: Accepted(MinutesLeft(None))
+        0 start M B1: Accepted(Plain)
+        0 sheet PR M 1 P: Refused(MachineBusy(M))
+        0 select M PR: Refused(MachineBusy(M))
+        0 start M B2: Refused(MachineBusy(M))
+        0 sheet PR N 1 P: Accepted(Plain)
+        0 select N PR: Accepted(Plain)
+        0 start N B1: Refused(BoardBusy(B1))
+        0 complete N B1: Refused(NotInWork(B1))
+        0 complete M B1: Accepted(Plain)
+        0 complete M B1: Refused(NotInWork(B1))
+        0 sheet PS M 1 P: Accepted(Plain)
+        0 select M PS: Accepted(Plain)
+        0 start M B1: Refused(OtherProduct(B1))
+        0 sheet PS M 1 Q: Accepted(Plain)
+        0 start M B2: Refused(WrongPart(1))";
+    say(&rt, rt.alloc(), &mut desk, told)
 }
 
 #[test]
 fn a_reel_expires_at_its_minute(rt: HostRuntime) -> Result<(), Fail> {
     let mut desk = set_up(&rt, rt.alloc())?;
-    let lines = [
-        (0, "receive K1 P 3", PLAIN),
-        (0, "receive K2 P 3", PLAIN),
-        (0, "open K1", PLAIN),
-        (0, "open K2", PLAIN),
-        (10_079, "load M 1 K1", "Accepted(MinutesLeft(Some(1)))"),
-        (10_079, "start M B1", PLAIN),
-        (10_079, "complete M B1", PLAIN),
-        (10_080, "start M B2", "Refused(Expired(1))"),
-        (10_080, "sheet PS N 1 P", PLAIN),
-        (10_080, "select N PS", PLAIN),
-        (10_080, "load N 1 K2", "Refused(Expired(K2))"),
-    ];
-    say(&rt, rt.alloc(), &mut desk, &lines)
+    let told = "
+        0 receive K1 P 3: Accepted(Plain)
+        0 receive K2 P 3: Accepted(Plain)
+        0 open K1: Accepted(Plain)
+        0 open K2: Accepted(Plain)
+        10079 load M 1 K1: Accepted(MinutesLeft(Some(1)))
+        10079 start M B1: Accepted(Plain)
+        10079 complete M B1: Accepted(Plain)
+        10080 start M B2: Refused(Expired(1))
+        10080 sheet PS N 1 P: Accepted(Plain)
+        10080 select N PS: Accepted(Plain)
+        10080 load N 1 K2: Refused(Expired(K2))";
+    say(&rt, rt.alloc(), &mut desk, told)
 }
 
 #[test]
 fn a_bake_and_a_bag_save_floor_life(rt: HostRuntime) -> Result<(), Fail> {
     let mut baked = set_up(&rt, rt.alloc())?;
-    let lines = [
-        (0, "receive K1 P 5a", PLAIN),
-        (0, "open K1", PLAIN),
-        (1440, "load M 1 K1", "Refused(Expired(K1))"),
-        (1441, "bake K1", PLAIN),
-        (1440, "load M 1 K1", "Accepted(MinutesLeft(Some(1440)))"),
-    ];
-    say(&rt, rt.alloc(), &mut baked, &lines)?;
+    let told = "
+        0 receive K1 P 5a: Accepted(Plain)
+        0 open K1: Accepted(Plain)
+        1440 load M 1 K1: Refused(Expired(K1))
+        1441 bake K1: Accepted(Plain)
+        1440 load M 1 K1: Accepted(MinutesLeft(Some(1440)))";
+    say(&rt, rt.alloc(), &mut baked, told)?;
     let mut six = set_up(&rt, rt.alloc())?;
-    let lines = [
-        (0, "receive K1 P 6", PLAIN),
-        (0, "load M 1 K1", "Refused(NotBaked(K1))"),
-        (10, "bake K1", PLAIN),
-        (10, "open K1", PLAIN),
-        (69, "load M 1 K1", "Accepted(MinutesLeft(Some(1)))"),
-    ];
-    say(&rt, rt.alloc(), &mut six, &lines)?;
+    let told = "
+        0 receive K1 P 6: Accepted(Plain)
+        0 load M 1 K1: Refused(NotBaked(K1))
+        10 bake K1: Accepted(Plain)
+        10 open K1: Accepted(Plain)
+        69 load M 1 K1: Accepted(MinutesLeft(Some(1)))";
+    say(&rt, rt.alloc(), &mut six, told)?;
     let mut sealed = set_up(&rt, rt.alloc())?;
-    let lines = [
-        (0, "receive K1 P 5a", PLAIN),
-        (50, "open K1", PLAIN),
-        (150, "seal K1", PLAIN),
-        (1000, "load M 1 K1", "Accepted(MinutesLeft(Some(1340)))"),
-    ];
-    say(&rt, rt.alloc(), &mut sealed, &lines)
+    let told = "
+        0 receive K1 P 5a: Accepted(Plain)
+        50 open K1: Accepted(Plain)
+        150 seal K1: Accepted(Plain)
+        1000 load M 1 K1: Accepted(MinutesLeft(Some(1340)))";
+    say(&rt, rt.alloc(), &mut sealed, told)
 }
 
 #[test]
 fn pieces_come_off_one_reel_and_then_the_next(rt: HostRuntime) -> Result<(), Fail> {
     let mut desk = set_up(&rt, rt.alloc())?;
-    let lines = [
-        (0, "receive K1 P 1 2", PLAIN),
-        (0, "receive K2 P 1 50", PLAIN),
-        (0, "splice M 1 K2", "Refused(SlotEmpty(1))"),
-        (0, "unload M 1", "Refused(SlotEmpty(1))"),
-        (0, "load M 1 K1", NO_LIMIT),
-        (0, "splice M 1 K2", NO_LIMIT),
-        (0, "start M B1", PLAIN),
-        (
-            0,
-            "install M B1 R1,R2,R3,R4,R5",
-            "Accepted(Reels(Listing { items: [K1, K1, K2, K2, K2] }))",
-        ),
-        (0, "count K1 1", "Refused(CountAbove(K1))"),
-        (0, "count K1 0", "Accepted(Taken(0))"),
-        (0, "count K2 40", "Refused(ReelMounted(K2))"),
-        (0, "scrap M 1 48", "Refused(ReelShort(1))"),
-        (0, "scrap M 1 47", "Accepted(Taken(47))"),
-        (0, "unload M 1", "Refused(SlotEmpty(1))"),
-        (0, "install M B1 R1", "Refused(AlreadyPlaced(R1))"),
-        (0, "complete M B1", PLAIN),
-        (0, "receive K3 P 1 9", PLAIN),
-        (0, "load M 1 K3", NO_LIMIT),
-        (0, "unload M 1", PLAIN),
-        (0, "count K3 5", "Accepted(Taken(4))"),
-    ];
-    say(&rt, rt.alloc(), &mut desk, &lines)
+    let told = "
+        0 receive K1 P 1 2: Accepted(Plain)
+        0 receive K2 P 1 50: Accepted(Plain)
+        0 splice M 1 K2: Refused(SlotEmpty(1))
+        0 unload M 1: Refused(SlotEmpty(1))
+        0 load M 1 K1: Accepted(MinutesLeft(None))
+        0 splice M 1 K2: Accepted(MinutesLeft(None))
+        0 start M B1: Accepted(Plain)
+        0 install M B1 R1,R2,R3,R4,R5: Accepted(Reels(Listing { items: [K1, K1, K2, K2, K2] }))
+        0 count K1 1: Refused(CountAbove(K1))
+        0 count K1 0: Accepted(Taken(0))
+        0 count K2 40: Refused(ReelMounted(K2))
+        0 scrap M 1 48: Refused(ReelShort(1))
+        0 scrap M 1 47: Accepted(Taken(47))
+        0 unload M 1: Refused(SlotEmpty(1))
+        0 install M B1 R1: Refused(AlreadyPlaced(R1))
+        0 complete M B1: Accepted(Plain)
+        0 receive K3 P 1 9: Accepted(Plain)
+        0 load M 1 K3: Accepted(MinutesLeft(None))
+        0 unload M 1: Accepted(Plain)
+        0 count K3 5: Accepted(Taken(4))";
+    say(&rt, rt.alloc(), &mut desk, told)
 }
 
 #[test]
 fn the_first_faulty_designator_is_named(rt: HostRuntime) -> Result<(), Fail> {
     let mut desk = set_up(&rt, rt.alloc())?;
-    let lines = [
-        (0, "receive K1 P 1 2", PLAIN),
-        (0, "load M 1 K1", NO_LIMIT),
-        (0, "start M B1", PLAIN),
-        (0, "install M B2 R1", "Refused(NotInWork(B2))"),
-        (0, "install M B1 R9", "Refused(DesignatorNotOnSheet(R9))"),
-        (0, "install M B1 R1,R1", "Refused(DesignatorTwice(R1))"),
-        (0, "install M B1 R1,R2,R3", "Refused(ReelShort(R3))"),
-        (0, "scrap M 1 3", "Refused(ReelShort(1))"),
-        (
-            0,
-            "install M B1 R1,R2",
-            "Accepted(Reels(Listing { items: [K1, K1] }))",
-        ),
-        (0, "install M B1 R3", "Refused(ReelShort(R3))"),
-        (0, "scrap M 1 1", "Refused(SlotEmpty(1))"),
-        (0, "count K9 1", "Refused(UnknownReel(K9))"),
-    ];
-    say(&rt, rt.alloc(), &mut desk, &lines)
+    let told = "
+        0 receive K1 P 1 2: Accepted(Plain)
+        0 load M 1 K1: Accepted(MinutesLeft(None))
+        0 start M B1: Accepted(Plain)
+        0 install M B2 R1: Refused(NotInWork(B2))
+        0 install M B1 R9: Refused(DesignatorNotOnSheet(R9))
+        0 install M B1 R1,R1: Refused(DesignatorTwice(R1))
+        0 install M B1 R1,R2,R3: Refused(ReelShort(R3))
+        0 scrap M 1 3: Refused(ReelShort(1))
+        0 install M B1 R1,R2: Accepted(Reels(Listing { items: [K1, K1] }))
+        0 install M B1 R3: Refused(ReelShort(R3))
+        0 scrap M 1 1: Refused(SlotEmpty(1))
+        0 count K9 1: Refused(UnknownReel(K9))";
+    say(&rt, rt.alloc(), &mut desk, told)
 }
 
 #[test]
 fn late_commands_take_effect_at_the_desk_minute(rt: HostRuntime) -> Result<(), Fail> {
     let mut desk = set_up(&rt, rt.alloc())?;
-    let lines = [
-        (20_161, "part Z", "Refused(TooFarAhead)"),
-        (20_160, "part Z", PLAIN),
-        (20_100, "part Y", PLAIN),
-        (100_000, "clock", PLAIN),
-        (120_161, "part X", "Refused(TooFarAhead)"),
-    ];
-    say(&rt, rt.alloc(), &mut desk, &lines)?;
+    let told = "
+        20161 part Z: Refused(TooFarAhead)
+        20160 part Z: Accepted(Plain)
+        20100 part Y: Accepted(Plain)
+        100000 clock: Accepted(Plain)
+        120161 part X: Refused(TooFarAhead)";
+    say(&rt, rt.alloc(), &mut desk, told)?;
     let late = desk.earlier(&id("u6")?).ok_or("no entry")?;
     assert_eq!(rt; late.number, 6);
     assert_eq!(rt; late.stamped.minute, minute(20_100)?);
