@@ -13,9 +13,9 @@ use desk_types::{Front, FrontReel, Fronts, Id, Life, Minute, Refusal, SheetRow, 
 
 /// Looks at the fronts of a machine's slots before a board is started. The first slot of the sheet
 /// that holds no reel, or one that may not feed it at this minute, is named with the reason:
-/// SlotEmpty, WrongPart, NotBaked or Expired, tested in this order. Over the fronts of a desk, at a
-/// minute not before the desk minute, that is the reason for which a start of work is refused. Takes
-/// no memory.
+/// SlotEmpty, WrongPart, NotBaked or Expired, tested in this order. Over the fronts and alternates of
+/// a desk, at a minute not before the desk minute, that is what a start of work is refused for, where
+/// nothing else is wrong with it. Takes no memory.
 pub fn verify(
     rows: &SheetRows,
     fronts: &Fronts,
