@@ -1,0 +1,93 @@
+-- What the texts that read mean.
+use Rattle.std.proofs.Common.{◌≡◌, List, ℕ, [], ◌∷◌, codes, refl, false, None, Some, pos, negsuc}
+use Rattle.sqlite.specs.Command.TheVariants.{Select}
+use Rattle.sqlite.specs.Term.{Term, lit, col, op2}
+use Rattle.sqlite.specs.Query.{Query, inner, end}
+use Rattle.sqlite.specs.Collation.TheVariants.{Binary}
+use Rattle.sqlite_sql.specs.Group.{Grouping}
+use Rattle.sqlite_sql.specs.declared.aggregate.AggregateOp.TheVariants as by
+use Rattle.sqlite_sql.specs.declared.ops.BinaryOp.TheVariants.{Compare}
+use Rattle.sqlite_sql.specs.declared.ops.CompareOp.TheVariants.{Eq, Lt}
+use Rattle.sqlite.specs.declared.types.Value.TheVariants.{Null, Int}
+use Rattle.sqlite_value.specs.Keys.{ascending}
+use Rattle.sqlite.specs.Listing.{understood, reads_listing}
+use Rattle.sqlite_tied.specs.Compute.{everything}
+use Rattle.sqlite.proofs.Callers.{IsPlain, command_of}
+use Rattle.line_tables.specs.Line.{line_schema}
+
+-- the rows of one table that pass the tests, as they come: no group, no DISTINCT, no ORDER BY, no LIMIT
+abbrev pub rows_from : ℕ → List Term → List Term → Query
+rows_from tree filter project = record { from = inner tree end; filter = filter; group = None; project = project; distinct = false; collations = []; order = []; limit = lit (Int (negsuc 0)); offset = lit (Int (pos 0)) }
+
+abbrev pub IsSelect : List ℕ → Query → List (List ℕ) → Type 0
+IsSelect sql q names = (command_of (understood line_schema sql) ≡ Select (record { lets = []; body = q }) names) × (reads_listing line_schema sql ≡ false) × IsPlain (understood line_schema sql)
+
+-- the places of the columns of `accepted` in a kept row
+abbrev pub accepted_places : List Term
+accepted_places = col 1 0 ∷ col 1 2 ∷ col 1 3 ∷ col 1 4 ∷ col 1 5 ∷ col 1 6 ∷ col 1 7 ∷ []
+
+abbrev pub accepted_names : List (List ℕ)
+accepted_names = codes "number" ∷ codes "uid" ∷ codes "source" ∷ codes "own" ∷ codes "effective" ∷ codes "command" ∷ codes "detail" ∷ []
+
+abbrev pub select_uid : List ℕ
+select_uid = codes "SELECT number, uid, source, own, effective, command, detail FROM accepted WHERE uid = ?1"
+
+abbrev pub uid_query : Query
+uid_query = rows_from 1 (op2 (Compare Eq Binary) (col 1 2) (col 0 0) ∷ []) accepted_places
+
+pub select_uid_is : IsSelect select_uid uid_query accepted_names
+unfolding understood everything
+select_uid_is = (refl, refl, (refl, refl))
+
+abbrev pub select_number : List ℕ
+select_number = codes "SELECT number, uid, source, own, effective, command, detail FROM accepted WHERE number = ?1"
+
+abbrev pub number_query : Query
+number_query = rows_from 1 (op2 (Compare Eq Binary) (col 1 0) (col 0 0) ∷ []) accepted_places
+
+pub select_number_is : IsSelect select_number number_query accepted_names
+unfolding understood everything
+select_number_is = (refl, refl, (refl, refl))
+
+abbrev pub select_before : List ℕ
+select_before = codes "SELECT number FROM accepted WHERE uid = ?1 AND number < ?2"
+
+abbrev pub before_query : Query
+before_query = rows_from 1 (op2 (Compare Eq Binary) (col 1 2) (col 0 0) ∷ op2 (Compare Lt Binary) (col 1 0) (col 0 1) ∷ []) (col 1 0 ∷ [])
+
+pub select_before_is : IsSelect select_before before_query (codes "number" ∷ [])
+unfolding understood everything
+select_before_is = (refl, refl, (refl, refl))
+
+abbrev pub select_version : List ℕ
+select_version = codes "SELECT one, number, greatest FROM version"
+
+abbrev pub version_query : Query
+version_query = rows_from 0 [] (col 1 0 ∷ col 1 2 ∷ col 1 3 ∷ [])
+
+pub select_version_is : IsSelect select_version version_query (codes "one" ∷ codes "number" ∷ codes "greatest" ∷ [])
+unfolding understood everything
+select_version_is = (refl, refl, (refl, refl))
+
+abbrev pub select_least : List ℕ
+select_least = codes "SELECT number FROM accepted ORDER BY number LIMIT 1"
+
+abbrev pub least_query : Query
+least_query = record { from = inner 1 end; filter = []; group = None; project = col 1 0 ∷ []; distinct = false; collations = []; order = (col 1 0, ascending Binary) ∷ []; limit = lit (Int (pos 1)); offset = lit (Int (pos 0)) }
+
+pub select_least_is : IsSelect select_least least_query (codes "number" ∷ [])
+unfolding understood everything
+select_least_is = (refl, refl, (refl, refl))
+
+abbrev pub select_count : List ℕ
+select_count = codes "SELECT count(*) FROM accepted"
+
+abbrev pub count_all : Grouping
+count_all = record { keys = []; collations = []; aggregates = record { op = by.CountRows; distinct = false; collation = Binary; argument = lit Null } ∷ []; having = [] }
+
+abbrev pub count_query : Query
+count_query = record { from = inner 1 end; filter = []; group = Some count_all; project = col 1 0 ∷ []; distinct = false; collations = []; order = []; limit = lit (Int (negsuc 0)); offset = lit (Int (pos 0)) }
+
+pub select_count_is : IsSelect select_count count_query (codes "count(*)" ∷ [])
+unfolding understood everything
+select_count_is = (refl, refl, (refl, refl))

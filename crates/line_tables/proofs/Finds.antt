@@ -1,0 +1,155 @@
+-- What the queries find.
+use Rattle.std.proofs.Common.{◌≡◌, ◌∙◌, IsTrue, Some, None, Option, Result, Ok, Err, IfOk, Vec, Global, ℕ, pos, List, [], ◌∷◌, ◌++◌, length, map, filter, Bool, true, false, not, ◌&&◌, ◌||◌, ◌==◌, if◌then◌else◌, refl, sym, ap, ap₂, subst, subst₂, arith, true≢false}
+use Rattle.std.specs.List.{flat_map, list_all, list_any}
+use Rattle.std.specs.List.Sorted.{IsPermutation}
+use Rattle.std.proofs.Math.Dec.{eqb-suc-zero}
+use Rattle.std.proofs.lemmas.List.{length-map}
+use Rattle.std.proofs.lemmas.List.Sorted.{IsPermutation-map, IsPermutation-sym, length_permutation}
+use Rattle.sqlite.specs.declared.types.Value.TheVariants.{Null, Int, Text}
+use Rattle.sqlite_value.specs.Order.{Row, column}
+use Rattle.sqlite_trees.specs.Tree.{Trees}
+use Rattle.sqlite.specs.Term.{Term, holds}
+use Rattle.sqlite.specs.Effect.{Database}
+use Rattle.sqlite.specs.Query.{Query, IsAnswer, output, Output}
+use Rattle.sqlite.specs.Program.{overlay}
+use Rattle.sqlite.specs.Command.TheVariants.{Select}
+use Rattle.sqlite_trees.specs.declared.store.Store.{Ghosts}
+use Rattle.sqlite.specs.Held.{Held, state}
+use Rattle.sqlite.specs.State.{State, Shown}
+use Rattle.sqlite.specs.declared.error.Error.{Error}
+use Rattle.line_tables.proofs.Keeps.{shown_open}
+use Rattle.sqlite.proofs.Callers.{reads_as, one_permutation}
+use Rattle.line_tables.specs.declared.version.Version.{Version}
+use Rattle.line_tables.specs.Line.{line_schema}
+use Rattle.line_tables.specs.Rows.{accepted_columns, version_columns, accepted_in, version_in}
+use Rattle.line_tables.specs.Calls.{Selects, Reads, has_uid, has_number, is_before, only, IsVersionOf}
+use Rattle.line_tables.proofs.FindTexts.{IsSelect, rows_from, select_uid, uid_query, select_uid_is, select_number, number_query, select_number_is, select_before, before_query, select_before_is, select_version, version_query, select_version_is, accepted_names}
+
+-- what a query of ours shows is its answer over what is committed
+pub answer_of : {S : Type 0} (g : Ghosts S) (sql : List ℕ) (q : Query) (names : List (List ℕ)) → IsSelect sql q names → (params : Row) (old : Held S) (rows : List Row) → Selects g sql params old rows → (state g old).committed.schema ≡ line_schema
+    → IsAnswer q (overlay (state g old).committed.trees []) params rows
+answer_of g sql q names is params old rows h schema =
+    let read = reads_as sql params (state g (record old { in_transaction = true })) (state g h.after) line_schema (ap (λ (db : Database). db.schema) h.settled ∙ schema) (Select (record { lets = []; body = q }) names) is.0 is.2 is.1 rows h.shown in
+    subst (λ (db : Database). IsAnswer q (overlay db.trees []) params rows) h.settled (read.answer Null)
+
+-- what is shown of the rows that pass
+abbrev shown_of : Query → Row → List Row → List Row
+shown_of q params rows = map (λ (o : Output). o.1) (map (output q) (flat_map (λ r. if list_all (holds (params ∷ r ∷ [])) q.filter then (params ∷ r ∷ []) ∷ [] else []) rows))
+
+rows_answer : (tree : ℕ) (test project : List Term) (db : Trees) (params : Row) (rows : List Row) → IsAnswer (rows_from tree test project) db params rows → IsPermutation (shown_of (rows_from tree test project) params (db tree)) rows
+rows_answer tree test project db params rows a =
+    let q = rows_from tree test project in
+    let kept = a.distinct ∙ ap (map (output q)) a.grouped in
+    let same : IsPermutation (map (λ (o : Output). o.1) a.kept) (map (λ (o : Output). o.1) a.ordered) = IsPermutation-map (λ (o : Output). o.1) a.kept a.ordered a.same in
+    subst₂ (λ k r. IsPermutation k r) (ap (map (λ (o : Output). o.1)) kept) (sym a.shown) same
+
+-- a test of the columns that are shown
+shown_is : (q : Query) (params : Row) (columns : Row → Row) (show : Row → Row) (has : Row → Bool) → ((r : Row) → list_all (holds (params ∷ r ∷ [])) q.filter ≡ has (columns r)) → ((r : Row) → (output q (params ∷ r ∷ [])).1 ≡ show (columns r))
+    → (rows : List Row) → shown_of q params rows ≡ map show (filter has (map columns rows))
+shown_is q params columns show has test out [] = refl
+shown_is q params columns show has test out (r ∷ rows) = go (list_all (holds (params ∷ r ∷ [])) q.filter) (has (columns r)) (test r) (shown_is q params columns show has test out rows)
+  where
+    go : (b c : Bool) → b ≡ c → shown_of q params rows ≡ map show (filter has (map columns rows))
+        → map (λ (o : Output). o.1) (map (output q) ((if b then (params ∷ r ∷ []) ∷ [] else []) ++ flat_map (λ r. if list_all (holds (params ∷ r ∷ [])) q.filter then (params ∷ r ∷ []) ∷ [] else []) rows)) ≡ map show (if c then columns r ∷ filter has (map columns rows) else filter has (map columns rows))
+    go true true e more = ap₂ (λ x rest. x ∷ rest) (out r) more
+    go false false e more = more
+    go true false e more = absurd (true≢false e)
+    go false true e more = absurd (true≢false (sym e))
+
+and_true : (b : Bool) → (b && true) ≡ b
+and_true true = refl
+and_true false = refl
+
+whole : (rows : List Row) → map (λ (r : Row). r) rows ≡ rows
+whole [] = refl
+whole (r ∷ rows) = ap (λ rest. r ∷ rest) (whole rows)
+
+pub finds_uid : {S : Type 0} (g : Ghosts S) (uid : List ℕ) (old : Held S) (rows : List Row) → Selects g select_uid (Text uid ∷ []) old rows → Reads (state g old) (λ db. IsPermutation (filter (has_uid uid) (accepted_in db)) rows)
+finds_uid g uid old rows h = record {
+  was_open = h.was_open;
+  are = λ schema. subst (λ l. IsPermutation l rows) (shown_is uid_query (Text uid ∷ []) accepted_columns (λ r. r) (has_uid uid) (λ r. and_true _) (λ r. refl) ((state g old).committed.trees 1) ∙ whole _)
+      (rows_answer 1 _ _ _ (Text uid ∷ []) rows (answer_of g select_uid uid_query accepted_names select_uid_is (Text uid ∷ []) old rows h schema));
+}
+
+pub finds_number : {S : Type 0} (g : Ghosts S) (number : ℕ) (old : Held S) (rows : List Row) → Selects g select_number (Int (pos number) ∷ []) old rows → Reads (state g old) (λ db. IsPermutation (filter (has_number number) (accepted_in db)) rows)
+finds_number g number old rows h = record {
+  was_open = h.was_open;
+  are = λ schema. subst (λ l. IsPermutation l rows) (shown_is number_query (Int (pos number) ∷ []) accepted_columns (λ r. r) (has_number number) (λ r. and_true _) (λ r. refl) ((state g old).committed.trees 1) ∙ whole _)
+      (rows_answer 1 _ _ _ (Int (pos number) ∷ []) rows (answer_of g select_number number_query accepted_names select_number_is (Int (pos number) ∷ []) old rows h schema));
+}
+
+-- there is such a row where something is shown
+any_shown : (has : Row → Bool) (show : Row → Row) (all rows : List Row) → IsPermutation (map show (filter has all)) rows → (b : Bool) → (b ≡ (length rows == 0)) → not b ≡ list_any has all
+any_shown has show all rows same b is = rw is (ap (λ n. not (n == 0)) (length_permutation _ _ same ∙ length-map (filter has all) show) ∙ some_pass all)
+  where
+    some_pass : (xs : List Row) → not (length (filter has xs) == 0) ≡ list_any has xs
+    some_pass [] = refl
+    some_pass (x ∷ xs) = go (has x) (some_pass xs)
+      where
+        go : (c : Bool) → not (length (filter has xs) == 0) ≡ list_any has xs → not (length (if c then x ∷ filter has xs else filter has xs) == 0) ≡ (c || list_any has xs)
+        go true more = ap not (eqb-suc-zero (length (filter has xs)))
+        go false more = more
+
+pub finds_before : {S : Type 0} (g : Ghosts S) (uid : List ℕ) (number : ℕ) (old : Held S) (rows : List Row) (b : Bool) → Selects g select_before (Text uid ∷ Int (pos number) ∷ []) old rows → b ≡ (length rows == 0)
+    → Reads (state g old) (λ db. not b ≡ list_any (is_before uid number) (accepted_in db))
+finds_before g uid number old rows b h is = record {
+  was_open = h.was_open;
+  are = λ schema. any_shown (is_before uid number) (λ r. column r 0 ∷ []) (accepted_in (state g old).committed) rows
+      (subst (λ l. IsPermutation l rows) (shown_is before_query (Text uid ∷ Int (pos number) ∷ []) accepted_columns (λ r. column r 0 ∷ []) (is_before uid number) (λ r. ap (λ c. has_uid uid (accepted_columns r) && c) (and_true _)) (λ r. refl) ((state g old).committed.trees 1))
+      (rows_answer 1 _ _ _ (Text uid ∷ Int (pos number) ∷ []) rows (answer_of g select_before before_query _ select_before_is (Text uid ∷ Int (pos number) ∷ []) old rows h schema))) b is;
+}
+
+all_pass : (rows : List Row) → shown_of version_query [] rows ≡ map version_columns rows
+all_pass [] = refl
+all_pass (r ∷ rows) = ap (λ rest. version_columns r ∷ rest) (all_pass rows)
+
+-- of at most one there is one order
+pub one_order : (xs : List Row) (o : Option Row) → IsPermutation xs (only o) → xs ≡ only o
+one_order [] None h = refl
+one_order (x ∷ xs) None h = absurd (omega (arith, length_permutation _ _ h))
+one_order xs (Some x) h = one_permutation x xs (IsPermutation-sym _ _ h)
+
+pub finds_only : (has : Row → Bool) (old : State) (rows : List Row) (o : Option Row) → rows ≡ only o → Reads old (λ db. IsPermutation (filter has (accepted_in db)) rows) → Reads old (λ db. filter has (accepted_in db) ≡ only o)
+finds_only has old rows o is h = record { was_open = h.was_open; are = λ schema. one_order _ o (subst (IsPermutation (filter has (accepted_in old.committed))) is (h.are schema)) }
+
+version_by : (xs rows : List Row) (o : Option Version) → IsPermutation xs rows → IsVersionOf rows o → IsVersionOf xs o
+version_by xs rows (Some v) same is = one_order xs (Some _) (subst (IsPermutation xs) is same)
+version_by xs rows None same none = λ number greatest is. none number greatest (one_order rows (Some _) (IsPermutation-sym _ _ (subst (λ l. IsPermutation l rows) is same)))
+
+pub finds_version : {S : Type 0} (g : Ghosts S) (old : Held S) (rows : List Row) (o : Option Version) → Selects g select_version [] old rows → IsVersionOf rows o → Reads (state g old) (λ db. IsVersionOf (version_in db) o)
+finds_version g old rows o h is = record {
+  was_open = h.was_open;
+  are = λ schema. version_by (version_in (state g old).committed) rows o (subst (λ l. IsPermutation l rows) (all_pass ((state g old).committed.trees 0)) (rows_answer 0 _ _ _ [] rows (answer_of g select_version version_query _ select_version_is [] old rows h schema))) is;
+}
+
+module _ {S : Type 0} (g : Ghosts S) (old : Held S) where
+  -- a query in a transaction that has just begun
+  pub selects : (after : Held S) (sql : List ℕ) (params : Row) (r : Result (Vec Row Global) Error) → (IsTrue (state g old).is_open → (state g old).now ≡ (state g old).committed)
+      → IfOk r (λ rows. Shown sql params (state g (record old { in_transaction = true })) (state g after) rows.items) → IfOk r (λ rows. Selects g sql params old rows.items)
+  selects after sql params (Err e) settled h = tt
+  selects after sql params (Ok rows) settled h =
+      let was_open = shown_open sql params (state g (record old { in_transaction = true })) (state g after) rows.items h in
+      record { was_open = was_open; settled = settled was_open; after = after; shown = h }
+
+  pub finds_row : (number : ℕ) (rows : List Row) (r : Result (Option Row) Error) → IfOk r (λ found. rows ≡ only found) → Selects g select_number (Int (pos number) ∷ []) old rows
+      → IfOk r (λ found. Reads (state g old) (λ db. filter (has_number number) (accepted_in db) ≡ only found))
+  finds_row number rows (Err e) is h = tt
+  finds_row number rows (Ok o) is h = finds_only (has_number number) (state g old) rows o is (finds_number g number old rows h)
+
+  pub finds_one_uid : (uid : List ℕ) (rows : List Row) (row : Row) → rows ≡ row ∷ [] → Selects g select_uid (Text uid ∷ []) old rows → Reads (state g old) (λ db. filter (has_uid uid) (accepted_in db) ≡ row ∷ [])
+  finds_one_uid uid rows row is h = finds_only (has_uid uid) (state g old) rows (Some row) is (finds_uid g uid old rows h)
+
+  pub finds_no_uid : (uid : List ℕ) (rows : List Row) → rows ≡ [] → Selects g select_uid (Text uid ∷ []) old rows → Reads (state g old) (λ db. filter (has_uid uid) (accepted_in db) ≡ [])
+  finds_no_uid uid rows is h = finds_only (has_uid uid) (state g old) rows None is (finds_uid g uid old rows h)
+
+-- seven values are those of their places
+pub seven : (row : Row) → length row ≡ 7 → row ≡ column row 0 ∷ column row 1 ∷ column row 2 ∷ column row 3 ∷ column row 4 ∷ column row 5 ∷ column row 6 ∷ []
+seven (a ∷ b ∷ c ∷ d ∷ e ∷ f ∷ g ∷ []) h = refl
+seven [] h = absurd (omega arith)
+seven (a ∷ []) h = absurd (omega arith)
+seven (a ∷ b ∷ []) h = absurd (omega arith)
+seven (a ∷ b ∷ c ∷ []) h = absurd (omega arith)
+seven (a ∷ b ∷ c ∷ d ∷ []) h = absurd (omega arith)
+seven (a ∷ b ∷ c ∷ d ∷ e ∷ []) h = absurd (omega arith)
+seven (a ∷ b ∷ c ∷ d ∷ e ∷ f ∷ []) h = absurd (omega arith)
+seven (a ∷ b ∷ c ∷ d ∷ e ∷ f ∷ g ∷ x ∷ more) h = absurd (omega arith)

@@ -1,0 +1,12 @@
+pub mod CreateTexts
+pub mod PutTexts
+pub mod FindTexts
+pub mod Inserts
+pub mod Creates
+pub mod Puts
+pub mod Keeps
+pub mod Finds
+pub mod Numbers
+pub mod Leaves
+pub mod Ours
+pub mod Holding

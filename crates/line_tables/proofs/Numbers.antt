@@ -1,0 +1,163 @@
+-- The least number, and how many rows there are.
+use Rattle.std.proofs.Common.{◌≡◌, ◌∙◌, IsTrue, Some, None, Option, Result, Ok, Err, IfOk, ℕ, ℤ, pos, zero, suc, min, List, [], ◌∷◌, ◌++◌, length, map, Bool, true, false, ◌<◌, ◌+◌, Ordering, Less, Equal, Greater, is_lt, is_gt, refl, sym, ap, subst, subst₂, arith}
+use Rattle.std.specs.List.{flat_map, AllByRecursion, AllZip}
+use Rattle.std.specs.List.{All}
+use Rattle.std.specs.List.Sorted.{IsPermutation, IsSorted}
+use Rattle.std.specs.Cmp.{IsTotalOrder}
+use Rattle.std.specs.Ordering.{ordering_reverse, ordering_then}
+use Rattle.std.proofs.lemmas.Cmp.{upto}
+use Rattle.std.proofs.lemmas.List.{length-map}
+use Rattle.std.proofs.lemmas.List.Elements.{All-from_recursion, recursion_from_All}
+use Rattle.std.proofs.lemmas.List.Sorted.{IsPermutation-map, length_permutation, All-permutation}
+use Rattle.sqlite.specs.Collation.TheVariants.{Binary}
+use Rattle.sqlite_value.specs.Keys.{collated}
+use Rattle.sqlite.specs.declared.types.Value.TheVariants.{Null, Int}
+use Rattle.sqlite.specs.declared.types.Value.{Value}
+use Rattle.sqlite_value.specs.Order.{Row, column}
+use Rattle.sqlite_trees.specs.Tree.{Trees}
+use Rattle.sqlite.specs.Term.{Env}
+use Rattle.sqlite_sql.specs.Group.{Summarizes, IsSummary, value_over}
+use Rattle.sqlite.specs.Query.{Query, IsAnswer, output, output_cmp, Output}
+use Rattle.sqlite_sql.proofs.QueryLemmas.{output_cmp_total}
+use Rattle.sqlite_keyed.proofs.ListLemmas.{all_weaker}
+use Rattle.sqlite.specs.Program.{overlay}
+use Rattle.sqlite.specs.declared.error.Error.{Error}
+use Rattle.sqlite_trees.specs.declared.store.Store.{Ghosts}
+use Rattle.sqlite.specs.Held.{Held, state}
+use Rattle.sqlite.proofs.Callers.{one_permutation}
+use Rattle.line_tables.specs.Rows.{accepted_columns, accepted_in}
+use Rattle.line_tables.specs.Calls.{Selects, Reads, number_row, IsLeast}
+use Rattle.line_tables.proofs.FindTexts.{select_least, least_query, select_least_is, select_count, count_query, count_all, select_count_is}
+use Rattle.line_tables.proofs.Finds.{answer_of}
+
+module _ {X : Type 0} (cmp : X → X → Ordering) (total : IsTotalOrder cmp) where
+  abbrev AtMost : X → X → Type 0
+  AtMost a b = is_gt (cmp a b) ≡ false
+
+  turned : (o : Ordering) → is_lt o ≡ false → is_gt (ordering_reverse o) ≡ false
+  turned Less h = h
+  turned Equal h = refl
+  turned Greater h = refl
+
+  -- the first of a sorted list is above no other
+  first_least : (x : X) (ys : List X) → IsSorted cmp (x ∷ ys) → AllByRecursion (AtMost x) ys
+  first_least x [] sorted = tt
+  first_least x (y ∷ ys) sorted =
+      let first : AtMost x y = ap is_gt (total.antisymm x y) ∙ turned _ (sorted 0 x (omega arith) (omega arith)) in
+      let tail : IsSorted cmp (y ∷ ys) = λ k d p q. rw Rattle.std.proofs.Common.add-one (rw Rattle.std.proofs.Common.add-one at (sorted (suc k) d (omega arith) (omega arith))) in
+      (first, all_weaker _ (AtMost x) (λ z. upto total x y z first) ys (first_least y ys tail))
+
+abbrev envs : List Row → List Env
+envs rows = flat_map (λ r. ([] ∷ r ∷ []) ∷ []) rows
+
+-- a row is sorted by what it shows
+abbrev keyed : Output → Type 0
+keyed o = o.0 ≡ column o.1 0 ∷ []
+
+all_keyed : (rows : List Row) → AllByRecursion keyed (map (output least_query) (envs rows))
+all_keyed [] = tt
+all_keyed (r ∷ rows) = (refl, all_keyed rows)
+
+abbrev number_of : Output → Value
+number_of o = column o.1 0
+
+numbers_shown : (rows : List Row) → map number_of (map (output least_query) (envs rows)) ≡ map (λ (r : Row). column r 0) (map accepted_columns rows)
+numbers_shown [] = refl
+numbers_shown (r ∷ rows) = ap (λ rest. column r 0 ∷ rest) (numbers_shown rows)
+
+gt_then : (o : Ordering) → is_gt (ordering_then o Equal) ≡ is_gt o
+gt_then Less = refl
+gt_then Equal = refl
+gt_then Greater = refl
+
+compared : (x y : Output) → keyed x → keyed y → is_gt (output_cmp least_query x y) ≡ false → is_gt (collated Binary (number_of x) (number_of y)) ≡ false
+compared x y kx ky h = sym (gt_then _) ∙ subst₂ (λ (a b : Row). is_gt (ordering_then (collated Binary (column a 0) (column b 0)) Equal) ≡ false) kx ky h
+
+others_of : (x : Output) (n : ℤ) (ys : List Output) → keyed x → number_of x ≡ Int n → AllByRecursion keyed ys → AllByRecursion (λ y. is_gt (output_cmp least_query x y) ≡ false) ys
+    → AllByRecursion (λ other. is_gt (collated Binary (Int n) other) ≡ false) (map number_of ys)
+others_of x n [] kx is keys least = tt
+others_of x n (y ∷ ys) kx is keys least = (subst (λ v. is_gt (collated Binary v (number_of y)) ≡ false) is (compared x y kx keys.0 least.0), others_of x n ys kx is keys.1 least.1)
+
+envs_length : (rows : List Row) → length (envs rows) ≡ length rows
+envs_length [] = refl
+envs_length (r ∷ rows) = omega (arith, envs_length rows)
+
+no_rows : (rows : List Row) → 0 ≡ length rows → map accepted_columns rows ≡ []
+no_rows [] h = refl
+no_rows (r ∷ rows) h = absurd (omega arith)
+
+least_is : (rows : List Row) (ordered : List Output) (o : Option ℤ) → IsPermutation (map (output least_query) (envs rows)) ordered → IsSorted (output_cmp least_query) ordered
+    → Rattle.std.proofs.Common.take 1 (map (λ (o : Output). o.1) ordered) ≡ number_row o → IsLeast (map accepted_columns rows) o
+least_is rows [] None same sorted is = no_rows rows (length_permutation _ _ same ∙ length-map (envs rows) (output least_query) ∙ envs_length rows)
+least_is rows [] (Some n) same sorted is = absurd (let e = ap length is in omega (arith, e))
+least_is rows (x ∷ xs) None same sorted is = absurd (let e = ap length is in omega (arith, e))
+least_is rows (x ∷ xs) (Some n) same sorted is =
+    let keys = recursion_from_All keyed (x ∷ xs) (All-permutation keyed _ (x ∷ xs) same (All-from_recursion keyed _ (all_keyed rows))) in
+    let shown : number_of x ≡ Int n = ap (λ (l : List Row). column (Rattle.std.proofs.Common.get_or l 0 []) 0) is in
+    let numbers : IsPermutation (map number_of (map (output least_query) (envs rows))) (number_of x ∷ map number_of xs) = IsPermutation-map number_of _ _ same in (
+      map number_of xs,
+      subst₂ (λ l v. IsPermutation l (v ∷ map number_of xs)) (numbers_shown rows) shown numbers,
+      others_of x n xs keys.0 shown keys.1 (first_least (output_cmp least_query) (output_cmp_total least_query) x xs sorted),
+    )
+
+pub finds_least : {S : Type 0} (g : Ghosts S) (old : Held S) (rows : List Row) (o : Option ℤ) → Selects g select_least [] old rows → rows ≡ number_row o → Reads (state g old) (λ db. IsLeast (accepted_in db) o)
+finds_least g old rows o h is = record {
+  was_open = h.was_open;
+  are = λ schema.
+      let a : IsAnswer least_query (overlay (state g old).committed.trees []) [] rows = answer_of g select_least least_query _ select_least_is [] old rows h schema in
+      let kept = a.distinct ∙ ap (map (output least_query)) a.grouped in
+      least_is ((state g old).committed.trees 1) a.ordered o (subst (λ l. IsPermutation l a.ordered) kept a.same) a.sorted (sym a.shown ∙ is);
+}
+
+abbrev counted : ℕ → Value
+counted n = Int (pos (min n 9223372036854775807))
+
+some_same : {X : Type 0} {a b : X} → ◌≡◌ {A = Option X} (Some a) (Some b) → a ≡ b
+some_same e = cc
+
+one_value : (order : List Env) (n : ℕ) → length order ≡ n → (values : Row) → AllZip (λ a v. value_over order a ≡ Some v) count_all.aggregates values → values ≡ counted n ∷ []
+one_value order n is [] zip = absurd zip
+one_value order n is (v ∷ w ∷ more) zip = absurd zip.1
+one_value order n is (v ∷ []) zip = ap (λ x. x ∷ []) (sym (some_same zip.0) ∙ ap counted (length-map order (λ _. Null) ∙ is))
+
+one_summary : (order : List Env) (n : ℕ) → length order ≡ n → (rows : List Row) → AllZip (IsSummary count_all) (order ∷ []) rows → rows ≡ (counted n ∷ []) ∷ []
+one_summary order n is [] zip = absurd zip
+one_summary order n is (r ∷ s ∷ more) zip = absurd zip.1
+one_summary order n is (r ∷ []) zip = ap (λ x. x ∷ []) (zip.0.2 ∙ one_value order n is zip.0.0 zip.0.1)
+
+-- all rows are one group, whose row is their count
+summed : (all staged : List Env) → Summarizes count_all [] all staged → staged ≡ ([] ∷ (counted (length all) ∷ []) ∷ []) ∷ []
+summed all staged s =
+    let order = s.grouping.0 in
+    let row = one_summary order (length all) (length_permutation all order s.grouping.1) s.rows (subst (λ groups. AllZip (IsSummary count_all) groups s.rows) s.grouping.2 s.summaries) in
+    s.having ∙ ap (λ (rows : List Row). Rattle.std.proofs.Common.filter (λ env. Rattle.std.specs.List.list_all (Rattle.sqlite.specs.Term.holds env) count_all.having) (map (λ r. [] ∷ r ∷ []) rows)) row
+
+not_most : (n length most : ℕ) → n ≡ min length most → n < most → n ≡ length
+not_most n length most is below = omega (arith, is, below)
+
+same_number : (n m : ℕ) → ◌≡◌ {A = List Row} ((Int (pos n) ∷ []) ∷ []) ((Int (pos m) ∷ []) ∷ []) → n ≡ m
+same_number n m e = cc
+
+count_is : (db : Trees) (shown : List Row) → IsAnswer count_query db [] shown → (n : ℕ) → shown ≡ (Int (pos n) ∷ []) ∷ [] → n < 9223372036854775807 → n ≡ length (map accepted_columns (db 1))
+count_is db shown a n is below =
+    let rows = db 1 in
+    let all = envs rows in
+    let kept : a.kept ≡ ([], counted (length all) ∷ []) ∷ [] = a.distinct ∙ ap (map (output count_query)) (summed all a.staged a.grouped) in
+    let ordered : a.ordered ≡ ([], counted (length all) ∷ []) ∷ [] = one_permutation _ a.ordered (subst (λ l. IsPermutation l a.ordered) kept a.same) in
+    let row : ◌≡◌ {A = List Row} ((Int (pos n) ∷ []) ∷ []) ((counted (length all) ∷ []) ∷ []) = sym is ∙ a.shown ∙ ap (map (λ (o : Output). o.1)) ordered in
+    not_most n (length all) 9223372036854775807 (same_number n _ row) below ∙ envs_length rows ∙ sym (length-map rows accepted_columns)
+
+pub finds_count : {S : Type 0} (g : Ghosts S) (old : Held S) (rows : List Row) (n : ℕ) → Selects g select_count [] old rows → rows ≡ (Int (pos n) ∷ []) ∷ [] → n < 9223372036854775807 → Reads (state g old) (λ db. n ≡ length (accepted_in db))
+finds_count g old rows n h is below = record {
+  was_open = h.was_open;
+  are = λ schema. count_is (overlay (state g old).committed.trees []) rows (answer_of g select_count count_query _ select_count_is [] old rows h schema) n is below;
+}
+
+pub finds_least_in : {S : Type 0} (g : Ghosts S) (old : Held S) (rows : List Row) (r : Result (Option ℤ) Error) → IfOk r (λ o. rows ≡ number_row o) → Selects g select_least [] old rows → IfOk r (λ o. Reads (state g old) (λ db. IsLeast (accepted_in db) o))
+finds_least_in g old rows (Err e) is h = tt
+finds_least_in g old rows (Ok o) is h = finds_least g old rows o h is
+
+pub finds_count_in : {S : Type 0} (g : Ghosts S) (old : Held S) (rows : List Row) (r : Result ℕ Error) → IfOk r (λ n. rows ≡ (Int (pos n) ∷ []) ∷ []) → IfOk r (λ n. n < 9223372036854775807) → Selects g select_count [] old rows
+    → IfOk r (λ n. Reads (state g old) (λ db. n ≡ length (accepted_in db)))
+finds_count_in g old rows (Err e) is below h = tt
+finds_count_in g old rows (Ok n) is below h = finds_count g old rows n h is below

@@ -1,0 +1,50 @@
+-- The test of a schema, and what holds of ours.
+use Rattle.std.proofs.Common.{◌≡◌, Bool, true, false, ◌&&◌, refl, sym, ap, ap₂, subst, true≢false}
+use Rattle.std.specs.List.{list_any}
+use Rattle.std.proofs.lemmas.Bool.{eqb-true, eq-eqb}
+use base.Stored.{Gv, gnil, gnum, gcons}
+use Rattle.sqlite.specs.Schema.{Schema}
+use Rattle.sqlite_schema.specs.Names.{same_name}
+use Rattle.sqlite_schema.specs.contracts.schema.Schema.{the_row}
+use Rattle.line_tables.specs.Line.{line_schema, is_ours, is_same_code}
+use Rattle.line_tables.specs.Names.{has_name, is_version, is_accepted}
+
+both : (a b : Bool) → (a && b) ≡ true → (a ≡ true) × (b ≡ true)
+both true b h = (refl, h)
+both false b h = absurd (true≢false (sym h))
+
+same_is : (a b : Gv) → is_same_code a b ≡ true → a ≡ b
+same_is gnil gnil h = refl
+same_is gnil (gnum n) h = absurd (true≢false (sym h))
+same_is gnil (gcons c d) h = absurd (true≢false (sym h))
+same_is (gnum m) gnil h = absurd (true≢false (sym h))
+same_is (gnum m) (gnum n) h = ap gnum (eqb-true m n h)
+same_is (gnum m) (gcons c d) h = absurd (true≢false (sym h))
+same_is (gcons a b) gnil h = absurd (true≢false (sym h))
+same_is (gcons a b) (gnum n) h = absurd (true≢false (sym h))
+same_is (gcons a b) (gcons c d) h = let p = both _ _ h in ap₂ gcons (same_is a c p.0) (same_is b d p.1)
+
+same_itself : (a : Gv) → is_same_code a a ≡ true
+same_itself gnil = refl
+same_itself (gnum n) = eq-eqb n n refl
+same_itself (gcons a b) = ap₂ (λ x y. x && y) (same_itself a) (same_itself b)
+
+-- the test finds our schema, and no other
+pub ours_is : (schema : Schema) → is_ours schema ≡ true → schema ≡ line_schema
+ours_is schema h = the_row.coded.inj schema line_schema (same_is _ _ h)
+
+pub is_ours_of : (schema : Schema) → schema ≡ line_schema → is_ours schema ≡ true
+is_ours_of schema is = subst (λ s. is_ours s ≡ true) (sym is) (same_itself (the_row.coded.code line_schema))
+
+-- our schema has the names
+pub ours_named : list_any has_name line_schema.tables ≡ true
+unfolding same_name
+ours_named = refl
+
+pub ours_versioned : list_any is_version line_schema.tables ≡ true
+unfolding same_name
+ours_versioned = refl
+
+pub ours_listed : list_any is_accepted line_schema.tables ≡ true
+unfolding same_name
+ours_listed = refl

@@ -1,0 +1,107 @@
+-- What the writes make of the tables.
+use Rattle.std.proofs.Common.{◌≡◌, ℕ, ℤ, pos, List, [], ◌∷◌, ◌++◌, map, fold, length, take, get_or, ◌<◌, ◌+◌, ◌==◌, not, ◌||◌, ◌&&◌, Bool, true, false, cond, refl, sym, ap, subst, ◌∙◌, arith}
+use Rattle.std.specs.List.{flat_map, filter_map}
+use Rattle.std.specs.List.Sorted.{IsPermutation}
+use Rattle.std.specs.Ordering.{is_eq, match_ordering}
+use Rattle.std.specs.declared.cmp.Ordering.TheVariants.{Less, Equal, Greater}
+use Rattle.std.proofs.lemmas.List.{take_more}
+use Rattle.std.proofs.lemmas.List.Sorted.{IsPermutation-refl, IsPermutation-cons, IsPermutation-trans, IsPermutation-map, IsPermutation-swap}
+use Rattle.sqlite.specs.declared.types.Value.TheVariants.{Null, Int}
+use Rattle.sqlite.specs.declared.types.Value.{Value}
+use Rattle.sqlite.specs.Order.{Row}
+use Rattle.sqlite.specs.Ops.{unary}
+use Rattle.sqlite.specs.Cast.{cast, cast_row}
+use Rattle.sqlite.specs.Kind.TheVariants.{Integer}
+use Rattle.sqlite_value.specs.Order.{value_cmp}
+use Rattle.sqlite_trees.specs.Tree.{rowid, put_row}
+use Rattle.sqlite_rules.specs.Action.{works, work_by, pairs, deed_for}
+use Rattle.sqlite_schema.specs.Rules.{parent_key}
+use Rattle.sqlite_schema.specs.declared.schema.Keys.TheVariants.{Enforced}
+use Rattle.sqlite_rules.specs.Edit.{is_taken, with_rowid}
+use Rattle.sqlite.specs.Rowids.TheVariants.{Chosen}
+use Rattle.sqlite.specs.State.{State}
+use Rattle.sqlite.specs.Effect.{Database}
+use Rattle.line_tables.specs.declared.edit.Accepted.{Accepted}
+use Rattle.line_tables.specs.declared.edit.Edit.{Edit}
+use Rattle.line_tables.specs.declared.edit.Edit.TheVariants.{PutAccepted}
+use Rattle.line_tables.specs.Line.{line_schema, accepted}
+use Rattle.line_tables.specs.Rows.{Tables, Holds, columns_of, accepted_columns, version_columns, with_edit, edited}
+use Rattle.line_tables.specs.Calls.{Runs, Edits, Writes}
+use Rattle.line_tables.proofs.Inserts.{Inserted, insert_does}
+use Rattle.line_tables.proofs.PutTexts.{insert_accepted, accepted_terms, insert_accepted_is}
+
+either : (b : Bool) (x : Value) → cond b x x ≡ x
+either true x = refl
+either false x = refl
+
+pub cast_int : (n : ℤ) → cast Integer (Int n) ≡ Int n
+unfolding unary
+cast_int n = either _ (Int n)
+
+pub cast_null : cast Integer Null ≡ Null
+unfolding unary
+cast_null = either _ Null
+
+-- no foreign key acts
+pub quiet : (tree : ℕ) (olds news : List Row) → works line_schema Enforced 0 tree olds news ≡ []
+quiet tree olds news =
+    elim (length news == 0) as (λ b. flat_map (λ child. filter_map (λ ref. work_by 0 tree (pairs olds news) child ref (deed_for Enforced b ref) (parent_key line_schema.tables ref)) child.references) line_schema.tables ≡ [])
+    [ true ↦ refl | false ↦ refl ]
+
+not_taken : (b : Bool) → (not b && true) ≡ true → b ≡ false
+not_taken true h = absurd (cc)
+not_taken false h = refl
+
+-- a row whose key is free is one more
+put_permutes : (rows : List Row) (new : Row) → is_taken rows new ≡ false → IsPermutation (put_row new rows) (new ∷ rows)
+put_permutes [] new h = IsPermutation-refl (new ∷ [])
+put_permutes (r ∷ rows) new h =
+    let o = value_cmp (rowid r) (rowid new) in
+    elim o as (λ o. (is_eq o || is_taken rows new) ≡ false → IsPermutation (match_ordering o (r ∷ put_row new rows) (new ∷ rows) (new ∷ r ∷ rows)) (new ∷ r ∷ rows)) [
+      | Less ↦ λ free. IsPermutation-trans _ _ _ (IsPermutation-cons r _ _ (put_permutes rows new free)) (IsPermutation-swap (r ∷ new ∷ rows) (new ∷ r ∷ rows) 0 1 (omega arith) (omega arith) refl)
+      | Equal ↦ λ free. absurd (cc)
+      | Greater ↦ λ free. IsPermutation-refl _
+    ] h
+
+-- a row of `accepted` as it is kept
+abbrev kept_row : Row → Row
+kept_row (id ∷ more) = id ∷ Null ∷ more
+kept_row [] = []
+
+row_cast : (a : Accepted) → cast_row accepted (kept_row (columns_of a)) ≡ kept_row (columns_of a)
+row_cast a = rw (cast_int (pos a.number), cast_int (pos a.own), cast_int (pos a.effective), cast_null) refl
+
+inserted_edits : (a : Accepted) (old new : State) → Inserted line_schema accepted (kept_row (columns_of a) ∷ []) old new → (tables : Tables) → Holds old.now tables → Holds new.now (with_edit tables (PutAccepted a))
+inserted_edits a old new went tables holds =
+    let rows = old.now.trees 1 in
+    let row = kept_row (columns_of a) in
+    let news : with_rowid Chosen rows (cast_row accepted row) ≡ row = ap (with_rowid Chosen rows) (row_cast a) in
+    let free : is_taken rows row ≡ false = not_taken (is_taken rows row) (subst (λ r. (not (is_taken rows r) && true) ≡ true) news went.step.fresh) in
+    let same : new.now.trees 0 ≡ old.now.trees 0 = went.step.tables.0 (λ e. cc) in
+    let put : new.now.trees 1 ≡ put_row row rows = went.step.rows ∙ ap (λ r. put_row r rows) news in
+    record {
+      schema = went.same;
+      version = ap (map version_columns) same ∙ holds.version;
+      accepted = subst (λ t. IsPermutation (map accepted_columns t) (columns_of a ∷ tables.accepted)) (sym put)
+          (IsPermutation-trans _ _ _ (IsPermutation-map accepted_columns _ _ (put_permutes rows row free)) (IsPermutation-cons (columns_of a) _ _ holds.accepted));
+    }
+
+pub puts_accepted : (a : Accepted) (old new : State) → Runs insert_accepted (columns_of a) old new → Writes (PutAccepted a ∷ []) old new
+puts_accepted a old new h = record {
+  was_open = h.shown.was_open;
+  done = λ tables holds.
+      inserted_edits a old new (insert_does insert_accepted (columns_of a) old new line_schema holds.schema 1 accepted accepted_terms 8 refl refl refl insert_accepted_is.0 insert_accepted_is.1 h.count h.executed (quiet 1 [])) tables holds;
+}
+
+fold_push : {A B : Type 0} (f : B → A → B) (b : B) (xs : List A) (x : A) → fold f b (xs ++ x ∷ []) ≡ f (fold f b xs) x
+fold_push f b [] x = refl
+fold_push f b (y ∷ ys) x = fold_push f (f b y) ys x
+
+pub edits_none : (db : Database) → Edits [] db db
+edits_none db tables h = h
+
+-- so many edits, and then the next one
+pub edits_more : (edits : List Edit) (i : ℕ) (e : Edit) (old mid new : Database) → i < length edits → e ≡ get_or edits i e → Edits (take i edits) old mid → Edits (e ∷ []) mid new → Edits (take (i + 1) edits) old new
+edits_more edits i e old mid new inside is done step tables h =
+    let next : take (i + 1) edits ≡ take i edits ++ e ∷ [] = take_more edits i e inside ∙ ap (λ x. take i edits ++ x ∷ []) (sym is) in
+    subst (Holds new) (sym (ap (λ l. edited l tables) next ∙ fold_push with_edit tables (take i edits) e)) (step _ (done tables h))

@@ -1,0 +1,39 @@
+use Rattle.std.proofs.Common.{◌≡◌, ◌∙◌, IsTrue, sym, ap, subst, arith, rules}
+use Rattle.std.proofs.lemmas.Result.{on_ok_weaker}
+use Rattle.sqlite.specs.Tree.{Trees}
+use Rattle.sqlite.specs.Effect.{Database}
+use Rattle.sqlite.specs.State.{HasCleanDisk, Survives}
+use Rattle.sqlite.specs.Held.{state}
+use Rattle.sqlite.proofs.StateLemmas.{survives_then}
+use Rattle.sqlite.proofs.Callers.{survives_begin}
+use Rattle.line_tables.specs.Calls.{LeavesBlank}
+use Rattle.line_tables.proofs.Leaves.{leaves_blank}
+use Rattle.line_tables.proofs.making.make.Goals as goal
+
+pub returns-clause-crash : goal.returns-clause-crash
+returns-clause-crash g c =
+    let old = c.args.conn.now in
+    let last = c.make_all.new.tx.conn.now in
+    let end = c.commit.new.self.0 in
+    let P = LeavesBlank c.args.greatest (state g.S.Store old) in
+    let begun = c.transaction-tx.ensures.begun in
+    let inside = survives_begin g.S.Store old (state g.S.Store last) _ (rw begun at c.make_all.ensures.survives) in
+    let whole = survives_then (state g.S.Store old) (state g.S.Store last) (state g.S.Store end) _ _ P (λ _ db none. absurd none)
+    (λ clean db is. leaves_blank g.S.Store old last db c.args.greatest (rw begun at (c.in_ok-make_all.ensures.made (omega (arith, c.commit.ensures.survives.clean)))) is) inside c.commit.ensures.survives in
+    let same : end ≡ c.conn-2-1.given.0 = search rules in
+    subst (λ h. Survives (state g.S.Store old) (state g.S.Store h) P) same whole
+
+pub returns-clause-alone : goal.returns-clause-alone
+returns-clause-alone g c clean =
+    let old = c.args.conn.now in
+    let last = c.make_all.new.tx.conn.now in
+    let end = c.commit.new.self.0 in
+    let same : end ≡ c.conn-2-1.given.0 = search rules in
+    let clean_end : HasCleanDisk (state g.S.Store end) = subst (λ h. HasCleanDisk (state g.S.Store h)) (sym same) clean in
+    let left : IsTrue (state g.S.Store c.conn-2-1.given.0).is_open → (db : Trees) → (state g.S.Store c.conn-2-1.given.0).may_leave db → db ≡ (state g.S.Store c.conn-2-1.given.0).committed.trees = search rules in
+    on_ok_weaker c.commit.result (λ done trees may.
+    let is_open = subst (λ h. IsTrue (state g.S.Store h).is_open) same done.1.is_open in
+    let committed = subst (λ h. (state g.S.Store h).committed ≡ (state g.S.Store last).now) same done.1.committed_is in
+    leaves_blank g.S.Store old last trees c.args.greatest (rw c.transaction-tx.ensures.begun at (c.in_ok-make_all.ensures.made (omega (arith, c.commit.ensures.survives.clean))))
+    (left is_open trees may ∙ ap (λ (db : Database). db.trees) committed)
+    ) (c.commit.ensures.ok clean_end)

@@ -1,0 +1,103 @@
+-- What the calls do to the tables, what they find in them, and what a crash may leave.
+use Rattle.std.specs.Prelude.{◌≡◌, ◌&&◌, IsTrue, ℕ, ℤ, pos, Bool, true, false, List, [], ◌∷◌, map, Ok, Option, Some, None}
+use Rattle.std.specs.List.{AllByRecursion}
+use Rattle.sqlite.specs.declared.types.Value.TheVariants.{Int, Text}
+use Rattle.std.specs.Ordering.{is_gt}
+use Rattle.std.specs.List.Sorted.{IsPermutation}
+use Rattle.sqlite_value.specs.declared.value.Value.{Value}
+use Rattle.sqlite_value.specs.Keys.{collated}
+use Rattle.sqlite_value.specs.Order.{Row, column}
+use Rattle.sqlite_schema.specs.Rules.{equal}
+use Rattle.sqlite_sql.specs.Ops.{binary, is_true}
+use Rattle.sqlite_sql.specs.declared.ops.BinaryOp.TheVariants.{Compare}
+use Rattle.sqlite_sql.specs.declared.ops.CompareOp.TheVariants.{Lt}
+use Rattle.sqlite.specs.Collation.TheVariants.{Binary}
+use Rattle.sqlite.specs.Effect.{Database}
+use Rattle.sqlite_trees.specs.Tree.{Trees}
+use Rattle.sqlite_trees.specs.declared.store.Store.{Ghosts}
+use Rattle.sqlite.specs.Held.{Held, state}
+use Rattle.sqlite.specs.State.{State, Shows, Shown, Executes}
+use Rattle.line_tables.specs.declared.edit.Accepted.{Accepted}
+use Rattle.line_tables.specs.declared.edit.Edit.{Edit}
+use Rattle.line_tables.specs.declared.version.Version.{Version}
+use Rattle.line_tables.specs.Line.{no_schema, line_schema}
+use Rattle.line_tables.specs.Rows.{Tables, Holds, HoldsAt, columns_of, blank, edited}
+
+-- whatever tables the one database holds, the other holds them with the edits made
+abbrev pub Edits : List Edit → Database → Database → Type 0
+Edits edits before after = (tables : Tables) → Holds before tables → Holds after (edited edits tables)
+
+-- the connection was open, and the edits were made inside its transaction
+pub record Writes (edits : List Edit) (old new : State) : Type 0 where
+  pub was_open : IsTrue old.is_open
+  pub done : Edits edits old.now new.now
+
+-- a crash may leave the tables of the last commit with the edits made
+pub record LeavesEdited (edits : List Edit) (old : State) (trees : Trees) : Type 0 where
+  pub was_open : IsTrue old.is_open
+  pub holds : (tables : Tables) → Holds old.committed tables → HoldsAt (edited edits tables) trees
+
+-- a crash may leave the tables of an empty list, where there was no table before
+pub record LeavesBlank (greatest : ℕ) (old : State) (trees : Trees) : Type 0 where
+  pub was_open : IsTrue old.is_open
+  pub holds : old.now.schema ≡ no_schema → HoldsAt (blank greatest) trees
+
+-- the connection was open, and the tables of an empty list were made inside its transaction, where there was no table before
+pub record Makes (greatest : ℕ) (old new : State) : Type 0 where
+  pub was_open : IsTrue old.is_open
+  pub done : old.now.schema ≡ no_schema → Holds new.now (blank greatest)
+
+-- the statement ran inside a transaction, which goes on
+pub record Runs (sql : List ℕ) (params : Row) (old new : State) : Type 0 where
+  pub count : ℕ
+  pub executed : Executes sql params old new (Ok count)
+  pub shown : Shows old new new.now old.committed true
+
+-- the query shows these rows, in a transaction of its own that sees what is committed
+pub record Selects {S : Type 0} (g : Ghosts S) (sql : List ℕ) (params : Row) (old : Held S) (rows : List Row) : Type 0 where
+  pub was_open : IsTrue (state g old).is_open
+  pub settled : (state g old).now ≡ (state g old).committed
+  pub after : Held S
+  pub shown : Shown sql params (state g (record old { in_transaction = true })) (state g after) rows
+
+-- the connection was open, and what is committed is so, where it has our schema
+pub record Reads (old : State) (Is : Database → Type 0) : Type 0 where
+  pub was_open : IsTrue old.is_open
+  pub are : old.committed.schema ≡ line_schema → Is old.committed
+
+-- the row has this UniqueID
+abbrev pub has_uid : List ℕ → Row → Bool
+has_uid uid row = equal Binary (column row 1) (Text uid)
+
+-- the row has this number
+abbrev pub has_number : ℕ → Row → Bool
+has_number number row = equal Binary (column row 0) (Int (pos number))
+
+-- the row has this UniqueID, and a number below this one
+abbrev pub is_before : List ℕ → ℕ → Row → Bool
+is_before uid number row = has_uid uid row && is_true (binary (Compare Lt Binary) (column row 0) (Int (pos number)))
+
+-- the columns of a row that was found, or none
+abbrev pub row_of : Option Accepted → List Row
+row_of None = []
+row_of (Some a) = columns_of a ∷ []
+
+-- a row that was found, or none
+abbrev pub only : Option Row → List Row
+only None = []
+only (Some row) = row ∷ []
+
+-- a number in a row of its own, or none
+abbrev pub number_row : Option ℤ → List Row
+number_row None = []
+number_row (Some n) = (Int n ∷ []) ∷ []
+
+-- the numbers of the rows are, in some order, this one and others, of which none is less in SQL's order of values; there is none where there is no row
+abbrev pub IsLeast : List Row → Option ℤ → Type 0
+IsLeast rows None = rows ≡ []
+IsLeast rows (Some n) = (others : List Value) × IsPermutation (map (λ row. column row 0) rows) (Int n ∷ others) × AllByRecursion (λ other. is_gt (collated Binary (Int n) other) ≡ false) others
+
+-- the rows of `version` are one with a 1 and these numbers, or are not of this form
+abbrev pub IsVersionOf : List Row → Option Version → Type 0
+IsVersionOf rows (Some v) = rows ≡ (Int (pos 1) ∷ Int v.number ∷ Int v.greatest ∷ []) ∷ []
+IsVersionOf rows None = (number greatest : ℤ) → rows ≡ (Int (pos 1) ∷ Int number ∷ Int greatest ∷ []) ∷ [] → ⊥

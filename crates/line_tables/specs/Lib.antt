@@ -1,0 +1,4 @@
+pub mod Line
+pub mod Rows
+pub mod Calls
+pub mod Names

@@ -1,0 +1,60 @@
+-- The rows of the tables, and what edits make of them.
+use Rattle.std.specs.Prelude.{◌≡◌, ℕ, pos, List, [], ◌∷◌, map, fold, string_bytes}
+use Rattle.std.specs.List.Sorted.{IsPermutation}
+use Rattle.sqlite.specs.declared.types.Value.TheVariants.{Int, Text}
+use Rattle.sqlite_value.specs.Order.{Row, column}
+use Rattle.sqlite.specs.Effect.{Database}
+use Rattle.sqlite_trees.specs.Tree.{Trees}
+use Rattle.line_tables.specs.declared.edit.Accepted.{Accepted}
+use Rattle.line_tables.specs.declared.edit.Edit.{Edit}
+use Rattle.line_tables.specs.declared.edit.Edit.TheVariants.{PutAccepted}
+use Rattle.line_tables.specs.Line.{line_schema}
+
+-- the columns of a row of `accepted`, in their order
+abbrev pub columns_of : Accepted → Row
+columns_of a = Int (pos a.number) ∷ Text (string_bytes a.uid) ∷ Text (string_bytes a.source) ∷ Int (pos a.own) ∷ Int (pos a.effective) ∷ Text (string_bytes a.command) ∷ Text (string_bytes a.detail) ∷ []
+
+-- the row of `version`: 1, the version of the tables, and the greatest number
+abbrev pub version_row : ℕ → Row
+version_row greatest = Int (pos 1) ∷ Int (pos 2) ∷ Int (pos greatest) ∷ []
+
+-- The columns of a kept row. It begins with its rowid, which is its first column, and has no value in that column's place.
+abbrev pub accepted_columns : Row → Row
+accepted_columns r = column r 0 ∷ column r 2 ∷ column r 3 ∷ column r 4 ∷ column r 5 ∷ column r 6 ∷ column r 7 ∷ []
+
+abbrev pub version_columns : Row → Row
+version_columns r = column r 0 ∷ column r 2 ∷ column r 3 ∷ []
+
+-- the rows of each table in a database of our schema
+abbrev pub version_in : Database → List Row
+version_in db = map version_columns (db.trees 0)
+
+abbrev pub accepted_in : Database → List Row
+accepted_in db = map accepted_columns (db.trees 1)
+
+-- the greatest number, and the rows of each other table, whose order says nothing
+pub record Tables : Type 0 where
+  pub greatest : ℕ
+  pub accepted : List Row
+
+-- the database has our schema, and these tables
+pub record Holds (db : Database) (tables : Tables) : Type 0 where
+  pub schema : db.schema ≡ line_schema
+  pub version : version_in db ≡ version_row tables.greatest ∷ []
+  pub accepted : IsPermutation (accepted_in db) tables.accepted
+
+-- what a crash may leave is a database with these tables
+abbrev pub HoldsAt : Tables → Trees → Type 0
+HoldsAt tables trees = (db : Database) × Holds db tables × (trees ≡ db.trees)
+
+-- the tables of an empty list
+abbrev pub blank : ℕ → Tables
+blank greatest = record { greatest = greatest; accepted = [] }
+
+-- the tables with one edit made
+abbrev pub with_edit : Tables → Edit → Tables
+with_edit tables (PutAccepted a) = record tables { accepted = columns_of a ∷ tables.accepted }
+
+-- the tables with the edits made, the first one first
+abbrev pub edited : List Edit → Tables → Tables
+edited edits tables = fold with_edit tables edits

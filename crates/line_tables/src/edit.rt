@@ -1,0 +1,25 @@
+//! What is written into the tables.
+
+/// A row of `accepted`.
+#[derive(Debug, Drop)]
+pub struct Accepted {
+    /// From 1.
+    pub number: u32,
+    pub uid: String,
+    pub source: String,
+    /// The minute that the message gives itself, since 1970-01-01T00:00Z.
+    pub own: u32,
+    /// The minute at which the command takes effect.
+    pub effective: u32,
+    /// The command's stored text.
+    pub command: String,
+    /// The whole text of the answer.
+    pub detail: String,
+}
+
+/// One change of one row.
+#[derive(Debug, Drop)]
+pub enum Edit {
+    /// A new row of `accepted`. It is refused where its number or its UniqueID is there.
+    PutAccepted(Accepted),
+}

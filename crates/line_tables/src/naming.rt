@@ -1,0 +1,117 @@
+//! The names of the tables and of their columns, in any case, as SQL reads names.
+
+ghost use Rattle.std.specs.Prelude.{◌≡◌, ◌↔◌, IsTrue};
+ghost use Rattle.std.specs.List.{list_any};
+ghost use Rattle.sqlite.specs.Held.{state};
+ghost use Rattle.line_tables.specs.Line.{no_schema};
+ghost use Rattle.line_tables.specs.Names.{has_name, is_version, is_accepted, has_column};
+
+use sqlite::{Alter, Connection};
+use sqlite_schema::names::same_name;
+use sqlite_schema::schema::Table;
+
+/// Whether there is no table, index or view.
+pub fn is_blank<S: Alter>(conn: &Connection<S>) -> bool
+    ensures { IsTrue result ↔ ((state S.Store conn.now).now.schema ≡ no_schema) }
+{
+    let schema = conn.schema();
+    schema.tables.is_empty() && schema.indexes.is_empty() && schema.views.is_empty()
+}
+
+/// Whether some table is named `version` or `accepted`.
+pub fn has_our_name<S: Alter>(conn: &Connection<S>) -> bool
+    ensures { result ≡ list_any has_name (state S.Store conn.now).now.schema.tables }
+{
+    any_name(conn.schema().tables.as_slice())
+}
+
+/// Whether there is a table `version` with its columns.
+pub fn has_version<S: Alter>(conn: &Connection<S>) -> bool
+    ensures { result ≡ list_any is_version (state S.Store conn.now).now.schema.tables }
+{
+    any_version(conn.schema().tables.as_slice())
+}
+
+/// Whether there is a table `accepted` with its columns.
+pub fn has_accepted<S: Alter>(conn: &Connection<S>) -> bool
+    ensures { result ≡ list_any is_accepted (state S.Store conn.now).now.schema.tables }
+{
+    any_accepted(conn.schema().tables.as_slice())
+}
+
+#[tactic(auto, using(std::proofs::lemmas::List::Folds::list_any_more, std::proofs::lemmas::List::Folds::list_any_at))]
+fn any_name(tables: &[Table]) -> bool
+    ensures { result ≡ list_any has_name tables.now }
+{
+    for table in tables {
+        if has_name(table) {
+            return true;
+        }
+    }
+    false
+}
+
+#[tactic(auto, using(std::proofs::lemmas::List::Folds::list_any_more, std::proofs::lemmas::List::Folds::list_any_at))]
+fn any_version(tables: &[Table]) -> bool
+    ensures { result ≡ list_any is_version tables.now }
+{
+    for table in tables {
+        if is_version(table) {
+            return true;
+        }
+    }
+    false
+}
+
+#[tactic(auto, using(std::proofs::lemmas::List::Folds::list_any_more, std::proofs::lemmas::List::Folds::list_any_at))]
+fn any_accepted(tables: &[Table]) -> bool
+    ensures { result ≡ list_any is_accepted tables.now }
+{
+    for table in tables {
+        if is_accepted(table) {
+            return true;
+        }
+    }
+    false
+}
+
+fn has_name(table: &Table) -> bool
+    ensures { result ≡ has_name table.now }
+{
+    let name = table.name.as_slice();
+    same_name(name, "version".as_bytes()) || same_name(name, "accepted".as_bytes())
+}
+
+fn is_version(table: &Table) -> bool
+    ensures { result ≡ is_version table.now }
+{
+    same_name(table.name.as_slice(), "version".as_bytes())
+        && has_column(table, "one")
+        && has_column(table, "number")
+        && has_column(table, "greatest")
+}
+
+fn is_accepted(table: &Table) -> bool
+    ensures { result ≡ is_accepted table.now }
+{
+    same_name(table.name.as_slice(), "accepted".as_bytes())
+        && has_column(table, "number")
+        && has_column(table, "uid")
+        && has_column(table, "source")
+        && has_column(table, "own")
+        && has_column(table, "effective")
+        && has_column(table, "command")
+        && has_column(table, "detail")
+}
+
+#[tactic(auto, using(std::proofs::lemmas::List::Folds::list_any_more, std::proofs::lemmas::List::Folds::list_any_at))]
+fn has_column(table: &Table, name: &str) -> bool
+    ensures { result ≡ has_column table.now name.now }
+{
+    for column in table.columns.as_slice() {
+        if same_name(column.name.as_slice(), name.as_bytes()) {
+            return true;
+        }
+    }
+    false
+}

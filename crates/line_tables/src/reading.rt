@@ -1,0 +1,161 @@
+//! What is read of the accepted commands. Each call reads what is committed, and changes nothing; in
+//! an open transaction of the caller's the error is `TransactionState`.
+
+ghost use Rattle.std.specs.Prelude.{◌≡◌, ◌<◌, false, pos, length, IfOk, [], ◌∷◌, filter};
+ghost use Rattle.std.specs.List.{list_any};
+ghost use Rattle.sqlite.specs.declared.types.Value.TheVariants.{Int};
+ghost use Rattle.sqlite.specs.State.{HasCleanDisk, Survives, KeepsCommit};
+ghost use Rattle.sqlite.specs.Held.{state};
+ghost use Rattle.line_tables.specs.Rows.{columns_of, accepted_in};
+ghost use Rattle.line_tables.specs.declared.reading.TheConstants.{MOST_COUNTED};
+ghost use Rattle.line_tables.specs.Calls.{Reads, has_uid, has_number, is_before, only, row_of, number_row, IsLeast};
+
+use crate::edit::Accepted;
+use crate::select::select;
+use sqlite::{Alter, Connection, Error, Row, params};
+
+/// SQL's count goes no higher.
+const MOST_COUNTED: u64 = 9_223_372_036_854_775_807;
+
+/// The row with this UniqueID, by the index on it, where there is one. Two such rows are an error,
+/// and so is one with a number outside `u32` or a value of another type.
+pub fn find<S: Alter>(conn: &mut Connection<S>, uid: &str) -> Result<Option<Accepted>, Error>
+    ensures found { HasCleanDisk (state S.Store conn.new) → IfOk result (λ found. Reads (state S.Store conn.old) (λ db. filter (has_uid uid.now) (accepted_in db) ≡ row_of found)) }
+    ensures kept { HasCleanDisk (state S.Store conn.new) → KeepsCommit (state S.Store conn.old) (state S.Store conn.new) }
+    ensures mode { conn.old.in_transaction ≡ false → conn.new.in_transaction ≡ false }
+    ensures survives { Survives (state S.Store conn.old) (state S.Store conn.new) (λ _. ⊥) }
+{
+    let rows = select(
+        conn,
+        "SELECT number, uid, source, own, effective, command, detail FROM accepted WHERE uid = ?1",
+        params![uid],
+    )?;
+    match at_most_one(rows)? {
+        Some(row) => Ok(Some(accepted_of(&row)?)),
+        None => Ok(None),
+    }
+}
+
+/// The seven columns of the row with this number, whatever their values, where there is one. Two such
+/// rows are an error.
+pub fn row_at<S: Alter>(conn: &mut Connection<S>, number: u32) -> Result<Option<Row>, Error>
+    ensures found { HasCleanDisk (state S.Store conn.new) → IfOk result (λ found. Reads (state S.Store conn.old) (λ db. filter (has_number number) (accepted_in db) ≡ only found)) }
+    ensures kept { HasCleanDisk (state S.Store conn.new) → KeepsCommit (state S.Store conn.old) (state S.Store conn.new) }
+    ensures mode { conn.old.in_transaction ≡ false → conn.new.in_transaction ≡ false }
+    ensures survives { Survives (state S.Store conn.old) (state S.Store conn.new) (λ _. ⊥) }
+{
+    let rows = select(
+        conn,
+        "SELECT number, uid, source, own, effective, command, detail FROM accepted WHERE number = ?1",
+        params![number],
+    )?;
+    at_most_one(rows)
+}
+
+/// Whether a row of a lower number has this UniqueID.
+pub fn is_repeat<S: Alter>(conn: &mut Connection<S>, uid: &str, number: u32) -> Result<bool, Error>
+    ensures found { HasCleanDisk (state S.Store conn.new) → IfOk result (λ found. Reads (state S.Store conn.old) (λ db. found ≡ list_any (is_before uid.now number) (accepted_in db))) }
+    ensures kept { HasCleanDisk (state S.Store conn.new) → KeepsCommit (state S.Store conn.old) (state S.Store conn.new) }
+    ensures mode { conn.old.in_transaction ≡ false → conn.new.in_transaction ≡ false }
+    ensures survives { Survives (state S.Store conn.old) (state S.Store conn.new) (λ _. ⊥) }
+{
+    let rows = select(
+        conn,
+        "SELECT number FROM accepted WHERE uid = ?1 AND number < ?2",
+        params![uid, number],
+    )?;
+    Ok(!rows.is_empty())
+}
+
+/// The least number of a row, or none where there is no row. A number that is no integer is an error.
+pub fn least_number<S: Alter>(conn: &mut Connection<S>) -> Result<Option<i64>, Error>
+    ensures least { HasCleanDisk (state S.Store conn.new) → IfOk result (λ least. Reads (state S.Store conn.old) (λ db. IsLeast (accepted_in db) least)) }
+    ensures kept { HasCleanDisk (state S.Store conn.new) → KeepsCommit (state S.Store conn.old) (state S.Store conn.new) }
+    ensures mode { conn.old.in_transaction ≡ false → conn.new.in_transaction ≡ false }
+    ensures survives { Survives (state S.Store conn.old) (state S.Store conn.new) (λ _. ⊥) }
+{
+    let rows = select(
+        conn,
+        "SELECT number FROM accepted ORDER BY number LIMIT 1",
+        &[],
+    )?;
+    least_of(rows.as_slice())
+}
+
+/// How many rows there are.
+pub fn count<S: Alter>(conn: &mut Connection<S>) -> Result<u64, Error>
+    ensures counted { HasCleanDisk (state S.Store conn.new) → IfOk result (λ n. Reads (state S.Store conn.old) (λ db. n ≡ length (accepted_in db))) }
+    ensures kept { HasCleanDisk (state S.Store conn.new) → KeepsCommit (state S.Store conn.old) (state S.Store conn.new) }
+    ensures mode { conn.old.in_transaction ≡ false → conn.new.in_transaction ≡ false }
+    ensures survives { Survives (state S.Store conn.old) (state S.Store conn.new) (λ _. ⊥) }
+{
+    let rows = select(conn, "SELECT count(*) FROM accepted", &[])?;
+    count_of(rows.as_slice())
+}
+
+fn at_most_one(rows: Vec<Row>) -> Result<Option<Row>, Error>
+    ensures { IfOk result (λ found. rows.items ≡ only found) }
+{
+    let mut rows = rows;
+    let last = rows.pop();
+    if rows.is_empty() {
+        Ok(last)
+    } else {
+        Err(Error::InvalidQuery)
+    }
+}
+
+fn accepted_of(row: &Row) -> Result<Accepted, Error>
+    ensures { IfOk result (λ accepted. row.now ≡ columns_of accepted) }
+{
+    if row.column_count() != 7 {
+        return Err(Error::InvalidColumnIndex(7));
+    }
+    Ok(Accepted {
+        number: row.get(0)?,
+        uid: row.get(1)?,
+        source: row.get(2)?,
+        own: row.get(3)?,
+        effective: row.get(4)?,
+        command: row.get(5)?,
+        detail: row.get(6)?,
+    })
+}
+
+fn least_of(rows: &[Row]) -> Result<Option<i64>, Error>
+    ensures { IfOk result (λ least. rows.now ≡ number_row least) }
+{
+    match rows {
+        [] => Ok(None),
+        [row] => Ok(Some(number_of(row)?)),
+        _ => Err(Error::InvalidColumnIndex(1)),
+    }
+}
+
+fn number_of(row: &Row) -> Result<i64, Error>
+    ensures { IfOk result (λ n. row.now ≡ Int n ∷ []) }
+{
+    if row.column_count() != 1 {
+        return Err(Error::InvalidColumnIndex(1));
+    }
+    row.get(0)
+}
+
+/// The one number, below the greatest `i64`, at which SQL's count stays.
+fn count_of(rows: &[Row]) -> Result<u64, Error>
+    ensures row { IfOk result (λ n. rows.now ≡ (Int (pos n) ∷ []) ∷ []) }
+    ensures below { IfOk result (λ n. n < MOST_COUNTED) }
+{
+    let [row] = rows else {
+        return Err(Error::InvalidColumnIndex(1));
+    };
+    if row.column_count() != 1 {
+        return Err(Error::InvalidColumnIndex(1));
+    }
+    let n: u64 = row.get(0)?;
+    if n < MOST_COUNTED {
+        Ok(n)
+    } else {
+        Err(Error::IntegralValueOutOfRange(0))
+    }
+}

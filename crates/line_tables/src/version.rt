@@ -1,0 +1,67 @@
+//! The row of `version`.
+
+ghost use Rattle.std.specs.Prelude.{◌≡◌, ◌<◌, ℤ, pos, false, length, IfOk, IfSome, IfNone, [], ◌∷◌};
+ghost use Rattle.sqlite.specs.declared.types.Value.TheVariants.{Int};
+ghost use Rattle.sqlite_value.specs.Order.{column};
+ghost use Rattle.sqlite.specs.State.{HasCleanDisk, Survives, KeepsCommit};
+ghost use Rattle.sqlite.specs.Held.{state};
+ghost use Rattle.line_tables.specs.Rows.{version_in as rows_of_version};
+ghost use Rattle.line_tables.specs.Calls.{Reads, IsVersionOf};
+
+use crate::select::select;
+use sqlite::types::ValueRef;
+use sqlite::{Alter, Connection, Error, Row};
+
+/// The whole numbers of the row of `version`.
+#[derive(Debug, Drop)]
+pub struct Version {
+    /// The version of the tables.
+    pub number: i64,
+    /// The greatest number that is given.
+    pub greatest: i64,
+}
+
+/// The version, where `version` has just one row, of three whole numbers with the first 1. In an open
+/// transaction of the caller's the error is `TransactionState`.
+pub fn find_version<S: Alter>(conn: &mut Connection<S>) -> Result<Option<Version>, Error>
+    ensures read { HasCleanDisk (state S.Store conn.new) → IfOk result (λ found. Reads (state S.Store conn.old) (λ db. IsVersionOf (rows_of_version db) found)) }
+    ensures kept { HasCleanDisk (state S.Store conn.new) → KeepsCommit (state S.Store conn.old) (state S.Store conn.new) }
+    ensures mode { conn.old.in_transaction ≡ false → conn.new.in_transaction ≡ false }
+    ensures survives { Survives (state S.Store conn.old) (state S.Store conn.new) (λ _. ⊥) }
+{
+    let rows = select(conn, "SELECT one, number, greatest FROM version", &[])?;
+    Ok(version_in(rows.as_slice()))
+}
+
+fn version_in(rows: &[Row]) -> Option<Version>
+    ensures { IsVersionOf rows.now result }
+{
+    match rows {
+        [row] => version_of(row),
+        _ => None,
+    }
+}
+
+fn version_of(row: &Row) -> Option<Version>
+    ensures { IsVersionOf (row.now ∷ []) result }
+{
+    if row.column_count() != 3 {
+        return None;
+    }
+    let (Some(1), Some(number), Some(greatest)) = (int_at(row, 0), int_at(row, 1), int_at(row, 2))
+    else {
+        return None;
+    };
+    Some(Version { number, greatest })
+}
+
+fn int_at(row: &Row, at: usize) -> Option<i64>
+    requires { at < length row.now }
+    ensures some { IfSome result (λ n. column row.now at ≡ Int n) }
+    ensures none { IfNone result ((n : ℤ) → column row.now at ≡ Int n → ⊥) }
+{
+    match row.get_ref(at) {
+        Ok(ValueRef::Int(n)) => Some(n),
+        _ => None,
+    }
+}
