@@ -1,3 +1,4 @@
+pub mod ConstantRows
 pub mod Faults
 pub mod Items
 pub mod Names

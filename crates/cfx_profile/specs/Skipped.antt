@@ -1,50 +1,92 @@
 -- Which members are looked at. Every other member is skipped, whatever its value: that is a law, proved of what a message says.
-use Rattle.std.specs.Prelude.{◌≡◌, ⊤, ℕ, Some, List, [], ◌∷◌}
-use Rattle.serde_json.specs.Data.{Data, Members, object}
+use Rattle.std.specs.Prelude.{◌≡◌, ◌⊎◌, ⊤, ℕ, Option, Some, None, Ok, List, [], ◌∷◌}
+use Rattle.serde_json.specs.Data.{Data, Items, Members, array, object}
 use Rattle.serde_json.specs.Find.{get}
+use Rattle.desk_types.specs.declared.level.Level.TheVariants.{Six}
 use Rattle.cfx_profile.specs.declared.member.Member.{Member}
 use Rattle.cfx_profile.specs.declared.member.Member.TheVariants.{MessageName, UniqueId, Source, TimeStamp, MessageBody, PartNumber, Alternate, Product, Machine, Rows, Slot, Designators, Reel, Lot, Level, Quantity, LabelMinutes, Board, Counts}
 use Rattle.cfx_profile.specs.declared.word.Word.{Word}
 use Rattle.cfx_profile.specs.declared.word.Word.TheVariants as word
-use Rattle.cfx_profile.specs.Bodies.{command_in}
+use Rattle.cfx_profile.specs.Forms.{text_at, level_in}
+use Rattle.cfx_profile.specs.Lists.{items_list}
 use Rattle.cfx_profile.specs.Member.{member_text}
 use Rattle.cfx_profile.specs.Message.{value_of, said}
+use Rattle.cfx_profile.specs.Word.{word_of}
 
--- the members of a body
-abbrev pub body_members : Word → List Member
-body_members word.PartDefined = PartNumber ∷ []
-body_members word.AlternateAllowed = PartNumber ∷ Alternate ∷ []
-body_members word.SheetDefined = Product ∷ Machine ∷ Rows ∷ []
-body_members word.ProductSelected = Machine ∷ Product ∷ []
-body_members word.ReelReceived = Reel ∷ PartNumber ∷ Lot ∷ Level ∷ Quantity ∷ LabelMinutes ∷ []
-body_members word.ReelOpened = Reel ∷ []
-body_members word.ReelSealed = Reel ∷ []
-body_members word.ReelBaked = Reel ∷ []
-body_members word.MaterialsLoaded = Machine ∷ Slot ∷ Reel ∷ []
-body_members word.MaterialsSpliced = Machine ∷ Slot ∷ Reel ∷ []
-body_members word.MaterialsUnloaded = Machine ∷ Slot ∷ []
-body_members word.WorkStarted = Machine ∷ Board ∷ []
-body_members word.WorkCompleted = Machine ∷ Board ∷ []
-body_members word.MaterialsInstalled = Machine ∷ Board ∷ Designators ∷ []
-body_members word.MaterialsScrapped = Machine ∷ Slot ∷ Quantity ∷ []
-body_members word.CountsTaken = Counts ∷ []
-body_members word.ClockSet = []
+-- ---- members
 
--- the members of an envelope
-abbrev pub envelope_members : List Member
-envelope_members = MessageName ∷ UniqueId ∷ Source ∷ TimeStamp ∷ MessageBody ∷ []
+-- two values have the same of a member, or neither has it
+abbrev pub SameOf : Member → Data → Data → Type 0
+SameOf m a b = get (member_text m) a ≡ get (member_text m) b
 
--- two values have the same of each of these members, or neither has it
+-- so of each of these members
 abbrev pub AgreeOn : List Member → Data → Data → Type 0
 AgreeOn [] a b = ⊤
-AgreeOn (m ∷ ms) a b = (get (member_text m) a ≡ get (member_text m) b) × AgreeOn ms a b
+AgreeOn (m ∷ ms) a b = SameOf m a b × AgreeOn ms a b
 
--- bodies that agree on the members of a message say the same of it
-abbrev pub BodySkipsOthers : Word → Type 0
-BodySkipsOthers word = (a b : Data) → AgreeOn (body_members word) a b → command_in word a ≡ command_in word b
+-- ---- rows
 
--- messages that are objects and agree on the members of an envelope say the same
-abbrev pub MessageSkipsOthers : Type 0
-MessageSkipsOthers =
+-- two rows are the same, or objects that agree on these members
+abbrev pub RowsAgree : List Member → Data → Data → Type 0
+RowsAgree ms a b = (a ≡ b) ⊎ ((p : Members) × (q : Members) × (a ≡ object p) × (b ≡ object q) × AgreeOn ms (object p) (object q))
+
+-- as many rows, and each agrees
+abbrev pub AllRowsAgree : List Member → List Data → List Data → Type 0
+AllRowsAgree ms [] [] = ⊤
+AllRowsAgree ms (a ∷ ds) (b ∷ es) = RowsAgree ms a b × AllRowsAgree ms ds es
+AllRowsAgree ms [] (b ∷ es) = ⊥
+AllRowsAgree ms (a ∷ ds) [] = ⊥
+
+-- the member is the same, or a list of rows that agree
+abbrev pub ListsAgree : List Member → Member → Data → Data → Type 0
+ListsAgree ms m a b =
+    SameOf m a b
+    ⊎ ((xs : Items) × (ys : Items) × (get (member_text m) a ≡ Some (array xs)) × (get (member_text m) b ≡ Some (array ys)) × AllRowsAgree ms (items_list xs) (items_list ys))
+
+-- ---- bodies
+
+-- the label is looked at only at level 6
+abbrev pub LabelsAgree : Data → Data → Type 0
+LabelsAgree a b = level_in Level a ≡ Ok Six → SameOf LabelMinutes a b
+
+-- two bodies agree on the members of a message, and their rows on those of a row
+abbrev pub BodiesAgree : Word → Data → Data → Type 0
+BodiesAgree word.PartDefined a b = AgreeOn (PartNumber ∷ []) a b
+BodiesAgree word.AlternateAllowed a b = AgreeOn (PartNumber ∷ Alternate ∷ []) a b
+BodiesAgree word.SheetDefined a b = AgreeOn (Product ∷ Machine ∷ []) a b × ListsAgree (Slot ∷ PartNumber ∷ Designators ∷ []) Rows a b
+BodiesAgree word.ProductSelected a b = AgreeOn (Machine ∷ Product ∷ []) a b
+BodiesAgree word.ReelReceived a b = AgreeOn (Reel ∷ PartNumber ∷ Lot ∷ Level ∷ Quantity ∷ []) a b × LabelsAgree a b
+BodiesAgree word.ReelOpened a b = AgreeOn (Reel ∷ []) a b
+BodiesAgree word.ReelSealed a b = AgreeOn (Reel ∷ []) a b
+BodiesAgree word.ReelBaked a b = AgreeOn (Reel ∷ []) a b
+BodiesAgree word.MaterialsLoaded a b = AgreeOn (Machine ∷ Slot ∷ Reel ∷ []) a b
+BodiesAgree word.MaterialsSpliced a b = AgreeOn (Machine ∷ Slot ∷ Reel ∷ []) a b
+BodiesAgree word.MaterialsUnloaded a b = AgreeOn (Machine ∷ Slot ∷ []) a b
+BodiesAgree word.WorkStarted a b = AgreeOn (Machine ∷ Board ∷ []) a b
+BodiesAgree word.WorkCompleted a b = AgreeOn (Machine ∷ Board ∷ []) a b
+BodiesAgree word.MaterialsInstalled a b = AgreeOn (Machine ∷ Board ∷ Designators ∷ []) a b
+BodiesAgree word.MaterialsScrapped a b = AgreeOn (Machine ∷ Slot ∷ Quantity ∷ []) a b
+BodiesAgree word.CountsTaken a b = ListsAgree (Reel ∷ Quantity ∷ []) Counts a b
+BodiesAgree word.ClockSet a b = ⊤
+
+-- ---- messages
+
+-- two envelopes have the same body, or bodies that agree for the word
+abbrev pub BodiesAgreeIn : Word → Data → Data → Type 0
+BodiesAgreeIn w a b =
+    SameOf MessageBody a b
+    ⊎ ((p : Members) × (q : Members) × (get (member_text MessageBody) a ≡ Some (object p)) × (get (member_text MessageBody) b ≡ Some (object q))
+    × BodiesAgree w (object p) (object q))
+
+-- of a message of another name nothing else is looked at
+abbrev pub EnvelopesAgree : Option Word → Data → Data → Type 0
+EnvelopesAgree None a b = ⊤
+EnvelopesAgree (Some w) a b = AgreeOn (UniqueId ∷ Source ∷ TimeStamp ∷ []) a b × BodiesAgreeIn w a b
+
+-- messages that are objects of the same name, and agree on what is looked at under that name, say the same
+abbrev pub OthersAreSkipped : Type 0
+OthersAreSkipped =
     (bytes others : List ℕ) (a b : Members) → value_of bytes ≡ Some (object a) → value_of others ≡ Some (object b)
-    → AgreeOn envelope_members (object a) (object b) → said bytes ≡ said others
+    → SameOf MessageName (object a) (object b)
+    → ((name : List ℕ) → text_at MessageName (object a) ≡ Some name → EnvelopesAgree (word_of name) (object a) (object b))
+    → said bytes ≡ said others

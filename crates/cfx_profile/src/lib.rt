@@ -24,3 +24,4 @@ pub use member::Member;
 pub use message::{Said, read_message};
 pub use minute::{MinuteFault, read_minute};
 pub use skipped::other_members_are_skipped;
+pub use word::words_are_read;

@@ -1,11 +1,10 @@
-//! Laws over what messages say. They are for proofs, and do nothing when they run.
+//! A law over what messages say. It is for proofs, and does nothing when it runs.
 
-ghost use Rattle.cfx_profile.specs.declared.word.Word.{Word};
-ghost use Rattle.cfx_profile.specs.Skipped.{BodySkipsOthers, MessageSkipsOthers};
+ghost use Rattle.cfx_profile.specs.Skipped.{OthersAreSkipped};
 
-/// The members of a body that are not those of its message are skipped, whatever their values, and
-/// so are those of an envelope that are not among its five.
+/// What a message says depends on its name, and where that is one of the seventeen on the other
+/// four members of its envelope, on the members of its body that the name asks for, in rows on
+/// those of a row, and at level 6 on the label; and on no other member, whatever its value.
 pub fn other_members_are_skipped()
-    ensures body { (word : Word) → BodySkipsOthers word }
-    ensures envelope { MessageSkipsOthers }
+    ensures { OthersAreSkipped }
 {}

@@ -1,6 +1,7 @@
 //! The messages of this project's profile, by name.
 
-ghost use Rattle.std.specs.Prelude.{◌≡◌, find, option_map};
+ghost use Rattle.std.specs.Prelude.{◌≡◌, Some, find, option_map};
+ghost use Rattle.cfx_profile.specs.declared.word.Word.{Word};
 ghost use Rattle.desk_types.specs.Id.{same};
 ghost use Rattle.cfx_profile.specs.Word.{message_name, word_of};
 
@@ -82,6 +83,11 @@ impl Word {
         }
     }
 }
+
+/// A law: the name of each word's messages is read as that word. It does nothing when it runs.
+pub fn words_are_read()
+    ensures { (word : Word) → word_of (message_name word) ≡ Some word }
+{}
 
 /// The first of some words with messages of this name.
 fn named<'a>(words: &'a [Word], name: &str) -> Option<&'a Word>

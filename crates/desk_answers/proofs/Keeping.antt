@@ -1,35 +1,67 @@
 -- Entries and the texts of their answers.
-use Rattle.std.proofs.Common.{◌≡◌, ◌∙◌, ◌+◌, ◌-◌, ◌<◌, ◌≤◌, ℕ, Bool, true, false, cond, List, [], ◌∷◌, ◌++◌, reverse, length, length-append, get_or, sym, ap, refl, subst, arith, Option, Some, None, find, append_assoc}
+use Rattle.std.proofs.Common.{◌≡◌, ◌∙◌, ◌+◌, ◌-◌, ◌<◌, ◌≤◌, ℕ, Bool, true, false, cond, List, [], ◌∷◌, ◌++◌, reverse, length, length-append, get_or, sym, ap, refl, subst, arith, Option, Some, None, find, map, append_assoc}
+use Rattle.std.specs.List.{AllByRecursion, IsDistinct}
+use Rattle.std.proofs.lemmas.Map.Keys.{IsDistinct-cons}
 use Rattle.std.proofs.Math.Seq.{get_or-append_seam}
 use Rattle.std.proofs.lemmas.List.{reverse-append, reverse-reverse, length-reverse}
 use Rattle.desk_types.specs.declared.change.Change.{Change}
 use Rattle.desk_types.specs.declared.command.Entry.{Entry}
 use Rattle.desk_types.specs.declared.command.Stamped.{Stamped}
+use Rattle.desk_types.specs.declared.desk.TheConstants.{MOST_ENTRIES}
+use Rattle.desk_types.specs.declared.rules.Rules.{Rules}
 use Rattle.desk_types.specs.Desk.{IsChange}
 use Rattle.desk_types.specs.History.{History, accept, entry_of}
-use Rattle.desk_types.specs.Id.{same}
+use Rattle.desk_types.specs.Id.{Name, same}
+use Rattle.desk_types.specs.Judged.{IsJudged}
+use Rattle.desk_types.proofs.Keys.{same-sym}
 use Rattle.desk_answers.specs.declared.answer.Answer.{Answer}
 use Rattle.desk_answers.specs.declared.answer.Answer.TheVariants.{Accepted, IdReused}
 use Rattle.desk_answers.specs.Commands.{first_text, texts_of, answer_under, earlier_answer}
-use Rattle.desk_answers.specs.PlainLine.{IsNumbered}
+use Rattle.desk_answers.specs.PlainLine.{IsKept}
 use Rattle.desk_answers.specs.Repeats.{is_same}
 use Rattle.desk_answers.specs.Texts.{accepted_text}
 
 -- ---- a command is accepted
 
+none-yet : IsDistinct same []
+unfolding IsDistinct
+none-yet = tt
+
+-- no text yet for no entry
+pub keeps-none : (greatest : ℕ) → greatest ≤ MOST_ENTRIES → IsKept greatest [] []
+keeps-none greatest most = record { most = most; numbers = omega arith; uids = none-yet; answered = refl }
+
+-- no entry has the UniqueID of a message that comes for the first time
+first-uid : (H : History) (s : Stamped) → earlier_answer H s ≡ None → AllByRecursion (λ uid. same s.uid uid ≡ false) (map (λ (e : Entry). e.stamped.uid) H)
+first-uid [] s none = tt
+first-uid (e ∷ H) s none = by (same e.stamped.uid s.uid) refl none (first-uid H s)
+  where
+    others : List Name
+    others = map (λ (x : Entry). x.stamped.uid) H
+
+    by : (b : Bool) → same e.stamped.uid s.uid ≡ b → cond b (Some (answer_under H e s)) (earlier_answer H s) ≡ None
+        → (earlier_answer H s ≡ None → AllByRecursion (λ uid. same s.uid uid ≡ false) others) → AllByRecursion (λ uid. same s.uid uid ≡ false) (e.stamped.uid ∷ others)
+    by true is none rest = absurd (cc)
+    by false is none rest = (same-sym s.uid e.stamped.uid ∙ is, rest none)
+
 -- the list and the texts go on together
-pub keeps_on : (H H' : History) (change : Change) (texts texts' : List (List ℕ)) (text kept : List ℕ) (count : ℕ)
-    → IsChange H change.stamped change → IsNumbered H → reverse texts ≡ texts_of H
+pub keeps-on : (rules : Rules) (greatest : ℕ) (H H' : History) (change : Change) (texts texts' : List (List ℕ)) (text kept : List ℕ) (count : ℕ)
+    → IsChange rules H change.stamped change → earlier_answer H change.stamped ≡ None → IsKept greatest H texts → length H < greatest
     → count ≡ length H → text ≡ accepted_text (count + 1) change.stamped.uid change.detail → kept ≡ text
-    → texts' ≡ texts ++ kept ∷ [] → H' ≡ accept H change.stamped → IsNumbered H' × (reverse texts' ≡ texts_of H')
-keeps_on H H' change texts texts' text kept count is_change numbered as_kept counted is_text same_text more after =
+    → texts' ≡ texts ++ kept ∷ [] → H' ≡ accept H change.stamped → IsKept greatest H' texts'
+keeps-on rules greatest H H' change texts texts' text kept count is_change first_time keeps room counted is_text same_text more after =
     let first : kept ≡ first_text H (entry_of H change.stamped) =
     same_text ∙ is_text ∙ ap (λ n. accepted_text (n + 1) change.stamped.uid change.detail) counted
     ∙ ap (λ (x : Change). accepted_text (length H + 1) change.stamped.uid x.detail) is_change.value in
-    let front : reverse texts' ≡ kept ∷ texts_of H = ap reverse more ∙ reverse-append texts (kept ∷ []) ∙ ap (λ l. kept ∷ l) as_kept in (
-      subst IsNumbered (sym after) (refl, numbered),
-      front ∙ ap (λ t. t ∷ texts_of H) first ∙ sym (ap texts_of after),
-    )
+    let front : reverse texts' ≡ kept ∷ texts_of H = ap reverse more ∙ reverse-append texts (kept ∷ []) ∙ ap (λ l. kept ∷ l) keeps.answered in
+    let uids = map (λ (e : Entry). e.stamped.uid) H in
+    record {
+      most = keeps.most;
+      numbers = omega (arith, room, ap length after);
+      uids = subst (λ (G : History). IsDistinct same (map (λ (e : Entry). e.stamped.uid) G)) (sym after)
+          (IsDistinct-cons same change.stamped.uid uids (first-uid H change.stamped first_time) keeps.uids);
+      answered = front ∙ ap (λ t. t ∷ texts_of H) first ∙ sym (ap texts_of after);
+    }
 
 -- ---- a message comes under the UniqueID of an entry
 
@@ -53,19 +85,19 @@ pub none_stands : (H : History) (s : Stamped) → find (λ (e : Entry). same e.s
 none_stands [] s h = refl
 none_stands (e ∷ H) s h = none_step (same e.stamped.uid s.uid) e _ (answer_under H e s) _ h (none_stands H s)
 
-some_step : (b : Bool) (e : Entry) (H : History) (s : Stamped) (first : Entry) → same e.stamped.uid s.uid ≡ b → IsNumbered (e ∷ H)
+some_step : (rules : Rules) (b : Bool) (e : Entry) (H : History) (s : Stamped) (first : Entry) → same e.stamped.uid s.uid ≡ b → IsJudged rules (e ∷ H)
     → cond b (Some e) (find (λ (x : Entry). same x.stamped.uid s.uid) H) ≡ Some first
     → (find (λ (x : Entry). same x.stamped.uid s.uid) H ≡ Some first → Stands H s first) → Stands (e ∷ H) s first
-some_step true e H s first is numbered h ih =
+some_step rules true e H s first is judged h ih =
     let it : e ≡ first = cc in
     subst (Stands (e ∷ H) s) it (record {
       before = H;
       newer = [];
       answer = ap (λ b. cond b (Some (answer_under H e s)) (earlier_answer H s)) is;
       texts = refl;
-      number = omega (arith, numbered.0, texts_of-length H);
+      number = omega (arith, judged.0.number, texts_of-length H);
     })
-some_step false e H s first is numbered h ih =
+some_step rules false e H s first is judged h ih =
     let got = ih h in
     record {
       before = got.before;
@@ -75,9 +107,9 @@ some_step false e H s first is numbered h ih =
       number = got.number;
     }
 
-pub some_stands : (H : History) (s : Stamped) (first : Entry) → IsNumbered H → find (λ (e : Entry). same e.stamped.uid s.uid) H ≡ Some first → Stands H s first
-some_stands [] s first numbered h = absurd (cc)
-some_stands (e ∷ H) s first numbered h = some_step (same e.stamped.uid s.uid) e H s first refl numbered h (some_stands H s first numbered.1)
+pub some_stands : (rules : Rules) (H : History) (s : Stamped) (first : Entry) → IsJudged rules H → find (λ (e : Entry). same e.stamped.uid s.uid) H ≡ Some first → Stands H s first
+some_stands rules [] s first judged h = absurd (cc)
+some_stands rules (e ∷ H) s first judged h = some_step rules (same e.stamped.uid s.uid) e H s first refl judged h (some_stands rules H s first judged.1)
 
 -- its text stands in the place before its number
 pub text_stands : (H : History) (s : Stamped) (e : Entry) (texts : List (List ℕ)) (d : List ℕ) (at : Stands H s e) → reverse texts ≡ texts_of H

@@ -4,6 +4,7 @@ use Rattle.desk_types.specs.declared.answer.Reply.{Reply}
 use Rattle.desk_types.specs.declared.answer.Reply.TheVariants as reply
 use Rattle.desk_types.specs.declared.command.Entry.{Entry}
 use Rattle.desk_types.specs.declared.command.Stamped.{Stamped}
+use Rattle.desk_types.specs.declared.rules.Rules.{Rules}
 use Rattle.desk_types.specs.Id.{Name, same}
 use Rattle.desk_types.specs.History.{History}
 use Rattle.desk_types.specs.Outcome.{detail_of, reply_to, after_command}
@@ -44,13 +45,13 @@ judged_answer H s (reply.Refused refusal) = Refused refusal
 abbrev pub is_full : ℕ → History → Bool
 is_full greatest H = nat_le greatest (length H)
 
--- the answer to a command after H, the first of these that applies: by the entry with its UniqueID, that the desk is full, or by its judgement
-abbrev pub command_answer : ℕ → History → Stamped → Answer
-command_answer greatest H s = unwrap_or (earlier_answer H s) (if is_full greatest H then DeskFull else judged_answer H s (reply_to H s))
+-- the answer to a command after H by the rules, the first of these that applies: by the entry with its UniqueID, that the desk is full, or by its judgement
+abbrev pub command_answer : Rules → ℕ → History → Stamped → Answer
+command_answer rules greatest H s = unwrap_or (earlier_answer H s) (if is_full greatest H then DeskFull else judged_answer H s (reply_to rules H s))
 
 -- the list after it: with the command where it is judged and accepted, and else as it was
-abbrev pub command_after : ℕ → History → Stamped → History
-command_after greatest H s = if is_some (earlier_answer H s) || is_full greatest H then H else after_command H s
+abbrev pub command_after : Rules → ℕ → History → Stamped → History
+command_after rules greatest H s = if is_some (earlier_answer H s) || is_full greatest H then H else after_command rules H s
 
 -- ---- as texts
 

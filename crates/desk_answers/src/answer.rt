@@ -1,9 +1,10 @@
 //! What a command is answered.
 
-ghost use Rattle.std.specs.Prelude.{◌≡◌, false, map, IfOk, IsOk};
+ghost use Rattle.std.specs.Prelude.{◌≡◌, ℕ, false, List, map, Ok, IfOk};
 ghost use Rattle.serde_json.specs.Data.{array, string};
 ghost use Rattle.serde_json.specs.View.{view, items_of};
 ghost use Rattle.serde_json.specs.Written.{compact_text, has_float};
+ghost use Rattle.desk_answers.specs.declared.answer.Answer.TheVariants as Answer;
 ghost use Rattle.desk_answers.specs.Commands.{answer_text, is_refused};
 ghost use Rattle.desk_answers.specs.Texts.{minutes, accepted, accepted_text, refusal_word, place_of, refused, refused_text, id_reused, id_reused_text, desk_full, desk_full_text};
 
@@ -30,7 +31,8 @@ pub enum Answer {
 impl Answer {
     /// The text of the answer to the message with this UniqueID. Of `Accepted` it takes no memory.
     pub fn into_text(self, alloc: Global, uid: &Id) -> Result<Text, AllocError>
-        ensures { IfOk result (λ text. text ≡ answer_text uid.now self) }
+        ensures accepted { (number : ℕ) (text : List ℕ) → self ≡ Answer.Accepted number text → result ≡ Ok text }
+        ensures text { IfOk result (λ text. text ≡ answer_text uid.now self) }
     {
         match self {
             Answer::Accepted(_, text) => Ok(text),

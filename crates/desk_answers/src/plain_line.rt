@@ -1,12 +1,14 @@
 //! A desk that keeps the answers to the commands that it accepted.
 
-ghost use Rattle.std.specs.Prelude.{◌≡◌, ◌<◌, ◌≤◌, [], length, true, IfOk, OnOk, OnErr};
+ghost use Rattle.std.specs.Prelude.{◌≡◌, ◌<◌, ◌≤◌, [], length, None, true, IfOk, OnOk, OnErr};
 ghost use Rattle.desk_types.specs.declared.answer.Reply.TheVariants as Reply;
+ghost use Rattle.desk_types.specs.declared.rules.Rules.TheVariants.{Two};
 ghost use Rattle.desk_types.specs.Desk.{IsChange};
 ghost use Rattle.desk_types.specs.History.{accept};
+ghost use Rattle.desk_types.specs.Judged.{IsLawful};
 ghost use Rattle.desk_types.specs.declared.desk.TheConstants.{MOST_ENTRIES};
 ghost use Rattle.desk_answers.specs.Commands.{earlier_answer, judged_answer, command_answer, command_after, is_refused};
-ghost use Rattle.desk_answers.specs.PlainLine.{Ledger, Answers};
+ghost use Rattle.desk_answers.specs.PlainLine.{Answers};
 
 use crate::answer::{Answer, accepted_text};
 use crate::repeat::is_same;
@@ -16,7 +18,8 @@ use std::alloc::{AllocError, Global};
 use std::marker::Model;
 
 /// The desk of one line: it keeps the list of accepted commands, each with the text of its answer,
-/// and knows a message that comes again. Contracts see it as its list and its greatest number.
+/// and knows a message that comes again. Contracts see it as its rules, its greatest number and its
+/// list.
 #[derive(Drop)]
 pub struct PlainLine {
     alloc: Global,
@@ -26,23 +29,21 @@ pub struct PlainLine {
 }
 
 impl Model for PlainLine {
-    ghost use Rattle.std.specs.Prelude.{◌≡◌, ◌≤◌, reverse};
-    ghost use Rattle.desk_types.specs.declared.desk.TheConstants.{MOST_ENTRIES};
-    ghost use Rattle.desk_answers.specs.Commands.{texts_of};
-    ghost use Rattle.desk_answers.specs.PlainLine.{Ledger, IsNumbered};
+    ghost use Rattle.desk_answers.specs.PlainLine.{Ledger, IsKept};
 
     ghost Value = { Ledger };
 
-    ghost view = { λ a. record { greatest = a.greatest; history = a.desk } };
+    ghost view = { λ a. record { rules = a.desk.rules; greatest = a.greatest; history = a.desk.history } };
 
-    ghost invariant = { λ a. (a.greatest ≤ MOST_ENTRIES) × IsNumbered a.desk × (reverse a.texts.items ≡ texts_of a.desk) };
+    ghost invariant = { λ a. IsKept a.greatest a.desk.history a.texts.items };
 }
 
 impl PlainLine {
-    /// A desk that has accepted nothing and gives numbers up to the greatest. Takes no memory.
+    /// A desk of rules Two that has accepted nothing and gives numbers up to the greatest. Takes no
+    /// memory.
     pub fn new(alloc: Global, greatest: u64) -> PlainLine
         requires { greatest ≤ MOST_ENTRIES }
-        ensures { result ≡ record { greatest = greatest; history = [] } }
+        ensures { result ≡ record { rules = Two; greatest = greatest; history = [] } }
     {
         PlainLine {
             alloc,
@@ -59,6 +60,14 @@ impl PlainLine {
         self.desk.entries().len() as u64
     }
 
+    /// A law: the list is one that a desk of these rules and numbers can come to have. It is for proofs,
+    /// and does nothing when it runs.
+    pub fn is_lawful(&self)
+        ensures { IsLawful self.now.rules self.now.greatest self.now.history }
+    {
+        self.desk.is_judged();
+    }
+
     /// Answers a command. A message that was accepted before gets its first answer again, and
     /// changes nothing.
     pub fn command(&mut self, stamped: &Stamped) -> Answer
@@ -72,8 +81,8 @@ impl PlainLine {
     }
 
     fn answer(&mut self, stamped: &Stamped) -> Result<Answer, AllocError>
-        ensures ok { IfOk result (λ answer. answer ≡ command_answer self.old.greatest self.old.history stamped.now) }
-        ensures after { OnOk result (self.new ≡ record { greatest = self.old.greatest; history = command_after self.old.greatest self.old.history stamped.now }) }
+        ensures ok { IfOk result (λ answer. answer ≡ command_answer self.old.rules self.old.greatest self.old.history stamped.now) }
+        ensures after { OnOk result (self.new ≡ record self.old { history = command_after self.old.rules self.old.greatest self.old.history stamped.now }) }
         ensures err { OnErr result (self.new ≡ self.old) }
     {
         if let Some(answer) = self.earlier(stamped)? {
@@ -93,6 +102,7 @@ impl PlainLine {
     fn earlier(&self, stamped: &Stamped) -> Result<Option<Answer>, AllocError>
         ensures { IfOk result (λ answer. answer ≡ earlier_answer self.now.history stamped.now) }
     {
+        self.desk.is_judged();
         let Some(first) = self.desk.earlier(&stamped.uid) else {
             return Ok(None);
         };
@@ -106,9 +116,10 @@ impl PlainLine {
     /// Accepts what was judged.
     fn accept(&mut self, change: Change) -> Result<Answer, AllocError>
         requires room { length self.old.history < self.old.greatest }
-        requires judged { IsChange self.old.history change.stamped change }
+        requires first { earlier_answer self.old.history change.stamped ≡ None }
+        requires judged { IsChange self.old.rules self.old.history change.stamped change }
         ensures ok { IfOk result (λ answer. answer ≡ judged_answer self.old.history change.stamped (Reply.Accepted change.detail)) }
-        ensures after { OnOk result (self.new ≡ record { greatest = self.old.greatest; history = accept self.old.history change.stamped }) }
+        ensures after { OnOk result (self.new ≡ record self.old { history = accept self.old.history change.stamped }) }
         ensures err { OnErr result (self.new ≡ self.old) }
     {
         let number = self.count() + 1;

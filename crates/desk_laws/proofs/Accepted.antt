@@ -9,6 +9,7 @@ use Rattle.desk_types.specs.declared.command.Command.TheVariants.{ReelReceived, 
 use Rattle.desk_types.specs.declared.command.Entry.{Entry}
 use Rattle.desk_types.specs.declared.command.Receipt.{Receipt}
 use Rattle.desk_types.specs.declared.command.Stamped.{Stamped}
+use Rattle.desk_types.specs.declared.rules.Rules.TheVariants.{Two}
 use Rattle.desk_types.specs.Id.{Name, same}
 use Rattle.desk_types.specs.History.{History, effective_minute}
 use Rattle.desk_types.specs.Setup.{is_part, selected_on, row_on, receipt_by, receipt_of}
@@ -30,19 +31,14 @@ if-none : {X : Type 0} (b : Bool) (x : X) (o : Option X) → (if b then Some x e
 if-none true x o none = cc
 if-none false x o none = (refl, none)
 
--- an accepted command is not too far ahead
-pub not-too-far : (H : History) (s : Stamped) → refusal_of H s ≡ None → is_too_far_ahead H s ≡ false
-unfolding refusal_of
-not-too-far H s none = (if-none (is_too_far_ahead H s) TooFarAhead _ none).0
-
 -- an accepted command has no refusal of its own
-pub command-accepted : (H : History) (s : Stamped) → refusal_of H s ≡ None → command_refusal H (effective_minute H s.minute) s.command ≡ None
+pub command-accepted : (H : History) (s : Stamped) → refusal_of Two H s ≡ None → command_refusal Two H (effective_minute H s.minute) s.command ≡ None
 unfolding refusal_of
 command-accepted H s none = (if-none (is_too_far_ahead H s) TooFarAhead _ none).1
 
 -- the next entry has none at its minute
-pub next-accepted : (H : History) (e : Entry) → IsNext H e → command_refusal H e.effective e.stamped.command ≡ None
-next-accepted H e next = ap (λ m. command_refusal H m e.stamped.command) next.effective ∙ command-accepted H e.stamped next.accepted
+pub next-accepted : (H : History) (e : Entry) → IsNext Two H e → command_refusal Two H e.effective e.stamped.command ≡ None
+next-accepted H e next = ap (λ m. command_refusal Two H m e.stamped.command) next.effective ∙ command-accepted H e.stamped next.accepted
 
 -- ---- reels
 
@@ -138,7 +134,7 @@ received-too : {X : Type 0} (H : History) (r name : Name) (x y : X) → (if same
 received-too H r name x y says received = sym (ap (λ n. is_none (receipt_of H n)) (same-true r name (if-some (same r name) x y says))) ∙ received
 
 -- an accepted command that handles a reel, and is not its receipt, is on a reel that was received
-pub handled-by : (H : History) (minute : ℕ) (name : Name) (command : Command) (out : Bool) → command_refusal H minute command ≡ None
+pub handled-by : (H : History) (minute : ℕ) (name : Name) (command : Command) (out : Bool) → command_refusal Two H minute command ≡ None
     → receipt_by name minute command ≡ None → open_by name command ≡ Some out → is_none (receipt_of H name) ≡ false
 unfolding command_refusal
 handled-by H minute name (ReelReceived r part lot moisture quantity) out accepted none says =
@@ -153,12 +149,12 @@ handled-by H minute name (MaterialsSpliced machine slot r) out accepted none say
 handled-by H minute name _ out accepted none says = cc
 
 -- An entry that handles a reel, and is not its receipt, comes after its receipt.
-pub handled-received : (H : History) (e : Entry) (name : Name) (out : Bool) → IsNext H e → receipt_by name e.effective e.stamped.command ≡ None
+pub handled-received : (H : History) (e : Entry) (name : Name) (out : Bool) → IsNext Two H e → receipt_by name e.effective e.stamped.command ≡ None
     → open_by name e.stamped.command ≡ Some out → receipt_of H name ≡ None → ⊥
 handled-received H e name out next none says unknown = cc (handled-by H e.effective name e.stamped.command out (next-accepted H e next) none says)
 
 -- a command that receives a reel, accepted, is on a reel that was not received
-pub received-by : (H : History) (minute : ℕ) (name : Name) (command : Command) (receipt : Receipt) → command_refusal H minute command ≡ None
+pub received-by : (H : History) (minute : ℕ) (name : Name) (command : Command) (receipt : Receipt) → command_refusal Two H minute command ≡ None
     → receipt_by name minute command ≡ Some receipt → receipt_of H name ≡ None
 unfolding command_refusal
 received-by H minute name (ReelReceived r part lot moisture quantity) receipt accepted is =
@@ -166,6 +162,6 @@ received-by H minute name (ReelReceived r part lot moisture quantity) receipt ac
 received-by H minute name _ receipt accepted is = cc
 
 -- A reel is received once: an entry that receives it comes where it was not received.
-pub received-once : (H : History) (e : Entry) (name : Name) (receipt : Receipt) → IsNext H e → receipt_by name e.effective e.stamped.command ≡ Some receipt
+pub received-once : (H : History) (e : Entry) (name : Name) (receipt : Receipt) → IsNext Two H e → receipt_by name e.effective e.stamped.command ≡ Some receipt
     → receipt_of H name ≡ None
 received-once H e name receipt next is = received-by H e.effective name e.stamped.command receipt (next-accepted H e next) is

@@ -1,74 +1,96 @@
--- What is left of a reel: its receipt, less what was placed and what was scrapped.
-use Rattle.std.proofs.Common.{◌≡◌, ℕ, ◌+◌, ◌-◌, ◌≤◌, Bool, true, false, not, Option, Some, None, List, [], ◌∷◌, refl, ap, unwrap_or, arith, filter}
+-- What is left of a reel: what was received, less what was placed and what was scrapped.
+use Rattle.std.proofs.Common.{◌≡◌, ℕ, ◌+◌, ◌-◌, ◌≤◌, Bool, true, false, not, Option, Some, None, List, [], ◌∷◌, refl, ap, unwrap_or, arith, filter, nat_lt, sym, ◌∙◌}
 use Rattle.std.specs.Prelude.{if◌then◌else◌}
 use Rattle.std.specs.Option.{option_map_or, option_or}
+use Rattle.std.proofs.lemmas.Bool.{ltb-false}
 use Rattle.std.proofs.lemmas.List.Filters.{sum_by-filter_both}
 use Rattle.desk_types.specs.declared.command.Command.{Command}
 use Rattle.desk_types.specs.declared.command.Command.TheVariants.{ReelReceived, MaterialsInstalled, MaterialsScrapped, CountsTaken}
 use Rattle.desk_types.specs.declared.command.Entry.{Entry}
 use Rattle.desk_types.specs.declared.command.Receipt.{Receipt}
+use Rattle.desk_types.specs.declared.rules.Rules.TheVariants.{Two}
 use Rattle.desk_types.specs.declared.take.Pick.{Pick}
 use Rattle.desk_types.specs.declared.take.Purpose.TheVariants.{Rejected}
 use Rattle.desk_types.specs.Id.{Name, same}
 use Rattle.desk_types.specs.History.{History}
 use Rattle.desk_types.specs.Setup.{slot_on, receipt_by, receipt_of}
 use Rattle.desk_types.specs.Tape.{tape_of}
-use Rattle.desk_types.specs.Pieces.{picked, picks_of, told_by, left_of, all_picks, is_placed, received_of, placed_of, scrapped_of}
+use Rattle.desk_types.specs.Pieces.{picked, picks_of, told_by, left_of, all_picks, is_placed, found_by, found_of, received_of, placed_of, scrapped_of}
 use Rattle.desk_types.specs.Refusals.{command_refusal}
 use Rattle.desk_types.specs.Judged.{IsJudged}
 use Rattle.desk_laws.proofs.Accepted.{next-accepted, received-once}
 use Rattle.desk_laws.proofs.Judgements.{or-none}
-use Rattle.desk_laws.proofs.Picks.{picked-append, install-within, scrap-within, counted}
+use Rattle.desk_laws.proofs.Picks.{picked-append, install-within, scrap-within, and-nothing, counted}
 use Rattle.desk_laws.proofs.Tapes.{tape-distinct}
 
 -- ---- one command
 
--- what an accepted command does to one reel that it does not receive: it takes no more than the reel has, and leaves the rest
+-- what an accepted command does to one reel that it does not receive: it takes no more than the reel has, leaves the rest and what it
+-- finds, and finds nothing on a spent reel
 pub record IsTaken (H : History) (command : Command) (reel : Name) : Type 0 where
   pub within : picked (picks_of H command) reel ≤ left_of H reel
-  pub rest : unwrap_or (told_by reel command) (left_of H reel - picked (picks_of H command) reel) ≡ left_of H reel - picked (picks_of H command) reel
+  pub rest : unwrap_or (told_by reel command) (left_of H reel - picked (picks_of H command) reel)
+      ≡ left_of H reel - picked (picks_of H command) reel + found_by (left_of H reel) reel command
+  pub spent : left_of H reel ≡ 0 → found_by (left_of H reel) reel command ≡ 0
 
 -- An accepted command does so.
-taken-by : (H : History) (minute : ℕ) (command : Command) (reel : Name) → IsJudged H → command_refusal H minute command ≡ None
+taken-by : (H : History) (minute : ℕ) (command : Command) (reel : Name) → IsJudged Two H → command_refusal Two H minute command ≡ None
     → receipt_by reel minute command ≡ None → IsTaken H command reel
 unfolding command_refusal
-taken-by H minute (ReelReceived r part lot moisture quantity) reel judged accepted other = record { within = omega arith; rest = by (same r reel) other }
+taken-by H minute (ReelReceived r part lot moisture quantity) reel judged accepted other = record { within = omega arith; rest = by (same r reel) other; spent = λ empty. refl }
   where
     receipt : Receipt
     receipt = record { part = part; lot = lot; moisture = moisture; quantity = quantity; effective = minute }
 
-    by : (b : Bool) → (if b then Some receipt else None) ≡ None → unwrap_or (if b then Some quantity else None) (left_of H reel - 0) ≡ left_of H reel - 0
+    by : (b : Bool) → (if b then Some receipt else None) ≡ None → unwrap_or (if b then Some quantity else None) (left_of H reel - 0) ≡ left_of H reel - 0 + 0
     by true other = cc
-    by false other = refl
+    by false other = and-nothing _
 taken-by H minute (MaterialsInstalled machine board designators) reel judged accepted other =
-    record { within = install-within (slot_on H machine) (tape_of H machine) (left_of H) machine board [] designators reel (omega arith); rest = refl }
+    record { within = install-within (slot_on H machine) (tape_of H machine) (left_of H) machine board [] designators reel (omega arith); rest = and-nothing _; spent = λ empty. refl }
 taken-by H minute (MaterialsScrapped machine slot quantity) reel judged accepted other =
-    record { within = scrap-within (left_of H) (Rejected machine slot) (tape_of H machine slot) quantity reel (tape-distinct H machine slot judged); rest = refl }
+    record { within = scrap-within (left_of H) (Rejected machine slot) (tape_of H machine slot) quantity reel (tape-distinct H machine slot judged); rest = and-nothing _; spent = λ empty. refl }
 taken-by H minute (CountsTaken counts) reel judged accepted other =
-    let said = counted H [] counts reel accepted in record { within = said.within; rest = said.told }
-taken-by H minute _ reel judged accepted other = record { within = omega arith; rest = refl }
+    let said = counted H [] counts reel accepted in record { within = said.within; rest = said.told; spent = said.spent }
+taken-by H minute _ reel judged accepted other = record { within = omega arith; rest = and-nothing _; spent = λ empty. refl }
 
 -- The next entry takes of a reel, that it does not receive, no more than it has left.
-pub picks-within : (H : History) (e : Entry) (reel : Name) → IsJudged (e ∷ H) → receipt_by reel e.effective e.stamped.command ≡ None
+pub picks-within : (H : History) (e : Entry) (reel : Name) → IsJudged Two (e ∷ H) → receipt_by reel e.effective e.stamped.command ≡ None
     → picked (picks_of H e.stamped.command) reel ≤ left_of H reel
 picks-within H e reel (next, judged) other = (taken-by H e.effective e.stamped.command reel judged (next-accepted H e next) other).within
 
--- What the next entry leaves of a reel, that it does not receive, is what was left less what it takes.
-pub left-next : (H : History) (e : Entry) (reel : Name) → IsJudged (e ∷ H) → receipt_by reel e.effective e.stamped.command ≡ None
-    → left_of (e ∷ H) reel ≡ left_of H reel - picked (picks_of H e.stamped.command) reel
+-- What the next entry leaves of a reel, that it does not receive, is what was left less what it takes, and what it finds.
+pub left-next : (H : History) (e : Entry) (reel : Name) → IsJudged Two (e ∷ H) → receipt_by reel e.effective e.stamped.command ≡ None
+    → left_of (e ∷ H) reel ≡ left_of H reel - picked (picks_of H e.stamped.command) reel + found_by (left_of H reel) reel e.stamped.command
 unfolding left_of
 left-next H e reel (next, judged) other = (taken-by H e.effective e.stamped.command reel judged (next-accepted H e next) other).rest
 
--- What is left of a reel falls, but where it is received.
-pub falls : (H : History) (e : Entry) (reel : Name) → IsJudged (e ∷ H) → receipt_by reel e.effective e.stamped.command ≡ None → left_of (e ∷ H) reel ≤ left_of H reel
-falls H e reel judged other = let is = left-next H e reel judged other in omega (arith, is)
+-- A spent reel stays spent, but where it is received.
+pub spent-next : (H : History) (e : Entry) (reel : Name) → IsJudged Two (e ∷ H) → receipt_by reel e.effective e.stamped.command ≡ None → left_of H reel ≡ 0
+    → left_of (e ∷ H) reel ≡ 0
+spent-next H e reel (next, judged) other empty =
+    let is = left-next H e reel (next, judged) other in
+    let nothing = (taken-by H e.effective e.stamped.command reel judged (next-accepted H e next) other).spent empty in
+    omega (arith, is, nothing, empty)
+
+-- A reel that has pieces left had some before, but where it is received.
+pub some-next : (H : History) (e : Entry) (reel : Name) → IsJudged Two (e ∷ H) → receipt_by reel e.effective e.stamped.command ≡ None
+    → nat_lt 0 (left_of (e ∷ H) reel) ≡ true → nat_lt 0 (left_of H reel) ≡ true
+some-next H e reel judged other some = by (nat_lt 0 (left_of H reel)) refl
+  where
+    by : (b : Bool) → nat_lt 0 (left_of H reel) ≡ b → nat_lt 0 (left_of H reel) ≡ true
+    by true is = is
+    by false is =
+        let few = ltb-false 0 (left_of H reel) is in
+        let empty : left_of H reel ≡ 0 = omega (arith, few) in
+        let none = sym (ap (nat_lt 0) (spent-next H e reel judged other empty)) ∙ some in
+        cc
 
 -- ---- receipts
 
--- a command that receives a reel takes nothing, and tells the pieces of the receipt
+-- a command that receives a reel takes nothing and finds nothing, and tells the pieces of the receipt
 received-picks : (H : History) (minute : ℕ) (command : Command) (reel : Name) (receipt : Receipt) → receipt_by reel minute command ≡ Some receipt
-    → (picks_of H command ≡ []) × (told_by reel command ≡ Some receipt.quantity)
-received-picks H minute (ReelReceived r part lot moisture quantity) reel receipt is = (refl, by (same r reel) is)
+    → (picks_of H command ≡ []) × (told_by reel command ≡ Some receipt.quantity) × (found_by (left_of H reel) reel command ≡ 0)
+received-picks H minute (ReelReceived r part lot moisture quantity) reel receipt is = (refl, by (same r reel) is, refl)
   where
     by : (b : Bool) → (if b then Some (record { part = part; lot = lot; moisture = moisture; quantity = quantity; effective = minute }) else None) ≡ Some receipt
         → (if b then Some quantity else None) ≡ Some receipt.quantity
@@ -84,22 +106,12 @@ left-received H e reel receipt is =
     ap (λ o. unwrap_or o (left_of H reel - picked (picks_of H e.stamped.command) reel)) (received-picks H e.effective e.stamped.command reel receipt is).1
 
 -- A reel that was not received has nothing left.
-pub unreceived-empty : (H : History) (reel : Name) → IsJudged H → receipt_of H reel ≡ None → left_of H reel ≡ 0
+pub unreceived-empty : (H : History) (reel : Name) → IsJudged Two H → receipt_of H reel ≡ None → left_of H reel ≡ 0
 unfolding left_of
 unreceived-empty [] reel judged none = refl
 unreceived-empty (e ∷ H) reel (next, judged) none =
     let both = or-none (receipt_by reel e.effective e.stamped.command) (receipt_of H reel) none in
-    let before = unreceived-empty H reel judged both.1 in
-    let fell = falls H e reel (next, judged) both.0 in
-    omega (arith, before, fell)
-
--- No command takes more of a reel than it has left.
-pub picks-left : (H : History) (e : Entry) (reel : Name) → IsJudged (e ∷ H) → picked (picks_of H e.stamped.command) reel ≤ left_of H reel
-picks-left H e reel judged = by (receipt_by reel e.effective e.stamped.command) refl
-  where
-    by : (said : Option Receipt) → receipt_by reel e.effective e.stamped.command ≡ said → picked (picks_of H e.stamped.command) reel ≤ left_of H reel
-    by None other = picks-within H e reel judged other
-    by (Some receipt) is = let none = ap (λ ps. picked ps reel) (received-picks H e.effective e.stamped.command reel receipt is).0 in omega (arith, none)
+    spent-next H e reel (next, judged) both.0 (unreceived-empty H reel judged both.1)
 
 -- ---- totals
 
@@ -118,13 +130,13 @@ unfolding all_picks
 taken-next H e reel = picked-append (all_picks H) (picks_of H e.stamped.command) reel
 
 -- what was received of a reel is what was taken of it and what is left
-received-taken : (H : History) (reel : Name) → IsJudged H → received_of H reel ≡ taken_of H reel + left_of H reel
-unfolding left_of all_picks
+received-taken : (H : History) (reel : Name) → IsJudged Two H → received_of H reel ≡ taken_of H reel + left_of H reel
+unfolding left_of all_picks found_of
 received-taken [] reel judged = refl
 received-taken (e ∷ H) reel (next, judged) = by (receipt_by reel e.effective e.stamped.command) refl (received-taken H reel judged)
   where
     by : (said : Option Receipt) → receipt_by reel e.effective e.stamped.command ≡ said → received_of H reel ≡ taken_of H reel + left_of H reel
-        → option_map_or (λ (r : Receipt). r.quantity) (option_or said (receipt_of H reel)) 0 ≡ taken_of (e ∷ H) reel + left_of (e ∷ H) reel
+        → option_map_or (λ (r : Receipt). r.quantity) (option_or said (receipt_of H reel)) 0 + found_of (e ∷ H) reel ≡ taken_of (e ∷ H) reel + left_of (e ∷ H) reel
     by None other before =
         let within = picks-within H e reel (next, judged) other in
         let left = left-next H e reel (next, judged) other in
@@ -132,14 +144,17 @@ received-taken (e ∷ H) reel (next, judged) = by (receipt_by reel e.effective e
         omega (arith, before, within, left, taken)
     by (Some receipt) is before =
         let fresh = received-once H e reel receipt next is in
-        let nothing : received_of H reel ≡ 0 = ap (λ o. option_map_or (λ (r : Receipt). r.quantity) o 0) fresh in
+        let nothing = ap (λ o. option_map_or (λ (r : Receipt). r.quantity) o 0) fresh in
+        let empty = unreceived-empty H reel judged fresh in
         let left = left-received H e reel receipt is in
-        let none = ap (λ ps. picked ps reel) (received-picks H e.effective e.stamped.command reel receipt is).0 in
+        let says = received-picks H e.effective e.stamped.command reel receipt is in
+        let none = ap (λ ps. picked ps reel) says.0 in
+        let found = says.2 in
         let taken = taken-next H e reel in
-        omega (arith, before, nothing, left, none, taken)
+        omega (arith, before, nothing, empty, left, none, found, taken)
 
 -- For each reel the received pieces are the placed, the scrapped and the left ones together.
-pub balance : (H : History) (reel : Name) → IsJudged H → received_of H reel ≡ placed_of H reel + scrapped_of H reel + left_of H reel
+pub balance : (H : History) (reel : Name) → IsJudged Two H → received_of H reel ≡ placed_of H reel + scrapped_of H reel + left_of H reel
 balance H reel judged =
     let all = received-taken H reel judged in
     let parts = placed-scrapped (all_picks H) reel in

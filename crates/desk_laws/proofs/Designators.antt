@@ -1,18 +1,16 @@
 -- No designator of a board is placed twice.
 use Rattle.std.proofs.Math.Bool.{and-false, or_comm}
 use Rattle.std.proofs.lemmas.Bool.{and_right}
-use Rattle.std.proofs.Common.{◌≡◌, ℕ, ◌+◌, Bool, true, false, Option, Some, None, List, [], ◌∷◌, ◌++◌, find, filter_map, map, refl, sym, ap, ◌∙◌, subst}
-use Rattle.std.specs.Prelude.{is_none, nat_lt, ◌&&◌, ◌||◌, if◌then◌else◌}
-use Rattle.std.specs.Option.{option_and_then, option_map, option_to_list}
+use Rattle.std.proofs.Common.{◌≡◌, ℕ, ◌+◌, Bool, true, false, Option, Some, None, List, [], ◌∷◌, ◌++◌, filter_map, map, refl, sym, ap, ◌∙◌, subst}
+use Rattle.std.specs.Prelude.{◌&&◌, ◌||◌}
 use Rattle.std.specs.List.{cons_option, enumerate_from, list_any, AllByRecursion, IsDistinct}
-use Rattle.std.proofs.lemmas.List.{append_assoc, append-nil, map-append}
+use Rattle.std.proofs.lemmas.List.{map-append}
 use Rattle.std.proofs.lemmas.List.Elements.{filter_map-append}
 use Rattle.std.proofs.lemmas.List.Folds.{list_any-append}
-use Rattle.desk_types.specs.declared.answer.Refusal.{Refusal}
-use Rattle.desk_types.specs.declared.answer.Refusal.TheVariants.{DesignatorNotOnSheet, DesignatorTwice, AlreadyPlaced, NotInWork, ReelShort}
 use Rattle.desk_types.specs.declared.command.Command.{Command}
 use Rattle.desk_types.specs.declared.command.Command.TheVariants.{MaterialsInstalled, MaterialsScrapped, CountsTaken}
 use Rattle.desk_types.specs.declared.command.Entry.{Entry}
+use Rattle.desk_types.specs.declared.rules.Rules.TheVariants.{Two}
 use Rattle.desk_types.specs.declared.take.Pick.{Pick}
 use Rattle.desk_types.specs.declared.take.Purpose.{Purpose}
 use Rattle.desk_types.specs.declared.take.Purpose.TheVariants.{Placed, Rejected, Counted}
@@ -21,18 +19,17 @@ use Rattle.desk_types.specs.Pair.{same_pair}
 use Rattle.desk_types.specs.History.{History}
 use Rattle.desk_types.specs.Setup.{slot_on}
 use Rattle.desk_types.specs.Tape.{tape_of}
-use Rattle.desk_types.specs.Pieces.{picked, pick_for, install_picks, left_of, is_placed, picks_of}
-use Rattle.desk_types.specs.Work.{places, is_placed_on, is_in_work_on}
-use Rattle.desk_types.specs.Refusals.{first_refusal, designators_refusal, install_refusal, command_refusal}
+use Rattle.desk_types.specs.Pieces.{left_of, is_placed, picks_of}
+use Rattle.desk_types.specs.Work.{places, is_placed_on}
+use Rattle.desk_types.specs.Refusals.{command_refusal}
 use Rattle.desk_types.specs.Outcome.{take_of}
 use Rattle.desk_types.specs.Judged.{IsJudged}
 use Rattle.desk_types.specs.Placements.{Placement, entry_takes, takes_of, placement_of, placements_of}
 use Rattle.desk_types.proofs.Keys.{same-sym}
-use Rattle.desk_laws.proofs.Accepted.{none-holds, next-accepted}
+use Rattle.desk_laws.proofs.Accepted.{next-accepted}
 use Rattle.desk_laws.proofs.Distinct.{distinct-join}
-use Rattle.desk_laws.proofs.Judgements.{or-none}
+use Rattle.desk_laws.proofs.Installs.{ArePlacedFor, each-placed, installable, designators-differ, designators-new}
 use Rattle.desk_laws.proofs.Placing.{AreUnplaced, unplaced-scrap, unplaced-count}
-use Rattle.desk_laws.proofs.Tapes.{one-more}
 
 -- ---- spots: a board and a designator of it
 
@@ -53,89 +50,15 @@ abbrev spots_named : Command → List (Name × Name)
 spots_named (MaterialsInstalled machine board designators) = map (λ (d : Name). (board, d)) designators
 spots_named _ = []
 
--- ---- one message
-
-module _ (slot_of : Name → Option Name) (tape : Name → List Name) (pieces : Name → ℕ) (placed : Name → Bool) (machine board : Name) where
-  -- the tests of one designator
-  record IsPlaceable (before : List Pick) (seen : List Name) (d : Name) : Type 0 where
-    once : list_any (same d) seen ≡ false
-    new : placed d ≡ false
-    there : is_none (pick_for slot_of tape pieces machine board before d) ≡ false
-
-  abbrev next_picks : List Pick → Name → List Pick
-  next_picks before d = before ++ option_to_list (pick_for slot_of tape pieces machine board before d)
-
-  placeable : (before : List Pick) (seen : List Name) (d : Name) (ds : List Name) → designators_refusal slot_of tape pieces placed machine board before seen (d ∷ ds) ≡ None
-      → IsPlaceable before seen d × (designators_refusal slot_of tape pieces placed machine board (next_picks before d) (seen ++ d ∷ []) ds ≡ None)
-  placeable before seen d ds none =
-      let both = or-none (first_refusal tests) (designators_refusal slot_of tape pieces placed machine board (next_picks before d) (seen ++ d ∷ []) ds) none in
-      let all = none-holds tests both.0 in
-      (record { once = all.1.0; new = all.1.1.0; there = all.1.1.1.0 }, both.1)
-    where
-      tests : List (Bool × Refusal)
-      tests =
-          (is_none (slot_of d), DesignatorNotOnSheet d)
-          ∷ (list_any (same d) seen, DesignatorTwice d)
-          ∷ (placed d, AlreadyPlaced d)
-          ∷ (is_none (pick_for slot_of tape pieces machine board before d), ReelShort d)
-          ∷ []
-
-  -- the designators of an accepted message differ
-  designators-differ : (before : List Pick) (seen ds : List Name) → designators_refusal slot_of tape pieces placed machine board before seen ds ≡ None → IsDistinct same seen
-      → IsDistinct same (seen ++ ds)
-  designators-differ before seen [] none distinct = subst (IsDistinct same) (sym (append-nil seen)) distinct
-  designators-differ before seen (d ∷ ds) none distinct =
-      let both = placeable before seen d ds none in
-      subst (IsDistinct same) (append_assoc seen (d ∷ []) ds)
-      (designators-differ (next_picks before d) (seen ++ d ∷ []) ds both.1 (one-more seen d distinct both.0.once))
-
-  -- none of them is placed
-  designators-new : (before : List Pick) (seen ds : List Name) → designators_refusal slot_of tape pieces placed machine board before seen ds ≡ None
-      → AllByRecursion (λ d. placed d ≡ false) ds
-  designators-new before seen [] none = tt
-  designators-new before seen (d ∷ ds) none =
-      let both = placeable before seen d ds none in (both.0.new, designators-new (next_picks before d) (seen ++ d ∷ []) ds both.1)
-
-  -- each gets a piece
-  one-spot : (before : List Pick) (d : Name) → is_none (pick_for slot_of tape pieces machine board before d) ≡ false → spots (next_picks before d) ≡ spots before ++ (board, d) ∷ []
-  one-spot before d some =
-      filter_map-append (λ (p : Pick). spot_by p.purpose) before (option_to_list (pick_for slot_of tape pieces machine board before d)) ∙ ap (λ l. spots before ++ l) (by (slot_of d) some)
-    where
-      pick : Name → Name → Pick
-      pick slot reel = record { reel = reel; quantity = 1; purpose = Placed board d machine slot }
-
-      found : (slot : Name) (reel : Option Name) → is_none (option_map (pick slot) reel) ≡ false → spots (option_to_list (option_map (pick slot) reel)) ≡ (board, d) ∷ []
-      found slot None some = cc
-      found slot (Some reel) some = refl
-
-      by : (slot : Option Name) → is_none (option_and_then (λ s. option_map (pick s) (find (λ r. nat_lt (picked before r) (pieces r)) (tape s))) slot) ≡ false
-          → spots (option_to_list (option_and_then (λ s. option_map (pick s) (find (λ r. nat_lt (picked before r) (pieces r)) (tape s))) slot)) ≡ (board, d) ∷ []
-      by None some = cc
-      by (Some slot) some = found slot (find (λ r. nat_lt (picked before r) (pieces r)) (tape slot)) some
-
-  install-spots : (before : List Pick) (seen ds : List Name) → designators_refusal slot_of tape pieces placed machine board before seen ds ≡ None
-      → spots before ≡ map (λ (x : Name). (board, x)) seen
-      → spots (install_picks slot_of tape pieces machine board before ds) ≡ map (λ (x : Name). (board, x)) (seen ++ ds)
-  unfolding install_picks
-  install-spots before seen [] none are = are ∙ ap (map (λ (x : Name). (board, x))) (sym (append-nil seen))
-  install-spots before seen (d ∷ ds) none are =
-      let both = placeable before seen d ds none in
-      install-spots (next_picks before d) (seen ++ d ∷ []) ds both.1
-      (one-spot before d both.0.there ∙ ap (λ l. l ++ (board, d) ∷ []) are ∙ sym (map-append (λ (x : Name). (board, x)) seen (d ∷ [])))
-      ∙ ap (map (λ (x : Name). (board, x))) (append_assoc seen (d ∷ []) ds)
-
 -- ---- one command
 
--- an accepted install passes the tests of its designators
-installable : (H : History) (machine board : Name) (ds : List Name) → install_refusal H machine board ds ≡ None
-    → designators_refusal (slot_on H machine) (tape_of H machine) (left_of H) (is_placed_on H board) machine board [] [] ds ≡ None
-unfolding install_refusal
-installable H machine board ds none = by (is_in_work_on H machine board) none
-  where
-    by : (b : Bool) → (if b then designators_refusal (slot_on H machine) (tape_of H machine) (left_of H) (is_placed_on H board) machine board [] [] ds else Some (NotInWork board)) ≡ None
-        → designators_refusal (slot_on H machine) (tape_of H machine) (left_of H) (is_placed_on H board) machine board [] [] ds ≡ None
-    by true none = none
-    by false none = cc
+-- the spots of picks of one piece for each designator
+placed-spots : (machine board : Name) (ds : List Name) (ps : List Pick) → ArePlacedFor machine board ds ps → spots ps ≡ map (λ (x : Name). (board, x)) ds
+placed-spots machine board [] [] all = refl
+placed-spots machine board (d ∷ ds) (p ∷ ps) ((slot, is), all) =
+    ap (λ purpose. cons_option (spot_by purpose) (spots ps)) is ∙ ap (λ l. (board, d) ∷ l) (placed-spots machine board ds ps all)
+placed-spots machine board [] (p ∷ ps) all = absurd all
+placed-spots machine board (d ∷ ds) [] all = absurd all
 
 unplaced-spots : (picks : List Pick) → AreUnplaced picks → spots picks ≡ []
 unplaced-spots [] all = refl
@@ -147,10 +70,10 @@ unplaced-spots (p ∷ ps) (first, all) = by p.purpose first (unplaced-spots ps a
     by Counted is rest = rest
 
 -- an accepted command places a piece on each spot that it names
-command-spots : (H : History) (minute : ℕ) (command : Command) → command_refusal H minute command ≡ None → spots (picks_of H command) ≡ spots_named command
+command-spots : (H : History) (minute : ℕ) (command : Command) → command_refusal Two H minute command ≡ None → spots (picks_of H command) ≡ spots_named command
 unfolding command_refusal
 command-spots H minute (MaterialsInstalled machine board ds) none =
-    install-spots (slot_on H machine) (tape_of H machine) (left_of H) (is_placed_on H board) machine board [] [] ds (installable H machine board ds none) refl
+    placed-spots machine board ds _ (each-placed H minute (MaterialsInstalled machine board ds) machine board ds none refl)
 command-spots H minute (MaterialsScrapped machine slot n) none = unplaced-spots _ (unplaced-scrap (left_of H) machine slot (tape_of H machine slot) n)
 command-spots H minute (CountsTaken counts) none = unplaced-spots _ (unplaced-count (left_of H) counts)
 command-spots H minute _ none = refl
@@ -181,7 +104,7 @@ board-distinct board (d ∷ ds) (apart, distinct) = (others ds apart, board-dist
     others (x ∷ xs) (first, all) = (and_right (same board board) (same d x) first, others xs all)
 
 -- the spots that an accepted command names differ
-named-distinct : (H : History) (minute : ℕ) (command : Command) → command_refusal H minute command ≡ None → IsDistinct same_pair (spots_named command)
+named-distinct : (H : History) (minute : ℕ) (command : Command) → command_refusal Two H minute command ≡ None → IsDistinct same_pair (spots_named command)
 unfolding command_refusal IsDistinct
 named-distinct H minute (MaterialsInstalled machine board ds) none =
     board-distinct board ds (
@@ -189,7 +112,7 @@ named-distinct H minute (MaterialsInstalled machine board ds) none =
 named-distinct H minute _ none = tt
 
 -- and nothing is placed on them
-named-new : (H : History) (minute : ℕ) (command : Command) → command_refusal H minute command ≡ None
+named-new : (H : History) (minute : ℕ) (command : Command) → command_refusal Two H minute command ≡ None
     → AllByRecursion (λ (s : Name × Name). is_placed_on H s.0 s.1 ≡ false) (spots_named command)
 unfolding command_refusal
 named-new H minute (MaterialsInstalled machine board ds) none =
@@ -228,7 +151,7 @@ entry-spots H e place (p ∷ ps) = by p.purpose (entry-spots H e (place + 1) ps)
     by Counted is = is
 
 -- the spots of a list and one entry more
-spots-next : (H : History) (e : Entry) → IsJudged (e ∷ H) → spots_of (placements_of (e ∷ H)) ≡ spots_of (placements_of H) ++ spots_named e.stamped.command
+spots-next : (H : History) (e : Entry) → IsJudged Two (e ∷ H) → spots_of (placements_of (e ∷ H)) ≡ spots_of (placements_of H) ++ spots_named e.stamped.command
 unfolding takes_of
 spots-next H e (next, judged) =
     ap spots_of (filter_map-append placement_of (takes_of H) (entry_takes H e))
@@ -236,7 +159,7 @@ spots-next H e (next, judged) =
     ∙ ap (λ l. spots_of (placements_of H) ++ l) (entry-spots H e 1 (picks_of H e.stamped.command) ∙ command-spots H e.effective e.stamped.command (next-accepted H e next))
 
 -- A designator of a board is among the placements exactly where it is placed.
-pub spot-placed : (H : History) (board d : Name) → IsJudged H → list_any (same_pair (board, d)) (spots_of (placements_of H)) ≡ is_placed_on H board d
+pub spot-placed : (H : History) (board d : Name) → IsJudged Two H → list_any (same_pair (board, d)) (spots_of (placements_of H)) ≡ is_placed_on H board d
 unfolding takes_of
 spot-placed [] board d judged = refl
 spot-placed (e ∷ H) board d (next, judged) =
@@ -247,7 +170,7 @@ spot-placed (e ∷ H) board d (next, judged) =
     ∙ or_comm (is_placed_on H board d) (places board d e.stamped.command)
 
 -- No board has the same designator twice.
-pub designators-once : (H : History) → IsJudged H → IsDistinct same_pair (spots_of (placements_of H))
+pub designators-once : (H : History) → IsJudged Two H → IsDistinct same_pair (spots_of (placements_of H))
 unfolding takes_of IsDistinct
 designators-once [] judged = tt
 designators-once (e ∷ H) (next, judged) =
@@ -255,7 +178,7 @@ designators-once (e ∷ H) (next, judged) =
     (distinct-join same_pair flips (spots_of (placements_of H)) (spots_named e.stamped.command) (designators-once H judged)
     (named-distinct H e.effective e.stamped.command accepted) (new (spots_named e.stamped.command) (named-new H e.effective e.stamped.command accepted)))
   where
-    accepted : command_refusal H e.effective e.stamped.command ≡ None
+    accepted : command_refusal Two H e.effective e.stamped.command ≡ None
     accepted = next-accepted H e next
 
     flips : (x y : Name × Name) → same_pair x y ≡ same_pair y x

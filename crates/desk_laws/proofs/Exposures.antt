@@ -10,6 +10,7 @@ use Rattle.desk_types.specs.declared.command.Command.{Command}
 use Rattle.desk_types.specs.declared.command.Command.TheVariants.{ReelBaked}
 use Rattle.desk_types.specs.declared.command.Entry.{Entry}
 use Rattle.desk_types.specs.declared.command.Receipt.{Receipt}
+use Rattle.desk_types.specs.declared.rules.Rules.TheVariants.{Two}
 use Rattle.desk_types.specs.Id.{Name, same}
 use Rattle.desk_types.specs.History.{History}
 use Rattle.desk_types.specs.Setup.{receipt_of}
@@ -90,7 +91,7 @@ bake-kept (e ∷ more) G reel none =
     ∙ bake-kept more G reel (All-tail (λ (x : Entry). x.stamped.command ≢ ReelBaked reel) e more none)
 
 -- Between bakes an exposure never falls.
-pub exposure-later : (G : History) (more : List Entry) (reel : Name) (earlier later : ℕ) → IsJudged (more ++ G)
+pub exposure-later : (G : History) (more : List Entry) (reel : Name) (earlier later : ℕ) → IsJudged Two (more ++ G)
     → All (λ (e : Entry). e.stamped.command ≢ ReelBaked reel) more → All (λ (e : Entry). earlier ≤ e.effective) more → earlier ≤ later
     → exposure_of G reel earlier ≤ exposure_of (more ++ G) reel later
 exposure-later G more reel earlier later judged unbaked after le = by (receipt_of G reel) refl

@@ -1,12 +1,13 @@
 pub mod Accepted
 pub mod Balance
+pub mod Counting
 pub mod Designators
 pub mod Distinct
 pub mod Exposures
-pub mod Fronts
+pub mod Installs
 pub mod Joining
 pub mod Judgements
-pub mod Lives
+pub mod Lookups
 pub mod Mounted
 pub mod Mounts
 pub mod NameSets
@@ -15,7 +16,9 @@ pub mod Picks
 pub mod Places
 pub mod Placing
 pub mod Prefixes
+pub mod RulesOne
 pub mod Spent
 pub mod Standing
 pub mod Tapes
 pub mod Verifying
+pub mod Whole

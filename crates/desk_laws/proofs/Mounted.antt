@@ -1,28 +1,42 @@
 -- The mounted reels after one entry more.
 use Rattle.std.proofs.Math.Bool.{and-false, and-true}
 use Rattle.std.proofs.lemmas.Bool.{and_from, and_parts, not-false}
-use Rattle.std.proofs.Common.{◌≡◌, ℕ, ◌-◌, ◌≤◌, nat_lt, Bool, true, false, not, Option, Some, None, List, [], ◌∷◌, refl, sym, ap, ◌∙◌, unwrap_or}
+use Rattle.std.proofs.Common.{◌≡◌, ℕ, ◌-◌, nat_lt, Bool, true, false, not, Option, Some, None, List, [], ◌∷◌, refl, sym, ap, ◌∙◌, unwrap_or, arith}
 use Rattle.std.specs.Prelude.{if◌then◌else◌, ◌||◌, ◌&&◌, is_none, is_some}
 use Rattle.std.specs.List.{list_any}
 use Rattle.desk_types.specs.declared.command.Command.{Command}
 use Rattle.desk_types.specs.declared.command.Command.TheVariants.{ReelReceived, MaterialsLoaded, MaterialsSpliced, MaterialsUnloaded, MaterialsInstalled, MaterialsScrapped, CountsTaken}
 use Rattle.desk_types.specs.declared.command.Entry.{Entry}
 use Rattle.desk_types.specs.declared.command.Receipt.{Receipt}
+use Rattle.desk_types.specs.declared.rules.Rules.TheVariants.{Two}
 use Rattle.desk_types.specs.Id.{Name, same}
 use Rattle.desk_types.specs.History.{History}
 use Rattle.desk_types.specs.Setup.{receipt_by}
 use Rattle.desk_types.specs.Tape.{tape_of}
-use Rattle.desk_types.specs.Pieces.{left_of, live_on, first, is_live_where_loaded, is_mounted}
+use Rattle.desk_types.specs.Pieces.{left_of, live_on, first, is_live_where_loaded, is_mounted, picked, told_by, picks_of}
 use Rattle.desk_types.specs.Refusals.{is_vacant, command_refusal}
 use Rattle.desk_types.specs.Judged.{IsJudged}
 use Rattle.desk_types.proofs.Keys.{same-refl}
 use Rattle.desk_laws.specs.Place.{is_at, place_after, place_of, mounted_after}
 use Rattle.desk_laws.proofs.Accepted.{next-accepted, mountable, received-by}
-use Rattle.desk_laws.proofs.Balance.{falls}
+use Rattle.desk_laws.proofs.Balance.{some-next}
 use Rattle.desk_laws.proofs.Judgements.{untouched}
-use Rattle.desk_laws.proofs.Lives.{some_left, left_after, less-none}
 use Rattle.desk_laws.proofs.Mounts.{has, has-live_on, live-mounted}
-use Rattle.desk_laws.proofs.Places.{placed, live-placed, some-before, untouched-unplaced}
+use Rattle.desk_laws.proofs.Places.{placed, live-placed, untouched-unplaced}
+
+-- ---- pieces left
+
+-- whether the reel has pieces left
+abbrev some_left : History → Name → Bool
+some_left H reel = nat_lt 0 (left_of H reel)
+
+-- what is left of the reel after the command
+abbrev left_after : History → Command → Name → ℕ
+left_after H command reel = unwrap_or (told_by reel command) (left_of H reel - picked (picks_of H command) reel)
+
+-- taking nothing leaves all
+less-none : (n : ℕ) → n - 0 ≡ n
+less-none n = omega arith
 
 -- ---- places
 
@@ -39,13 +53,13 @@ at-some machine slot (Some q) is = refl
 abbrev is_placed_with_some : History → Name → Bool
 is_placed_with_some H reel = is_some (place_of H reel) && some_left H reel
 
-from-load : (H : History) (reel : Name) (command : Command) → IsJudged H → is_live_where_loaded H reel command ≡ true → is_placed_with_some H reel ≡ true
+from-load : (H : History) (reel : Name) (command : Command) → IsJudged Two H → is_live_where_loaded H reel command ≡ true → is_placed_with_some H reel ≡ true
 from-load H reel (MaterialsLoaded m s r) judged live =
     let both = and_parts (some_left H reel) (has (tape_of H m s) reel) (sym (has-live_on H m s reel) ∙ live) in
     and_from _ _ (at-some m s (place_of H reel) (live-placed H m s reel judged live)) both.0
 from-load H reel _ judged live = cc
 
-from-any : (H : History) (reel : Name) (G : History) → IsJudged H → list_any (λ (e : Entry). is_live_where_loaded H reel e.stamped.command) G ≡ true
+from-any : (H : History) (reel : Name) (G : History) → IsJudged Two H → list_any (λ (e : Entry). is_live_where_loaded H reel e.stamped.command) G ≡ true
     → is_placed_with_some H reel ≡ true
 from-any H reel [] judged live = cc
 from-any H reel (e ∷ G) judged live = by (is_live_where_loaded H reel e.stamped.command) refl live (from-any H reel G judged)
@@ -55,7 +69,7 @@ from-any H reel (e ∷ G) judged live = by (is_live_where_loaded H reel e.stampe
     by true here live rest = from-load H reel e.stamped.command judged here
     by false here live rest = rest live
 
-placed-mounted : (H : History) (reel : Name) (place : Option (Name × Name)) → IsJudged H → place_of H reel ≡ place → (is_some place && some_left H reel) ≡ true → is_mounted H reel ≡ true
+placed-mounted : (H : History) (reel : Name) (place : Option (Name × Name)) → IsJudged Two H → place_of H reel ≡ place → (is_some place && some_left H reel) ≡ true → is_mounted H reel ≡ true
 placed-mounted H reel None judged is both = cc
 placed-mounted H reel (Some q) judged is some =
     live-mounted H q.0 q.1 reel (
@@ -63,13 +77,13 @@ placed-mounted H reel (Some q) judged is some =
     ∙ and_from _ _ some (placed H q.0 q.1 reel judged some ∙ ap (is_at q.0 q.1) is ∙ and_from _ _ (same-refl q.0) (same-refl q.1)))
 
 -- A mounted reel is one that has a place and pieces left.
-pub mounted-is : (H : History) (reel : Name) → IsJudged H → is_mounted H reel ≡ (is_some (place_of H reel) && some_left H reel)
+pub mounted-is : (H : History) (reel : Name) → IsJudged Two H → is_mounted H reel ≡ (is_some (place_of H reel) && some_left H reel)
 mounted-is H reel judged = iff _ _ (from-any H reel H judged) (placed-mounted H reel (place_of H reel) judged refl)
 
 -- ---- one entry more
 
 -- no reel with pieces left has its place on a vacant slot
-off : (H : History) (machine slot reel : Name) → IsJudged H → is_vacant H machine slot ≡ true → some_left H reel ≡ true → is_at machine slot (place_of H reel) ≡ false
+off : (H : History) (machine slot reel : Name) → IsJudged Two H → is_vacant H machine slot ≡ true → some_left H reel ≡ true → is_at machine slot (place_of H reel) ≡ false
 off H machine slot reel judged vacant some =
     sym (placed H machine slot reel judged some) ∙ sym (has-live_on H machine slot reel ∙ ap (λ b. b && has (tape_of H machine slot) reel) some) ∙ none (live_on H machine slot) vacant
   where
@@ -78,21 +92,21 @@ off H machine slot reel judged vacant some =
     none (x ∷ xs) is = cc
 
 -- where pieces are taken, a mounted reel that still has some stays so
-less : (H : History) (reel : Name) (command : Command) → left_after H command reel ≤ left_of H reel
+less : (H : History) (reel : Name) (command : Command) → (nat_lt 0 (left_after H command reel) ≡ true → some_left H reel ≡ true)
     → (is_some (place_of H reel) && nat_lt 0 (left_after H command reel)) ≡ (is_placed_with_some H reel && nat_lt 0 (left_after H command reel))
-less H reel command fell = by (nat_lt 0 (left_after H command reel)) refl
+less H reel command had = by (nat_lt 0 (left_after H command reel)) refl
   where
     by : (b : Bool) → nat_lt 0 (left_after H command reel) ≡ b → (is_some (place_of H reel) && b) ≡ (is_placed_with_some H reel && b)
-    by true some = sym (and-true (is_placed_with_some H reel) ∙ ap (λ x. is_some (place_of H reel) && x) (some-before _ _ fell some))
+    by true some = sym (and-true (is_placed_with_some H reel) ∙ ap (λ x. is_some (place_of H reel) && x) (had some))
     by false none = and-false _ ∙ sym (and-false (is_placed_with_some H reel))
 
 -- after an accepted command
-mounted-step : (H : History) (minute : ℕ) (reel : Name) (command : Command) → IsJudged H → command_refusal H minute command ≡ None
-    → (receipt_by reel minute command ≡ None → left_after H command reel ≤ left_of H reel)
+mounted-step : (H : History) (minute : ℕ) (reel : Name) (command : Command) → IsJudged Two H → command_refusal Two H minute command ≡ None
+    → (receipt_by reel minute command ≡ None → nat_lt 0 (left_after H command reel) ≡ true → some_left H reel ≡ true)
     → (is_some (place_after reel command (place_of H reel)) && nat_lt 0 (left_after H command reel))
     ≡ mounted_after (nat_lt 0 (left_after H command reel)) (λ m s. has (live_on H m s) reel) reel command (is_placed_with_some H reel)
 unfolding command_refusal
-mounted-step H minute reel (ReelReceived r part lot moisture quantity) judged accepted fell = by (same r reel) refl
+mounted-step H minute reel (ReelReceived r part lot moisture quantity) judged accepted had = by (same r reel) refl
   where
     receipt : Receipt
     receipt = record { part = part; lot = lot; moisture = moisture; quantity = quantity; effective = minute }
@@ -103,7 +117,7 @@ mounted-step H minute reel (ReelReceived r part lot moisture quantity) judged ac
         let none = received-by H minute reel (ReelReceived r part lot moisture quantity) receipt accepted (ap (λ b. if b then Some receipt else None) here) in
         ap (λ p. is_some p && nat_lt 0 quantity) (untouched-unplaced H reel (untouched H reel judged none))
     by false here = ap (λ n. is_some (place_of H reel) && nat_lt 0 n) (less-none (left_of H reel))
-mounted-step H minute reel (MaterialsLoaded m s r) judged accepted fell = by (same r reel)
+mounted-step H minute reel (MaterialsLoaded m s r) judged accepted had = by (same r reel)
   where
     vacant : is_vacant H m s ≡ true
     vacant = not-false _ (mountable H minute m s r _ accepted).of_slot
@@ -120,13 +134,13 @@ mounted-step H minute reel (MaterialsLoaded m s r) judged accepted fell = by (sa
     by false =
         ap (λ n. is_some (if is_at m s (place_of H reel) then None else place_of H reel) && nat_lt 0 n) (less-none (left_of H reel))
         ∙ apart (is_at m s (place_of H reel)) (some_left H reel) refl refl
-mounted-step H minute reel (MaterialsSpliced m s r) judged accepted fell = by (same r reel)
+mounted-step H minute reel (MaterialsSpliced m s r) judged accepted had = by (same r reel)
   where
     by : (b : Bool) → (is_some (if◌then◌else◌ {A = Option (Name × Name)} b (Some (m, s)) (place_of H reel)) && nat_lt 0 (left_of H reel - 0))
         ≡ if b then nat_lt 0 (left_of H reel - 0) else is_placed_with_some H reel
     by true = refl
     by false = ap (λ n. is_some (place_of H reel) && nat_lt 0 n) (less-none (left_of H reel))
-mounted-step H minute reel (MaterialsUnloaded m s) judged accepted fell =
+mounted-step H minute reel (MaterialsUnloaded m s) judged accepted had =
     ap (λ n. is_some (place_after reel (MaterialsUnloaded m s) (place_of H reel)) && nat_lt 0 n) (less-none (left_of H reel))
     ∙ cases (some_left H reel) (is_at m s (place_of H reel)) (place_of H reel)
     ∙ ap (λ b. is_placed_with_some H reel && not b) (sym (there (some_left H reel) refl))
@@ -142,16 +156,16 @@ mounted-step H minute reel (MaterialsUnloaded m s) judged accepted fell =
     cases true false place = sym (and-true (is_some place && true))
     cases false true place = sym (ap (λ x. x && true) (and-false (is_some place)))
     cases false false place = and-false (is_some place) ∙ sym (ap (λ x. x && true) (and-false (is_some place)))
-mounted-step H minute reel (MaterialsInstalled m board ds) judged accepted fell = less H reel (MaterialsInstalled m board ds) (fell refl)
-mounted-step H minute reel (MaterialsScrapped m s n) judged accepted fell = less H reel (MaterialsScrapped m s n) (fell refl)
-mounted-step H minute reel (CountsTaken counts) judged accepted fell = less H reel (CountsTaken counts) (fell refl)
-mounted-step H minute reel _ judged accepted fell = ap (λ n. is_some (place_of H reel) && nat_lt 0 n) (less-none (left_of H reel))
+mounted-step H minute reel (MaterialsInstalled m board ds) judged accepted had = less H reel (MaterialsInstalled m board ds) (had refl)
+mounted-step H minute reel (MaterialsScrapped m s n) judged accepted had = less H reel (MaterialsScrapped m s n) (had refl)
+mounted-step H minute reel (CountsTaken counts) judged accepted had = less H reel (CountsTaken counts) (had refl)
+mounted-step H minute reel _ judged accepted had = ap (λ n. is_some (place_of H reel) && nat_lt 0 n) (less-none (left_of H reel))
 
 -- Whether a reel is mounted after one entry more, from whether it was before.
-pub mounted-next : (H : History) (e : Entry) (reel : Name) → IsJudged (e ∷ H)
+pub mounted-next : (H : History) (e : Entry) (reel : Name) → IsJudged Two (e ∷ H)
     → is_mounted (e ∷ H) reel ≡ mounted_after (some_left (e ∷ H) reel) (λ m s. has (live_on H m s) reel) reel e.stamped.command (is_mounted H reel)
 unfolding left_of place_of
 mounted-next H e reel (next, judged) =
     mounted-is (e ∷ H) reel (next, judged)
-    ∙ mounted-step H e.effective reel e.stamped.command judged (next-accepted H e next) (falls H e reel (next, judged))
+    ∙ mounted-step H e.effective reel e.stamped.command judged (next-accepted H e next) (some-next H e reel (next, judged))
     ∙ ap (mounted_after (some_left (e ∷ H) reel) (λ m s. has (live_on H m s) reel) reel e.stamped.command) (sym (mounted-is H reel judged))

@@ -9,6 +9,7 @@ use Rattle.desk_types.specs.declared.command.Command.{Command}
 use Rattle.desk_types.specs.declared.command.Command.TheVariants.{MaterialsLoaded, MaterialsSpliced, MaterialsUnloaded}
 use Rattle.desk_types.specs.declared.command.Entry.{Entry}
 use Rattle.desk_types.specs.declared.command.Receipt.{Receipt}
+use Rattle.desk_types.specs.declared.rules.Rules.TheVariants.{Two}
 use Rattle.desk_types.specs.Id.{Name, same}
 use Rattle.desk_types.specs.History.{History}
 use Rattle.desk_types.specs.Tape.{spliced, tape_after, tape_of}
@@ -36,11 +37,6 @@ unfolding live_on
 has-live_on H machine slot reel = has-filter (λ r. nat_lt 0 (left_of H r)) (tape_of H machine slot) reel
 
 -- ---- which entry put it there
-
--- whether the command loads the slot
-abbrev pub loads : Name → Name → Command → Bool
-loads machine slot (MaterialsLoaded m s r) = same m machine && same s slot
-loads machine slot _ = false
 
 has-one : (r reel : Name) (rest : Bool) → has (r ∷ []) reel ≡ true → (same r reel || rest) ≡ true
 has-one r reel rest is = by (same reel r) (same-sym reel r) is
@@ -105,7 +101,7 @@ mounts-none (e ∷ H) machine slot reel (none, all) =
     ∙ mounts-none H machine slot reel all
 
 -- A reel that was not received stands on no tape.
-pub unreceived-nowhere : (H : History) (machine slot reel : Name) → IsJudged H → receipt_of H reel ≡ None → has (tape_of H machine slot) reel ≡ false
+pub unreceived-nowhere : (H : History) (machine slot reel : Name) → IsJudged Two H → receipt_of H reel ≡ None → has (tape_of H machine slot) reel ≡ false
 unreceived-nowhere H machine slot reel judged none = by (has (tape_of H machine slot) reel) refl
   where
     by : (b : Bool) → has (tape_of H machine slot) reel ≡ b → has (tape_of H machine slot) reel ≡ false
@@ -153,11 +149,6 @@ pub has-first : (reels : List Name) (reel : Name) → has reels reel ≡ true �
 has-first [] reel is = cc
 has-first (x ∷ xs) reel is = refl
 
--- A slot on whose tape a reel stands was loaded by some entry.
-pub slot-loaded : (H : History) (machine slot reel : Name) → has (tape_of H machine slot) reel ≡ true
-    → list_any (λ (e : Entry). loads machine slot e.stamped.command) H ≡ true
-slot-loaded H machine slot reel is = loaded-by H machine slot (loads machine slot) (λ r. rw (same-refl machine, same-refl slot)) (has-first (tape_of H machine slot) reel is)
-
 -- A reel that is live on some slot is mounted.
 pub live-mounted : (H : History) (machine slot reel : Name) → has (live_on H machine slot) reel ≡ true → is_mounted H reel ≡ true
 live-mounted H machine slot reel is =
@@ -167,7 +158,7 @@ live-mounted H machine slot reel is =
     on_tape = (and_parts (nat_lt 0 (left_of H reel)) _ (sym (has-live_on H machine slot reel) ∙ is)).1
 
 -- A live reel was received.
-pub live-received : (H : History) (machine slot reel : Name) → IsJudged H → has (live_on H machine slot) reel ≡ true → is_some (receipt_of H reel) ≡ true
+pub live-received : (H : History) (machine slot reel : Name) → IsJudged Two H → has (live_on H machine slot) reel ≡ true → is_some (receipt_of H reel) ≡ true
 live-received H machine slot reel judged is = by (receipt_of H reel) refl
   where
     on_tape : has (tape_of H machine slot) reel ≡ true
@@ -188,5 +179,5 @@ pub front-mounted : (H : History) (machine slot reel : Name) → front_of H mach
 front-mounted H machine slot reel is = live-mounted H machine slot reel (first-there (live_on H machine slot) reel is)
 
 -- The front reel of a slot was received.
-pub front-received : (H : History) (machine slot reel : Name) → IsJudged H → front_of H machine slot ≡ Some reel → is_some (receipt_of H reel) ≡ true
+pub front-received : (H : History) (machine slot reel : Name) → IsJudged Two H → front_of H machine slot ≡ Some reel → is_some (receipt_of H reel) ≡ true
 front-received H machine slot reel judged is = live-received H machine slot reel judged (first-there (live_on H machine slot) reel is)

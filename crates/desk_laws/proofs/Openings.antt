@@ -6,6 +6,7 @@ use Rattle.std.proofs.lemmas.Bool.{and_parts}
 use Rattle.desk_types.specs.declared.command.Command.{Command}
 use Rattle.desk_types.specs.declared.command.Command.TheVariants.{ReelReceived, ReelOpened, ReelSealed, ReelBaked, MaterialsLoaded, MaterialsSpliced, MaterialsUnloaded, MaterialsInstalled, MaterialsScrapped, CountsTaken}
 use Rattle.desk_types.specs.declared.command.Receipt.{Receipt}
+use Rattle.desk_types.specs.declared.rules.Rules.TheVariants.{Two}
 use Rattle.desk_types.specs.Id.{Name, same}
 use Rattle.desk_types.specs.History.{History, now_of}
 use Rattle.desk_types.specs.Setup.{receipt_by, receipt_of}
@@ -33,7 +34,7 @@ resting : (H : History) (r reel : Name) → same r reel ≡ true → is_mounted 
 resting H r reel here rest mounted = sym mounted ∙ ap (is_mounted H) (sym (same-true r reel here)) ∙ rest
 
 -- a reel that is mounted after an accepted command is out then, if it was out where it was mounted before
-stays-out : (H : History) (minute : ℕ) (some : Bool) (live : Name → Name → Bool) (reel : Name) (command : Command) → command_refusal H minute command ≡ None
+stays-out : (H : History) (minute : ℕ) (some : Bool) (live : Name → Name → Bool) (reel : Name) (command : Command) → command_refusal Two H minute command ≡ None
     → mounted_after some live reel command (is_mounted H reel) ≡ true → (is_mounted H reel ≡ true → is_some (out_since H reel) ≡ true)
     → is_some (since_after (open_by reel command) minute (out_since H reel)) ≡ true
 unfolding command_refusal
@@ -74,7 +75,7 @@ stays-out H minute some live reel (CountsTaken counts) accepted mounted before =
 stays-out H minute some live reel _ accepted mounted before = before mounted
 
 -- A mounted reel lies out of its bag.
-pub mounted-out : (H : History) (reel : Name) → IsJudged H → is_mounted H reel ≡ true → is_some (out_since H reel) ≡ true
+pub mounted-out : (H : History) (reel : Name) → IsJudged Two H → is_mounted H reel ≡ true → is_some (out_since H reel) ≡ true
 mounted-out [] reel judged mounted = cc
 mounted-out (e ∷ H) reel (next, judged) mounted =
     stays-out H e.effective _ _ reel e.stamped.command (next-accepted H e next) (sym (mounted-next H e reel (next, judged)) ∙ mounted) (mounted-out H reel judged)
@@ -153,6 +154,6 @@ out-goes-on H reel now minute all out le =
     omega (arith, parts, rest)
 
 -- The exposure of a mounted reel goes on minute by minute from the desk minute.
-pub mounted-goes-on : (H : History) (reel : Name) (minute : ℕ) → IsJudged H → is_mounted H reel ≡ true → now_of H ≤ minute
+pub mounted-goes-on : (H : History) (reel : Name) (minute : ℕ) → IsJudged Two H → is_mounted H reel ≡ true → now_of H ≤ minute
     → exposure_of H reel minute ≡ exposure_of H reel (now_of H) + (minute - now_of H)
 mounted-goes-on H reel minute judged mounted le = out-goes-on H reel (now_of H) minute (by-desk_minute H) (mounted-out H reel judged mounted) le

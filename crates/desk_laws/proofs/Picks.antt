@@ -1,7 +1,7 @@
 -- The pieces that a command takes off a reel.
 use Rattle.std.proofs.Common.{◌≡◌, ℕ, ◌+◌, ◌-◌, ◌≤◌, min, nat_lt, Bool, true, false, Option, Some, None, List, [], ◌∷◌, ◌++◌, find, refl, sym, ap, ◌∙◌, subst, unwrap_or, zero-add, arith}
-use Rattle.std.specs.Prelude.{if◌then◌else◌, is_none, ◌||◌}
-use Rattle.std.specs.Option.{option_and_then, option_map, option_to_list}
+use Rattle.std.specs.Prelude.{if◌then◌else◌, is_none, ◌||◌, ◌&&◌, ◌==◌}
+use Rattle.std.specs.Option.{option_and_then, option_map, option_map_or, option_to_list}
 use Rattle.std.specs.List.{list_any, AllByRecursion, IsDistinct}
 use Rattle.std.proofs.lemmas.Bool.{ltb-false, ltb-true}
 use Rattle.std.proofs.lemmas.List.Folds.{list_any-append}
@@ -9,14 +9,16 @@ use Rattle.std.proofs.lemmas.List.Sums.{sum_by-append}
 use Rattle.std.proofs.lemmas.Map.Keys.{IsDistinct-head, IsDistinct-tail}
 use Rattle.desk_types.specs.declared.answer.Refusal.{Refusal}
 use Rattle.desk_types.specs.declared.answer.Refusal.TheVariants.{UnknownReel, ReelTwice, ReelMounted, CountAbove}
+use Rattle.desk_types.specs.declared.command.Command.TheVariants.{CountsTaken}
 use Rattle.desk_types.specs.declared.count.CountRow.{CountRow}
+use Rattle.desk_types.specs.declared.rules.Rules.TheVariants.{Two}
 use Rattle.desk_types.specs.declared.take.Pick.{Pick}
 use Rattle.desk_types.specs.declared.take.Purpose.{Purpose}
 use Rattle.desk_types.specs.declared.take.Purpose.TheVariants.{Placed, Counted}
 use Rattle.desk_types.specs.Id.{Name, same}
 use Rattle.desk_types.specs.History.{History}
 use Rattle.desk_types.specs.Setup.{receipt_of}
-use Rattle.desk_types.specs.Pieces.{picked, pieces_off, pick_for, install_picks, scrap_picks, count_picks, left_of, is_mounted}
+use Rattle.desk_types.specs.Pieces.{picked, pieces_off, pick_for, install_picks, scrap_picks, count_picks, found_by, left_of, is_mounted}
 use Rattle.desk_types.specs.Refusals.{first_refusal, counts_refusal}
 use Rattle.desk_types.proofs.Keys.{same-refl, same-sym, same-true}
 use Rattle.desk_laws.proofs.Accepted.{none-holds}
@@ -128,26 +130,26 @@ pub record IsCountable (H : History) (seen : List Name) (row : CountRow) : Type 
   pub received : is_none (receipt_of H row.reel) ≡ false
   pub once : list_any (same row.reel) seen ≡ false
   pub not_mounted : is_mounted H row.reel ≡ false
-  pub within : row.quantity ≤ left_of H row.reel
+  pub spent : ((left_of H row.reel == 0) && nat_lt 0 row.quantity) ≡ false
 
 -- what an accepted count says of its first row, and of the others
-pub countable : (H : History) (seen : List Name) (row : CountRow) (rows : List CountRow) → counts_refusal H seen (row ∷ rows) ≡ None
-    → IsCountable H seen row × (counts_refusal H (seen ++ row.reel ∷ []) rows ≡ None)
+pub countable : (H : History) (seen : List Name) (row : CountRow) (rows : List CountRow) → counts_refusal Two H seen (row ∷ rows) ≡ None
+    → IsCountable H seen row × (counts_refusal Two H (seen ++ row.reel ∷ []) rows ≡ None)
 countable H seen row rows none =
-    let both = or-none (first_refusal tests) (counts_refusal H (seen ++ row.reel ∷ []) rows) none in
+    let both = or-none (first_refusal tests) (counts_refusal Two H (seen ++ row.reel ∷ []) rows) none in
     let all = none-holds tests both.0 in
-    (record { received = all.0; once = all.1.0; not_mounted = all.1.1.0; within = ltb-false _ _ all.1.1.1.0 }, both.1)
+    (record { received = all.0; once = all.1.0; not_mounted = all.1.1.0; spent = all.1.1.1.0 }, both.1)
   where
     tests : List (Bool × Refusal)
     tests =
         (is_none (receipt_of H row.reel), UnknownReel row.reel)
         ∷ (list_any (same row.reel) seen, ReelTwice row.reel)
         ∷ (is_mounted H row.reel, ReelMounted row.reel)
-        ∷ (nat_lt (left_of H row.reel) row.quantity, CountAbove row.reel)
+        ∷ ((left_of H row.reel == 0) && nat_lt 0 row.quantity, CountAbove row.reel)
         ∷ []
 
 -- a reel of a row before is in no further row
-count-absent : (H : History) (pieces : Name → ℕ) (seen : List Name) (rows : List CountRow) (reel : Name) → counts_refusal H seen rows ≡ None
+count-absent : (H : History) (pieces : Name → ℕ) (seen : List Name) (rows : List CountRow) (reel : Name) → counts_refusal Two H seen rows ≡ None
     → list_any (same reel) seen ≡ true → picked (count_picks pieces rows) reel ≡ 0
 count-absent H pieces seen [] reel none before = refl
 count-absent H pieces seen (row ∷ rows) reel none before =
@@ -162,15 +164,25 @@ count-absent H pieces seen (row ∷ rows) reel none before =
     away true here = let one = same-true row.reel reel here in let once = (countable H seen row rows none).0.once in cc
     away false is = is
 
--- what an accepted count does with one reel: it takes no more than there is, and where it tells the pieces, they are what it leaves
+-- what an accepted count does with one reel: it takes no more than there is; where it tells the pieces, they are what it leaves and what it
+-- finds; and it finds nothing on a spent reel
 pub record IsCounted (H : History) (rows : List CountRow) (reel : Name) : Type 0 where
   pub within : picked (count_picks (left_of H) rows) reel ≤ left_of H reel
   pub told : unwrap_or (option_map (λ (row : CountRow). row.quantity) (find (λ row. same row.reel reel) rows)) (left_of H reel - picked (count_picks (left_of H) rows) reel)
-      ≡ left_of H reel - picked (count_picks (left_of H) rows) reel
+      ≡ left_of H reel - picked (count_picks (left_of H) rows) reel + found_by (left_of H reel) reel (CountsTaken rows)
+  pub spent : left_of H reel ≡ 0 → found_by (left_of H reel) reel (CountsTaken rows) ≡ 0
+
+-- what nothing is found on
+pub and-nothing : (n : ℕ) → n ≡ n + 0
+and-nothing n = omega arith
+
+-- a count that is no rise of a spent reel says that it has none
+spent-none : (left counted : ℕ) → ((left == 0) && nat_lt 0 counted) ≡ false → left ≡ 0 → counted ≡ 0
+spent-none left counted test none = let few = ltb-false 0 counted (sym (ap (λ n. (n == 0) && nat_lt 0 counted) none) ∙ test) in omega (arith, few)
 
 -- An accepted count does so.
-pub counted : (H : History) (seen : List Name) (rows : List CountRow) (reel : Name) → counts_refusal H seen rows ≡ None → IsCounted H rows reel
-counted H seen [] reel none = record { within = omega arith; told = refl }
+pub counted : (H : History) (seen : List Name) (rows : List CountRow) (reel : Name) → counts_refusal Two H seen rows ≡ None → IsCounted H rows reel
+counted H seen [] reel none = record { within = omega arith; told = and-nothing _; spent = λ empty. refl }
 counted H seen (row ∷ rows) reel none = by (same row.reel reel) refl (both ∙ ap (λ k. k + rest) (picked-off row.reel (left_of H row.reel - row.quantity) Counted reel))
     (counted H (seen ++ row.reel ∷ []) rows reel (countable H seen row rows none).1)
   where
@@ -179,6 +191,13 @@ counted H seen (row ∷ rows) reel none = by (same row.reel reel) refl (both ∙
 
     whole : ℕ
     whole = picked (count_picks (left_of H) (row ∷ rows)) reel
+
+    -- the row of the reel among the others, and what a row finds
+    later : Option CountRow
+    later = find (λ r. same r.reel reel) rows
+
+    found : Option CountRow → ℕ
+    found said = option_map_or (λ (r : CountRow). r.quantity - left_of H reel) said 0
 
     both : whole ≡ picked (pieces_off row.reel (left_of H row.reel - row.quantity) Counted) reel + rest
     both = picked-append (pieces_off row.reel (left_of H row.reel - row.quantity) Counted) (count_picks (left_of H) rows) reel
@@ -189,25 +208,29 @@ counted H seen (row ∷ rows) reel none = by (same row.reel reel) refl (both ∙
         let one = same-true row.reel reel here in
         let none_after : rest ≡ 0 = count-absent H (left_of H) (seen ++ row.reel ∷ []) rows reel first.1
         (list_any-append (same reel) seen (row.reel ∷ []) ∙ ap (λ x. list_any (same x) seen || (same x row.reel || false)) (sym one) ∙ last (list_any (same row.reel) seen)) in
-        let few : row.quantity ≤ left_of H reel = subst (λ x. row.quantity ≤ left_of H x) one first.0.within in
         let taken : whole ≡ left_of H reel - row.quantity + rest = all ∙ ap (λ x. left_of H x - row.quantity + rest) one in
         record {
-          within = omega (arith, taken, none_after, few);
-          told = ap (λ b. unwrap_or (option_map (λ (r : CountRow). r.quantity) (if b then Some row else find (λ r. same r.reel reel) rows)) (left_of H reel - whole)) here
-              ∙ exact taken none_after few;
+          within = omega (arith, taken, none_after);
+          told = ap (λ b. unwrap_or (option_map (λ (r : CountRow). r.quantity) (if b then Some row else later)) (left_of H reel - whole)) here
+              ∙ exact taken none_after
+              ∙ ap (λ b. left_of H reel - whole + found (if b then Some row else later)) (sym here);
+          spent = λ empty. ap (λ b. found (if b then Some row else later)) here
+              ∙ (let nothing = spent-none (left_of H reel) row.quantity (subst (λ x. ((left_of H x == 0) && nat_lt 0 row.quantity) ≡ false) one first.0.spent) empty in omega (arith, nothing));
         }
       where
         last : (b : Bool) → (b || (same row.reel row.reel || false)) ≡ true
         last true = refl
         last false = ap (λ c. c || false) (same-refl row.reel)
 
-        exact : whole ≡ left_of H reel - row.quantity + rest → rest ≡ 0 → row.quantity ≤ left_of H reel → row.quantity ≡ left_of H reel - whole
-        exact taken none_after few = omega (arith, taken, none_after, few)
+        exact : whole ≡ left_of H reel - row.quantity + rest → rest ≡ 0 → row.quantity ≡ left_of H reel - whole + (row.quantity - left_of H reel)
+        exact taken none_after = omega (arith, taken, none_after)
     by false away all others =
         record {
           within = let few = others.within in omega (arith, all, few);
-          told = ap (λ b. unwrap_or (option_map (λ (r : CountRow). r.quantity) (if b then Some row else find (λ r. same r.reel reel) rows)) (left_of H reel - whole)) away
-              ∙ ap (λ k. unwrap_or (option_map (λ (r : CountRow). r.quantity) (find (λ r. same r.reel reel) rows)) (left_of H reel - k)) (all ∙ zero-add rest)
+          told = ap (λ b. unwrap_or (option_map (λ (r : CountRow). r.quantity) (if b then Some row else later)) (left_of H reel - whole)) away
+              ∙ ap (λ k. unwrap_or (option_map (λ (r : CountRow). r.quantity) later) (left_of H reel - k)) (all ∙ zero-add rest)
               ∙ others.told
-              ∙ ap (λ k. left_of H reel - k) (sym (all ∙ zero-add rest));
+              ∙ ap (λ k. left_of H reel - k + found later) (sym (all ∙ zero-add rest))
+              ∙ ap (λ b. left_of H reel - whole + found (if b then Some row else later)) (sym away);
+          spent = λ empty. ap (λ b. found (if b then Some row else later)) away ∙ others.spent empty;
         }

@@ -1,12 +1,13 @@
 -- Each reel with pieces left stands on the slot of its place and on no other.
-use Rattle.std.proofs.Common.{Contains, ◌≡◌, ℕ, ◌≤◌, nat_lt, Bool, true, false, Option, Some, None, List, [], ◌∷◌, ◌++◌, filter, refl, sym, ap, ◌∙◌, arith}
+use Rattle.std.proofs.Common.{Contains, ◌≡◌, ℕ, nat_lt, Bool, true, false, Option, Some, None, List, [], ◌∷◌, ◌++◌, filter, refl, sym, ap, ◌∙◌}
 use Rattle.std.specs.Prelude.{if◌then◌else◌, ◌&&◌, is_none}
 use Rattle.std.specs.Cmp.Lexicographic.{nat_list_eq_equiv}
-use Rattle.std.proofs.lemmas.Bool.{ltb-true, lt-ltb, and_parts}
+use Rattle.std.proofs.lemmas.Bool.{and_parts}
 use Rattle.std.proofs.lemmas.Map.Views.{list_any-from_Contains}
 use Rattle.desk_types.specs.declared.command.Command.{Command}
 use Rattle.desk_types.specs.declared.command.Command.TheVariants.{ReelReceived, MaterialsLoaded, MaterialsSpliced, MaterialsUnloaded}
 use Rattle.desk_types.specs.declared.command.Receipt.{Receipt}
+use Rattle.desk_types.specs.declared.rules.Rules.TheVariants.{Two}
 use Rattle.desk_types.specs.Id.{Name, same}
 use Rattle.desk_types.specs.History.{History}
 use Rattle.desk_types.specs.Setup.{receipt_by}
@@ -18,7 +19,7 @@ use Rattle.desk_types.specs.Judged.{IsJudged}
 use Rattle.desk_types.proofs.Keys.{same-true}
 use Rattle.desk_laws.specs.Place.{is_at, place_after, place_of}
 use Rattle.desk_laws.proofs.Accepted.{next-accepted, mountable, received-by}
-use Rattle.desk_laws.proofs.Balance.{falls}
+use Rattle.desk_laws.proofs.Balance.{some-next}
 use Rattle.desk_laws.proofs.Judgements.{untouched}
 use Rattle.desk_laws.proofs.Mounts.{has, has-live_on, unreceived-nowhere}
 use Rattle.desk_laws.proofs.Standing.{IsOn, on-load, on-splice, on-unload}
@@ -66,12 +67,8 @@ untouched-unplaced (e ∷ H) reel (none, all) = ap (place_after reel e.stamped.c
 
 -- ---- reels with pieces left
 
--- what is left after a fall was there before
-pub some-before : (before after : ℕ) → after ≤ before → nat_lt 0 after ≡ true → nat_lt 0 before ≡ true
-some-before before after fell some = let more = ltb-true 0 after some in lt-ltb 0 before (omega (arith, fell, more))
-
 -- after an accepted command
-on-step : (H : History) (minute : ℕ) (machine slot reel : Name) (command : Command) → IsJudged H → command_refusal H minute command ≡ None
+on-step : (H : History) (minute : ℕ) (machine slot reel : Name) (command : Command) → IsJudged Two H → command_refusal Two H minute command ≡ None
     → (receipt_by reel minute command ≡ None → nat_lt 0 (left_of H reel) ≡ true)
     → (nat_lt 0 (left_of H reel) ≡ true → IsOn machine slot reel (tape_of H machine slot) (place_of H reel))
     → IsOn machine slot reel (tape_after machine slot command (tape_of H machine slot)) (place_after reel command (place_of H reel))
@@ -103,22 +100,22 @@ on-step H minute machine slot reel (MaterialsUnloaded m s) judged accepted had o
 on-step H minute machine slot reel _ judged accepted had on = on (had refl)
 
 -- A reel with pieces left stands on the tape of a slot exactly where that is its place.
-pub placed : (H : History) (machine slot reel : Name) → IsJudged H → nat_lt 0 (left_of H reel) ≡ true → has (tape_of H machine slot) reel ≡ is_at machine slot (place_of H reel)
+pub placed : (H : History) (machine slot reel : Name) → IsJudged Two H → nat_lt 0 (left_of H reel) ≡ true → has (tape_of H machine slot) reel ≡ is_at machine slot (place_of H reel)
 unfolding tape_of place_of left_of
 placed [] machine slot reel judged some = cc
 placed (e ∷ H) machine slot reel (next, judged) some =
     on-step H e.effective machine slot reel e.stamped.command judged (next-accepted H e next)
-    (λ other. some-before (left_of H reel) (left_of (e ∷ H) reel) (falls H e reel (next, judged) other) some)
+    (λ other. some-next H e reel (next, judged) other some)
     (placed H machine slot reel judged)
 
 -- A reel that is live on a slot has its place there.
-pub live-placed : (H : History) (machine slot reel : Name) → IsJudged H → has (live_on H machine slot) reel ≡ true → is_at machine slot (place_of H reel) ≡ true
+pub live-placed : (H : History) (machine slot reel : Name) → IsJudged Two H → has (live_on H machine slot) reel ≡ true → is_at machine slot (place_of H reel) ≡ true
 live-placed H machine slot reel judged live =
     let both = and_parts (nat_lt 0 (left_of H reel)) (has (tape_of H machine slot) reel) (sym (has-live_on H machine slot reel) ∙ live) in
     sym (placed H machine slot reel judged both.0) ∙ both.1
 
 -- A reel is live on one slot.
-pub one-slot : (H : History) (m s machine slot reel : Name) → IsJudged H → Contains (live_on H m s) reel → Contains (live_on H machine slot) reel
+pub one-slot : (H : History) (m s machine slot reel : Name) → IsJudged Two H → Contains (live_on H m s) reel → Contains (live_on H machine slot) reel
     → (m ≡ machine) × (s ≡ slot)
 one-slot H m s machine slot reel judged one other =
     by (place_of H reel) (live-placed H m s reel judged (list_any-from_Contains nat_list_eq_equiv reel (live_on H m s) one))

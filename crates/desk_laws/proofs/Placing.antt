@@ -1,15 +1,16 @@
 -- What an accepted install says of the pieces that it places.
-use Rattle.std.proofs.Common.{Contains, ◌≡◌, ℕ, ◌+◌, ◌-◌, nat_lt, Bool, true, false, Option, Some, None, List, [], ◌∷◌, ◌++◌, find, filter_map, length, take, map, min, All, refl, sym, ap, ◌∙◌, subst, arith}
-use Rattle.std.specs.Prelude.{if◌then◌else◌, ⊤, ◌||◌}
+use Rattle.std.proofs.Common.{◌≡◌, ℕ, ◌+◌, ◌-◌, nat_lt, Bool, true, false, Option, Some, None, List, [], ◌∷◌, ◌++◌, find, filter_map, length, take, map, min, All, refl, sym, ap, ◌∙◌, subst, arith}
+use Rattle.std.specs.Prelude.{if◌then◌else◌, ⊤, ◌||◌, slice_get}
 use Rattle.std.specs.Option.{option_and_then, option_map, option_map_or, option_to_list}
 use Rattle.std.specs.List.{cons_option, enumerate_from, AllByRecursion}
 use Rattle.std.proofs.lemmas.List.{append_assoc, append-nil, length-append, take_at}
-use Rattle.std.proofs.lemmas.List.Elements.{All-nil, All-cons, All-append, All-head, All-tail, All-contains_itself, filter_map-append}
+use Rattle.std.proofs.lemmas.List.Elements.{All-nil, All-cons, All-append, filter_map-append}
 use Rattle.desk_types.specs.declared.command.Command.{Command}
 use Rattle.desk_types.specs.declared.command.Command.TheVariants.{MaterialsInstalled, MaterialsScrapped, CountsTaken}
 use Rattle.desk_types.specs.declared.command.Entry.{Entry}
 use Rattle.desk_types.specs.declared.command.Receipt.{Receipt}
 use Rattle.desk_types.specs.declared.count.CountRow.{CountRow}
+use Rattle.desk_types.specs.declared.rules.Rules.TheVariants.{Two}
 use Rattle.desk_types.specs.declared.take.Pick.{Pick}
 use Rattle.desk_types.specs.declared.take.Purpose.{Purpose}
 use Rattle.desk_types.specs.declared.take.Purpose.TheVariants.{Placed, Rejected, Counted}
@@ -23,6 +24,8 @@ use Rattle.desk_types.specs.Judged.{IsJudged}
 use Rattle.desk_types.specs.Placements.{Placement, entry_takes, takes_of, placement_of, placements_of}
 use Rattle.desk_types.proofs.Keys.{same-refl}
 use Rattle.desk_laws.specs.Verified.{next_reel, IsRightlyPlaced}
+use Rattle.desk_laws.proofs.Accepted.{next-accepted}
+use Rattle.desk_laws.proofs.Installs.{ArePlacedFor, placed-at, each-placed}
 use Rattle.desk_laws.proofs.Mounts.{has, unreceived-nowhere}
 use Rattle.desk_laws.proofs.Verifying.{tape-verified}
 
@@ -32,7 +35,6 @@ use Rattle.desk_laws.proofs.Verifying.{tape-verified}
 pub record IsPickedFor (H : History) (command : Command) (before : List Pick) (reel board designator machine slot : Name) : Type 0 where
   pub designators : List Name
   pub installs : command ≡ MaterialsInstalled machine board designators
-  pub named : Contains designators designator
   pub on_sheet : slot_on H machine designator ≡ Some slot
   pub next : next_reel H machine slot before ≡ Some reel
 
@@ -53,9 +55,9 @@ picked-push H command before (x ∷ xs) p (first, all) last =
     (first, picked-push H command (before ++ x ∷ []) xs p all (subst (λ b. IsPicked H command b p.reel p.purpose) (sym (append_assoc before (x ∷ []) xs)) last))
 
 -- one more designator
-one-picked : (H : History) (machine board : Name) (all : List Name) (before : List Pick) (d : Name) → Contains all d → ArePicked H (MaterialsInstalled machine board all) [] before
+one-picked : (H : History) (machine board : Name) (all : List Name) (before : List Pick) (d : Name) → ArePicked H (MaterialsInstalled machine board all) [] before
     → ArePicked H (MaterialsInstalled machine board all) [] (before ++ option_to_list (pick_for (slot_on H machine) (tape_of H machine) (left_of H) machine board before d))
-one-picked H machine board all before d named right = by (slot_on H machine d) refl
+one-picked H machine board all before d right = by (slot_on H machine d) refl
   where
     pick : Name → Name → Pick
     pick slot reel = record { reel = reel; quantity = 1; purpose = Placed board d machine slot }
@@ -67,21 +69,21 @@ one-picked H machine board all before d named right = by (slot_on H machine d) r
         → ArePicked H (MaterialsInstalled machine board all) [] (before ++ option_to_list (option_map (pick slot) reel))
     found slot None there is = none
     found slot (Some reel) there is =
-        picked-push H (MaterialsInstalled machine board all) [] before (pick slot reel) right (record { designators = all; installs = refl; named = named; on_sheet = there; next = is })
+        picked-push H (MaterialsInstalled machine board all) [] before (pick slot reel) right (record { designators = all; installs = refl; on_sheet = there; next = is })
 
     by : (slot : Option Name) → slot_on H machine d ≡ slot
         → ArePicked H (MaterialsInstalled machine board all) [] (before ++ option_to_list (option_and_then (λ s. option_map (pick s) (next_reel H machine s before)) slot))
     by None there = none
     by (Some slot) there = found slot (next_reel H machine slot before) there refl
 
-install-picked : (H : History) (machine board : Name) (all : List Name) (before : List Pick) (ds : List Name) → All (Contains all) ds
+install-picked : (H : History) (machine board : Name) (all : List Name) (before : List Pick) (ds : List Name)
     → ArePicked H (MaterialsInstalled machine board all) [] before
     → ArePicked H (MaterialsInstalled machine board all) [] (install_picks (slot_on H machine) (tape_of H machine) (left_of H) machine board before ds)
 unfolding install_picks
-install-picked H machine board all before [] named right = right
-install-picked H machine board all before (d ∷ ds) named right =
+install-picked H machine board all before [] right = right
+install-picked H machine board all before (d ∷ ds) right =
     install-picked H machine board all (before ++ option_to_list (pick_for (slot_on H machine) (tape_of H machine) (left_of H) machine board before d)) ds
-    (All-tail (Contains all) d ds named) (one-picked H machine board all before d (All-head (Contains all) d ds named) right)
+    (one-picked H machine board all before d right)
 
 -- ---- other takes
 
@@ -125,7 +127,7 @@ unplaced-picked H command before (p ∷ ps) (first, all) = (by p.purpose first, 
 
 -- Each pick of a command is for the designator that it says, after those before it.
 pub picks-picked : (H : History) (command : Command) → ArePicked H command [] (picks_of H command)
-picks-picked H (MaterialsInstalled machine board ds) = install-picked H machine board ds [] ds (All-contains_itself ds) tt
+picks-picked H (MaterialsInstalled machine board ds) = install-picked H machine board ds [] ds tt
 picks-picked H (MaterialsScrapped machine slot n) =
     unplaced-picked H (MaterialsScrapped machine slot n) [] _ (unplaced-scrap (left_of H) machine slot (tape_of H machine slot) n)
 picks-picked H (CountsTaken counts) = unplaced-picked H (CountsTaken counts) [] _ (unplaced-count (left_of H) counts)
@@ -154,14 +156,15 @@ take-before : (before ps : List Pick) (place : ℕ) → place ≡ length before 
 take-before before ps place is = take_at before ps (place - 1) (omega (arith, is))
 
 -- the placements of one entry
-entry-placed : (H : History) (e : Entry) → IsJudged H → (before ps : List Pick) (place : ℕ) → place ≡ length before + 1 → picks_of H e.stamped.command ≡ before ++ ps
+entry-placed : (H : History) (e : Entry) → IsJudged Two H → ((m b : Name) (ds : List Name) → e.stamped.command ≡ MaterialsInstalled m b ds → ArePlacedFor m b ds (picks_of H e.stamped.command))
+    → (before ps : List Pick) (place : ℕ) → place ≡ length before + 1 → picks_of H e.stamped.command ≡ before ++ ps
     → ArePicked H e.stamped.command before ps
     → All (IsRightlyPlaced (e ∷ H)) (filter_map placement_of (
     map (λ (place, take). record { number = e.number; place = place; effective = e.effective; take = take }) (enumerate_from place (map (take_of H e.effective) ps))))
-entry-placed H e judged before [] place there all right = All-nil (IsRightlyPlaced (e ∷ H))
-entry-placed H e judged before (p ∷ ps) place there all (first, right) =
-    by p.purpose first (
-    entry-placed H e judged (before ++ p ∷ []) ps (place + 1) (let more = length-append before (p ∷ []) in omega (arith, there, more))
+entry-placed H e judged each before [] place there all right = All-nil (IsRightlyPlaced (e ∷ H))
+entry-placed H e judged each before (p ∷ ps) place there all (first, right) =
+    by p.purpose refl first (
+    entry-placed H e judged each (before ++ p ∷ []) ps (place + 1) (let more = length-append before (p ∷ []) in omega (arith, there, more))
     (all ∙ sym (append_assoc before (p ∷ []) ps)) right)
   where
     rest : List Placement
@@ -173,13 +176,13 @@ entry-placed H e judged before (p ∷ ps) place there all (first, right) =
     given machine slot next None said = let on = find-there _ (tape_of H machine slot) p.reel next in let nowhere = unreceived-nowhere H machine slot p.reel judged said in cc
     given machine slot next (Some receipt) said = (receipt, said)
 
-    by : (purpose : Purpose) → IsPicked H e.stamped.command before p.reel purpose → All (IsRightlyPlaced (e ∷ H)) rest
+    by : (purpose : Purpose) → p.purpose ≡ purpose → IsPicked H e.stamped.command before p.reel purpose → All (IsRightlyPlaced (e ∷ H)) rest
         → All (IsRightlyPlaced (e ∷ H)) (
         cons_option (
         placement_of (
         record { number = e.number; place = place; effective = e.effective; take = take_of H e.effective (record { reel = p.reel; quantity = p.quantity; purpose = purpose }) }))
         rest)
-    by (Placed board d machine slot) is others =
+    by (Placed board d machine slot) says is others =
         let receipt = given machine slot is.next (receipt_of H p.reel) refl in
         All-cons (IsRightlyPlaced (e ∷ H)) _ rest (record {
           before = H;
@@ -189,17 +192,23 @@ entry-placed H e judged before (p ∷ ps) place there all (first, right) =
           effective = refl;
           designators = is.designators;
           command = is.installs;
-          named = is.named;
+          place = omega (arith, there);
+          named =
+              (let index : place - 1 ≡ length before = omega (arith, there) in
+              ap (slice_get is.designators) index
+              ∙ placed-at machine board is.designators before ps p board d machine slot
+              (subst (ArePlacedFor machine board is.designators) all (each machine board is.designators is.installs)) says);
           slot = is.on_sheet;
           next = ap (next_reel H machine slot) (ap (take (place - 1)) all ∙ take-before before (p ∷ ps) place there) ∙ is.next;
           receipt = receipt.0;
           received = receipt.1;
           part = ap (λ r. option_map_or (λ (x : Receipt). x.part) r []) receipt.1;
           lot = ap (λ r. option_map_or (λ (x : Receipt). x.lot) r []) receipt.1;
+          overdue = refl;
           verified = tape-verified H machine slot p.reel judged (find-there _ (tape_of H machine slot) p.reel is.next);
         }) others
-    by (Rejected machine slot) is others = others
-    by Counted is others = others
+    by (Rejected machine slot) says is others = others
+    by Counted says is others = others
 
 -- what was so stays so
 placed-later : (H : History) (e : Entry) (p : Placement) → IsRightlyPlaced H p → IsRightlyPlaced (e ∷ H) p
@@ -211,6 +220,7 @@ placed-later H e p is = record {
   effective = is.effective;
   designators = is.designators;
   command = is.command;
+  place = is.place;
   named = is.named;
   slot = is.slot;
   next = is.next;
@@ -218,15 +228,16 @@ placed-later H e p is = record {
   received = is.received;
   part = is.part;
   lot = is.lot;
+  overdue = is.overdue;
   verified = is.verified;
 }
 
 -- Each piece was rightly placed.
-pub rightly-placed : (H : History) → IsJudged H → All (IsRightlyPlaced H) (placements_of H)
+pub rightly-placed : (H : History) → IsJudged Two H → All (IsRightlyPlaced H) (placements_of H)
 unfolding takes_of
 rightly-placed [] judged = All-nil (IsRightlyPlaced [])
 rightly-placed (e ∷ H) (next, judged) =
     subst (All (IsRightlyPlaced (e ∷ H))) (sym (filter_map-append placement_of (takes_of H) (entry_takes H e)))
     (All-append (IsRightlyPlaced (e ∷ H)) (placements_of H) (filter_map placement_of (entry_takes H e))
     (λ k d inside. placed-later H e _ (rightly-placed H judged k d inside))
-    (entry-placed H e judged [] (picks_of H e.stamped.command) 1 refl refl (picks-picked H e.stamped.command)))
+    (entry-placed H e judged (λ m b ds is. each-placed H e.effective e.stamped.command m b ds (next-accepted H e next) is) [] (picks_of H e.stamped.command) 1 refl refl (picks-picked H e.stamped.command)))

@@ -4,19 +4,20 @@ use Rattle.std.proofs.lemmas.List.{append_assoc, append-nil}
 use Rattle.std.proofs.lemmas.List.Elements.{filter_map-append}
 use Rattle.desk_types.specs.declared.command.Entry.{Entry}
 use Rattle.desk_types.specs.declared.command.Stamped.{Stamped}
+use Rattle.desk_types.specs.declared.rules.Rules.{Rules}
 use Rattle.desk_types.specs.History.{History, IsPrefix}
 use Rattle.desk_types.specs.Outcome.{reply_to, after_command, replies_to, after_commands}
 use Rattle.desk_types.specs.Placements.{EntryTake, Placement, entry_takes, takes_of, placement_of, placements_of}
 
 -- The replies to two runs in turn are those to the first, and those to the second on the list that the first left.
-pub replies-append : (H : History) (first second : List Stamped) → replies_to H (first ++ second) ≡ replies_to H first ++ replies_to (after_commands H first) second
-replies-append H [] second = refl
-replies-append H (s ∷ ss) second = ap (λ replies. reply_to H s ∷ replies) (replies-append (after_command H s) ss second)
+pub replies-append : (rules : Rules) (H : History) (first second : List Stamped) → replies_to rules H (first ++ second) ≡ replies_to rules H first ++ replies_to rules (after_commands rules H first) second
+replies-append rules H [] second = refl
+replies-append rules H (s ∷ ss) second = ap (λ replies. reply_to rules H s ∷ replies) (replies-append rules (after_command rules H s) ss second)
 
 -- The list after both is that after the second on the list that the first left.
-pub after-append : (H : History) (first second : List Stamped) → after_commands H (first ++ second) ≡ after_commands (after_commands H first) second
-after-append H [] second = refl
-after-append H (s ∷ ss) second = after-append (after_command H s) ss second
+pub after-append : (rules : Rules) (H : History) (first second : List Stamped) → after_commands rules H (first ++ second) ≡ after_commands rules (after_commands rules H first) second
+after-append rules H [] second = refl
+after-append rules H (s ∷ ss) second = after-append rules (after_command rules H s) ss second
 
 -- the takes of later entries come after those of a list
 takes-later : (later : List Entry) (G : History) → (more : List EntryTake) × (takes_of (later ++ G) ≡ takes_of G ++ more)

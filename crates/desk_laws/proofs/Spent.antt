@@ -1,49 +1,44 @@
 -- What later entries leave of a reel.
-use Rattle.std.proofs.Common.{◌≡◌, ◌≤◌, true, Option, Some, None, List, [], ◌∷◌, ◌++◌, refl, sym, ap, ◌∙◌, subst, arith}
+use Rattle.std.proofs.Common.{◌≡◌, true, Option, Some, None, List, [], ◌∷◌, ◌++◌, refl, ap, ◌∙◌, subst}
 use Rattle.std.specs.Prelude.{is_some}
 use Rattle.std.specs.Option.{option_or}
 use Rattle.desk_types.specs.declared.command.Entry.{Entry}
 use Rattle.desk_types.specs.declared.command.Receipt.{Receipt}
+use Rattle.desk_types.specs.declared.rules.Rules.TheVariants.{Two}
 use Rattle.desk_types.specs.Id.{Name}
 use Rattle.desk_types.specs.History.{History, IsPrefix}
 use Rattle.desk_types.specs.Setup.{receipt_by, receipt_of}
 use Rattle.desk_types.specs.Pieces.{left_of}
 use Rattle.desk_types.specs.Judged.{IsJudged}
 use Rattle.desk_laws.proofs.Accepted.{received-once}
-use Rattle.desk_laws.proofs.Balance.{falls}
+use Rattle.desk_laws.proofs.Balance.{spent-next}
 
 -- the next entry does not receive a reel again
-pub not-again : (H : History) (e : Entry) (reel : Name) → IsJudged (e ∷ H) → is_some (receipt_of H reel) ≡ true → receipt_by reel e.effective e.stamped.command ≡ None
+pub not-again : (H : History) (e : Entry) (reel : Name) → IsJudged Two (e ∷ H) → is_some (receipt_of H reel) ≡ true → receipt_by reel e.effective e.stamped.command ≡ None
 not-again H e reel (next, judged) received = by (receipt_by reel e.effective e.stamped.command) refl
   where
     by : (said : Option Receipt) → receipt_by reel e.effective e.stamped.command ≡ said → receipt_by reel e.effective e.stamped.command ≡ None
     by None is = is
     by (Some receipt) is = let fresh = received-once H e reel receipt next is in cc
 
-receipt-later : (later : List Entry) (G : History) (reel : Name) → IsJudged (later ++ G) → is_some (receipt_of G reel) ≡ true → receipt_of (later ++ G) reel ≡ receipt_of G reel
+receipt-later : (later : List Entry) (G : History) (reel : Name) → IsJudged Two (later ++ G) → is_some (receipt_of G reel) ≡ true → receipt_of (later ++ G) reel ≡ receipt_of G reel
 receipt-later [] G reel judged received = refl
 receipt-later (e ∷ later) G reel judged received =
     let before = receipt-later later G reel judged.1 received in
     ap (λ said. option_or said (receipt_of (later ++ G) reel)) (not-again (later ++ G) e reel judged (ap is_some before ∙ received)) ∙ before
 
 -- The receipt of a reel stays.
-pub receipt-prefix : (G H : History) (reel : Name) → IsPrefix G H → IsJudged H → is_some (receipt_of G reel) ≡ true → receipt_of H reel ≡ receipt_of G reel
+pub receipt-prefix : (G H : History) (reel : Name) → IsPrefix G H → IsJudged Two H → is_some (receipt_of G reel) ≡ true → receipt_of H reel ≡ receipt_of G reel
 receipt-prefix G H reel (later, is) judged received =
-    ap (λ es. receipt_of es reel) is ∙ receipt-later later G reel (subst IsJudged is judged) received
+    ap (λ es. receipt_of es reel) is ∙ receipt-later later G reel (subst (IsJudged Two) is judged) received
 
-falls-later : (later : List Entry) (G : History) (reel : Name) → IsJudged (later ++ G) → is_some (receipt_of G reel) ≡ true → left_of (later ++ G) reel ≤ left_of G reel
-falls-later [] G reel judged received = omega arith
-falls-later (e ∷ later) G reel judged received =
-    let before = falls-later later G reel judged.1 received in
+spent-later : (later : List Entry) (G : History) (reel : Name) → IsJudged Two (later ++ G) → is_some (receipt_of G reel) ≡ true → left_of G reel ≡ 0
+    → left_of (later ++ G) reel ≡ 0
+spent-later [] G reel judged received none = none
+spent-later (e ∷ later) G reel judged received none =
     let stays = receipt-later later G reel judged.1 received in
-    let fell = falls (later ++ G) e reel judged (not-again (later ++ G) e reel judged (ap is_some stays ∙ received)) in
-    omega (arith, before, fell)
-
--- What is left of a reel that was received never rises.
-pub falls-prefix : (G H : History) (reel : Name) → IsPrefix G H → IsJudged H → is_some (receipt_of G reel) ≡ true → left_of H reel ≤ left_of G reel
-falls-prefix G H reel (later, is) judged received =
-    subst (λ es. left_of es reel ≤ left_of G reel) (sym is) (falls-later later G reel (subst IsJudged is judged) received)
+    spent-next (later ++ G) e reel judged (not-again (later ++ G) e reel judged (ap is_some stays ∙ received)) (spent-later later G reel judged.1 received none)
 
 -- A reel that was received and has nothing left has nothing left from then on.
-pub spent-stays : (G H : History) (reel : Name) → IsPrefix G H → IsJudged H → is_some (receipt_of G reel) ≡ true → left_of G reel ≡ 0 → left_of H reel ≡ 0
-spent-stays G H reel before judged received none = let fell = falls-prefix G H reel before judged received in omega (arith, fell, none)
+pub spent-stays : (G H : History) (reel : Name) → IsPrefix G H → IsJudged Two H → is_some (receipt_of G reel) ≡ true → left_of G reel ≡ 0 → left_of H reel ≡ 0
+spent-stays G H reel (later, is) judged received none = ap (λ es. left_of es reel) is ∙ spent-later later G reel (subst (IsJudged Two) is judged) received none

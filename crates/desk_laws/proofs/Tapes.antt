@@ -5,6 +5,7 @@ use Rattle.std.specs.List.{IsDistinct}
 use Rattle.std.proofs.lemmas.Bool.{ltb-false}
 use Rattle.desk_types.specs.declared.command.Command.{Command}
 use Rattle.desk_types.specs.declared.command.Command.TheVariants.{MaterialsLoaded, MaterialsSpliced, MaterialsUnloaded}
+use Rattle.desk_types.specs.declared.rules.Rules.TheVariants.{Two}
 use Rattle.desk_types.specs.Id.{Name, same}
 use Rattle.desk_types.specs.History.{History}
 use Rattle.desk_types.specs.Tape.{spliced, tape_after, tape_of}
@@ -42,7 +43,7 @@ spliced-distinct [] reel distinct away = distinct
 spliced-distinct (x ∷ xs) reel distinct away = one-more (x ∷ xs) reel distinct away
 
 -- after an accepted command
-distinct-step : (H : History) (minute : ℕ) (machine slot : Name) (command : Command) → command_refusal H minute command ≡ None
+distinct-step : (H : History) (minute : ℕ) (machine slot : Name) (command : Command) → command_refusal Two H minute command ≡ None
     → IsDistinct same (tape_of H machine slot) → IsDistinct same (tape_after machine slot command (tape_of H machine slot))
 unfolding command_refusal IsDistinct
 distinct-step H minute machine slot (MaterialsLoaded m s r) none distinct = by (same m machine && same s slot)
@@ -65,13 +66,13 @@ distinct-step H minute machine slot (MaterialsUnloaded m s) none distinct = by (
 distinct-step H minute machine slot _ none distinct = distinct
 
 -- A reel stands on a tape once: what is spliced has pieces left and is not mounted, so it stands on none.
-pub tape-distinct : (H : History) (machine slot : Name) → IsJudged H → IsDistinct same (tape_of H machine slot)
+pub tape-distinct : (H : History) (machine slot : Name) → IsJudged Two H → IsDistinct same (tape_of H machine slot)
 unfolding tape_of IsDistinct
 tape-distinct [] machine slot judged = tt
 tape-distinct (e ∷ H) machine slot (next, judged) =
     distinct-step H e.effective machine slot e.stamped.command (next-accepted H e next) (tape-distinct H machine slot judged)
 
 -- A reel stands among the live reels of a slot once.
-pub live-distinct : (H : History) (machine slot : Name) → IsJudged H → IsDistinct same (live_on H machine slot)
+pub live-distinct : (H : History) (machine slot : Name) → IsJudged Two H → IsDistinct same (live_on H machine slot)
 unfolding live_on
 live-distinct H machine slot judged = distinct-filter same (λ reel. nat_lt 0 (left_of H reel)) (tape_of H machine slot) (tape-distinct H machine slot judged)

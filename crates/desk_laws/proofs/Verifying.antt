@@ -8,6 +8,7 @@ use Rattle.desk_types.specs.declared.command.Command.{Command}
 use Rattle.desk_types.specs.declared.command.Command.TheVariants.{MaterialsLoaded, MaterialsSpliced}
 use Rattle.desk_types.specs.declared.command.Entry.{Entry}
 use Rattle.desk_types.specs.declared.command.Receipt.{Receipt}
+use Rattle.desk_types.specs.declared.rules.Rules.TheVariants.{Two}
 use Rattle.desk_types.specs.declared.sheet.SheetRow.{SheetRow}
 use Rattle.desk_types.specs.Id.{Name, same}
 use Rattle.desk_types.specs.History.{History, IsPrefix}
@@ -55,7 +56,7 @@ verified-same H minute machine slot reel m s r is verified =
     subst (λ x. IsVerified H minute x slot reel) (same-true m machine there.0) (
     subst (λ x. IsVerified H minute m x reel) (same-true s slot there.1) (subst (λ x. IsVerified H minute m s x) (same-true r reel both.1) verified))
 
-verified-by : (H : History) (minute : ℕ) (machine slot reel : Name) (command : Command) → command_refusal H minute command ≡ None → mounts machine slot reel command ≡ true
+verified-by : (H : History) (minute : ℕ) (machine slot reel : Name) (command : Command) → command_refusal Two H minute command ≡ None → mounts machine slot reel command ≡ true
     → IsVerified H minute machine slot reel
 unfolding command_refusal
 verified-by H minute machine slot reel (MaterialsLoaded m s r) none is =
@@ -65,18 +66,18 @@ verified-by H minute machine slot reel (MaterialsSpliced m s r) none is =
 verified-by H minute machine slot reel _ none is = cc
 
 -- A reel that an accepted entry loads or splices onto a slot is verified for it.
-pub mount-verified : (H : History) (e : Entry) (machine slot reel : Name) → IsNext H e → mounts machine slot reel e.stamped.command ≡ true
+pub mount-verified : (H : History) (e : Entry) (machine slot reel : Name) → IsNext Two H e → mounts machine slot reel e.stamped.command ≡ true
     → IsVerified H e.effective machine slot reel
 mount-verified H e machine slot reel next is = verified-by H e.effective machine slot reel e.stamped.command (next-accepted H e next) is
 
 -- A reel that was loaded or spliced was not expired then.
-pub mounted-not_expired : (G H : History) (e : Entry) (machine slot reel : Name) → IsPrefix (e ∷ G) H → IsJudged H → mounts machine slot reel e.stamped.command ≡ true
+pub mounted-not_expired : (G H : History) (e : Entry) (machine slot reel : Name) → IsPrefix (e ∷ G) H → IsJudged Two H → mounts machine slot reel e.stamped.command ≡ true
     → is_expired G reel e.effective ≡ false
 mounted-not_expired G H e machine slot reel before judged is =
     (mount-verified G e machine slot reel (judged-prefix (e ∷ G) H before judged).0 is).not_expired
 
 -- A reel that stands on the tape of a slot was verified for it when it came there.
-pub tape-verified : (H : History) (machine slot reel : Name) → IsJudged H → has (tape_of H machine slot) reel ≡ true → WasVerified H machine slot reel
+pub tape-verified : (H : History) (machine slot reel : Name) → IsJudged Two H → has (tape_of H machine slot) reel ≡ true → WasVerified H machine slot reel
 unfolding tape_of
 tape-verified [] machine slot reel judged on = cc
 tape-verified (e ∷ H) machine slot reel (next, judged) on =

@@ -1,3 +1,4 @@
 pub mod Place
 pub mod TapeOrder
 pub mod Verified
+pub mod Whole

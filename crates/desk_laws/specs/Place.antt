@@ -1,12 +1,10 @@
--- Where a reel was put, and what a command does to live and mounted reels: no definitions of the desk's, but words that make its laws
--- short to prove.
-use Rattle.std.specs.Prelude.{Bool, false, not, ◌&&◌, Option, Some, None, List, [], ◌∷◌, if◌then◌else◌}
-use Rattle.std.specs.List.{filter}
+-- Where a reel was put, and what a command does to mounted reels: no definitions of the desk's, but words that make its laws short to
+-- prove.
+use Rattle.std.specs.Prelude.{Bool, false, not, ◌&&◌, Option, Some, None, [], ◌∷◌, if◌then◌else◌}
 use Rattle.desk_types.specs.declared.command.Command.{Command}
 use Rattle.desk_types.specs.declared.command.Command.TheVariants.{ReelReceived, MaterialsLoaded, MaterialsSpliced, MaterialsUnloaded, MaterialsInstalled, MaterialsScrapped, CountsTaken}
 use Rattle.desk_types.specs.Id.{Name, same}
 use Rattle.desk_types.specs.History.{History}
-use Rattle.desk_types.specs.Tape.{tape_after}
 
 -- whether the place is this slot
 abbrev pub is_at : Name → Name → Option (Name × Name) → Bool
@@ -24,13 +22,6 @@ place_after reel _ place = place
 unfoldable pub place_of : History → Name → Option (Name × Name)
 place_of [] reel = None
 place_of (e ∷ H) reel = place_after reel e.stamped.command (place_of H reel)
-
--- a slot's live reels after a command, where `some` says which reels have pieces left then
-abbrev pub lives_after : (Name → Bool) → Name → Name → Command → List Name → List Name
-lives_after some machine slot (MaterialsInstalled m board designators) reels = filter (λ reel. some reel) reels
-lives_after some machine slot (MaterialsScrapped m s quantity) reels = filter (λ reel. some reel) reels
-lives_after some machine slot (CountsTaken counts) reels = filter (λ reel. some reel) reels
-lives_after some machine slot command reels = tape_after machine slot command reels
 
 -- whether the reel is mounted after a command, by whether it has pieces left then, and on which slots it was live
 abbrev pub mounted_after : Bool → (Name → Name → Bool) → Name → Command → Bool → Bool

@@ -1,5 +1,5 @@
 -- What was verified of a reel of which a piece was placed.
-use Rattle.std.specs.Prelude.{◌≡◌, ℕ, ◌-◌, Bool, true, false, ◌&&◌, Option, Some, List, ◌∷◌, ◌++◌, take, nat_lt, Contains}
+use Rattle.std.specs.Prelude.{◌≡◌, ℕ, ◌-◌, Bool, true, false, ◌&&◌, Option, Some, List, ◌∷◌, ◌++◌, ◌≤◌, take, nat_lt, slice_get}
 use Rattle.std.specs.List.{list_any, find}
 use Rattle.desk_types.specs.declared.command.Command.{Command}
 use Rattle.desk_types.specs.declared.command.Command.TheVariants.{MaterialsLoaded, MaterialsSpliced, MaterialsInstalled}
@@ -45,8 +45,10 @@ pub record WasVerified (H : History) (machine slot reel : Name) : Type 0 where
 abbrev pub next_reel : History → Name → Name → List Pick → Option Name
 next_reel H machine slot before = find (λ reel. nat_lt (picked before reel) (left_of H reel)) (tape_of H machine slot)
 
--- The piece was placed by the entry of its number, on the machine, board and designator that this names, at the designator's slot, off
--- the reel that was the slot's first with a piece left, whose receipt gives the part and the lot; and the reel was verified for the slot.
+-- The piece was placed by the entry of its number, on the machine and the board that this names and on the designator that stands at the
+-- piece's place in its message, at the designator's slot, off the reel that was the slot's first with a piece left, whose receipt gives
+-- the part and the lot; it is overdue exactly where the reel's floor life was used up at that minute; and the reel was verified for the
+-- slot.
 pub record IsRightlyPlaced (H : History) (p : Placement) : Type 0 where
   pub before : History
   pub entry : Entry
@@ -55,11 +57,13 @@ pub record IsRightlyPlaced (H : History) (p : Placement) : Type 0 where
   pub effective : entry.effective ≡ p.effective
   pub designators : List Name
   pub command : entry.stamped.command ≡ MaterialsInstalled p.machine p.board designators
-  pub named : Contains designators p.designator
+  pub place : 1 ≤ p.place
+  pub named : slice_get designators (p.place - 1) ≡ Some p.designator
   pub slot : slot_on before p.machine p.designator ≡ Some p.slot
   pub next : next_reel before p.machine p.slot (take (p.place - 1) (picks_of before entry.stamped.command)) ≡ Some p.reel
   pub receipt : Receipt
   pub received : receipt_of before p.reel ≡ Some receipt
   pub part : p.part ≡ receipt.part
   pub lot : p.lot ≡ receipt.lot
+  pub overdue : p.overdue ≡ is_expired before p.reel entry.effective
   pub verified : WasVerified before p.machine p.slot p.reel

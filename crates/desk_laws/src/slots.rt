@@ -3,6 +3,7 @@
 ghost use Rattle.std.specs.Prelude.{◌≡◌, false, List, ◌++◌, All, Contains};
 ghost use Rattle.std.specs.List.{IsDistinct};
 ghost use Rattle.desk_types.specs.declared.command.Entry.{Entry};
+ghost use Rattle.desk_types.specs.declared.rules.Rules.{Rules};
 ghost use Rattle.desk_types.specs.Id.{Name, same};
 ghost use Rattle.desk_types.specs.History.{History};
 ghost use Rattle.desk_types.specs.Tape.{tape_of};
@@ -12,8 +13,9 @@ ghost use Rattle.desk_laws.specs.TapeOrder.{restarts};
 
 /// A reel stands among the live reels of one slot at most, and there once. This holds of every judged list.
 pub fn one_place()
-    ensures one_slot { (H : History) (m s machine slot reel : Name) → IsJudged H → Contains (live_on H m s) reel → Contains (live_on H machine slot) reel → (m ≡ machine) × (s ≡ slot) }
-    ensures once { (H : History) (machine slot : Name) → IsJudged H → IsDistinct same (live_on H machine slot) }
+    ensures one_slot { (rules : Rules) (H : History) (m s machine slot reel : Name) → IsJudged rules H → Contains (live_on H m s) reel
+        → Contains (live_on H machine slot) reel → (m ≡ machine) × (s ≡ slot) }
+    ensures once { (rules : Rules) (H : History) (machine slot : Name) → IsJudged rules H → IsDistinct same (live_on H machine slot) }
 {}
 
 /// A tape keeps its reels and their order until its slot is loaded or unloaded: others are joined to its

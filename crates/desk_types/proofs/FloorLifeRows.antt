@@ -10,12 +10,13 @@ use Rattle.desk_types.specs.Tape.{tape_of}
 use Rattle.desk_types.specs.Pieces.{left_of, live_on}
 use Rattle.desk_types.specs.FloorLife.{is_out_at, exposure_of}
 use Rattle.desk_types.specs.Refusals.{part_refusal, sheet_refusal, definition_refusal, selection_refusal, receipt_refusal, opening_refusal, closing_refusal, mounting_refusal, unload_refusal, command_refusal, refusal_of}
+use Rattle.desk_types.specs.declared.rules.Rules.TheVariants.{Two}
 use Rattle.desk_types.specs.Outcome.{replies_to}
 use Rattle.desk_types.proofs.RowsCommon.{M, S1, K1, K2, at, received_at, received_at_six, base, base_replies}
 
 -- A reel of level 3 has 10,080 minutes. One minute before they are over it is loaded with one minute left.
 -- At the minute itself another reel, which was opened with it, is refused.
-pub floor_life_expires_at_its_limit : replies_to [] (base
+pub floor_life_expires_at_its_limit : replies_to Two [] (base
     ++ at 0 (received_at Three K1 100)
     ∷ at 0 (received_at Three K2 100)
     ∷ at 0 (ReelOpened K1)
@@ -38,20 +39,20 @@ opened_and_loaded_at minute = base
     ∷ []
 
 -- At the minute at which its floor life is over the load is refused.
-pub expired_at_the_very_minute : replies_to [] (opened_and_loaded_at 10080) ≡
+pub expired_at_the_very_minute : replies_to Two [] (opened_and_loaded_at 10080) ≡
     base_replies ++ Accepted Plain ∷ Accepted Plain ∷ Refused (Expired K1) ∷ []
 unfolding refusal_of command_refusal part_refusal definition_refusal sheet_refusal selection_refusal receipt_refusal opening_refusal mounting_refusal tape_of left_of live_on is_out_at exposure_of
 expired_at_the_very_minute = refl
 
 -- On another desk the same load one minute earlier is accepted.
-pub one_minute_is_left_before : replies_to [] (opened_and_loaded_at 10079) ≡
+pub one_minute_is_left_before : replies_to Two [] (opened_and_loaded_at 10079) ≡
     base_replies ++ Accepted Plain ∷ Accepted Plain ∷ Accepted (MinutesLeft (Some 1)) ∷ []
 unfolding refusal_of command_refusal part_refusal definition_refusal sheet_refusal selection_refusal receipt_refusal opening_refusal mounting_refusal tape_of left_of live_on is_out_at exposure_of
 one_minute_is_left_before = refl
 
 -- An expired reel is refused. Once it is baked, the same load with the same minute of its own is accepted with the whole floor life:
 -- it is judged anew, and at the minute of the desk.
-pub a_bake_gives_the_whole_floor_life : replies_to [] (base
+pub a_bake_gives_the_whole_floor_life : replies_to Two [] (base
     ++ at 0 (received_at FiveA K1 10)
     ∷ at 0 (ReelOpened K1)
     ∷ at 1440 (MaterialsLoaded M S1 K1)
@@ -63,7 +64,7 @@ unfolding refusal_of command_refusal part_refusal definition_refusal sheet_refus
 a_bake_gives_the_whole_floor_life = refl
 
 -- A reel of level 6 is refused until it is baked. Then it has the minutes of its label, here 60, of which those count that it is open.
-pub level_six_waits_for_its_bake : replies_to [] (base
+pub level_six_waits_for_its_bake : replies_to Two [] (base
     ++ at 0 (received_at_six 60 K1)
     ∷ at 0 (MaterialsLoaded M S1 K1)
     ∷ at 10 (ReelBaked K1)
@@ -75,7 +76,7 @@ unfolding refusal_of command_refusal part_refusal definition_refusal sheet_refus
 level_six_waits_for_its_bake = refl
 
 -- A reel lies open for 100 minutes, and before and after that in its bag: those 100 count.
-pub sealed_minutes_do_not_count : replies_to [] (base
+pub sealed_minutes_do_not_count : replies_to Two [] (base
     ++ at 0 (received_at FiveA K1 10)
     ∷ at 50 (ReelOpened K1)
     ∷ at 150 (ReelSealed K1)
@@ -86,7 +87,7 @@ unfolding refusal_of command_refusal part_refusal definition_refusal sheet_refus
 sealed_minutes_do_not_count = refl
 
 -- A reel that is opened and sealed in one minute has lost nothing.
-pub opening_and_sealing_in_one_minute_counts_none : replies_to [] (base
+pub opening_and_sealing_in_one_minute_counts_none : replies_to Two [] (base
     ++ at 0 (received_at FiveA K1 10)
     ∷ at 50 (ReelOpened K1)
     ∷ at 50 (ReelSealed K1)

@@ -1,4 +1,7 @@
 pub mod Ascii
+pub mod BothRules
+pub mod ConstantRows
+pub mod CountRows
 pub mod Exposure
 pub mod FloorLifeRows
 pub mod Keys

@@ -9,11 +9,12 @@ use Rattle.desk_types.specs.declared.command.Stamped.{Stamped}
 use Rattle.desk_types.specs.Tape.{tape_of}
 use Rattle.desk_types.specs.Pieces.{left_of, live_on}
 use Rattle.desk_types.specs.Refusals.{part_refusal, alternate_refusal, sheet_refusal, definition_refusal, selection_refusal, receipt_refusal, mounting_refusal, command_refusal, refusal_of}
+use Rattle.desk_types.specs.declared.rules.Rules.TheVariants.{Two}
 use Rattle.desk_types.specs.Outcome.{replies_to, after_commands}
 use Rattle.desk_types.proofs.RowsCommon.{P, Q, L1, PS, M, N, S1, K1, K2, R1, at, said, sheet_row, received, base, base_replies}
 
 -- A reel of another part than the sheet wants is refused at the slot.
-pub another_part_is_refused_at_its_slot : replies_to [] (base ++ said (
+pub another_part_is_refused_at_its_slot : replies_to Two [] (base ++ said (
     received K1 Q L1 100
     ∷ MaterialsLoaded M S1 K1
     ∷ [])) ≡
@@ -23,7 +24,7 @@ another_part_is_refused_at_its_slot = refl
 
 -- Once Q is allowed for P, the load of a reel of Q that was refused is accepted.
 -- The permission goes one way: on a machine whose sheet says Q, a reel of P is still refused.
-pub alternates_go_one_way : replies_to [] (base ++ said (
+pub alternates_go_one_way : replies_to Two [] (base ++ said (
     received K1 Q L1 100
     ∷ MaterialsLoaded M S1 K1
     ∷ AlternateAllowed P Q
@@ -49,12 +50,12 @@ ahead_and_behind = base
 
 -- A message more than two weeks ahead of the desk is refused, and one that is just two weeks ahead is accepted, as a late one is.
 -- The clock may be set any distance ahead.
-pub no_message_is_more_than_two_weeks_ahead : replies_to [] ahead_and_behind ≡
+pub no_message_is_more_than_two_weeks_ahead : replies_to Two [] ahead_and_behind ≡
     base_replies ++ Refused TooFarAhead ∷ Accepted Plain ∷ Accepted Plain ∷ Accepted Plain ∷ []
 unfolding refusal_of command_refusal part_refusal definition_refusal sheet_refusal selection_refusal
 no_message_is_more_than_two_weeks_ahead = refl
 
 -- The minutes at which they took effect, the newest first: the late one did so at the minute of the desk.
-pub late_message_takes_the_desk_minute : map (λ (e : Entry). e.effective) (after_commands [] ahead_and_behind) ≡ 100000 ∷ 20160 ∷ 20160 ∷ 0 ∷ 0 ∷ 0 ∷ 0 ∷ []
+pub late_message_takes_the_desk_minute : map (λ (e : Entry). e.effective) (after_commands Two [] ahead_and_behind) ≡ 100000 ∷ 20160 ∷ 20160 ∷ 0 ∷ 0 ∷ 0 ∷ 0 ∷ []
 unfolding refusal_of command_refusal part_refusal definition_refusal sheet_refusal selection_refusal
 late_message_takes_the_desk_minute = refl

@@ -7,6 +7,7 @@ use Rattle.desk_types.specs.declared.command.Command.TheVariants.{PartDefined, S
 use Rattle.desk_types.specs.declared.command.Stamped.{Stamped}
 use Rattle.desk_types.specs.declared.level.Level.TheVariants.{FiveA}
 use Rattle.desk_types.specs.Id.{Name}
+use Rattle.desk_types.specs.declared.rules.Rules.TheVariants.{Two}
 use Rattle.desk_types.specs.History.{History}
 use Rattle.desk_types.specs.Tape.{tape_of}
 use Rattle.desk_types.specs.Pieces.{install_picks, left_of, live_on}
@@ -42,7 +43,7 @@ late_piece = base
     ∷ []
 
 -- What was placed past floor life was placed, and is accepted. The next board is not begun with the expired reel at the front.
-pub a_piece_past_floor_life_is_placed : replies_to [] (late_piece ++ at 1440 (WorkCompleted M B1) ∷ at 1440 (WorkStarted M B2) ∷ []) ≡
+pub a_piece_past_floor_life_is_placed : replies_to Two [] (late_piece ++ at 1440 (WorkCompleted M B1) ∷ at 1440 (WorkStarted M B2) ∷ []) ≡
     base_replies ++ Accepted Plain ∷ Accepted (MinutesLeft (Some 1440)) ∷ Accepted Plain ∷ Accepted (Reels (K1 ∷ [])) ∷ Accepted Plain
     ∷ Refused (Expired S1) ∷ []
 unfolding refusal_of command_refusal part_refusal definition_refusal sheet_refusal selection_refusal receipt_refusal mounting_refusal tape_of left_of live_on is_out_at exposure_of start_refusal install_refusal install_picks completion_refusal
@@ -50,7 +51,7 @@ a_piece_past_floor_life_is_placed = refl
 
 -- the list after the piece
 abbrev after_late_piece : History
-after_late_piece = after_commands [] late_piece
+after_late_piece = after_commands Two [] late_piece
 
 -- The piece is the one placement, and is marked overdue. The board holds its lot.
 pub a_piece_past_floor_life_is_overdue :
@@ -77,10 +78,10 @@ boards_of_one_lot = base ++ said (
 
 -- the list after that
 abbrev after_two_boards : History
-after_two_boards = after_commands [] boards_of_one_lot
+after_two_boards = after_commands Two [] boards_of_one_lot
 
 -- The first board takes the whole first reel, and the second board takes its piece off the second.
-pub a_tape_goes_on_with_the_next_board : replies_to [] boards_of_one_lot ≡
+pub a_tape_goes_on_with_the_next_board : replies_to Two [] boards_of_one_lot ≡
     base_replies ++ Accepted Plain ∷ Accepted Plain ∷ Accepted Plain ∷ Accepted (MinutesLeft None) ∷ Accepted (MinutesLeft None)
     ∷ Accepted Plain ∷ Accepted (Reels (K1 ∷ K1 ∷ K1 ∷ K1 ∷ K1 ∷ [])) ∷ Accepted Plain ∷ Accepted Plain ∷ Accepted (Reels (K2 ∷ [])) ∷ []
 unfolding refusal_of command_refusal part_refusal definition_refusal sheet_refusal selection_refusal receipt_refusal mounting_refusal tape_of left_of live_on start_refusal completion_refusal install_refusal install_picks
@@ -133,10 +134,10 @@ reel_moved = said (
 
 -- the list after that
 abbrev after_the_move : History
-after_the_move = after_commands [] reel_moved
+after_the_move = after_commands Two [] reel_moved
 
 -- A reel that was unloaded may be loaded on another slot.
-pub a_reel_moves_to_another_slot : replies_to [] reel_moved ≡
+pub a_reel_moves_to_another_slot : replies_to Two [] reel_moved ≡
     Accepted Plain ∷ Accepted Plain ∷ Accepted Plain ∷ Accepted Plain ∷ Accepted Plain ∷ Accepted Plain
     ∷ Accepted (MinutesLeft None) ∷ Accepted (MinutesLeft None) ∷ Accepted (MinutesLeft None) ∷ Accepted Plain ∷ Accepted (Reels (K1 ∷ []))
     ∷ Accepted Plain ∷ Accepted Plain ∷ Accepted Plain ∷ Accepted (MinutesLeft None) ∷ []

@@ -8,9 +8,10 @@ use Rattle.desk_types.specs.declared.view.Left.TheVariants.{Minutes, Unlimited}
 use Rattle.desk_types.specs.declared.view.Mount.{Mount}
 use Rattle.desk_types.specs.declared.view.ReelView.{ReelView}
 use Rattle.desk_types.specs.Id.{Name}
+use Rattle.desk_types.specs.declared.rules.Rules.TheVariants.{Two}
 use Rattle.desk_types.specs.History.{History}
 use Rattle.desk_types.specs.Tape.{tape_of}
-use Rattle.desk_types.specs.Pieces.{install_picks, all_picks, left_of, live_on}
+use Rattle.desk_types.specs.Pieces.{install_picks, all_picks, left_of, found_of, live_on}
 use Rattle.desk_types.specs.FloorLife.{is_out_at, exposure_of}
 use Rattle.desk_types.specs.Refusals.{part_refusal, sheet_refusal, definition_refusal, selection_refusal, receipt_refusal, opening_refusal, closing_refusal, mounting_refusal, start_refusal, install_refusal, command_refusal, refusal_of}
 use Rattle.desk_types.specs.Outcome.{after_commands}
@@ -39,14 +40,14 @@ mount slot position reel remaining =
 
 -- The live reels are told by slot and then by position, and none of a machine without a sheet.
 pub live_reels_by_slot_and_position :
-    (mounts_on (after_commands [] two_slots) M ≡ Some (mount S1 1 K1 2 ∷ mount S1 2 K2 50 ∷ mount S2 1 K3 5 ∷ []))
-    × (mounts_on (after_commands [] two_slots) N ≡ None)
+    (mounts_on (after_commands Two [] two_slots) M ≡ Some (mount S1 1 K1 2 ∷ mount S1 2 K2 50 ∷ mount S2 1 K3 5 ∷ []))
+    × (mounts_on (after_commands Two [] two_slots) N ≡ None)
 unfolding refusal_of command_refusal part_refusal definition_refusal sheet_refusal selection_refusal receipt_refusal mounting_refusal tape_of left_of live_on
 live_reels_by_slot_and_position = (refl, refl)
 
 -- the list after a board took both pieces of the first reel of slot 1
 abbrev after_two_pieces : History
-after_two_pieces = after_commands [] (two_slots ++ said (WorkStarted M B1 ∷ MaterialsInstalled M B1 (R1 ∷ R3 ∷ []) ∷ []))
+after_two_pieces = after_commands Two [] (two_slots ++ said (WorkStarted M B1 ∷ MaterialsInstalled M B1 (R1 ∷ R3 ∷ []) ∷ []))
 
 -- A spent reel is not told: the next one is the front.
 pub a_spent_reel_is_not_told : mounts_on after_two_pieces M ≡ Some (mount S1 1 K2 50 ∷ mount S2 1 K3 5 ∷ [])
@@ -62,6 +63,7 @@ opened reel got placed remaining = record {
   level = One;
   label = 0;
   received = got;
+  found = 0;
   placed = placed;
   scrapped = 0;
   remaining = remaining;
@@ -75,12 +77,12 @@ opened reel got placed remaining = record {
 
 -- The spent reel is on no slot, and both its pieces were placed. Of a reel that was not received nothing is told.
 pub a_spent_reel_was_placed : (reel_view after_two_pieces K1 ≡ Some (opened K1 2 2 0)) × (reel_view after_two_pieces K4 ≡ None)
-unfolding refusal_of command_refusal part_refusal definition_refusal sheet_refusal selection_refusal receipt_refusal mounting_refusal tape_of left_of live_on is_out_at exposure_of start_refusal install_refusal install_picks all_picks
+unfolding refusal_of command_refusal part_refusal definition_refusal sheet_refusal selection_refusal receipt_refusal mounting_refusal tape_of left_of live_on is_out_at exposure_of start_refusal install_refusal install_picks all_picks found_of
 a_spent_reel_was_placed = (refl, refl)
 
 -- A reel of level 3 lay open for ten minutes, and then in its bag. A count shows four pieces missing. It is loaded, and ten minutes go by.
 abbrev after_ten_minutes : History
-after_ten_minutes = after_commands [] (base
+after_ten_minutes = after_commands Two [] (base
     ++ at 0 (received_at Three K1 10)
     ∷ at 5 (ReelOpened K1)
     ∷ at 15 (ReelSealed K1)
@@ -97,6 +99,7 @@ pub a_loaded_reel_is_told_at_the_desk_minute : reel_view after_ten_minutes K1 �
   level = Three;
   label = 0;
   received = 10;
+  found = 0;
   placed = 0;
   scrapped = 4;
   remaining = 6;
@@ -107,12 +110,12 @@ pub a_loaded_reel_is_told_at_the_desk_minute : reel_view after_ten_minutes K1 �
   open_since = Some 20;
   baked = false;
 })
-unfolding refusal_of command_refusal part_refusal definition_refusal sheet_refusal selection_refusal receipt_refusal opening_refusal closing_refusal mounting_refusal tape_of left_of live_on is_out_at exposure_of all_picks
+unfolding refusal_of command_refusal part_refusal definition_refusal sheet_refusal selection_refusal receipt_refusal opening_refusal closing_refusal mounting_refusal tape_of left_of live_on is_out_at exposure_of all_picks found_of
 a_loaded_reel_is_told_at_the_desk_minute = refl
 
 -- Of four reels one has no limit, one is open with floor life left, one waits for its bake, and one is expired.
 abbrev after_a_day : History
-after_a_day = after_commands [] (base
+after_a_day = after_commands Two [] (base
     ++ at 0 (received_at One K1 100)
     ∷ at 0 (received_at Three K2 30)
     ∷ at 0 (received_at_six 60 K3)
@@ -129,5 +132,5 @@ free_on H part = map (λ (v : ReelView). (v.reel, v.left)) (free_reels H part)
 -- The reel with a limit is used first. The reel on a slot is not free.
 pub free_reels_by_what_is_left :
     (free_on after_a_day P ≡ (K2, Minutes 8640) ∷ (K1, Unlimited) ∷ []) × (free_on after_a_day Q ≡ []) × (free_on after_ten_minutes P ≡ [])
-unfolding refusal_of command_refusal part_refusal definition_refusal sheet_refusal selection_refusal receipt_refusal opening_refusal closing_refusal mounting_refusal tape_of left_of live_on is_out_at exposure_of all_picks
+unfolding refusal_of command_refusal part_refusal definition_refusal sheet_refusal selection_refusal receipt_refusal opening_refusal closing_refusal mounting_refusal tape_of left_of live_on is_out_at exposure_of all_picks found_of
 free_reels_by_what_is_left = (refl, refl, refl)

@@ -7,18 +7,19 @@ use Rattle.desk_types.specs.declared.command.Command.TheVariants.{SheetDefined, 
 use Rattle.desk_types.specs.Tape.{tape_of}
 use Rattle.desk_types.specs.Pieces.{install_picks, left_of, live_on}
 use Rattle.desk_types.specs.Refusals.{part_refusal, sheet_refusal, definition_refusal, selection_refusal, receipt_refusal, mounting_refusal, scrap_refusal, start_refusal, completion_refusal, install_refusal, command_refusal, refusal_of}
+use Rattle.desk_types.specs.declared.rules.Rules.TheVariants.{Two}
 use Rattle.desk_types.specs.Outcome.{replies_to}
 use Rattle.desk_types.proofs.RowsCommon.{P, L1, PR, PS, M, S1, K1, B1, B2, R1, R2, R3, said, sheet_row, received, base, base_replies}
 
 -- Work on a board does not begin while a slot of the sheet has no reel.
-pub work_needs_loaded_slots : replies_to [] (base ++ said (WorkStarted M B1 ∷ [])) ≡
+pub work_needs_loaded_slots : replies_to Two [] (base ++ said (WorkStarted M B1 ∷ [])) ≡
     base_replies ++ Refused (SlotEmpty S1) ∷ []
 unfolding refusal_of command_refusal part_refusal definition_refusal sheet_refusal selection_refusal start_refusal tape_of live_on
 work_needs_loaded_slots = refl
 
 -- While a board is in work on a machine, a new sheet for the machine and the next board are refused. The work is completed once.
 -- Then another product is selected, and the board, which was begun as the first product, is refused.
-pub a_machine_in_work_waits : replies_to [] (base ++ said (
+pub a_machine_in_work_waits : replies_to Two [] (base ++ said (
     received K1 P L1 10
     ∷ MaterialsLoaded M S1 K1
     ∷ WorkStarted M B1
@@ -37,7 +38,7 @@ a_machine_in_work_waits = refl
 
 -- An install names the board in work, and designators of its sheet, each once, for which there are pieces. Else nothing is placed.
 -- A slot whose reel is spent counts as empty.
-pub what_an_install_is_refused_for : replies_to [] (base ++ said (
+pub what_an_install_is_refused_for : replies_to Two [] (base ++ said (
     received K1 P L1 2
     ∷ MaterialsLoaded M S1 K1
     ∷ WorkStarted M B1

@@ -5,20 +5,21 @@ use Rattle.desk_types.specs.declared.command.Stamped.{Stamped}
 use Rattle.desk_types.specs.declared.desk.JudgeFault.{JudgeFault}
 use Rattle.desk_types.specs.declared.desk.JudgeFault.TheVariants.{Refused, NoMemory}
 use Rattle.desk_types.specs.declared.desk.TheConstants.{MOST_ENTRIES}
+use Rattle.desk_types.specs.declared.rules.Rules.{Rules}
 use Rattle.desk_types.specs.History.{History}
 use Rattle.desk_types.specs.Refusals.{refusal_of}
 use Rattle.desk_types.specs.Outcome.{change_of}
 
--- the command is not refused after H, and this is the change that it makes
-pub record IsChange (H : History) (s : Stamped) (change : Change) : Type 0 where
-  pub accepted : refusal_of H s ≡ None
+-- the command is not refused after H by the rules, and this is the change that it makes
+pub record IsChange (rules : Rules) (H : History) (s : Stamped) (change : Change) : Type 0 where
+  pub accepted : refusal_of rules H s ≡ None
   pub value : change ≡ change_of H s
 
 -- the command is refused for the refusal that there is, or else makes its change; want of memory may stand in the place of either
-abbrev pub IsJudgement : History → Stamped → Result Change JudgeFault → Type 0
-IsJudgement H s (Ok change) = IsChange H s change
-IsJudgement H s (Err (Refused refusal)) = refusal_of H s ≡ Some refusal
-IsJudgement H s (Err NoMemory) = ⊤
+abbrev pub IsJudgement : Rules → History → Stamped → Result Change JudgeFault → Type 0
+IsJudgement rules H s (Ok change) = IsChange rules H s change
+IsJudgement rules H s (Err (Refused refusal)) = refusal_of rules H s ≡ Some refusal
+IsJudgement rules H s (Err NoMemory) = ⊤
 
 -- some list for which the desk stands has room for n more entries
 abbrev pub HasRoom : {D : Type 0} → (D → History → Type 0) → D → ℕ → Type 0

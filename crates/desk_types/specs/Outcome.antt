@@ -10,6 +10,7 @@ use Rattle.desk_types.specs.declared.command.Command.{Command}
 use Rattle.desk_types.specs.declared.command.Command.TheVariants.{MaterialsLoaded, MaterialsSpliced, MaterialsInstalled, MaterialsScrapped, CountsTaken}
 use Rattle.desk_types.specs.declared.command.Receipt.{Receipt}
 use Rattle.desk_types.specs.declared.command.Stamped.{Stamped}
+use Rattle.desk_types.specs.declared.rules.Rules.{Rules}
 use Rattle.desk_types.specs.declared.take.Pick.{Pick}
 use Rattle.desk_types.specs.declared.take.Take.{Take}
 use Rattle.desk_types.specs.Id.{Name}
@@ -66,20 +67,20 @@ change_of H s = record {
 
 -- The replies of a desk. Repeats of a message and the greatest number are its owner's matter and not looked at here.
 
--- the reply to a command after H
-abbrev pub reply_to : History → Stamped → Reply
-reply_to H s = option_map_or Refused (refusal_of H s) (Accepted (change_of H s).detail)
+-- the reply to a command after H, by the rules
+abbrev pub reply_to : Rules → History → Stamped → Reply
+reply_to rules H s = option_map_or Refused (refusal_of rules H s) (Accepted (change_of H s).detail)
 
 -- the list after the command: with it where it is accepted, and as it was where it is refused
-abbrev pub after_command : History → Stamped → History
-after_command H s = option_map_or (λ _. H) (refusal_of H s) (accept H s)
+abbrev pub after_command : Rules → History → Stamped → History
+after_command rules H s = option_map_or (λ _. H) (refusal_of rules H s) (accept H s)
 
 -- the replies to commands one after the other
-abbrev pub replies_to : History → List Stamped → List Reply
-replies_to H [] = []
-replies_to H (s ∷ ss) = reply_to H s ∷ replies_to (after_command H s) ss
+abbrev pub replies_to : Rules → History → List Stamped → List Reply
+replies_to rules H [] = []
+replies_to rules H (s ∷ ss) = reply_to rules H s ∷ replies_to rules (after_command rules H s) ss
 
 -- the list after them all
-abbrev pub after_commands : History → List Stamped → History
-after_commands H [] = H
-after_commands H (s ∷ ss) = after_commands (after_command H s) ss
+abbrev pub after_commands : Rules → History → List Stamped → History
+after_commands rules H [] = H
+after_commands rules H (s ∷ ss) = after_commands rules (after_command rules H s) ss

@@ -1,6 +1,6 @@
 -- The pieces that commands take off reels, and what is left.
 -- Some definitions read the first of several rows or entries where a list that a desk can come to have holds only one.
-use Rattle.std.specs.Prelude.{ℕ, ◌-◌, min, nat_lt, Bool, true, false, not, Option, Some, None, List, [], ◌∷◌, ◌++◌, if◌then◌else◌, unwrap_or}
+use Rattle.std.specs.Prelude.{ℕ, ◌+◌, ◌-◌, min, nat_lt, Bool, true, false, not, Option, Some, None, List, [], ◌∷◌, ◌++◌, if◌then◌else◌, unwrap_or}
 use Rattle.std.specs.Option.{option_and_then, option_map, option_map_or, option_to_list}
 use Rattle.std.specs.List.{list_any, find, filter, sum_by}
 use Rattle.desk_types.specs.declared.command.Command.{Command}
@@ -85,9 +85,19 @@ abbrev pub is_placed : Purpose → Bool
 is_placed (Placed board designator machine slot) = true
 is_placed _ = false
 
--- the pieces that were received
+-- the pieces that a command finds on a reel with so many left: what a count says above them
+abbrev pub found_by : ℕ → Name → Command → ℕ
+found_by left reel (CountsTaken counts) = option_map_or (λ (row : CountRow). row.quantity - left) (find (λ row. same row.reel reel) counts) 0
+found_by left reel _ = 0
+
+-- the pieces that counts found on the reel
+unfoldable pub found_of : History → Name → ℕ
+found_of [] reel = 0
+found_of (e ∷ H) reel = found_of H reel + found_by (left_of H reel) reel e.stamped.command
+
+-- the pieces that were received: those of the receipt, and those that were found since
 abbrev pub received_of : History → Name → ℕ
-received_of H reel = option_map_or (λ (r : Receipt). r.quantity) (receipt_of H reel) 0
+received_of H reel = option_map_or (λ (r : Receipt). r.quantity) (receipt_of H reel) 0 + found_of H reel
 
 -- the pieces that were placed on boards
 abbrev pub placed_of : History → Name → ℕ

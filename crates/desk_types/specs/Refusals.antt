@@ -10,6 +10,8 @@ use Rattle.desk_types.specs.declared.command.Receipt.{Receipt}
 use Rattle.desk_types.specs.declared.command.Stamped.{Stamped}
 use Rattle.desk_types.specs.declared.command.TheConstants.{FURTHEST_AHEAD}
 use Rattle.desk_types.specs.declared.count.CountRow.{CountRow}
+use Rattle.desk_types.specs.declared.rules.Rules.{Rules}
+use Rattle.desk_types.specs.declared.rules.Rules.TheVariants.{One, Two}
 use Rattle.desk_types.specs.declared.sheet.SheetRow.{SheetRow}
 use Rattle.desk_types.specs.declared.take.Pick.{Pick}
 use Rattle.desk_types.specs.Id.{Name, same}
@@ -197,41 +199,47 @@ install_refusal H machine board designators =
 
 -- ---- counts
 
+-- Whether a count is too high for a reel with so many pieces left. By rules One it is where it is above them. By rules Two it may be
+-- above them, for pieces are found; but a reel with none left is spent, and has none from then on.
+abbrev pub is_above : Rules → (left counted : ℕ) → Bool
+is_above One left counted = nat_lt left counted
+is_above Two left counted = (left == 0) && nat_lt 0 counted
+
 -- what is wrong with a row of a count, after the reels of the rows before it
-abbrev pub count_refusal : History → List Name → CountRow → Option Refusal
-count_refusal H seen row = first_refusal (
+abbrev pub count_refusal : Rules → History → List Name → CountRow → Option Refusal
+count_refusal rules H seen row = first_refusal (
     (is_none (receipt_of H row.reel), UnknownReel row.reel)
     ∷ (list_any (same row.reel) seen, ReelTwice row.reel)
     ∷ (is_mounted H row.reel, ReelMounted row.reel)
-    ∷ (nat_lt (left_of H row.reel) row.quantity, CountAbove row.reel)
+    ∷ (is_above rules (left_of H row.reel) row.quantity, CountAbove row.reel)
     ∷ [])
 
 -- what is wrong with the first faulty row of a count, after the reels of the rows before it
-abbrev pub counts_refusal : History → List Name → List CountRow → Option Refusal
-counts_refusal H seen [] = None
-counts_refusal H seen (row ∷ rows) = option_or (count_refusal H seen row) (counts_refusal H (seen ++ row.reel ∷ []) rows)
+abbrev pub counts_refusal : Rules → History → List Name → List CountRow → Option Refusal
+counts_refusal rules H seen [] = None
+counts_refusal rules H seen (row ∷ rows) = option_or (count_refusal rules H seen row) (counts_refusal rules H (seen ++ row.reel ∷ []) rows)
 
 -- ---- any command
 
--- the refusal of a command after H that takes effect at the minute
-unfoldable pub command_refusal : History → ℕ → Command → Option Refusal
-command_refusal H minute (PartDefined part) = part_refusal H part
-command_refusal H minute (AlternateAllowed part alternate) = alternate_refusal H part alternate
-command_refusal H minute (SheetDefined product machine rows) = definition_refusal H machine rows
-command_refusal H minute (ProductSelected machine product) = selection_refusal H machine product
-command_refusal H minute (ReelReceived reel part lot moisture quantity) = receipt_refusal H reel part
-command_refusal H minute (ReelOpened reel) = opening_refusal H reel
-command_refusal H minute (ReelSealed reel) = closing_refusal H reel
-command_refusal H minute (ReelBaked reel) = closing_refusal H reel
-command_refusal H minute (MaterialsLoaded machine slot reel) = mounting_refusal H minute machine slot reel (not (is_vacant H machine slot), SlotTaken slot)
-command_refusal H minute (MaterialsSpliced machine slot reel) = mounting_refusal H minute machine slot reel (is_vacant H machine slot, SlotEmpty slot)
-command_refusal H minute (MaterialsUnloaded machine slot) = unload_refusal H machine slot
-command_refusal H minute (WorkStarted machine board) = start_refusal H minute machine board
-command_refusal H minute (WorkCompleted machine board) = completion_refusal H machine board
-command_refusal H minute (MaterialsInstalled machine board designators) = install_refusal H machine board designators
-command_refusal H minute (MaterialsScrapped machine slot quantity) = scrap_refusal H machine slot quantity
-command_refusal H minute (CountsTaken counts) = counts_refusal H [] counts
-command_refusal H minute ClockSet = None
+-- the refusal of a command after H that takes effect at the minute; the rules matter for a count alone
+unfoldable pub command_refusal : Rules → History → ℕ → Command → Option Refusal
+command_refusal rules H minute (PartDefined part) = part_refusal H part
+command_refusal rules H minute (AlternateAllowed part alternate) = alternate_refusal H part alternate
+command_refusal rules H minute (SheetDefined product machine rows) = definition_refusal H machine rows
+command_refusal rules H minute (ProductSelected machine product) = selection_refusal H machine product
+command_refusal rules H minute (ReelReceived reel part lot moisture quantity) = receipt_refusal H reel part
+command_refusal rules H minute (ReelOpened reel) = opening_refusal H reel
+command_refusal rules H minute (ReelSealed reel) = closing_refusal H reel
+command_refusal rules H minute (ReelBaked reel) = closing_refusal H reel
+command_refusal rules H minute (MaterialsLoaded machine slot reel) = mounting_refusal H minute machine slot reel (not (is_vacant H machine slot), SlotTaken slot)
+command_refusal rules H minute (MaterialsSpliced machine slot reel) = mounting_refusal H minute machine slot reel (is_vacant H machine slot, SlotEmpty slot)
+command_refusal rules H minute (MaterialsUnloaded machine slot) = unload_refusal H machine slot
+command_refusal rules H minute (WorkStarted machine board) = start_refusal H minute machine board
+command_refusal rules H minute (WorkCompleted machine board) = completion_refusal H machine board
+command_refusal rules H minute (MaterialsInstalled machine board designators) = install_refusal H machine board designators
+command_refusal rules H minute (MaterialsScrapped machine slot quantity) = scrap_refusal H machine slot quantity
+command_refusal rules H minute (CountsTaken counts) = counts_refusal rules H [] counts
+command_refusal rules H minute ClockSet = None
 
 abbrev pub is_clock : Command → Bool
 is_clock ClockSet = true
@@ -241,6 +249,6 @@ is_clock _ = false
 abbrev pub is_too_far_ahead : History → Stamped → Bool
 is_too_far_ahead H s = option_map_or (λ desk. nat_lt (desk + FURTHEST_AHEAD) s.minute) (desk_minute H) false && not (is_clock s.command)
 
--- why the command is refused after H, where it is
-unfoldable pub refusal_of : History → Stamped → Option Refusal
-refusal_of H s = if is_too_far_ahead H s then Some TooFarAhead else command_refusal H (effective_minute H s.minute) s.command
+-- why the command is refused after H by the rules, where it is
+unfoldable pub refusal_of : Rules → History → Stamped → Option Refusal
+refusal_of rules H s = if is_too_far_ahead H s then Some TooFarAhead else command_refusal rules H (effective_minute H s.minute) s.command

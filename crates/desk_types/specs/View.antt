@@ -13,7 +13,7 @@ use Rattle.desk_types.specs.declared.view.ReelView.{ReelView}
 use Rattle.desk_types.specs.Id.{Name, same}
 use Rattle.desk_types.specs.History.{History, now_of}
 use Rattle.desk_types.specs.Setup.{receipt_of}
-use Rattle.desk_types.specs.Pieces.{received_of, placed_of, scrapped_of, left_of, live_on, is_mounted}
+use Rattle.desk_types.specs.Pieces.{received_of, found_of, placed_of, scrapped_of, left_of, live_on, is_mounted}
 use Rattle.desk_types.specs.FloorLife.{out_since, exposure_of, minutes_left, is_baked, is_unbaked}
 use Rattle.desk_types.specs.Placements.{set_of}
 
@@ -44,6 +44,7 @@ view_of H reel receipt = record {
   level = receipt.moisture.level;
   label = receipt.moisture.label;
   received = received_of H reel;
+  found = found_of H reel;
   placed = placed_of H reel;
   scrapped = scrapped_of H reel;
   remaining = left_of H reel;

@@ -10,7 +10,7 @@ inner_of wire = wire.inner
 abbrev pub reads_of : {T : Type 0} → Wire T → ℕ
 reads_of wire = wire.reads
 
--- how many reads, writes and flushes answered an error, or were a write of a non-empty piece that took nothing
+-- how many reads and writes answered an error, or were a write of a non-empty piece that took nothing
 abbrev pub failures_of : {T : Type 0} → Wire T → ℕ
 failures_of wire = wire.failures
 

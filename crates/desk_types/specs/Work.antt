@@ -47,6 +47,7 @@ abbrev pub places : Name → Name → Command → Bool
 places board designator (MaterialsInstalled machine b designators) = same b board && list_any (same designator) designators
 places board designator _ = false
 
--- whether the designator of the board is placed, on whichever machine
+-- Whether the designator of the board is placed, on whichever machine. It looks at the commands: an accepted install places each of its
+-- designators.
 abbrev pub is_placed_on : History → Name → Name → Bool
 is_placed_on H board designator = list_any (λ (e : Entry). places board designator e.stamped.command) H

@@ -58,7 +58,7 @@ pub enum Refusal {
     ReelShort(Id),
     /// An earlier row of the count has the reel.
     ReelTwice(Id),
-    /// More pieces are counted than are left.
+    /// More pieces are counted than may be: see [`Rules`](crate::Rules).
     CountAbove(Id),
 }
 
@@ -71,7 +71,7 @@ pub enum Detail {
     MinutesLeft(Option<u64>),
     /// Of an install: the reel of each designator in message order.
     Reels(IdList),
-    /// Of a scrap or a count: how many pieces were taken.
+    /// Of a scrap or a count: how many pieces were taken. Pieces that a count finds don't lower it.
     Taken(u64),
 }
 

@@ -1,6 +1,6 @@
 //! What a desk is, and a run of commands on one.
 
-ghost use Rattle.std.specs.Prelude.{◌≡◌, ℕ, All, IfOk, OnOk, length};
+ghost use Rattle.std.specs.Prelude.{◌≡◌, ℕ, IfOk, OnOk, length};
 ghost use Rattle.desk_types.specs.History.{History};
 ghost use Rattle.desk_types.specs.Outcome.{reply_to, after_command, replies_to, after_commands};
 ghost use Rattle.desk_types.specs.Desk.{HasRoom};
@@ -12,6 +12,7 @@ use crate::front::Fronts;
 use crate::id::Id;
 use crate::list::Listing;
 use crate::number::Minute;
+use crate::rules::Rules;
 use crate::sheet::SheetRows;
 use crate::view::{Mounts, ReelView, ReelViews};
 use std::alloc::{AllocError, Global};
@@ -39,40 +40,55 @@ impl From<AllocError> for JudgeFault {
     }
 }
 
-/// A desk answers commands as the list of the commands that it accepted says.
+/// A desk answers commands as the list of the commands that it accepted says, by its rules.
 ///
-/// `Stands` says for which lists it stands. There may be several: what a call promises holds for
-/// each of them, and room for one more entry is asked of one. `Knows` says which commands the desk
-/// knows. A desk keeps its allocator, so its methods take none.
+/// `Stands` says for which lists it stands, each a judged one. There may be several: what a call
+/// promises holds for each of them, and room for one more entry is asked of one. A desk keeps its
+/// allocator, so its methods take none.
 pub trait Desk {
-    ghost use Rattle.desk_types.specs.declared.command.Command.{Command};
+    ghost use Rattle.std.specs.Prelude.{[]};
+    ghost use Rattle.desk_types.specs.declared.rules.Rules.{Rules};
     ghost use Rattle.desk_types.specs.Front.{fronts_of};
     ghost use Rattle.desk_types.specs.History.{History, desk_minute, accept};
     ghost use Rattle.desk_types.specs.Setup.{selected_on, sheet_of};
     ghost use Rattle.desk_types.specs.View.{reel_view, mounts_on};
     ghost use Rattle.desk_types.specs.Free.{free_reels};
     ghost use Rattle.desk_types.specs.Desk.{HasRoom, IsChange, IsJudgement};
+    ghost use Rattle.desk_types.specs.Judged.{IsJudged};
 
     /// The lists for which the desk stands.
     ghost Stands: { Self → History → Type 0 };
 
-    /// The commands that the desk knows.
-    ghost Knows: { Command → Type 0 };
+    /// The rules that the desk keeps.
+    ghost kept_rules: { Self → Rules };
+
+    /// A desk of these rules that has accepted nothing. Takes no memory.
+    fn fresh(alloc: Global, rules: Rules) -> Self
+        ensures stands { Stands result [] }
+        ensures rules { kept_rules result ≡ rules };
+
+    /// The rules that the desk keeps. Takes no memory.
+    fn rules(&self) -> Rules
+        ensures { result ≡ kept_rules self.now };
+
+    /// A law, without code: each list for which the desk stands is one that a desk of its rules can
+    /// come to have.
+    fn is_judged(&self)
+        ensures { (H : History) → Stands self.now H → IsJudged (kept_rules self.now) H };
 
     /// What the command would do, were it sent now. It is refused exactly for the refusal of the
     /// definition, and changes nothing. Repeats are the owner's to look for, and so is the greatest
     /// number.
     fn judge(&self, stamped: &Stamped) -> Result<Change, JudgeFault>
         requires room { HasRoom Stands self.now 1 }
-        requires known { Knows stamped.now.command }
-        ensures { (H : History) → Stands self.now H → IsJudgement H stamped.now result };
+        ensures { (H : History) → Stands self.now H → IsJudgement (kept_rules self.now) H stamped.now result };
 
     /// Accepts what was judged. After an `Err` nothing is known of the desk: drop it.
     fn settle(&mut self, change: Change) -> Result<(), AllocError>
         requires room { HasRoom Stands self.old 1 }
-        requires known { Knows change.stamped.command }
-        requires judged { (H : History) → Stands self.old H → IsChange H change.stamped change }
-        ensures { (H : History) → Stands self.old H → OnOk result (Stands self.new (accept H change.stamped)) };
+        requires judged { (H : History) → Stands self.old H → IsChange (kept_rules self.old) H change.stamped change }
+        ensures stands { (H : History) → Stands self.old H → OnOk result (Stands self.new (accept H change.stamped)) }
+        ensures rules { OnOk result (kept_rules self.new ≡ kept_rules self.old) };
 
     /// The desk minute: the greatest effective minute of the accepted commands.
     fn minute(&self) -> Option<Minute>
@@ -107,16 +123,16 @@ pub trait Desk {
 }
 
 /// Judges commands one after the other, and settles each that is accepted. The replies are those of
-/// the list alone. It stops at the first want of memory, and then nothing is known of the desk.
+/// the list alone, by the desk's rules. It stops at the first want of memory, and then nothing is known of the desk.
 pub fn run<D: Desk>(
     alloc: Global,
     desk: &mut D,
     messages: &[Stamped],
 ) -> Result<Replies, AllocError>
     requires room { HasRoom D.Stands desk.old (length messages.now) }
-    requires known { All (λ s. D.Knows s.command) messages.now }
-    ensures replies { (H : History) → D.Stands desk.old H → IfOk result (λ replies. replies ≡ replies_to H messages.now) }
-    ensures stands { (H : History) → D.Stands desk.old H → OnOk result (D.Stands desk.new (after_commands H messages.now)) }
+    ensures replies { (H : History) → D.Stands desk.old H → IfOk result (λ replies. replies ≡ replies_to (D.kept_rules desk.old) H messages.now) }
+    ensures stands { (H : History) → D.Stands desk.old H → OnOk result (D.Stands desk.new (after_commands (D.kept_rules desk.old) H messages.now)) }
+    ensures rules { OnOk result (D.kept_rules desk.new ≡ D.kept_rules desk.old) }
 {
     let mut replies = Vec::new(alloc);
     for message in messages {
@@ -129,9 +145,9 @@ pub fn run<D: Desk>(
 /// Judges one command, and settles it where it is accepted.
 fn answer<D: Desk>(desk: &mut D, message: &Stamped) -> Result<Reply, AllocError>
     requires room { HasRoom D.Stands desk.old 1 }
-    requires known { D.Knows message.now.command }
-    ensures reply { (H : History) → D.Stands desk.old H → IfOk result (λ reply. reply ≡ reply_to H message.now) }
-    ensures stands { (H : History) → D.Stands desk.old H → OnOk result (D.Stands desk.new (after_command H message.now)) }
+    ensures reply { (H : History) → D.Stands desk.old H → IfOk result (λ reply. reply ≡ reply_to (D.kept_rules desk.old) H message.now) }
+    ensures stands { (H : History) → D.Stands desk.old H → OnOk result (D.Stands desk.new (after_command (D.kept_rules desk.old) H message.now)) }
+    ensures rules { OnOk result (D.kept_rules desk.new ≡ D.kept_rules desk.old) }
 {
     match desk.judge(message) {
         Ok(change) => {

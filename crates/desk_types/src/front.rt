@@ -10,7 +10,8 @@ pub enum Life {
     Unlimited,
     /// It waits for its bake.
     Unbaked,
-    /// Up to the minute before this one, the first at which it counts as expired.
+    /// Up to the minute before this one, the first at which it counts as expired. It is a minute since
+    /// 1970-01-01T00:00Z, and may be past the greatest one of a message.
     Until(u64),
 }
 

@@ -9,7 +9,7 @@ use crate::number::Minute;
 /// limit, and then a reel that can't be used before its bake.
 #[derive(Clone, Copy, Debug, PartialEq, Eq, PartialOrd, Ord)]
 pub enum Left {
-    /// So many, 0 where it is expired.
+    /// So many minutes from the desk minute on, 0 where it is expired.
     Minutes(u64),
     /// Its level has no limit.
     Unlimited,
@@ -26,9 +26,12 @@ pub struct ReelView {
     pub part: Id,
     pub lot: Id,
     pub level: Level,
-    /// The minutes of the label, 0 where the level is not 6.
+    /// The floor life of the label, a number of minutes; 0 where the level is not 6.
     pub label: u64,
+    /// Those of the receipt and the found ones.
     pub received: u64,
+    /// What counts said above what was left.
+    pub found: u64,
     pub placed: u64,
     /// Thrown away, or shown missing by a count.
     pub scrapped: u64,
@@ -39,7 +42,7 @@ pub struct ReelView {
     pub mounted: bool,
     /// It is out of its bag.
     pub is_open: bool,
-    /// The exposure at `open_since`, or at the desk minute while it is in its bag.
+    /// The exposure at `open_since`, or at the desk minute while it is in its bag: a number of minutes.
     pub used: u64,
     /// The minute since which it is out of its bag.
     pub open_since: Option<Minute>,

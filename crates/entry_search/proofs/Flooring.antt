@@ -1,16 +1,17 @@
 -- The shop floor in maps, entry by entry.
 use Rattle.std.proofs.Common.{◌≡◌, ℕ, ◌-◌, ◌≤◌, true, false, Option, Some, None, List, [], ◌∷◌, unwrap_or, refl, sym, ap, subst, ◌∙◌, arith}
-use Rattle.std.specs.Prelude.{nat_lt, ◌&&◌, is_none}
-use Rattle.std.specs.List.{find}
+use Rattle.std.specs.Prelude.{nat_lt, ◌&&◌, is_none, is_some}
+use Rattle.std.specs.List.{find, filter}
 use Rattle.std.specs.Option.{option_map_or}
 use Rattle.desk_types.specs.declared.command.Entry.{Entry}
 use Rattle.desk_types.specs.declared.take.Take.{Take}
+use Rattle.desk_types.specs.declared.rules.Rules.TheVariants.{Two}
 use Rattle.desk_types.specs.Id.{Name}
 use Rattle.desk_types.specs.History.{History, now_of}
 use Rattle.desk_types.specs.Setup.{receipt_of}
 use Rattle.desk_types.specs.Judged.{IsJudged}
 use Rattle.desk_types.specs.Tape.{tape_of, tape_after}
-use Rattle.desk_types.specs.Pieces.{told_by, picks_of, left_of, front_of, is_mounted}
+use Rattle.desk_types.specs.Pieces.{told_by, picks_of, left_of, live_on, front_of, is_mounted}
 use Rattle.desk_types.specs.Outcome.{takes_by}
 use Rattle.entry_search.specs.declared.floor.Floor.{Floor}
 use Rattle.reels.specs.declared.reel.Reel.{Reel}
@@ -43,6 +44,14 @@ pub tape_of-none : (machine slot : Name) → [] ≡ tape_of [] machine slot
 unfolding tape_of
 tape_of-none machine slot = refl
 
+-- the live reels of a slot on the floor
+pub floor-live : (H : History) (floor : Floor) (machine slot : Name) → IsFloor H floor
+    → filter (λ reel. nat_lt 0 (pieces_at floor.stock reel)) (tape_at floor.tapes machine slot) ≡ live_on H machine slot
+unfolding live_on
+floor-live H floor machine slot is_floor =
+    ap (λ (left : Name → ℕ). filter (λ reel. nat_lt 0 (left reel)) (tape_at floor.tapes machine slot)) (λ j reel. is_floor.stock reel j)
+    ∙ ap (filter (λ reel. nat_lt 0 (left_of H reel))) (is_floor.tapes machine slot)
+
 -- the front of a slot on the floor
 pub floor-front : (H : History) (floor : Floor) (machine slot : Name) → IsFloor H floor
     → find (λ reel. nat_lt 0 (pieces_at floor.stock reel)) (tape_at floor.tapes machine slot) ≡ front_of H machine slot
@@ -66,8 +75,15 @@ floor-unknown H floor name is_floor none = ap is_none (subst (IsReelOf H name) n
 pub floor-known : (H : History) (floor : Floor) (name : Name) (reel : Reel) → IsFloor H floor → reel_at floor.reels name ≡ Some reel → is_none (receipt_of H name) ≡ false
 floor-known H floor name reel is_floor some = ap is_none (subst (IsReelOf H name) some (is_floor.reels name)).0.receipt.is
 
+pub floor-there : (H : History) (floor : Floor) (name : Name) → IsFloor H floor → is_some (receipt_of H name) ≡ true → is_some (reel_at floor.reels name) ≡ true
+floor-there H floor name is_floor received = by (reel_at floor.reels name) (is_floor.reels name)
+  where
+    by : (found : Option Reel) → IsReelOf H name found → is_some found ≡ true
+    by (Some reel) is_reel = refl
+    by None is_reel = sym (ap is_some is_reel) ∙ received
+
 -- a reel that is live on some slot, on the floor
-pub floor-mounted : (H : History) (floor : Floor) (reel : Name) → IsJudged H → IsFloor H floor
+pub floor-mounted : (H : History) (floor : Floor) (reel : Name) → IsJudged Two H → IsFloor H floor
     → (nat_lt 0 (pieces_at floor.stock reel) && is_on (tape_at floor.tapes) reel (mount_at floor.mounts reel)) ≡ is_mounted H reel
 floor-mounted H floor reel judged is_floor =
     let tapes : tape_at floor.tapes ≡ tape_of H = λ j machine slot. is_floor.tapes machine slot j in

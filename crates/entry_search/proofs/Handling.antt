@@ -7,6 +7,7 @@ use Rattle.desk_types.specs.declared.command.Command.{Command}
 use Rattle.desk_types.specs.declared.command.Command.TheVariants.{ReelReceived, ReelOpened, ReelSealed, MaterialsLoaded, MaterialsSpliced}
 use Rattle.desk_types.specs.declared.command.Entry.{Entry}
 use Rattle.desk_types.specs.declared.command.Receipt.{Receipt}
+use Rattle.desk_types.specs.declared.rules.Rules.TheVariants.{Two}
 use Rattle.desk_types.specs.Id.{Name, same}
 use Rattle.desk_types.specs.History.{History, now_of}
 use Rattle.desk_types.specs.Setup.{receipt_by, receipt_of}
@@ -29,7 +30,7 @@ out-of-bag true is = cc
 out-of-bag false is = cc
 
 -- what leaves a received reel in its bag, and is no bake, seals it
-pub sealed : (H : History) (e : Entry) (name : Name) (receipt : Receipt) → IsNext H e → receipt_of H name ≡ Some receipt → open_by name e.stamped.command ≡ Some false
+pub sealed : (H : History) (e : Entry) (name : Name) (receipt : Receipt) → IsNext Two H e → receipt_of H name ≡ Some receipt → open_by name e.stamped.command ≡ Some false
     → is_bake e.stamped.command ≡ false → e.stamped.command ≡ ReelSealed name
 sealed H e name receipt next was says no_bake = by e.stamped.command refl says no_bake
   where
@@ -73,11 +74,11 @@ split-at xs i x inside is =
     split = sym (take-append-drop i xs) ∙ ap (λ rest. take i xs ++ rest) (drop-next xs i x inside is)
 
 -- the entries so far, and the next one, are a list that a desk can have
-pub judged-next : (entries : List Entry) (i : ℕ) (e : Entry) → i < length entries → e ≡ get_or entries i e → IsJudged (reverse entries) → IsJudged (e ∷ reverse (take i entries))
+pub judged-next : (entries : List Entry) (i : ℕ) (e : Entry) → i < length entries → e ≡ get_or entries i e → IsJudged Two (reverse entries) → IsJudged Two (e ∷ reverse (take i entries))
 judged-next entries i e inside is judged =
     judged-prefix (e ∷ reverse (take i entries)) (reverse entries) (reverse (drop (i + 1) entries), split-at entries i e inside is) judged
 
 -- the reel's last command took effect by the next entry
-pub by-then : (H : History) (e : Entry) (name : Name) (found : Option Reel) → IsJudged (e ∷ H) → IsReelOf H name found → (reel : Reel) → found ≡ Some reel → reel.last ≤ e.effective
+pub by-then : (H : History) (e : Entry) (name : Name) (found : Option Reel) → IsJudged Two (e ∷ H) → IsReelOf H name found → (reel : Reel) → found ≡ Some reel → reel.last ≤ e.effective
 by-then H e name None judged is_reel reel is = cc
 by-then H e name (Some found) judged is_reel reel is = omega (arith, is_reel.1, judged.0.effective, le-max_right e.stamped.minute (now_of H), ap (λ (o : Option Reel). option_map_or (λ (r : Reel). r.last) o 0) is)

@@ -1,5 +1,5 @@
 -- What an entry leaves of a reel.
-use Rattle.std.proofs.Common.{◌≡◌, ℕ, ◌+◌, ◌-◌, ◌^◌, ◌≤◌, min, cond, Some, None, List, [], ◌∷◌, ◌++◌, reverse, length, map, unwrap_or, refl, sym, ap, ◌∙◌, arith}
+use Rattle.std.proofs.Common.{◌≡◌, ℕ, ◌+◌, ◌-◌, ◌≤◌, min, cond, Some, None, List, [], ◌∷◌, ◌++◌, reverse, length, map, unwrap_or, refl, sym, ap, ◌∙◌, arith}
 use Rattle.desk_types.specs.declared.command.Entry.{Entry}
 use Rattle.desk_types.specs.declared.take.Pick.{Pick}
 use Rattle.desk_types.specs.declared.take.Take.{Take}
@@ -11,6 +11,7 @@ use Rattle.desk_types.specs.declared.number.TheConstants.{GREATEST_QUANTITY}
 use Rattle.std.proofs.lemmas.List.{reverse-append}
 use Rattle.std.proofs.lemmas.List.Sums.{sum_by-cons}
 use Rattle.entry_search.specs.Kept.{AreTakes, taken}
+use Rattle.entry_search.proofs.Ranges.{most}
 
 -- the takes of picks are as many pieces as the picks
 pub taken-map : (H : History) (minute : ℕ) (picks : List Pick) (reel : Name) → taken (map (take_of H minute) picks) reel ≡ picked picks reel
@@ -21,21 +22,17 @@ taken-map H minute (p ∷ ps) reel =
     ∙ sym (sum_by-cons (λ (q : Pick). cond (same q.reel reel) q.quantity 0) p ps)
 
 -- an entry that tells the pieces of a reel
-pub left_of-told : (H : History) (e : Entry) (reel : Name) (pieces : ℕ) → told_by reel e.stamped.command ≡ Some pieces → left_of (e ∷ H) reel ≡ pieces
+left_of-told : (H : History) (e : Entry) (reel : Name) (pieces : ℕ) → told_by reel e.stamped.command ≡ Some pieces → left_of (e ∷ H) reel ≡ pieces
 unfolding left_of
 left_of-told H e reel pieces told = ap (λ o. unwrap_or o (left_of H reel - picked (picks_of H e.stamped.command) reel)) told
 
 -- an entry that does not takes what its takes say
-pub left_of-taken : (H : History) (e : Entry) (takes : List Take) (reel : Name) → told_by reel e.stamped.command ≡ None
+left_of-taken : (H : History) (e : Entry) (takes : List Take) (reel : Name) → told_by reel e.stamped.command ≡ None
     → takes ≡ takes_by H e.effective e.stamped.command → left_of (e ∷ H) reel ≡ left_of H reel - taken takes reel
 unfolding left_of
 left_of-taken H e takes reel none are =
     ap (λ o. unwrap_or o (left_of H reel - picked (picks_of H e.stamped.command) reel)) none
     ∙ ap (λ n. left_of H reel - n) (sym (ap (λ ts. taken ts reel) are ∙ taken-map H e.effective (picks_of H e.stamped.command) reel))
-
--- the greatest number of 64 bits
-abbrev most : ℕ
-most = 2 ^ 64 - 1
 
 -- On the way back through the entries: these are to come, with their takes, and the others took so many pieces of the whole that is left.
 pub record Going (H : History) (kept : List (List Take)) (gone whole : ℕ) (reel : Name) : Type 0 where

@@ -6,6 +6,7 @@ pub mod Leaving
 pub mod Listing
 pub mod Live
 pub mod Mounting
+pub mod Ranges
 pub mod Stocking
 pub mod Summing
 pub mod Turning

@@ -4,21 +4,26 @@ use Rattle.std.specs.Cmp.Lexicographic.{nat_list_eq_equiv}
 use Rattle.std.specs.List.{enumerate_from}
 use Rattle.std.proofs.lemmas.List.{length-take-le, map-append}
 use Rattle.std.proofs.lemmas.Map.Views.{All-from_any}
+use Rattle.desk_types.specs.declared.rules.Rules.TheVariants.{Two}
 use Rattle.desk_types.specs.Id.{Name}
 use Rattle.desk_types.specs.History.{History, desk_minute}
-use Rattle.desk_types.specs.Setup.{receipt_of}
 use Rattle.desk_types.specs.Pieces.{live_on}
 use Rattle.desk_types.specs.Judged.{IsJudged}
 use Rattle.desk_types.specs.View.{mounts_on}
 use Rattle.desk_types.proofs.Steps.{take-next}
 use Rattle.desk_laws.proofs.Mounts.{live-received}
+use Rattle.entry_search.specs.declared.floor.Floor.{Floor}
+use Rattle.entry_search.specs.Floor.{IsFloor, reel_at}
+use Rattle.entry_search.proofs.Flooring.{floor-there}
 
--- ---- received reels
+-- ---- reels on the floor
 
--- Each live reel of a slot was received.
-pub all-received : (H : History) (machine slot : Name) → IsJudged H → All (λ reel. is_some (receipt_of H reel) ≡ true) (live_on H machine slot)
-all-received H machine slot judged =
-    All-from_any nat_list_eq_equiv (λ reel. is_some (receipt_of H reel) ≡ true) (live_on H machine slot) (λ reel is. live-received H machine slot reel judged is)
+-- Each live reel of a slot is there.
+pub all-there : (H : History) (floor : Floor) (machine slot : Name) → IsJudged Two H → IsFloor H floor
+    → All (λ reel. is_some (reel_at floor.reels reel) ≡ true) (live_on H machine slot)
+all-there H floor machine slot judged is_floor =
+    All-from_any nat_list_eq_equiv (λ reel. is_some (reel_at floor.reels reel) ≡ true) (live_on H machine slot)
+    (λ reel is. floor-there H floor reel is_floor (live-received H machine slot reel judged is))
 
 -- ---- lists
 

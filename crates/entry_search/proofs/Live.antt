@@ -8,7 +8,7 @@ use Rattle.desk_types.specs.Tape.{tape_of}
 use Rattle.desk_types.specs.Pieces.{left_of, live_on, first, front_of}
 
 -- the first of those that pass a test
-pub first-filter : (p : Name → Bool) (xs : List Name) → first (filter p xs) ≡ find p xs
+first-filter : (p : Name → Bool) (xs : List Name) → first (filter p xs) ≡ find p xs
 first-filter p [] = refl
 first-filter p (x ∷ xs) = by (p x) (first-filter p xs)
   where

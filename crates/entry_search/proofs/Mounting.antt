@@ -4,6 +4,7 @@ use Rattle.std.specs.Prelude.{◌&&◌, if◌then◌else◌, is_some}
 use Rattle.std.specs.Option.{option_or}
 use Rattle.desk_types.specs.declared.command.Command.{Command}
 use Rattle.desk_types.specs.declared.command.Command.TheVariants.{MaterialsLoaded, MaterialsSpliced, MaterialsUnloaded}
+use Rattle.desk_types.specs.declared.rules.Rules.TheVariants.{Two}
 use Rattle.desk_types.specs.Id.{Name, same}
 use Rattle.desk_types.specs.History.{History}
 use Rattle.desk_types.specs.Tape.{tape_of}
@@ -45,7 +46,7 @@ place-last (e ∷ H) reel p is = last-after reel e.stamped.command (place_of H r
 at-itself : (p : Name × Name) → is_at p.0 p.1 (Some p) ≡ true
 at-itself p = ap (λ b. b && same p.1 p.1) (same-refl p.0) ∙ same-refl p.1
 
-on-last : (H : History) (reel : Name) → IsJudged H → nat_lt 0 (left_of H reel) ≡ true → is_some (place_of H reel) ≡ is_on (tape_of H) reel (last_mount H reel)
+on-last : (H : History) (reel : Name) → IsJudged Two H → nat_lt 0 (left_of H reel) ≡ true → is_some (place_of H reel) ≡ is_on (tape_of H) reel (last_mount H reel)
 on-last H reel judged some = by (place_of H reel) refl (last_mount H reel) refl
   where
     by : (place : Option (Name × Name)) → place_of H reel ≡ place → (last : Option (Name × Name)) → last_mount H reel ≡ last
@@ -61,7 +62,7 @@ on-last H reel judged some = by (place_of H reel) refl (last_mount H reel) refl
         ∙ ap (is_on (tape_of H) reel) (sym was)
 
 -- A reel is mounted where it has pieces left and stands on the tape of the slot onto which it was last put.
-pub mounted-last : (H : History) (reel : Name) → IsJudged H → (nat_lt 0 (left_of H reel) && is_on (tape_of H) reel (last_mount H reel)) ≡ is_mounted H reel
+pub mounted-last : (H : History) (reel : Name) → IsJudged Two H → (nat_lt 0 (left_of H reel) && is_on (tape_of H) reel (last_mount H reel)) ≡ is_mounted H reel
 mounted-last H reel judged = by (nat_lt 0 (left_of H reel)) refl ∙ sym (mounted-is H reel judged)
   where
     and-none : (b : Bool) → false ≡ (b && false)

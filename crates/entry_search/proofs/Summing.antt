@@ -2,6 +2,7 @@
 use Rattle.std.proofs.Common.{◌≡◌, ℕ, ◌+◌, Bool, true, false, cond, List, [], ◌∷◌, ◌++◌, reverse, map, refl, sym, ap, ◌∙◌, arith}
 use Rattle.std.specs.Prelude.{◌&&◌}
 use Rattle.std.specs.List.{filter, sum_by}
+use Rattle.std.proofs.Math.Bool.{and-true, and-false}
 use Rattle.std.proofs.lemmas.List.{reverse-append}
 use Rattle.std.proofs.lemmas.List.Elements.{filter-append}
 use Rattle.std.proofs.lemmas.List.Sums.{sum_by-cons, sum_by_push}
@@ -15,14 +16,6 @@ use Rattle.desk_laws.proofs.Picks.{picked-append}
 use Rattle.reels.specs.declared.reel.Usage.{Usage}
 use Rattle.entry_search.specs.Kept.{AreTakes}
 use Rattle.entry_search.specs.Totals.{went, total_of, taken_for}
-
-and-true : (b : Bool) → (b && true) ≡ b
-and-true true = refl
-and-true false = refl
-
-and-false : (b : Bool) → (b && false) ≡ false
-and-false true = refl
-and-false false = refl
 
 -- the picks that pass a test, of one reel
 picked-filter : (test : Pick → Bool) (p : Pick) (ps : List Pick) (reel : Name)

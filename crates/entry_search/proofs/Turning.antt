@@ -11,6 +11,7 @@ use Rattle.desk_types.specs.declared.command.Command.{Command}
 use Rattle.desk_types.specs.declared.command.Entry.{Entry}
 use Rattle.desk_types.specs.declared.command.Receipt.{Receipt}
 use Rattle.desk_types.specs.declared.view.Left.{Left}
+use Rattle.desk_types.specs.declared.rules.Rules.TheVariants.{Two}
 use Rattle.desk_types.specs.Id.{Name}
 use Rattle.desk_types.specs.History.{History, now_of}
 use Rattle.desk_types.specs.Setup.{receipt_of, is_allowed}
@@ -38,7 +39,7 @@ untold H reel none = by (receipt_of H reel) none
     by (Some receipt) none = cc
 
 -- Such a reel is not free.
-pub untold-turn : (H : History) (part reel : Name) (command : Command) → IsJudged H → received_by command ≡ Some reel → reel_view H reel ≡ None
+pub untold-turn : (H : History) (part reel : Name) (command : Command) → IsJudged Two H → received_by command ≡ Some reel → reel_view H reel ≡ None
     → turn_by H part command ≡ None
 untold-turn H part reel command judged is none =
     ap (λ said. option_map (turn_of H) (option_and_then (if_free H part) said)) is

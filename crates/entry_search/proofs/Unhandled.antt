@@ -19,7 +19,7 @@ if-none true x y is = cc
 if-none false x y is = refl
 
 -- a command that does not handle a reel does not receive it
-pub not-received : (name : Name) (minute : ℕ) (command : Command) → open_by name command ≡ None → receipt_by name minute command ≡ None
+not-received : (name : Name) (minute : ℕ) (command : Command) → open_by name command ≡ None → receipt_by name minute command ≡ None
 not-received name minute (ReelReceived r part lot moisture quantity) none = if-none (same r name) false _ none
 not-received name minute _ none = refl
 

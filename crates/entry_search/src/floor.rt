@@ -1,5 +1,5 @@
 //! The shop floor as the entries leave it: every reel, what is left of it, and every tape. It is
-//! made in one pass, for the commands that look at many slots or reels.
+//! made in one pass, for the commands and views that look at many slots or reels.
 
 mod mount_map;
 mod reel_map;
@@ -7,11 +7,12 @@ mod stock;
 mod tape_map;
 
 ghost use Rattle.std.specs.Prelude.{◌≡◌, ◌≤◌, nat_lt, [], ◌∷◌, reverse, IfOk, OnOk};
-ghost use Rattle.std.specs.List.{find};
+ghost use Rattle.std.specs.List.{find, filter};
+ghost use Rattle.desk_types.specs.declared.rules.Rules.TheVariants.{Two};
 ghost use Rattle.desk_types.specs.History.{History};
 ghost use Rattle.desk_types.specs.Judged.{IsJudged};
 ghost use Rattle.desk_types.specs.Outcome.{takes_by};
-ghost use Rattle.desk_types.specs.Pieces.{front_of, is_mounted};
+ghost use Rattle.desk_types.specs.Pieces.{live_on, front_of, is_mounted};
 ghost use Rattle.entry_search.specs.Kept.{AreTakes};
 ghost use Rattle.entry_search.specs.Floor.{IsFloor, AreReelsBy, pieces_at, tape_at, reel_at, mount_at, is_on};
 
@@ -51,7 +52,7 @@ fn bare(alloc: Global) -> Floor
 /// The floor after an entry with its takes.
 fn note(alloc: Global, floor: &mut Floor, entry: &Entry, takes: &[Take]) -> Result<(), AllocError>
     requires { AreReelsBy floor.old.reels entry.now.effective }
-    ensures { (H : History) → IsJudged (entry.now ∷ H) → takes.now ≡ takes_by H entry.now.effective entry.now.stamped.command
+    ensures { (H : History) → IsJudged Two (entry.now ∷ H) → takes.now ≡ takes_by H entry.now.effective entry.now.stamped.command
         → IsFloor H floor.old → OnOk result (IsFloor (entry.now ∷ H) floor.new) }
 {
     note_reel(&mut floor.reels, entry)?;
@@ -63,7 +64,7 @@ fn note(alloc: Global, floor: &mut Floor, entry: &Entry, takes: &[Take]) -> Resu
 
 /// The floor as the entries leave it.
 pub fn floor_of(alloc: Global, entries: &[Entry], takes: &[Takes]) -> Result<Floor, AllocError>
-    requires judged { IsJudged (reverse entries.now) }
+    requires judged { IsJudged Two (reverse entries.now) }
     requires takes { AreTakes (reverse entries.now) (reverse takes.now) }
     ensures { IfOk result (λ floor. IsFloor (reverse entries.now) floor) }
 {
@@ -97,6 +98,30 @@ pub fn front(floor: &Floor, machine: &Id, slot: &Id) -> Option<Id>
     }
 }
 
+/// The reels of a tape with pieces left.
+fn with_pieces(alloc: Global, stock: &BTreeMap<Id, u64>, tape: &Tape) -> Result<Vec<Id>, AllocError>
+    ensures { IfOk result (λ reels. reels.items ≡ filter (λ reel. nat_lt 0 (pieces_at stock.now reel)) tape.now) }
+{
+    let mut live = Vec::new(alloc);
+    for i in 0..tape.reels.len() {
+        let reel = tape.reels[i];
+        if pieces(stock, &reel) > 0 {
+            live.push(reel)?;
+        }
+    }
+    Ok(live)
+}
+
+/// The live reels of the slot, the front first.
+pub fn live_on(alloc: Global, floor: &Floor, machine: &Id, slot: &Id) -> Result<Vec<Id>, AllocError>
+    ensures { (H : History) → IsFloor H floor.now → IfOk result (λ reels. reels.items ≡ live_on H machine.now slot.now) }
+{
+    match floor.tapes.get(&(*machine, *slot)) {
+        Some(tape) => with_pieces(alloc, &floor.stock, tape),
+        None => Ok(Vec::new(alloc)),
+    }
+}
+
 /// The reel of this name, or none where it was not received.
 pub fn reel_on(floor: &Floor, name: &Id) -> Option<Reel>
     ensures { result ≡ reel_at floor.now.reels name.now }
@@ -119,7 +144,7 @@ fn is_on_tape(floor: &Floor, reel: &Id) -> bool
 
 /// Whether the reel is live on some slot.
 pub fn is_mounted(floor: &Floor, reel: &Id) -> bool
-    ensures { (H : History) → IsJudged H → IsFloor H floor.now → result ≡ is_mounted H reel.now }
+    ensures { (H : History) → IsJudged Two H → IsFloor H floor.now → result ≡ is_mounted H reel.now }
 {
     pieces(&floor.stock, reel) > 0 && is_on_tape(floor, reel)
 }

@@ -2,6 +2,7 @@
 
 ghost use Rattle.std.specs.Prelude.{◌≡◌, ◌≤◌, None, ◌∷◌, reverse};
 ghost use Rattle.std.specs.Option.{ForSome};
+ghost use Rattle.desk_types.specs.declared.rules.Rules.TheVariants.{Two};
 ghost use Rattle.desk_types.specs.History.{History};
 ghost use Rattle.desk_types.specs.Setup.{receipt_of};
 ghost use Rattle.desk_types.specs.FloorLife.{open_by};
@@ -30,7 +31,7 @@ fn open_by(name: &Id, command: &Command) -> Option<bool>
 
 /// The reel, where the entry receives it.
 fn begun(name: &Id, entry: &Entry) -> Option<Reel>
-    ensures { (H : History) → IsJudged (entry.now ∷ H) → receipt_of H name.now ≡ None → IsReelOf (entry.now ∷ H) name.now result }
+    ensures { (H : History) → IsJudged Two (entry.now ∷ H) → receipt_of H name.now ≡ None → IsReelOf (entry.now ∷ H) name.now result }
 {
     let at = entry.effective;
     let said = receipt_by(name, at, &entry.stamped.command)?;
@@ -41,7 +42,7 @@ fn begun(name: &Id, entry: &Entry) -> Option<Reel>
 fn handle(reel: &mut Reel, name: &Id, entry: &Entry)
     requires { reel.old.last ≤ entry.now.effective }
     ensures last { reel.new.last ≤ entry.now.effective }
-    ensures stands { (H : History) → IsJudged (entry.now ∷ H) → StandsFor H name.now reel.old → StandsFor (entry.now ∷ H) name.now reel.new }
+    ensures stands { (H : History) → IsJudged Two (entry.now ∷ H) → StandsFor H name.now reel.old → StandsFor (entry.now ∷ H) name.now reel.new }
 {
     let at = entry.effective;
     match open_by(name, &entry.stamped.command) {
@@ -62,7 +63,7 @@ fn is_bake(command: &Command) -> bool
 /// The reel after an entry.
 pub fn reel_after(reel: Option<Reel>, name: &Id, entry: &Entry) -> Option<Reel>
     requires { ForSome reel (λ r. r.last ≤ entry.now.effective) }
-    ensures { (H : History) → IsJudged (entry.now ∷ H) → IsReelOf H name.now reel → IsReelOf (entry.now ∷ H) name.now result }
+    ensures { (H : History) → IsJudged Two (entry.now ∷ H) → IsReelOf H name.now reel → IsReelOf (entry.now ∷ H) name.now result }
 {
     let Some(mut found) = reel else {
         return begun(name, entry);
@@ -73,7 +74,7 @@ pub fn reel_after(reel: Option<Reel>, name: &Id, entry: &Entry) -> Option<Reel>
 
 /// The reel of this name, or none where it was not received. Takes no memory.
 pub fn reel_of(entries: &[Entry], name: &Id) -> Option<Reel>
-    requires { IsJudged (reverse entries.now) }
+    requires { IsJudged Two (reverse entries.now) }
     ensures { IsReelOf (reverse entries.now) name.now result }
 {
     let mut reel = None;

@@ -1,7 +1,9 @@
 //! The reels that could be loaded for a part, looked up in the entries and their takes, oldest first.
 
-ghost use Rattle.std.specs.Prelude.{◌≡◌, not, ◌&&◌, Some, map, reverse, IfOk};
+ghost use Rattle.std.specs.Prelude.{◌≡◌, ◌≤◌, not, ◌&&◌, Some, length, map, reverse, IfOk};
 ghost use Rattle.std.specs.List.{filter};
+ghost use Rattle.desk_types.specs.declared.desk.TheConstants.{MOST_ENTRIES};
+ghost use Rattle.desk_types.specs.declared.rules.Rules.TheVariants.{Two};
 ghost use Rattle.desk_types.specs.Id.{Name};
 ghost use Rattle.desk_types.specs.History.{History, now_of};
 ghost use Rattle.desk_types.specs.FloorLife.{is_unbaked, is_expired};
@@ -50,7 +52,8 @@ fn is_free(entries: &[Entry], part: &Id, view: &ReelView) -> bool
 
 /// The turn of the reel that the command receives, where it is free for the part.
 fn turn_by(entries: &[Entry], takes: &[Takes], part: &Id, command: &Command) -> Option<(Left, Id)>
-    requires judged { IsJudged (reverse entries.now) }
+    requires most { length entries.now ≤ MOST_ENTRIES }
+    requires judged { IsJudged Two (reverse entries.now) }
     requires takes { AreTakes (reverse entries.now) (reverse takes.now) }
     ensures { result ≡ turn_by (reverse entries.now) part.now command.now }
 {
@@ -69,7 +72,8 @@ fn turns(
     takes: &[Takes],
     part: &Id,
 ) -> Result<Vec<(Left, Id)>, AllocError>
-    requires judged { IsJudged (reverse entries.now) }
+    requires most { length entries.now ≤ MOST_ENTRIES }
+    requires judged { IsJudged Two (reverse entries.now) }
     requires takes { AreTakes (reverse entries.now) (reverse takes.now) }
     ensures { IfOk result (λ turns. turns.items ≡ map (turn_of (reverse entries.now))
         (in_order (by_turn (reverse entries.now)) (filter (is_free (reverse entries.now) part.now) (reels_received (reverse entries.now))))) }
@@ -92,7 +96,8 @@ pub fn free_reels(
     takes: &[Takes],
     part: &Id,
 ) -> Result<ReelViews, AllocError>
-    requires judged { IsJudged (reverse entries.now) }
+    requires most { length entries.now ≤ MOST_ENTRIES }
+    requires judged { IsJudged Two (reverse entries.now) }
     requires takes { AreTakes (reverse entries.now) (reverse takes.now) }
     ensures { IfOk result (λ reels. reels ≡ free_reels (reverse entries.now) part.now) }
 {

@@ -2,6 +2,7 @@
 
 ghost use Rattle.std.specs.Prelude.{◌≡◌, ◌≤◌, true, is_some, reverse, IfOk};
 ghost use Rattle.std.specs.Option.{option_map, ForSome};
+ghost use Rattle.desk_types.specs.declared.rules.Rules.TheVariants.{Two};
 ghost use Rattle.desk_types.specs.Id.{Name};
 ghost use Rattle.desk_types.specs.History.{History};
 ghost use Rattle.desk_types.specs.Judged.{IsJudged};
@@ -50,7 +51,7 @@ fn front_reel(floor: &Floor, minute: Minute, reel: Option<Id>) -> Option<FrontRe
 /// The front reel of a slot with its part and its life.
 fn front_at(floor: &Floor, minute: Minute, machine: &Id, slot: &Id) -> Option<FrontReel>
     requires { AreReelsBy floor.now.reels minute }
-    ensures { (H : History) → IsJudged H → IsFloor H floor.now → result ≡ option_map (front_reel H minute) (front_of H machine.now slot.now) }
+    ensures { (H : History) → IsJudged Two H → IsFloor H floor.now → result ≡ option_map (front_reel H minute) (front_of H machine.now slot.now) }
 {
     front_reel(floor, minute, front(floor, machine, slot))
 }
@@ -63,7 +64,7 @@ pub fn fronts(
     takes: &[Takes],
     machine: &Id,
 ) -> Result<Fronts, AllocError>
-    requires judged { IsJudged (reverse entries.now) }
+    requires judged { IsJudged Two (reverse entries.now) }
     requires takes { AreTakes (reverse entries.now) (reverse takes.now) }
     ensures { IfOk result (λ fronts. fronts ≡ fronts_of (reverse entries.now) machine.now) }
 {

@@ -14,7 +14,6 @@ pub mod pieces;
 mod sets;
 pub mod setup;
 pub mod slots;
-mod tapes;
 pub mod totals;
 pub mod views;
 pub mod work;

@@ -1,6 +1,7 @@
 //! Where a reel stands, by the entries, oldest first.
 
 ghost use Rattle.std.specs.Prelude.{◌≡◌, nat_lt, None, if◌then◌else◌, reverse};
+ghost use Rattle.desk_types.specs.declared.rules.Rules.TheVariants.{Two};
 ghost use Rattle.desk_types.specs.Pieces.{left_of, is_mounted};
 ghost use Rattle.desk_types.specs.Judged.{IsJudged};
 ghost use Rattle.desk_laws.specs.Place.{is_at, place_after, place_of};
@@ -67,7 +68,7 @@ fn has_pieces(entries: &[Entry], takes: &[Takes], reel: &Id) -> bool
 
 /// Whether the reel is live on some slot. Takes no memory.
 pub fn is_mounted(entries: &[Entry], takes: &[Takes], reel: &Id) -> bool
-    requires judged { IsJudged (reverse entries.now) }
+    requires judged { IsJudged Two (reverse entries.now) }
     requires takes { AreTakes (reverse entries.now) (reverse takes.now) }
     ensures { result ≡ is_mounted (reverse entries.now) reel.now }
 {

@@ -1,18 +1,14 @@
-//! What is left of a reel, and where it is mounted, looked up in the entries and their takes, oldest
-//! first.
+//! What is left of a reel, looked up in the entries and their takes, oldest first.
 
-ghost use Rattle.std.specs.Prelude.{◌≡◌, ◌-◌, ◌^◌, ◌≤◌, min, reverse, IfOk, IfSome};
+ghost use Rattle.std.specs.Prelude.{◌≡◌, ◌-◌, ◌^◌, ◌≤◌, min, reverse, IfSome};
 ghost use Rattle.std.specs.Option.{option_map};
-ghost use Rattle.std.specs.List.{find, list_any};
+ghost use Rattle.std.specs.List.{find};
 ghost use Rattle.desk_types.specs.declared.count.CountRow.{CountRow};
 ghost use Rattle.desk_types.specs.Id.{same};
-ghost use Rattle.desk_types.specs.Tape.{tape_of};
-ghost use Rattle.desk_types.specs.Pieces.{told_by, left_of, front_of};
+ghost use Rattle.desk_types.specs.Pieces.{told_by, left_of};
 ghost use Rattle.entry_search.specs.Kept.{AreTakes, taken};
 
-use crate::tapes::tape;
 use desk_types::{Command, CountRow, Entry, GREATEST_QUANTITY, Id, Take, Takes};
-use std::alloc::{AllocError, Global};
 
 fn counted(reel: &Id, rows: &[CountRow]) -> Option<u64>
     ensures value { result ≡ option_map (λ (row : CountRow). row.quantity) (find (λ row. same row.reel reel.now) rows.now) }

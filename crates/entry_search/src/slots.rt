@@ -1,19 +1,17 @@
-//! The live reels of a machine's slots, looked up in the entries and their takes, oldest first.
+//! The live reels of a machine's slots, looked up on the shop floor.
 
 ghost use Rattle.std.specs.Prelude.{◌≡◌, ◌≤◌, ◌++◌, true, is_some, map, reverse, All, IfOk, OnOk};
 ghost use Rattle.std.specs.List.{enumerate_from};
-ghost use Rattle.desk_types.specs.History.{now_of};
-ghost use Rattle.desk_types.specs.Setup.{receipt_of};
-ghost use Rattle.desk_types.specs.Pieces.{live_on};
+ghost use Rattle.desk_types.specs.declared.rules.Rules.TheVariants.{Two};
+ghost use Rattle.desk_types.specs.History.{History, now_of};
 ghost use Rattle.desk_types.specs.Judged.{IsJudged};
 ghost use Rattle.desk_types.specs.View.{defines_on, has_sheet, slot_by, loaded_slots, mount_of, mounts_on};
+ghost use Rattle.entry_search.specs.Floor.{IsFloor, AreReelsBy, reel_at};
 ghost use Rattle.entry_search.specs.Kept.{AreTakes};
 
-use crate::floor_life::reel_of;
-use crate::pieces::left;
+use crate::floor::{Floor, floor_of, live_on, pieces, reel_on};
 use crate::sets::insert_if;
 use crate::setup::desk_minute;
-use crate::tapes::tape;
 use crate::views::life_left;
 use desk_types::{Command, Entry, Id, Listing, Minute, Mount, Mounts, Takes};
 use std::alloc::{AllocError, Global};
@@ -62,44 +60,13 @@ fn loaded_slots(alloc: Global, entries: &[Entry], machine: &Id) -> Result<Vec<Id
     slots.into_iter().collect(alloc)
 }
 
-/// The live reels of a slot.
-#[tactic(auto, unfolding(desk_types::specs::Pieces::live_on))]
-fn live_on(
-    alloc: Global,
-    entries: &[Entry],
-    takes: &[Takes],
-    machine: &Id,
-    slot: &Id,
-) -> Result<Vec<Id>, AllocError>
-    requires { AreTakes (reverse entries.now) (reverse takes.now) }
-    ensures { IfOk result (λ reels. reels.items ≡ live_on (reverse entries.now) machine.now slot.now) }
-{
-    let reels = tape(alloc, entries, machine, slot)?;
-    let mut live = Vec::new(alloc);
-    for reel in &reels {
-        if left(entries, takes, reel) > 0 {
-            live.push(*reel)?;
-        }
-    }
-    Ok(live)
-}
-
 /// A received reel in its position on a slot.
-fn mount(
-    entries: &[Entry],
-    takes: &[Takes],
-    minute: Minute,
-    slot: &Id,
-    position: u64,
-    reel: &Id,
-) -> Mount
-    requires judged { IsJudged (reverse entries.now) }
-    requires takes { AreTakes (reverse entries.now) (reverse takes.now) }
-    requires minute { now_of (reverse entries.now) ≡ minute }
-    requires received { is_some (receipt_of (reverse entries.now) reel.now) ≡ true }
-    ensures { result ≡ mount_of (reverse entries.now) slot.now (position, reel.now) }
+fn mount(floor: &Floor, minute: Minute, slot: &Id, position: u64, reel: &Id) -> Mount
+    requires by_now { AreReelsBy floor.now.reels minute }
+    requires received { is_some (reel_at floor.now.reels reel.now) ≡ true }
+    ensures { (H : History) → IsFloor H floor.now → now_of H ≡ minute → result ≡ mount_of H slot.now (position, reel.now) }
 {
-    let Some(found) = reel_of(entries, reel) else {
+    let Some(found) = reel_on(floor, reel) else {
         unreachable!()
     };
     Mount {
@@ -108,7 +75,7 @@ fn mount(
         reel: *reel,
         part: found.part,
         lot: found.lot,
-        remaining: left(entries, takes, reel),
+        remaining: pieces(&floor.stock, reel),
         left: life_left(&found, minute),
     }
 }
@@ -116,20 +83,18 @@ fn mount(
 /// Tells the live reels of a slot, the front first.
 fn put_mounts(
     mounts: &mut Vec<Mount>,
-    entries: &[Entry],
-    takes: &[Takes],
+    floor: &Floor,
     minute: Minute,
     slot: &Id,
     reels: &[Id],
 ) -> Result<(), AllocError>
-    requires judged { IsJudged (reverse entries.now) }
-    requires takes { AreTakes (reverse entries.now) (reverse takes.now) }
-    requires minute { now_of (reverse entries.now) ≡ minute }
-    requires received { All (λ reel. is_some (receipt_of (reverse entries.now) reel) ≡ true) reels.now }
-    ensures { OnOk result (mounts.new.items ≡ mounts.old.items ++ map (mount_of (reverse entries.now) slot.now) (enumerate_from 1 reels.now)) }
+    requires by_now { AreReelsBy floor.now.reels minute }
+    requires received { All (λ reel. is_some (reel_at floor.now.reels reel) ≡ true) reels.now }
+    ensures { (H : History) → IsFloor H floor.now → now_of H ≡ minute
+        → OnOk result (mounts.new.items ≡ mounts.old.items ++ map (mount_of H slot.now) (enumerate_from 1 reels.now)) }
 {
     for (index, reel) in reels.iter().enumerate() {
-        mounts.push(mount(entries, takes, minute, slot, index as u64 + 1, reel))?;
+        mounts.push(mount(floor, minute, slot, index as u64 + 1, reel))?;
     }
     Ok(())
 }
@@ -142,7 +107,7 @@ pub fn slots_of(
     takes: &[Takes],
     machine: &Id,
 ) -> Result<Option<Mounts>, AllocError>
-    requires judged { IsJudged (reverse entries.now) }
+    requires judged { IsJudged Two (reverse entries.now) }
     requires takes { AreTakes (reverse entries.now) (reverse takes.now) }
     ensures { IfOk result (λ mounts. mounts ≡ mounts_on (reverse entries.now) machine.now) }
 {
@@ -152,11 +117,12 @@ pub fn slots_of(
     let Some(minute) = desk_minute(entries) else {
         return Ok(None);
     };
+    let floor = floor_of(alloc, entries, takes)?;
     let slots = loaded_slots(alloc, entries, machine)?;
     let mut mounts = Vec::new(alloc);
     for slot in &slots {
-        let reels = live_on(alloc, entries, takes, machine, slot)?;
-        put_mounts(&mut mounts, entries, takes, minute, slot, reels.as_slice())?;
+        let reels = live_on(alloc, &floor, machine, slot)?;
+        put_mounts(&mut mounts, &floor, minute, slot, reels.as_slice())?;
     }
     Ok(Some(Listing::new(mounts)))
 }

@@ -1,12 +1,16 @@
-//! What became of the pieces of a reel, summed over the takes, oldest first.
+//! What became of the pieces of a reel, summed over the entries and their takes, oldest first.
 
-ghost use Rattle.std.specs.Prelude.{◌≡◌, ◌-◌, ◌^◌, min, reverse};
+ghost use Rattle.std.specs.Prelude.{◌≡◌, ◌-◌, ◌^◌, ◌≤◌, min, length, reverse};
+ghost use Rattle.desk_types.specs.declared.desk.TheConstants.{MOST_ENTRIES};
+ghost use Rattle.desk_types.specs.declared.rules.Rules.TheVariants.{Two};
 ghost use Rattle.desk_types.specs.History.{History};
-ghost use Rattle.desk_types.specs.Pieces.{is_placed};
+ghost use Rattle.desk_types.specs.Judged.{IsJudged};
+ghost use Rattle.desk_types.specs.Pieces.{is_placed, received_of};
 ghost use Rattle.entry_search.specs.Kept.{AreTakes};
 ghost use Rattle.entry_search.specs.Totals.{went, total_of, taken_for};
 
-use desk_types::{Id, Purpose, Take, Takes};
+use crate::pieces::left;
+use desk_types::{Entry, Id, Purpose, Take, Takes};
 use reels::Usage;
 
 /// Whether a piece that was taken for this purpose was placed on a board.
@@ -41,13 +45,27 @@ fn taken_for(takes: &[Take], reel: &Id, usage: Usage) -> u64
     pieces
 }
 
-/// How many pieces of the reel went this way, or the greatest `u64` where they are more.
+/// How many pieces of the reel went this way, where the takes are those of a list that a desk can
+/// have. Nothing is said of other takes.
 pub fn total(takes: &[Takes], reel: &Id, usage: Usage) -> u64
-    ensures { (H : History) → AreTakes H (reverse takes.now) → result ≡ min (total_of usage H reel.now) (2 ^ 64 - 1) }
+    ensures { (H : History) → IsJudged Two H → length H ≤ MOST_ENTRIES → AreTakes H (reverse takes.now) → result ≡ total_of usage H reel.now }
 {
     let mut pieces = 0u64;
     for last in takes {
         pieces = pieces.saturating_add(taken_for(last.as_slice(), reel, usage));
     }
     pieces
+}
+
+/// How many pieces of the reel were received, those of its receipt and the found ones: as many as were
+/// placed, scrapped and are left together.
+pub fn received(entries: &[Entry], takes: &[Takes], reel: &Id) -> u64
+    requires most { length entries.now ≤ MOST_ENTRIES }
+    requires judged { IsJudged Two (reverse entries.now) }
+    requires takes { AreTakes (reverse entries.now) (reverse takes.now) }
+    ensures { result ≡ received_of (reverse entries.now) reel.now }
+{
+    let placed = total(takes, reel, Usage::Placed);
+    let scrapped = total(takes, reel, Usage::Scrapped);
+    placed + scrapped + left(entries, takes, reel)
 }

@@ -1,6 +1,8 @@
 //! What a desk tells of reels, looked up in the entries and their takes, oldest first.
 
-ghost use Rattle.std.specs.Prelude.{◌≡◌, ◌≤◌, reverse};
+ghost use Rattle.std.specs.Prelude.{◌≡◌, ◌≤◌, length, reverse};
+ghost use Rattle.desk_types.specs.declared.desk.TheConstants.{MOST_ENTRIES};
+ghost use Rattle.desk_types.specs.declared.rules.Rules.TheVariants.{Two};
 ghost use Rattle.desk_types.specs.Id.{Name};
 ghost use Rattle.desk_types.specs.History.{History, now_of};
 ghost use Rattle.desk_types.specs.Judged.{IsJudged};
@@ -11,8 +13,8 @@ ghost use Rattle.entry_search.specs.Kept.{AreTakes};
 use crate::floor_life::reel_of;
 use crate::mounts::is_mounted;
 use crate::pieces::left;
-use crate::setup::desk_minute;
-use crate::totals::total;
+use crate::setup::{desk_minute, receipt};
+use crate::totals::{received, total};
 use desk_types::{Entry, Id, Left, Minute, ReelView, Takes};
 use reels::{Reel, Usage};
 
@@ -32,27 +34,31 @@ pub fn life_left(reel: &Reel, minute: Minute) -> Left
 
 /// The reel at the desk minute, or none where it was not received. Takes no memory.
 pub fn reel_view(entries: &[Entry], takes: &[Takes], name: &Id) -> Option<ReelView>
-    requires judged { IsJudged (reverse entries.now) }
+    requires most { length entries.now ≤ MOST_ENTRIES }
+    requires judged { IsJudged Two (reverse entries.now) }
     requires takes { AreTakes (reverse entries.now) (reverse takes.now) }
     ensures { result ≡ reel_view (reverse entries.now) name.now }
 {
     let minute = desk_minute(entries)?;
-    let found = reel_of(entries, name)?;
+    let told = receipt(entries, name)?;
+    let reel = reel_of(entries, name)?;
+    let received = received(entries, takes, name);
     Some(ReelView {
         reel: *name,
-        part: found.part,
-        lot: found.lot,
-        level: found.level,
-        label: found.label,
-        received: found.received,
+        part: reel.part,
+        lot: reel.lot,
+        level: reel.level,
+        label: reel.label,
+        received,
+        found: received - told.quantity.get(),
         placed: total(takes, name, Usage::Placed),
         scrapped: total(takes, name, Usage::Scrapped),
         remaining: left(entries, takes, name),
-        left: life_left(&found, minute),
+        left: life_left(&reel, minute),
         mounted: is_mounted(entries, takes, name),
-        is_open: found.open_since.is_some(),
-        used: found.used,
-        open_since: found.open_since,
-        baked: found.baked,
+        is_open: reel.open_since.is_some(),
+        used: reel.used,
+        open_since: reel.open_since,
+        baked: reel.baked,
     })
 }

@@ -1,4 +1,4 @@
-pub mod Counting
+pub mod ByTwo
 pub mod Installing
 pub mod Rejecting
 pub mod Spending

@@ -2,11 +2,10 @@
 use Rattle.std.proofs.Common.{◌≡◌, ℕ, ◌+◌, ◌-◌, ◌<◌, Bool, true, false, cond, nat_lt, Option, Some, None, List, [], ◌∷◌, ◌++◌, take, drop, get_or, length, refl, sym, ap, ◌∙◌, arith}
 use Rattle.std.specs.Option.{option_or, option_to_list}
 use Rattle.std.specs.List.{find, list_any}
-use Rattle.std.specs.BTreeMap.{BTreeMap}
 use Rattle.desk_types.specs.declared.answer.Refusal.{Refusal}
 use Rattle.desk_types.specs.declared.take.Pick.{Pick}
 use Rattle.desk_types.specs.Id.{Name, same}
-use Rattle.desk_types.specs.Pieces.{picked, first, pick_for, install_picks}
+use Rattle.desk_types.specs.Pieces.{picked, pick_for, install_picks}
 use Rattle.desk_types.specs.Refusals.{designator_refusal, designators_refusal}
 use Rattle.desk_types.specs.Pair.{same_pair}
 use Rattle.desk_types.proofs.Keys.{pair-changed}
@@ -17,37 +16,6 @@ use Rattle.entry_search.specs.declared.floor.Floor.{Floor}
 use Rattle.look_back.specs.declared.placing.Piece.{Piece}
 use Rattle.entry_search.specs.Floor.{pieces_at, tape_at}
 use Rattle.look_back.specs.Placing.{HasPieces, IsFeeding, pick_of}
-
--- ---- the front of a tape
-
--- a test that holds only of reels with pieces fails of a spent one
-spent-fails : (stock : BTreeMap Name ℕ) (test : Name → Bool) (reel : Name) → HasPieces stock test → nat_lt 0 (pieces_at stock reel) ≡ false → test reel ≡ false
-spent-fails stock test reel has spent = by (test reel) refl
-  where
-    by : (b : Bool) → test reel ≡ b → test reel ≡ false
-    by true is = let some = has reel is in cc
-    by false is = is
-
-pub find-first : (test : Name → Bool) (reels : List Name) (reel : Name) → first reels ≡ Some reel → test reel ≡ true → find test reels ≡ Some reel
-find-first test [] reel is holds = cc
-find-first test (r ∷ rs) reel is holds = cc
-
-past : (test : Name → Bool) (reels : List Name) (reel : Name) → first reels ≡ Some reel → test reel ≡ false → find test (drop 1 reels) ≡ find test reels
-past test [] reel is fails = refl
-past test (r ∷ rs) reel is fails = cc
-
--- a spent reel at the front is passed over
-pub find-past_spent : (stock : BTreeMap Name ℕ) (test : Name → Bool) (reels : List Name) (reel : Name) → first reels ≡ Some reel → HasPieces stock test
-    → nat_lt 0 (pieces_at stock reel) ≡ false → find test (drop 1 reels) ≡ find test reels
-find-past_spent stock test reels reel is has spent = past test reels reel is (spent-fails stock test reel has spent)
-
-pub find-nothing : (test : Name → Bool) (reels : List Name) → first reels ≡ None → find test reels ≡ None
-find-nothing test [] is = refl
-find-nothing test (r ∷ rs) is = cc
-
-pub shorter : (reels : List Name) (reel : Name) → first reels ≡ Some reel → length (drop 1 reels) < length reels
-shorter [] reel is = cc
-shorter (r ∷ rs) reel is = omega arith
 
 -- ---- one designator more
 

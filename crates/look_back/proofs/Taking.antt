@@ -10,6 +10,7 @@ use Rattle.desk_types.specs.declared.command.Command.TheVariants.{MaterialsInsta
 use Rattle.desk_types.specs.declared.command.Receipt.{Receipt}
 use Rattle.desk_types.specs.declared.count.CountRow.{CountRow}
 use Rattle.desk_types.specs.declared.number.TheConstants.{GREATEST_QUANTITY}
+use Rattle.desk_types.specs.declared.rules.Rules.TheVariants.{Two}
 use Rattle.desk_types.specs.declared.take.Pick.{Pick}
 use Rattle.desk_types.specs.declared.take.Purpose.{Purpose}
 use Rattle.desk_types.specs.declared.take.Purpose.TheVariants.{Placed, Rejected, Counted}
@@ -20,10 +21,10 @@ use Rattle.desk_types.specs.Tape.{tape_of}
 use Rattle.desk_types.specs.Pieces.{left_of, picked, pieces_off, pick_for, install_picks, scrap_picks, count_picks, picks_of}
 use Rattle.desk_types.specs.Outcome.{pieces_of}
 use Rattle.desk_types.specs.Judged.{IsJudged}
-use Rattle.desk_laws.proofs.Balance.{balance, unreceived-empty}
+use Rattle.desk_laws.proofs.Balance.{unreceived-empty}
 use Rattle.desk_laws.proofs.Picks.{find-passes}
 use Rattle.entry_search.specs.Floor.{IsKnownReel}
-use Rattle.entry_search.proofs.Viewing.{receipt-range}
+use Rattle.entry_search.proofs.Ranges.{left-range}
 
 -- ---- whose they are
 
@@ -97,19 +98,19 @@ picks-some H (CountsTaken rows) = count-some (left_of H) rows
 picks-some H _ = tt
 
 -- a reel that has pieces was received
-some-known : (H : History) (reel : Name) → IsJudged H → nat_lt 0 (left_of H reel) ≡ true → IsKnownReel H reel
+some-known : (H : History) (reel : Name) → IsJudged Two H → nat_lt 0 (left_of H reel) ≡ true → IsKnownReel H reel
 some-known H reel judged some = by (receipt_of H reel) refl
   where
     by : (o : Option Receipt) → receipt_of H reel ≡ o → is_some (receipt_of H reel) ≡ true
     by (Some receipt) is = ap is_some is
     by None is = let none = ap (nat_lt 0) (unreceived-empty H reel judged is) in cc
 
-known : (H : History) (picks : List Pick) → IsJudged H → HaveSome (left_of H) picks → AllByRecursion (λ (p : Pick). IsKnownReel H p.reel) picks
+known : (H : History) (picks : List Pick) → IsJudged Two H → HaveSome (left_of H) picks → AllByRecursion (λ (p : Pick). IsKnownReel H p.reel) picks
 known H [] judged all = tt
 known H (p ∷ ps) judged (some, all) = (some-known H p.reel judged some, known H ps judged all)
 
 -- Each pick of a command is of a received reel.
-pub picks-known : (H : History) (command : Command) → IsJudged H → AllByRecursion (λ (p : Pick). IsKnownReel H p.reel) (picks_of H command)
+pub picks-known : (H : History) (command : Command) → IsJudged Two H → AllByRecursion (λ (p : Pick). IsKnownReel H p.reel) (picks_of H command)
 picks-known H command judged = known H (picks_of H command) judged (picks-some H command)
 
 -- ---- how many
@@ -143,10 +144,6 @@ count-within pieces (row ∷ rows) few =
     let rest = count-within pieces rows few in
     omega (arith, both, first, rest, few row.reel)
 
--- a reel has no more pieces than a receipt may say
-left-range : (H : History) (reel : Name) → IsJudged H → left_of H reel ≤ GREATEST_QUANTITY
-left-range H reel judged = let all = balance H reel judged in let range = receipt-range H reel judged in omega (arith, all, range)
-
 -- the greatest number of 64 bits
 abbrev most : ℕ
 most = 2 ^ 64 - 1
@@ -157,7 +154,7 @@ pub scrap-fits : (H : History) (machine slot : Name) (n : ℕ) → n ≤ GREATES
 scrap-fits H machine slot n range =
     let few = scrap-within (left_of H) (Rejected machine slot) (tape_of H machine slot) n in omega (arith, few, range)
 
-pub count-fits : (H : History) (rows : List CountRow) → IsJudged H → length rows ≤ 5000
+pub count-fits : (H : History) (rows : List CountRow) → IsJudged Two H → length rows ≤ 5000
     → min (pieces_of (picks_of H (CountsTaken rows))) most ≡ pieces_of (picks_of H (CountsTaken rows))
 count-fits H rows judged range =
     let few = count-within (left_of H) rows (λ r. left-range H r judged) in omega (arith, few, range)

@@ -3,14 +3,15 @@ use Rattle.std.specs.Prelude.{◌≡◌, ℕ, ◌-◌, None, Some, Result, Ok, E
 use Rattle.std.specs.BTreeSet.{BTreeSet}
 use Rattle.desk_types.specs.declared.answer.Refusal.{Refusal}
 use Rattle.desk_types.specs.declared.count.CountRow.{CountRow}
+use Rattle.desk_types.specs.declared.rules.Rules.{Rules}
 use Rattle.desk_types.specs.Id.{Name}
 use Rattle.desk_types.specs.History.{History}
 use Rattle.desk_types.specs.Pieces.{left_of}
 use Rattle.desk_types.specs.Refusals.{count_refusal}
 use Rattle.setup_sheets.specs.Names.{HasSeen}
 
--- the row is refused, after the reels of the rows before it, or so many pieces are missing and its reel has been seen
-abbrev pub IsCounted : History → List Name → CountRow → Result ℕ Refusal → BTreeSet Name → Type 0
-IsCounted H before row (Ok missing) seen =
-    (count_refusal H before row ≡ None) × (missing ≡ left_of H row.reel - row.quantity) × HasSeen seen (before ++ row.reel ∷ [])
-IsCounted H before row (Err refusal) seen = count_refusal H before row ≡ Some refusal
+-- by the rules the row is refused, after the reels of the rows before it, or so many pieces are missing and its reel has been seen
+abbrev pub IsCounted : Rules → History → List Name → CountRow → Result ℕ Refusal → BTreeSet Name → Type 0
+IsCounted rules H before row (Ok missing) seen =
+    (count_refusal rules H before row ≡ None) × (missing ≡ left_of H row.reel - row.quantity) × HasSeen seen (before ++ row.reel ∷ [])
+IsCounted rules H before row (Err refusal) seen = count_refusal rules H before row ≡ Some refusal

@@ -7,6 +7,7 @@ ghost use Rattle.desk_types.specs.Id.{Name, same};
 ghost use Rattle.desk_types.specs.Setup.{slot_in, slot_on};
 ghost use Rattle.desk_types.specs.Pieces.{picks_of};
 ghost use Rattle.desk_types.specs.Work.{places, is_placed_on};
+ghost use Rattle.desk_types.specs.declared.rules.Rules.TheVariants.{Two};
 ghost use Rattle.desk_types.specs.Judged.{IsJudged};
 ghost use Rattle.desk_types.specs.Refusals.{install_refusal};
 ghost use Rattle.entry_search.specs.Kept.{AreTakes};
@@ -88,7 +89,8 @@ fn note_placed(
     Ok(())
 }
 
-/// The designators that are placed on the board.
+/// The designators that are placed on the board. They are looked for in the commands: an accepted
+/// install places each of its designators.
 fn placed_on(
     alloc: Global,
     entries: &[Entry],
@@ -113,7 +115,7 @@ pub fn installed(
     board: &Id,
     designators: &Designators,
 ) -> Result<Result<Listing<Pick>, Refusal>, AllocError>
-    requires judged { IsJudged (reverse entries.now) }
+    requires judged { IsJudged Two (reverse entries.now) }
     requires takes { AreTakes (reverse entries.now) (reverse takes.now) }
     ensures { IfOk result (IsPicked (install_refusal (reverse entries.now) machine.now board.now designators.now)
         (picks_of (reverse entries.now) (MaterialsInstalled machine.now board.now designators.now))) }

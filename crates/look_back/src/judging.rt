@@ -1,7 +1,8 @@
 //! What a command would do after the entries.
 
-ghost use Rattle.std.specs.Prelude.{◌≡◌, ◌≤◌, nat_lt, ◌+◌, not, ◌&&◌, false, reverse, IfOk};
-ghost use Rattle.std.specs.Option.{option_map_or};
+ghost use Rattle.std.specs.Prelude.{◌≡◌, ◌≤◌, reverse, IfOk};
+ghost use Rattle.desk_types.specs.declared.rules.Rules.{Rules as Ruling};
+ghost use Rattle.desk_types.specs.declared.rules.Rules.TheVariants.{Two};
 ghost use Rattle.desk_types.specs.Judged.{IsJudged};
 ghost use Rattle.desk_types.specs.Refusals.{command_refusal, is_too_far_ahead};
 ghost use Rattle.desk_types.specs.Outcome.{detail_of, takes_by};
@@ -26,14 +27,15 @@ use crate::starts::start_refusal;
 use crate::takes::{pieces_of, reels_of, takes_for};
 use desk_types::{
     Change, Command, Detail, Entry, FURTHEST_AHEAD, Id, JudgeFault, Listing, Minute, Pick, Refusal,
-    Stamped, Takes,
+    Rules, Stamped, Takes,
 };
 use entry_search::floor::floor_of;
 use entry_search::floor_life::reel_of;
 use entry_search::setup::{desk_minute, effective_minute};
 use std::alloc::{AllocError, Global};
 
-/// Why a command is refused that takes no pieces and takes effect at the minute.
+/// Why a command is refused that takes no pieces and takes effect at the minute. By either rules it is
+/// refused for the same.
 #[tactic(auto, unfolding(desk_types::specs::Refusals::command_refusal))]
 fn command_refusal(
     alloc: Global,
@@ -43,10 +45,10 @@ fn command_refusal(
     command: &Command,
 ) -> Result<Option<Refusal>, AllocError>
     requires known { TakesNone command.now }
-    requires judged { IsJudged (reverse entries.now) }
+    requires judged { IsJudged Two (reverse entries.now) }
     requires takes { AreTakes (reverse entries.now) (reverse takes.now) }
     requires minute { now_of (reverse entries.now) ≤ minute }
-    ensures { IfOk result (λ refusal. refusal ≡ command_refusal (reverse entries.now) minute command.now) }
+    ensures { (rules : Ruling) → IfOk result (λ refusal. refusal ≡ command_refusal rules (reverse entries.now) minute command.now) }
 {
     Ok(match command {
         Command::PartDefined { part } => part_refusal(entries, part),
@@ -85,19 +87,20 @@ fn command_refusal(
     })
 }
 
-/// The pieces that a command takes, or why it is refused.
+/// The pieces that a command takes, or why it is refused by the rules.
 #[tactic(auto, unfolding(desk_types::specs::Refusals::command_refusal))]
 fn picked(
     alloc: Global,
+    rules: Rules,
     entries: &[Entry],
     takes: &[Takes],
     minute: Minute,
     command: &Command,
 ) -> Result<Result<Listing<Pick>, Refusal>, AllocError>
-    requires judged { IsJudged (reverse entries.now) }
+    requires judged { IsJudged Two (reverse entries.now) }
     requires takes { AreTakes (reverse entries.now) (reverse takes.now) }
     requires minute { now_of (reverse entries.now) ≤ minute }
-    ensures { IfOk result (IsPicked (command_refusal (reverse entries.now) minute command.now) (picks_of (reverse entries.now) command.now)) }
+    ensures { IfOk result (IsPicked (command_refusal rules (reverse entries.now) minute command.now) (picks_of (reverse entries.now) command.now)) }
 {
     match command {
         Command::MaterialsInstalled {
@@ -110,7 +113,7 @@ fn picked(
             slot,
             quantity,
         } => Ok(scrapped(alloc, entries, takes, machine, slot, *quantity)?),
-        Command::CountsTaken { counts } => Ok(counted(alloc, entries, takes, counts)?),
+        Command::CountsTaken { counts } => Ok(counted(alloc, rules, entries, takes, counts)?),
         _ => match command_refusal(alloc, entries, takes, minute, command)? {
             Some(refusal) => Ok(Err(refusal)),
             None => Ok(Ok(Listing::new(Vec::new(alloc)))),
@@ -126,7 +129,7 @@ fn detail(
     command: &Command,
     picks: &[Pick],
 ) -> Result<Detail, AllocError>
-    requires judged { IsJudged (reverse entries.now) }
+    requires judged { IsJudged Two (reverse entries.now) }
     requires minute { now_of (reverse entries.now) ≤ minute }
     ensures { picks.now ≡ picks_of (reverse entries.now) command.now
         → IfOk result (λ detail. detail ≡ detail_of (reverse entries.now) minute command.now) }
@@ -155,7 +158,7 @@ fn taken(
     command: &Command,
     picks: &[Pick],
 ) -> Result<Takes, AllocError>
-    requires judged { IsJudged (reverse entries.now) }
+    requires judged { IsJudged Two (reverse entries.now) }
     requires takes { AreTakes (reverse entries.now) (reverse takes.now) }
     requires minute { now_of (reverse entries.now) ≤ minute }
     ensures { picks.now ≡ picks_of (reverse entries.now) command.now
@@ -170,7 +173,7 @@ fn taken(
 
 /// The floor life left to the reel, or none where it has no limit.
 fn minutes_left(entries: &[Entry], minute: Minute, reel: &Id) -> Option<u64>
-    requires judged { IsJudged (reverse entries.now) }
+    requires judged { IsJudged Two (reverse entries.now) }
     requires minute { now_of (reverse entries.now) ≤ minute }
     ensures { result ≡ minutes_left (reverse entries.now) reel.now minute }
 {
@@ -190,24 +193,25 @@ fn is_too_far_ahead(entries: &[Entry], stamped: &Stamped) -> bool
     }
 }
 
-/// What a command would do, were it sent now.
+/// What a command would do by the rules, were it sent now.
 #[tactic(auto, unfolding(desk_types::specs::Refusals::refusal_of))]
 pub fn judged(
     alloc: Global,
+    rules: Rules,
     entries: &[Entry],
     takes: &[Takes],
     stamped: &Stamped,
 ) -> Result<Change, JudgeFault>
-    requires judged { IsJudged (reverse entries.now) }
+    requires judged { IsJudged Two (reverse entries.now) }
     requires takes { AreTakes (reverse entries.now) (reverse takes.now) }
-    ensures { IsJudgement (reverse entries.now) stamped.now result }
+    ensures { IsJudgement rules (reverse entries.now) stamped.now result }
 {
     if is_too_far_ahead(entries, stamped) {
         return Err(JudgeFault::Refused(Refusal::TooFarAhead));
     }
     let minute = effective_minute(entries, stamped.minute);
     let command = &stamped.command;
-    let picks = match picked(alloc, entries, takes, minute, command)? {
+    let picks = match picked(alloc, rules, entries, takes, minute, command)? {
         Ok(picks) => picks,
         Err(refusal) => return Err(JudgeFault::Refused(refusal)),
     };

@@ -3,8 +3,9 @@
 ghost use Rattle.std.specs.Prelude.{◌≡◌, ◌≤◌, Bool, not, [], ◌∷◌, reverse, IfOk};
 ghost use Rattle.desk_types.specs.declared.answer.Refusal.{Refusal as Refusing};
 ghost use Rattle.desk_types.specs.declared.answer.Refusal.TheVariants.{SlotTaken, SlotEmpty};
+ghost use Rattle.desk_types.specs.declared.rules.Rules.TheVariants.{Two};
 ghost use Rattle.desk_types.specs.Judged.{IsJudged};
-ghost use Rattle.desk_types.specs.Refusals.{first_refusal, is_vacant, is_wrong_for, mounting_refusal};
+ghost use Rattle.desk_types.specs.Refusals.{first_refusal, is_vacant, mounting_refusal};
 ghost use Rattle.look_back.specs.Feeding.{reel_refusal};
 ghost use Rattle.entry_search.specs.Kept.{AreTakes};
 ghost use Rattle.desk_types.specs.History.{now_of};
@@ -26,7 +27,7 @@ fn reel_refusal(
     row: &SheetRow,
     reel: &Id,
 ) -> Option<Refusal>
-    requires judged { IsJudged (reverse entries.now) }
+    requires judged { IsJudged Two (reverse entries.now) }
     requires takes { AreTakes (reverse entries.now) (reverse takes.now) }
     requires minute { now_of (reverse entries.now) ≤ minute }
     ensures { result ≡ reel_refusal (reverse entries.now) minute row.now reel.now }
@@ -63,7 +64,7 @@ fn mounting_refusal(
     reel: &Id,
     slot_refusal: Option<Refusal>,
 ) -> Option<Refusal>
-    requires judged { IsJudged (reverse entries.now) }
+    requires judged { IsJudged Two (reverse entries.now) }
     requires takes { AreTakes (reverse entries.now) (reverse takes.now) }
     requires minute { now_of (reverse entries.now) ≤ minute }
     ensures { (test : Bool × Refusing) → slot_refusal ≡ first_refusal (test ∷ [])
@@ -91,7 +92,7 @@ pub fn load_refusal(
     slot: &Id,
     reel: &Id,
 ) -> Result<Option<Refusal>, AllocError>
-    requires judged { IsJudged (reverse entries.now) }
+    requires judged { IsJudged Two (reverse entries.now) }
     requires takes { AreTakes (reverse entries.now) (reverse takes.now) }
     requires minute { now_of (reverse entries.now) ≤ minute }
     ensures { IfOk result (λ refusal. refusal ≡ mounting_refusal (reverse entries.now) minute machine.now slot.now reel.now
@@ -115,7 +116,7 @@ pub fn splice_refusal(
     slot: &Id,
     reel: &Id,
 ) -> Result<Option<Refusal>, AllocError>
-    requires judged { IsJudged (reverse entries.now) }
+    requires judged { IsJudged Two (reverse entries.now) }
     requires takes { AreTakes (reverse entries.now) (reverse takes.now) }
     requires minute { now_of (reverse entries.now) ≤ minute }
     ensures { IfOk result (λ refusal. refusal ≡ mounting_refusal (reverse entries.now) minute machine.now slot.now reel.now

@@ -4,14 +4,15 @@ ghost use Rattle.std.specs.Prelude.{◌≡◌, ◌+◌, ◌≤◌, [], length, r
 ghost use Rattle.std.specs.List.{find};
 ghost use Rattle.std.specs.Option.{option_copied};
 ghost use Rattle.desk_types.specs.declared.desk.TheConstants.{MOST_ENTRIES};
+ghost use Rattle.desk_types.specs.declared.rules.Rules.TheVariants.{Two};
 ghost use Rattle.desk_types.specs.Id.{same};
 ghost use Rattle.desk_types.specs.History.{accept};
 ghost use Rattle.desk_types.specs.Desk.{IsChange};
 
 use crate::judging::judged;
 use desk_types::{
-    Change, Desk, Entry, Fronts, Id, JudgeFault, Minute, Mounts, ReelView, ReelViews, SheetRows,
-    Stamped, Takes,
+    Change, Desk, Entry, Fronts, Id, JudgeFault, Minute, Mounts, ReelView, ReelViews, Rules,
+    SheetRows, Stamped, Takes,
 };
 use entry_search::free::free_reels;
 use entry_search::fronts::fronts;
@@ -22,34 +23,45 @@ use std::alloc::{AllocError, Global};
 use std::marker::Model;
 
 /// A desk that keeps the list of accepted entries, each with its takes, and answers by searching
-/// it. Contracts see it as that list.
+/// it. Contracts see it as its rules and that list.
 #[derive(Drop)]
 pub struct PlainDesk {
     alloc: Global,
+    rules: Rules,
     entries: Vec<Entry>,
     takes: Vec<Takes>,
 }
 
 impl Model for PlainDesk {
-    ghost use Rattle.std.specs.Prelude.{reverse};
-    ghost use Rattle.desk_types.specs.History.{History};
+    ghost use Rattle.std.specs.Prelude.{◌≤◌, length, reverse};
+    ghost use Rattle.desk_types.specs.declared.desk.TheConstants.{MOST_ENTRIES};
     ghost use Rattle.desk_types.specs.Judged.{IsJudged};
     ghost use Rattle.entry_search.specs.Kept.{AreTakes};
+    ghost use Rattle.look_back.specs.Plain.{Plain};
 
-    ghost Value = { History };
+    ghost Value = { Plain };
 
-    ghost view = { λ a. reverse a.entries.items };
+    ghost view = { λ a. record { rules = a.rules; history = reverse a.entries.items } };
 
-    ghost invariant = { λ a. IsJudged (reverse a.entries.items) × AreTakes (reverse a.entries.items) (reverse a.takes.items) };
+    ghost invariant = { λ a. IsJudged a.rules (reverse a.entries.items) × AreTakes (reverse a.entries.items) (reverse a.takes.items)
+        × (length a.entries.items ≤ MOST_ENTRIES) };
 }
 
 impl PlainDesk {
-    /// A desk that has accepted nothing. Takes no memory.
+    /// A desk of rules Two that has accepted nothing. Takes no memory.
     pub fn new(alloc: Global) -> PlainDesk
-        ensures { result ≡ [] }
+        ensures { result ≡ record { rules = Two; history = [] } }
+    {
+        PlainDesk::with_rules(alloc, Rules::Two)
+    }
+
+    /// A desk of these rules that has accepted nothing. Takes no memory.
+    pub fn with_rules(alloc: Global, rules: Rules) -> PlainDesk
+        ensures { result ≡ record { rules = rules; history = [] } }
     {
         PlainDesk {
             alloc,
+            rules,
             entries: Vec::new(alloc),
             takes: Vec::new(alloc),
         }
@@ -57,23 +69,24 @@ impl PlainDesk {
 
     /// The accepted entries, the oldest first. Takes no memory.
     pub fn entries(&self) -> &[Entry]
-        ensures { reverse result.now ≡ self.now }
+        ensures { reverse result.now ≡ self.now.history }
     {
         &self.entries
     }
 
-    /// The entry with this UniqueID, where there is one. Takes no memory.
+    /// The newest entry with this UniqueID, where there is one. Takes no memory. The desk itself looks
+    /// for no repeats: that is its owner's matter.
     pub fn earlier(&self, uid: &Id) -> Option<&Entry>
-        ensures { option_copied result ≡ find (λ e. same e.stamped.uid uid.now) self.now }
+        ensures { option_copied result ≡ find (λ e. same e.stamped.uid uid.now) self.now.history }
     {
         earlier(self.entries.as_slice(), uid)
     }
 
     /// Accepts what was judged. Without memory the desk is as before.
     pub fn append(&mut self, change: Change) -> Result<(), AllocError>
-        requires room { length self.old + 1 ≤ MOST_ENTRIES }
-        requires judged { IsChange self.old change.stamped change }
-        ensures ok { OnOk result (self.new ≡ accept self.old change.stamped) }
+        requires room { length self.old.history + 1 ≤ MOST_ENTRIES }
+        requires judged { IsChange self.old.rules self.old.history change.stamped change }
+        ensures ok { OnOk result (self.new ≡ record self.old { history = accept self.old.history change.stamped }) }
         ensures err { OnErr result (self.new ≡ self.old) }
     {
         let entry = Entry {
@@ -91,22 +104,37 @@ impl PlainDesk {
     }
 }
 
+/// The newest of the entries with this UniqueID.
 fn earlier<'a>(entries: &'a [Entry], uid: &Id) -> Option<&'a Entry>
     ensures { option_copied result ≡ find (λ e. same e.stamped.uid uid.now) (reverse entries.now) }
 {
     entries.iter().rev().find(|entry| entry.stamped.uid == *uid)
 }
 
+#[tactic(auto, using(crate::proofs::ByTwo::by_two))]
 impl Desk for PlainDesk {
-    ghost use Rattle.std.specs.Prelude.{◌≡◌, ⊤};
+    ghost use Rattle.std.specs.Prelude.{◌≡◌};
 
-    ghost Stands = { λ desk H. H ≡ desk };
+    ghost Stands = { λ desk H. H ≡ desk.history };
 
-    ghost Knows = { λ command. ⊤ };
+    ghost kept_rules = { λ desk. desk.rules };
+
+    fn fresh(alloc: Global, rules: Rules) -> PlainDesk {
+        PlainDesk::with_rules(alloc, rules)
+    }
+
+    fn rules(&self) -> Rules {
+        self.rules
+    }
+
+    fn is_judged(&self) {
+        let _ = &self.rules;
+    }
 
     fn judge(&self, stamped: &Stamped) -> Result<Change, JudgeFault> {
         judged(
             self.alloc,
+            self.rules,
             self.entries.as_slice(),
             self.takes.as_slice(),
             stamped,

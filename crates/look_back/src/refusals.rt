@@ -2,6 +2,7 @@
 
 ghost use Rattle.std.specs.Prelude.{◌≡◌, reverse, IfOk};
 ghost use Rattle.desk_types.specs.Refusals.{part_refusal, alternate_refusal, selection_refusal, receipt_refusal, opening_refusal, closing_refusal, completion_refusal, unload_refusal, is_vacant};
+ghost use Rattle.desk_types.specs.declared.rules.Rules.TheVariants.{Two};
 ghost use Rattle.desk_types.specs.Judged.{IsJudged};
 ghost use Rattle.entry_search.specs.Kept.{AreTakes};
 
@@ -79,7 +80,7 @@ pub fn opening_refusal(entries: &[Entry], reel: &Id) -> Option<Refusal>
 /// Why a seal or a bake is refused.
 #[tactic(auto, unfolding(desk_types::specs::Refusals::closing_refusal))]
 pub fn closing_refusal(entries: &[Entry], takes: &[Takes], reel: &Id) -> Option<Refusal>
-    requires judged { IsJudged (reverse entries.now) }
+    requires judged { IsJudged Two (reverse entries.now) }
     requires takes { AreTakes (reverse entries.now) (reverse takes.now) }
     ensures { result ≡ closing_refusal (reverse entries.now) reel.now }
 {
@@ -100,7 +101,7 @@ pub fn is_vacant(
     machine: &Id,
     slot: &Id,
 ) -> Result<bool, AllocError>
-    requires judged { IsJudged (reverse entries.now) }
+    requires judged { IsJudged Two (reverse entries.now) }
     requires takes { AreTakes (reverse entries.now) (reverse takes.now) }
     ensures { IfOk result (λ vacant. vacant ≡ is_vacant (reverse entries.now) machine.now slot.now) }
 {
@@ -120,7 +121,7 @@ pub fn unload_refusal(
     machine: &Id,
     slot: &Id,
 ) -> Result<Option<Refusal>, AllocError>
-    requires judged { IsJudged (reverse entries.now) }
+    requires judged { IsJudged Two (reverse entries.now) }
     requires takes { AreTakes (reverse entries.now) (reverse takes.now) }
     ensures { IfOk result (λ refusal. refusal ≡ unload_refusal (reverse entries.now) machine.now slot.now) }
 {

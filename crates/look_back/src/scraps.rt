@@ -4,6 +4,7 @@ ghost use Rattle.std.specs.Prelude.{◌≡◌, ◌++◌, reverse, IfOk, OnOk};
 ghost use Rattle.desk_types.specs.declared.command.Command.TheVariants.{MaterialsScrapped};
 ghost use Rattle.desk_types.specs.declared.take.Purpose.TheVariants.{Rejected};
 ghost use Rattle.desk_types.specs.Pieces.{pieces_off, picks_of};
+ghost use Rattle.desk_types.specs.declared.rules.Rules.TheVariants.{Two};
 ghost use Rattle.desk_types.specs.Judged.{IsJudged};
 ghost use Rattle.desk_types.specs.Refusals.{scrap_refusal};
 ghost use Rattle.entry_search.specs.Floor.{pieces_at};
@@ -78,7 +79,7 @@ pub fn scrapped(
     slot: &Id,
     quantity: Quantity,
 ) -> Result<Result<Listing<Pick>, Refusal>, AllocError>
-    requires judged { IsJudged (reverse entries.now) }
+    requires judged { IsJudged Two (reverse entries.now) }
     requires takes { AreTakes (reverse entries.now) (reverse takes.now) }
     ensures { IfOk result (IsPicked (scrap_refusal (reverse entries.now) machine.now slot.now quantity)
         (picks_of (reverse entries.now) (MaterialsScrapped machine.now slot.now quantity))) }

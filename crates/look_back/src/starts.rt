@@ -1,6 +1,7 @@
 //! Why a start of work is refused.
 
 ghost use Rattle.std.specs.Prelude.{◌≡◌, ◌≤◌, [], reverse, unwrap_or, IfOk};
+ghost use Rattle.desk_types.specs.declared.rules.Rules.TheVariants.{Two};
 ghost use Rattle.desk_types.specs.Judged.{IsJudged};
 ghost use Rattle.desk_types.specs.Refusals.{slots_refusal, start_refusal, differ};
 ghost use Rattle.desk_types.specs.Setup.{selected_on, sheet_on};
@@ -24,7 +25,7 @@ fn slots_refusal(
     minute: Minute,
     machine: &Id,
 ) -> Result<Option<Refusal>, AllocError>
-    requires judged { IsJudged (reverse entries.now) }
+    requires judged { IsJudged Two (reverse entries.now) }
     requires takes { AreTakes (reverse entries.now) (reverse takes.now) }
     requires minute { now_of (reverse entries.now) ≤ minute }
     ensures { IfOk result (λ refusal. refusal ≡ slots_refusal (reverse entries.now) minute machine.now (unwrap_or (sheet_on (reverse entries.now) machine.now) [])) }
@@ -60,7 +61,7 @@ pub fn start_refusal(
     machine: &Id,
     board: &Id,
 ) -> Result<Option<Refusal>, AllocError>
-    requires judged { IsJudged (reverse entries.now) }
+    requires judged { IsJudged Two (reverse entries.now) }
     requires takes { AreTakes (reverse entries.now) (reverse takes.now) }
     requires minute { now_of (reverse entries.now) ≤ minute }
     ensures { IfOk result (λ refusal. refusal ≡ start_refusal (reverse entries.now) minute machine.now board.now) }

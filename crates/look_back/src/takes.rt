@@ -3,7 +3,6 @@
 ghost use Rattle.std.specs.Prelude.{◌≡◌, ◌≤◌, ◌^◌, ◌-◌, min, map, IfOk, OnOk, ◌∷◌, ◌++◌, []};
 ghost use Rattle.std.specs.List.{AllByRecursion};
 ghost use Rattle.desk_types.specs.declared.take.Pick.{Pick as Picking};
-ghost use Rattle.desk_types.specs.Id.{Name};
 ghost use Rattle.desk_types.specs.History.{History};
 ghost use Rattle.desk_types.specs.Outcome.{take_of, reels_of, pieces_of};
 ghost use Rattle.reels.specs.Reel.{StandsFor};

@@ -14,23 +14,26 @@ use Rattle.desk_types.proofs.Exposure.{exposure-before, exposure-after, exposure
 use Rattle.desk_types.proofs.Keys.{same-refl}
 use Rattle.desk_types.proofs.ReelCommands.{IsQuiet, IsQuiet-open, IsQuiet-untouched, IsQuiet-seal, last_bake-quiet, is_baked-quiet, exposure_starts-quiet}
 use Rattle.reels.specs.declared.reel.Reel.{Reel}
-use Rattle.reels.specs.Reel.{HasReceipt, StandsFor, SameReceipt, exposure_at}
+use Rattle.reels.specs.Reel.{HasReceipt, StandsFor, SameReceipt, SamePieces, exposure_at}
 
 -- an entry that doesn't receive the reel leaves its receipt
-HasReceipt-next : (H : History) (e : Entry) (name : Name) (old new : Reel) → HasReceipt H name old → SameReceipt old new
+HasReceipt-next : (H : History) (e : Entry) (name : Name) (old new : Reel) → HasReceipt H name old → SameReceipt old new → SamePieces old new
     → receipt_by name e.effective e.stamped.command ≡ None → HasReceipt (e ∷ H) name new
-HasReceipt-next H e name old new has same none = record {
+HasReceipt-next H e name old new has same pieces none = record {
   receipt = has.receipt;
   is = ap (λ o. option_or o (receipt_of H name)) none ∙ has.is;
   part = same.part ∙ has.part;
   lot = same.lot ∙ has.lot;
   level = same.level ∙ has.level;
   label = same.label ∙ has.label;
-  received = same.received ∙ has.received;
+  received = pieces.received ∙ has.received ∙ ap (λ n. has.receipt.quantity + n) (sym pieces.found);
 }
 
 SameReceipt-refl : (reel : Reel) → SameReceipt reel reel
-SameReceipt-refl reel = record { part = refl; lot = refl; level = refl; label = refl; received = refl }
+SameReceipt-refl reel = record { part = refl; lot = refl; level = refl; label = refl }
+
+SamePieces-refl : (reel : Reel) → SamePieces reel reel
+SamePieces-refl reel = record { received = refl; found = refl; placed = refl; scrapped = refl; remaining = refl }
 
 in-bag : (name : Name) → open_by name (ReelSealed name) ≡ Some false
 in-bag name = ap (λ b. if b then Some false else None) (same-refl name)
@@ -44,7 +47,7 @@ StandsFor-untouched H e name reel stands none =
     let quiet = IsQuiet-untouched name e.effective e.stamped.command none in
     let starts = exposure_starts-quiet H e name quiet in
     record {
-      receipt = HasReceipt-next H e name reel reel stands.receipt (SameReceipt-refl reel) quiet.receipt;
+      receipt = HasReceipt-next H e name reel reel stands.receipt (SameReceipt-refl reel) (SamePieces-refl reel) quiet.receipt;
       baked = stands.baked ∙ sym (is_baked-quiet H e name quiet);
       open_since = stands.open_since ∙ sym (ap (λ o. since_after o e.effective (out_since H name)) none);
       starts = subst (λ s. s ≤ reel.last) (sym starts) stands.starts;
@@ -92,13 +95,13 @@ used-since H name reel m None stands is le =
 used-since H name reel m (Some s) stands is le = stands.used ∙ ap (λ o. exposure_of H name (unwrap_or o reel.last)) is
 
 pub StandsFor-open : (H : History) (e : Entry) (name : Name) (old new : Reel) → StandsFor H name old → open_by name e.stamped.command ≡ Some true
-    → SameReceipt old new → new.baked ≡ old.baked → new.used ≡ old.used → old.last ≤ new.last → e.effective ≡ new.last
+    → SameReceipt old new → SamePieces old new → new.baked ≡ old.baked → new.used ≡ old.used → old.last ≤ new.last → e.effective ≡ new.last
     → ForSome old.open_since (λ since. since ≤ old.last) → new.open_since ≡ Some (unwrap_or old.open_since new.last) → StandsFor (e ∷ H) name new
-StandsFor-open H e name old new stands says same baked used le at fits since =
+StandsFor-open H e name old new stands says same pieces baked used le at fits since =
     let quiet = IsQuiet-open name e.effective e.stamped.command says in
     let starts = exposure_starts-quiet H e name quiet in
     record {
-      receipt = HasReceipt-next H e name old new stands.receipt same quiet.receipt;
+      receipt = HasReceipt-next H e name old new stands.receipt same pieces quiet.receipt;
       baked = baked ∙ stands.baked ∙ sym (is_baked-quiet H e name quiet);
       open_since = since ∙ ap (λ m. Some (unwrap_or old.open_since m)) (sym at) ∙ sym (first-open old.open_since e.effective)
           ∙ ap (λ s. option_or s (Some e.effective)) stands.open_since ∙ sym (ap (λ o. since_after o e.effective (out_since H name)) says);
@@ -122,15 +125,15 @@ StandsFor-open H e name old new stands says same baked used le at fits since =
 -- ---- seals
 
 pub StandsFor-seal : (H : History) (e : Entry) (name : Name) (old new : Reel) → StandsFor H name old → e.stamped.command ≡ ReelSealed name
-    → SameReceipt old new → new.baked ≡ old.baked → new.used ≡ exposure_at old new.last → old.last ≤ new.last → e.effective ≡ new.last → new.open_since ≡ None
+    → SameReceipt old new → SamePieces old new → new.baked ≡ old.baked → new.used ≡ exposure_at old new.last → old.last ≤ new.last → e.effective ≡ new.last → new.open_since ≡ None
     → StandsFor (e ∷ H) name new
-StandsFor-seal H e name old new stands command same baked used le at sealed =
+StandsFor-seal H e name old new stands command same pieces baked used le at sealed =
     let quiet : IsQuiet name e.effective e.stamped.command = subst (IsQuiet name e.effective) (sym command) (IsQuiet-seal name e.effective name) in
     let starts = exposure_starts-quiet H e name quiet in
     let says : open_by name e.stamped.command ≡ Some false = ap (open_by name) command ∙ in-bag name in
     let kept : new.used ≡ exposure_of H name new.last = used ∙ stands.exposure new.last le in
     record {
-      receipt = HasReceipt-next H e name old new stands.receipt same quiet.receipt;
+      receipt = HasReceipt-next H e name old new stands.receipt same pieces quiet.receipt;
       baked = baked ∙ stands.baked ∙ sym (is_baked-quiet H e name quiet);
       open_since = sealed ∙ sym (ap (λ o. since_after o e.effective (out_since H name)) says);
       starts = subst (λ s. s ≤ new.last) (sym starts) (omega (arith, stands.starts));
@@ -157,11 +160,11 @@ anew H e name new receipt baked says starts at none sealed = record {
 }
 
 pub StandsFor-bake : (H : History) (e : Entry) (name : Name) (old new : Reel) → StandsFor H name old → e.stamped.command ≡ ReelBaked name
-    → SameReceipt old new → new.baked ≡ true → e.effective ≡ new.last → new.used ≡ 0 → new.open_since ≡ None → StandsFor (e ∷ H) name new
-StandsFor-bake H e name old new stands command same baked at none sealed = anew H e name new receipt is_baked_now says starts at none sealed
+    → SameReceipt old new → SamePieces old new → new.baked ≡ true → e.effective ≡ new.last → new.used ≡ 0 → new.open_since ≡ None → StandsFor (e ∷ H) name new
+StandsFor-bake H e name old new stands command same pieces baked at none sealed = anew H e name new receipt is_baked_now says starts at none sealed
   where
     receipt : HasReceipt (e ∷ H) name new
-    receipt = HasReceipt-next H e name old new stands.receipt same (ap (receipt_by name e.effective) command)
+    receipt = HasReceipt-next H e name old new stands.receipt same pieces (ap (receipt_by name e.effective) command)
 
     is_baked_now : new.baked ≡ is_baked (e ∷ H) name
     is_baked_now = baked ∙ sym (rw (command, same-refl name))
@@ -179,8 +182,8 @@ last_bake-untouched (e ∷ H) name (none, rest) =
 
 pub StandsFor-receive : (H : History) (e : Entry) (name part lot : Name) (moisture : LevelWithLabel) (quantity : ℕ) (new : Reel) → IsUntouched H name
     → e.stamped.command ≡ ReelReceived name part lot moisture quantity → new.part ≡ part → new.lot ≡ lot → new.level ≡ moisture.level → new.label ≡ moisture.label
-    → new.received ≡ quantity → new.baked ≡ false → e.effective ≡ new.last → new.used ≡ 0 → new.open_since ≡ None → StandsFor (e ∷ H) name new
-StandsFor-receive H e name part lot moisture quantity new untouched command is_part is_lot is_level is_label is_quantity baked at none sealed =
+    → new.received ≡ quantity → new.found ≡ 0 → new.baked ≡ false → e.effective ≡ new.last → new.used ≡ 0 → new.open_since ≡ None → StandsFor (e ∷ H) name new
+StandsFor-receive H e name part lot moisture quantity new untouched command is_part is_lot is_level is_label is_quantity none_found baked at none sealed =
     anew H e name new receipt (baked ∙ sym (rw (command, same-refl name))) says starts at none sealed
   where
     is_told : receipt_of (e ∷ H) name ≡ Some (record { part = part; lot = lot; moisture = moisture; quantity = quantity; effective = e.effective })
@@ -194,7 +197,7 @@ StandsFor-receive H e name part lot moisture quantity new untouched command is_p
       lot = is_lot;
       level = is_level;
       label = is_label;
-      received = is_quantity;
+      received = omega (arith, is_quantity, none_found);
     }
 
     says : open_by name e.stamped.command ≡ Some false

@@ -14,7 +14,7 @@ use Rattle.reels.specs.declared.reel.Usage.TheVariants.{Placed, Scrapped}
 abbrev pub exposure_at : Reel → ℕ → ℕ
 exposure_at reel minute = reel.used + option_map_or (λ since. minute - since) reel.open_since 0
 
--- the list has a receipt of the reel of this name, and it said what the reel says
+-- the list has a receipt of the reel of this name, and it said what the reel says; its pieces are those that were not found since
 pub record HasReceipt (H : History) (name : Name) (reel : Reel) : Type 0 where
   pub receipt : Receipt
   pub is : receipt_of H name ≡ Some receipt
@@ -22,7 +22,7 @@ pub record HasReceipt (H : History) (name : Name) (reel : Reel) : Type 0 where
   pub lot : reel.lot ≡ receipt.lot
   pub level : reel.level ≡ receipt.moisture.level
   pub label : reel.label ≡ receipt.moisture.label
-  pub received : reel.received ≡ receipt.quantity
+  pub received : reel.received ≡ receipt.quantity + reel.found
 
 -- The reel is what the list says of the reel of this name: its receipt, whether it was baked, since when it is out of its bag,
 -- and its exposure at each minute from its last command on.
@@ -34,23 +34,25 @@ pub record StandsFor (H : History) (name : Name) (reel : Reel) : Type 0 where
   pub used : reel.used ≡ exposure_of H name (unwrap_or reel.open_since reel.last)
   pub exposure : (minute : ℕ) → reel.last ≤ minute → exposure_at reel minute ≡ exposure_of H name minute
 
--- all pieces of the receipt remain
+-- all pieces of the receipt remain, and none were found
 pub record IsReceived (quantity : ℕ) (reel : Reel) : Type 0 where
   pub received : reel.received ≡ quantity
+  pub found : reel.found ≡ 0
   pub placed : reel.placed ≡ 0
   pub scrapped : reel.scrapped ≡ 0
   pub remaining : reel.remaining ≡ quantity
 
--- what the receipt said is as before
+-- what the receipt said of the part, the lot and the moisture is as before
 pub record SameReceipt (old new : Reel) : Type 0 where
   pub part : new.part ≡ old.part
   pub lot : new.lot ≡ old.lot
   pub level : new.level ≡ old.level
   pub label : new.label ≡ old.label
-  pub received : new.received ≡ old.received
 
 -- the pieces are as before
 pub record SamePieces (old new : Reel) : Type 0 where
+  pub received : new.received ≡ old.received
+  pub found : new.found ≡ old.found
   pub placed : new.placed ≡ old.placed
   pub scrapped : new.scrapped ≡ old.scrapped
   pub remaining : new.remaining ≡ old.remaining

@@ -17,9 +17,14 @@ pub enum Usage {
 
 /// A reel as the commands on it left it. Minutes are whole minutes since 1970-01-01T00:00Z.
 ///
-/// `used` is the exposure at `open_since`, or at `last` while the reel is in its bag; `open_since` is
-/// the minute since which it is out of its bag; `last` is the minute of its last receipt, open, seal
-/// or bake. The idea of floor life is J-STD-033's; the limits are this project's own profile.
+/// `received` are the pieces of its receipt and those that were `found` since, and `scrapped` those
+/// that were thrown away or that a count showed missing. `used` is the exposure at `open_since`, or at
+/// `last` while the reel is in its bag; `open_since` is the minute since which it is out of its bag;
+/// `last` is the minute of its last receipt, open, seal or bake. The idea of floor life is
+/// J-STD-033's; the limits are this project's own profile.
+///
+/// A label is at most the greatest one, so that the minutes left can be added to a minute without a
+/// test.
 #[derive(Clone, Copy, Debug, PartialEq, Eq)]
 pub struct Reel {
     pub part: Id,
@@ -27,6 +32,7 @@ pub struct Reel {
     pub level: Level,
     pub label: u64,
     pub received: u64,
+    pub found: u64,
     pub placed: u64,
     pub scrapped: u64,
     pub remaining: u64,
@@ -41,9 +47,10 @@ pub struct Reel {
 }
 
 impl Reel {
-    ghost use Rattle.std.specs.Prelude.{◌≡◌, ℕ, ◌+◌, ◌-◌, ◌≤◌, not, ◌&&◌, Some, None, true, false, if◌then◌else◌, ◌∷◌};
+    ghost use Rattle.std.specs.Prelude.{◌≡◌, ℕ, ◌+◌, ◌-◌, ◌≤◌, ◌<◌, ◌^◌, not, ◌&&◌, Some, None, true, false, if◌then◌else◌, ◌∷◌};
     ghost use Rattle.std.specs.Prelude.{IfSome};
     ghost use Rattle.desk_types.specs.declared.level.TheConstants.{GREATEST_LABEL};
+    ghost use Rattle.desk_types.specs.declared.number.TheConstants.{GREATEST_QUANTITY};
     ghost use Rattle.desk_types.specs.declared.command.Command.TheVariants.{ReelReceived, ReelSealed, ReelBaked};
     ghost use Rattle.desk_types.specs.declared.command.Entry.{Entry};
     ghost use Rattle.desk_types.specs.Id.{Name};
@@ -65,6 +72,7 @@ impl Reel {
             level: moisture.level(),
             label: moisture.label(),
             received: pieces,
+            found: 0,
             placed: 0,
             scrapped: 0,
             remaining: pieces,
@@ -174,6 +182,8 @@ impl Reel {
         ensures remaining { self.new.remaining ≡ self.old.remaining - pieces }
         ensures placed { self.new.placed ≡ self.old.placed + (if is_placed_usage usage then pieces else 0) }
         ensures scrapped { self.new.scrapped ≡ self.old.scrapped + (if is_placed_usage usage then 0 else pieces) }
+        ensures received { self.new.received ≡ self.old.received }
+        ensures found { self.new.found ≡ self.old.found }
         ensures receipt { SameReceipt self.old self.new }
         ensures life { SameLife self.old self.new }
         ensures stands { (H : History) (name : Name) → StandsFor H name self.old → StandsFor H name self.new }
@@ -191,12 +201,37 @@ impl Reel {
         ensures remaining { self.new.remaining ≡ pieces }
         ensures placed { self.new.placed ≡ self.old.placed }
         ensures scrapped { self.new.scrapped ≡ self.old.scrapped + (self.old.remaining - pieces) }
+        ensures received { self.new.received ≡ self.old.received }
+        ensures found { self.new.found ≡ self.old.found }
         ensures receipt { SameReceipt self.old self.new }
         ensures life { SameLife self.old self.new }
         ensures stands { (H : History) (name : Name) → StandsFor H name self.old → StandsFor H name self.new }
     {
         let missing = self.remaining - pieces;
         self.take(missing, Usage::Scrapped);
+    }
+
+    /// So many pieces were counted, and they are more than remain: those above are found, and count as
+    /// received. It asks that the sums fit.
+    pub fn rise(&mut self, pieces: u64)
+        requires live { 1 ≤ self.old.remaining }
+        requires above { self.old.remaining < pieces }
+        requires quantity { pieces ≤ GREATEST_QUANTITY }
+        requires new_received { self.old.received + (pieces - self.old.remaining) < 2 ^ 64 }
+        requires new_found { self.old.found + (pieces - self.old.remaining) < 2 ^ 64 }
+        ensures remaining { self.new.remaining ≡ pieces }
+        ensures placed { self.new.placed ≡ self.old.placed }
+        ensures scrapped { self.new.scrapped ≡ self.old.scrapped }
+        ensures received { self.new.received ≡ self.old.received + (pieces - self.old.remaining) }
+        ensures found { self.new.found ≡ self.old.found + (pieces - self.old.remaining) }
+        ensures receipt { SameReceipt self.old self.new }
+        ensures life { SameLife self.old self.new }
+        ensures stands { (H : History) (name : Name) → StandsFor H name self.old → StandsFor H name self.new }
+    {
+        let above = pieces - self.remaining;
+        self.remaining = pieces;
+        self.found += above;
+        self.received += above;
     }
 
     /// A law: a command on another reel, or on none, changes nothing of what the reel stands for. It is

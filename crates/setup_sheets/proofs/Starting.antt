@@ -6,6 +6,7 @@ use Rattle.std.proofs.lemmas.Bool.{leb-true, leb-false}
 use Rattle.desk_types.specs.declared.answer.Refusal.{Refusal}
 use Rattle.desk_types.specs.declared.command.Receipt.{Receipt}
 use Rattle.desk_types.specs.declared.front.Life.TheVariants.{Unlimited, Unbaked, Until}
+use Rattle.desk_types.specs.declared.rules.Rules.TheVariants.{Two}
 use Rattle.desk_types.specs.declared.sheet.SheetRow.{SheetRow}
 use Rattle.desk_types.specs.Id.{Name, same}
 use Rattle.desk_types.specs.History.{History, now_of}
@@ -77,7 +78,7 @@ feeding-is slot false true expired told is = refl
 feeding-is slot false false expired told is = ap (feeding_refusal slot false false) (is refl)
 
 -- the front of a row's slot
-front-told : (H : History) (alternates : List (Name × Name)) (minute : ℕ) (machine : Name) (row : SheetRow) → IsJudged H → now_of H ≤ minute → AreAlternates H alternates
+front-told : (H : History) (alternates : List (Name × Name)) (minute : ℕ) (machine : Name) (row : SheetRow) → IsJudged Two H → now_of H ≤ minute → AreAlternates H alternates
     → front_fault alternates minute row (option_map (front_reel H (now_of H)) (front_of H machine row.slot)) ≡ front_refusal H minute row (front_of H machine row.slot)
 front-told H alternates minute machine row judged le are = by (front_of H machine row.slot) refl
   where
@@ -99,7 +100,7 @@ first-of slot None later = refl
 first-of slot (Some refusal) later = refl
 
 -- The first faulty slot over the fronts of a list is the one for which a start is refused.
-pub first-told : (H : History) (alternates : List (Name × Name)) (minute : ℕ) (machine : Name) (rows : List SheetRow) → IsJudged H → now_of H ≤ minute → AreAlternates H alternates
+pub first-told : (H : History) (alternates : List (Name × Name)) (minute : ℕ) (machine : Name) (rows : List SheetRow) → IsJudged Two H → now_of H ≤ minute → AreAlternates H alternates
     → refusal_in (first_fault alternates minute rows (map (front_at H (now_of H) machine) rows)) ≡ slots_refusal H minute machine rows
 first-told H alternates minute machine [] judged le are = refl
 first-told H alternates minute machine (row ∷ rows) judged le are =

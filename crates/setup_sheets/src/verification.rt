@@ -1,6 +1,7 @@
 //! Feeder verification: does each slot of a sheet hold a reel that may feed it?
 
 ghost use Rattle.std.specs.Prelude.{◌≡◌, ◌≤◌, None, Some, OnOk, IfErr};
+ghost use Rattle.desk_types.specs.declared.rules.Rules.{Rules};
 ghost use Rattle.desk_types.specs.Id.{Name};
 ghost use Rattle.desk_types.specs.History.{History, now_of};
 ghost use Rattle.desk_types.specs.Judged.{IsJudged};
@@ -13,9 +14,11 @@ use desk_types::{Front, FrontReel, Fronts, Id, Life, Minute, Refusal, SheetRow, 
 
 /// Looks at the fronts of a machine's slots before a board is started. The first slot of the sheet
 /// that holds no reel, or one that may not feed it at this minute, is named with the reason:
-/// SlotEmpty, WrongPart, NotBaked or Expired, tested in this order. Over the fronts and alternates of
-/// a desk, at a minute not before the desk minute, that is what a start of work is refused for, where
-/// nothing else is wrong with it. Takes no memory.
+/// SlotEmpty, WrongPart, NotBaked or Expired, tested in this order. Over the rows of the selected
+/// product's sheet, with the fronts and alternates of a list that a desk can come to have, at a minute
+/// not before its desk minute, the slots are ready exactly where a start of work finds nothing wrong
+/// with them, and the fault is what it is refused for where nothing else is wrong with it. Takes no
+/// memory.
 pub fn verify(
     rows: &SheetRows,
     fronts: &Fronts,
@@ -25,9 +28,9 @@ pub fn verify(
     requires { slots_of_fronts fronts.now ≡ slots_of_rows rows.now }
     ensures ok { OnOk result (first_fault alternates.now at rows.now fronts.now ≡ None) }
     ensures fault { IfErr result (λ fault. first_fault alternates.now at rows.now fronts.now ≡ Some fault) }
-    ensures may_start { (H : History) (machine : Name) → IsJudged H → now_of H ≤ at → AreAlternates H alternates.now → AreFronts H machine rows.now fronts.now
+    ensures slots_ready { (rules : Rules) (H : History) (machine : Name) → IsJudged rules H → now_of H ≤ at → AreAlternates H alternates.now → AreFronts H machine rows.now fronts.now
         → OnOk result (slots_refusal H at machine rows.now ≡ None) }
-    ensures may_not_start { (H : History) (machine : Name) → IsJudged H → now_of H ≤ at → AreAlternates H alternates.now → AreFronts H machine rows.now fronts.now
+    ensures slots_at_fault { (rules : Rules) (H : History) (machine : Name) → IsJudged rules H → now_of H ≤ at → AreAlternates H alternates.now → AreFronts H machine rows.now fronts.now
         → IfErr result (λ fault. slots_refusal H at machine rows.now ≡ Some fault.1) }
 {
     match first_faulty(rows.as_slice(), fronts.as_slice(), alternates, at) {

@@ -5,13 +5,14 @@ use Rattle.std.proofs.lemmas.Grind.{flat_map-append, common_steps}
 use Rattle.std.proofs.Math.Seq.{take-append-add}
 use Rattle.std.specs.Io.KnownBytes.{Appends}
 use Rattle.std.proofs.KnownBytes.{Appends-trans}
+use Rattle.desk_types.specs.declared.rules.Rules.{Rules}
 use Rattle.desk_types.specs.History.{History}
 use Rattle.tracedesk.specs.declared.feed.ServeFault.{ServeFault}
 use Rattle.tracedesk.specs.declared.feed.ServeFault.TheVariants.{Write}
 use Rattle.tracedesk.specs.declared.feed.Served.{Served}
 use Rattle.tracedesk.specs.declared.message.Told.{Told}
 use Rattle.tracedesk.specs.Sent.{SendsFront}
-use Rattle.tracedesk.specs.Stream.{Answered, line_answer, line_after, answers_to, after_lines, written}
+use Rattle.tracedesk.specs.Stream.{Answered, line_answer, line_after, answers_to, after_lines, sent}
 
 -- a text went out, and then a front of more
 pub front_after : (a b c : Option (List ℕ)) (text more : List ℕ) → Appends a b text → SendsFront b c more → SendsFront a c (text ++ more)
@@ -27,56 +28,56 @@ one_counted true n m told e h = grind (arith, common_steps, e, h)
 one_counted false n m told e h = grind (arith, common_steps, e, h)
 
 -- one line was answered
-pub one_answered : (greatest : ℕ) (mark : Bool) (H H' : History) (line : List ℕ) (out out' : Option (List ℕ)) (s s' : Served) (told : Told)
-    → told ≡ line_answer greatest mark H line → H' ≡ line_after greatest mark H line → Appends out out' (written told)
+pub one_answered : (rules : Rules) (greatest : ℕ) (mark : Bool) (H H' : History) (line : List ℕ) (out out' : Option (List ℕ)) (s s' : Served) (told : Told)
+    → told ≡ line_answer rules greatest mark H line → H' ≡ line_after rules greatest mark H line → Appends out out' (sent told)
     → s'.answered ≡ s.answered + 1 → s'.refused ≡ cond told.refused (s.refused + 1) s.refused
-    → Answered greatest (line ∷ []) (mark ∷ []) H out s H' out' s'
-one_answered greatest mark H H' line out out' s s' told e after went answered refused =
+    → Answered rules greatest (line ∷ []) (mark ∷ []) H out s H' out' s'
+one_answered rules greatest mark H H' line out out' s s' told e after went answered refused =
     record {
       each = refl;
-      bytes = subst (Appends out out') (ap written e ∙ sym (append-nil (written (line_answer greatest mark H line)))) went;
+      bytes = subst (Appends out out') (ap sent e ∙ sym (append-nil (sent (line_answer rules greatest mark H line)))) went;
       history = after;
       answered = answered;
       refused = subst (λ (x : Told). s'.refused ≡ s.refused + count_by is_refused (x ∷ [])) e (one_counted told.refused s.refused s'.refused told refl refused);
     }
 
-pub none_answered : (greatest : ℕ) (H : History) (out : Option (List ℕ)) (s : Served) → Appends out out [] → Answered greatest [] [] H out s H out s
-none_answered greatest H out s kept =
+pub none_answered : (rules : Rules) (greatest : ℕ) (H : History) (out : Option (List ℕ)) (s : Served) → Appends out out [] → Answered rules greatest [] [] H out s H out s
+none_answered rules greatest H out s kept =
     record { each = refl; bytes = kept; history = refl; answered = omega arith; refused = omega arith }
 
-answers_to-append : (greatest : ℕ) (ms ns : List Bool) (H : History) (ls ks : List (List ℕ)) → length ms ≡ length ls
-    → answers_to greatest (ms ++ ns) H (ls ++ ks) ≡ answers_to greatest ms H ls ++ answers_to greatest ns (after_lines greatest ms H ls) ks
-answers_to-append greatest [] ns H [] ks e = refl
-answers_to-append greatest [] ns H (l ∷ ls) ks e = absurd (omega (arith, e))
-answers_to-append greatest (m ∷ ms) ns H [] ks e = absurd (omega (arith, e))
-answers_to-append greatest (m ∷ ms) ns H (l ∷ ls) ks e =
-    ap (λ rs. line_answer greatest m H l ∷ rs) (answers_to-append greatest ms ns (line_after greatest m H l) ls ks (omega (arith, e)))
+answers_to-append : (rules : Rules) (greatest : ℕ) (ms ns : List Bool) (H : History) (ls ks : List (List ℕ)) → length ms ≡ length ls
+    → answers_to rules greatest (ms ++ ns) H (ls ++ ks) ≡ answers_to rules greatest ms H ls ++ answers_to rules greatest ns (after_lines rules greatest ms H ls) ks
+answers_to-append rules greatest [] ns H [] ks e = refl
+answers_to-append rules greatest [] ns H (l ∷ ls) ks e = absurd (omega (arith, e))
+answers_to-append rules greatest (m ∷ ms) ns H [] ks e = absurd (omega (arith, e))
+answers_to-append rules greatest (m ∷ ms) ns H (l ∷ ls) ks e =
+    ap (λ rs. line_answer rules greatest m H l ∷ rs) (answers_to-append rules greatest ms ns (line_after rules greatest m H l) ls ks (omega (arith, e)))
 
-after_lines-append : (greatest : ℕ) (ms ns : List Bool) (H : History) (ls ks : List (List ℕ)) → length ms ≡ length ls
-    → after_lines greatest (ms ++ ns) H (ls ++ ks) ≡ after_lines greatest ns (after_lines greatest ms H ls) ks
-after_lines-append greatest [] ns H [] ks e = refl
-after_lines-append greatest [] ns H (l ∷ ls) ks e = absurd (omega (arith, e))
-after_lines-append greatest (m ∷ ms) ns H [] ks e = absurd (omega (arith, e))
-after_lines-append greatest (m ∷ ms) ns H (l ∷ ls) ks e = after_lines-append greatest ms ns (line_after greatest m H l) ls ks (omega (arith, e))
+after_lines-append : (rules : Rules) (greatest : ℕ) (ms ns : List Bool) (H : History) (ls ks : List (List ℕ)) → length ms ≡ length ls
+    → after_lines rules greatest (ms ++ ns) H (ls ++ ks) ≡ after_lines rules greatest ns (after_lines rules greatest ms H ls) ks
+after_lines-append rules greatest [] ns H [] ks e = refl
+after_lines-append rules greatest [] ns H (l ∷ ls) ks e = absurd (omega (arith, e))
+after_lines-append rules greatest (m ∷ ms) ns H [] ks e = absurd (omega (arith, e))
+after_lines-append rules greatest (m ∷ ms) ns H (l ∷ ls) ks e = after_lines-append rules greatest ms ns (line_after rules greatest m H l) ls ks (omega (arith, e))
 
 count_by-append : (p : Told → Bool) (xs ys : List Told) → count_by p (xs ++ ys) ≡ count_by p xs + count_by p ys
 count_by-append p [] ys = grind (arith, common_steps)
 count_by-append p (x ∷ xs) ys = grind (arith, common_steps, count_by-append p xs ys)
 
 -- lines, and then more, were answered
-pub answered_more : (greatest : ℕ) (ls ks : List (List ℕ)) (ms ns : List Bool) (H₀ H₁ H₂ : History) (out₀ out₁ out₂ : Option (List ℕ)) (s₀ s₁ s₂ : Served)
-    → Answered greatest ls ms H₀ out₀ s₀ H₁ out₁ s₁ → Answered greatest ks ns H₁ out₁ s₁ H₂ out₂ s₂
-    → Answered greatest (ls ++ ks) (ms ++ ns) H₀ out₀ s₀ H₂ out₂ s₂
-answered_more greatest ls ks ms ns H₀ H₁ H₂ out₀ out₁ out₂ s₀ s₁ s₂ a b =
-    let all : answers_to greatest (ms ++ ns) H₀ (ls ++ ks) ≡ answers_to greatest ms H₀ ls ++ answers_to greatest ns H₁ ks =
-    answers_to-append greatest ms ns H₀ ls ks a.each ∙ ap (λ H. answers_to greatest ms H₀ ls ++ answers_to greatest ns H ks) (sym a.history) in
+pub answered_more : (rules : Rules) (greatest : ℕ) (ls ks : List (List ℕ)) (ms ns : List Bool) (H₀ H₁ H₂ : History) (out₀ out₁ out₂ : Option (List ℕ)) (s₀ s₁ s₂ : Served)
+    → Answered rules greatest ls ms H₀ out₀ s₀ H₁ out₁ s₁ → Answered rules greatest ks ns H₁ out₁ s₁ H₂ out₂ s₂
+    → Answered rules greatest (ls ++ ks) (ms ++ ns) H₀ out₀ s₀ H₂ out₂ s₂
+answered_more rules greatest ls ks ms ns H₀ H₁ H₂ out₀ out₁ out₂ s₀ s₁ s₂ a b =
+    let all : answers_to rules greatest (ms ++ ns) H₀ (ls ++ ks) ≡ answers_to rules greatest ms H₀ ls ++ answers_to rules greatest ns H₁ ks =
+    answers_to-append rules greatest ms ns H₀ ls ks a.each ∙ ap (λ H. answers_to rules greatest ms H₀ ls ++ answers_to rules greatest ns H ks) (sym a.history) in
     record {
       each = omega (arith, length-append ms ns, length-append ls ks, a.each, b.each);
-      bytes = subst (Appends out₀ out₂) (sym (ap (flat_map written) all ∙ flat_map-append written (answers_to greatest ms H₀ ls) (answers_to greatest ns H₁ ks)))
+      bytes = subst (Appends out₀ out₂) (sym (ap (flat_map sent) all ∙ flat_map-append sent (answers_to rules greatest ms H₀ ls) (answers_to rules greatest ns H₁ ks)))
           (Appends-trans out₀ out₁ out₂ _ _ a.bytes b.bytes);
-      history = b.history ∙ ap (λ H. after_lines greatest ns H ks) a.history ∙ sym (after_lines-append greatest ms ns H₀ ls ks a.each);
+      history = b.history ∙ ap (λ H. after_lines rules greatest ns H ks) a.history ∙ sym (after_lines-append rules greatest ms ns H₀ ls ks a.each);
       answered = omega (arith, a.answered, b.answered, length-append ls ks);
-      refused = omega (arith, a.refused, b.refused, ap (count_by is_refused) all, count_by-append is_refused (answers_to greatest ms H₀ ls) (answers_to greatest ns H₁ ks));
+      refused = omega (arith, a.refused, b.refused, ap (count_by is_refused) all, count_by-append is_refused (answers_to rules greatest ms H₀ ls) (answers_to rules greatest ns H₁ ks));
     }
 
 -- a fault's count is the one that it was made with

@@ -1,3 +1,6 @@
 pub mod Answering
+pub mod CommandLineRows
+pub mod ConstantRows
+pub mod Failing
 pub mod Lining
 pub mod Sources

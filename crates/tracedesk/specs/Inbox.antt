@@ -5,7 +5,7 @@ use Rattle.tracedesk.specs.Lines.{is_feed, is_empty, without_return, lines_of}
 use Rattle.tracedesk.specs.declared.inbox.Inbox.{Inbox}
 use Rattle.tracedesk.specs.declared.inbox.TheConstants.{BLOCK, LONGEST_RAW}
 use Rattle.tracedesk.specs.declared.inbox.RawLine.{RawLine}
-use Rattle.tracedesk.specs.declared.inbox.RawLine.TheVariants.{Whole, Over, NoMemory}
+use Rattle.tracedesk.specs.declared.inbox.RawLine.TheVariants.{Whole, Over, NoMemory, NoMemoryReturn}
 
 -- the bytes from `at` to `end` were read and not given
 abbrev pub IsInbox : Inbox → Type 0
@@ -31,7 +31,8 @@ IsFirstFeed block (Some n) = (n < length block) × HasNoFeed (take n block) × (
 abbrev pub HoldsLine : RawLine → List ℕ → Type 0
 HoldsLine (Whole kept) raw = (kept.items ≡ raw) × (length raw ≤ LONGEST_RAW)
 HoldsLine Over raw = LONGEST_RAW < length raw
-HoldsLine (NoMemory blank) raw = (0 < length raw) × (is_empty (without_return raw) ≡ blank)
+HoldsLine NoMemory raw = (0 < length raw) × (is_empty (without_return raw) ≡ false)
+HoldsLine NoMemoryReturn raw = (0 < length raw) × (is_empty (without_return raw) ≡ true)
 
 -- these bytes went out, as the last ones to the end, and else with the line feed that ends them
 abbrev pub TakesLine : Option (List ℕ) → List ℕ → Bool → Option (List ℕ) → Type 0

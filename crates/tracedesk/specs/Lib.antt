@@ -1,3 +1,4 @@
+pub mod CommandLine
 pub mod Inbox
 pub mod LineAnswers
 pub mod Lines

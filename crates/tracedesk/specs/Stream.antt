@@ -4,6 +4,7 @@ use Rattle.std.specs.List.{flat_map}
 use Rattle.std.specs.Io.KnownBytes.{Appends}
 use Rattle.serde_json.specs.Written.{compact_text}
 use Rattle.cfx_profile.specs.Answer.{faulty, unavailable_text}
+use Rattle.desk_types.specs.declared.rules.Rules.{Rules}
 use Rattle.desk_types.specs.History.{History}
 use Rattle.tracedesk.specs.declared.feed.Served.{Served}
 use Rattle.tracedesk.specs.declared.inbox.TheConstants.{LONGEST_LINE}
@@ -19,48 +20,48 @@ abbrev pub too_long_text : List ℕ
 too_long_text = compact_text (faulty (codes "LineTooLong"))
 
 -- the answer to a line after H: Unavailable where it is marked, LineTooLong where it is longer than the longest line, and else as the message that it is
-abbrev pub line_answer : ℕ → Bool → History → List ℕ → Told
-line_answer greatest true H line = record { text = unavailable_text; refused = true }
-line_answer greatest false H line = if nat_lt LONGEST_LINE (length line) then record { text = too_long_text; refused = true } else answer_to greatest H line
+abbrev pub line_answer : Rules → ℕ → Bool → History → List ℕ → Told
+line_answer rules greatest true H line = record { text = unavailable_text; refused = true }
+line_answer rules greatest false H line = if nat_lt LONGEST_LINE (length line) then record { text = too_long_text; refused = true } else answer_to rules greatest H line
 
 -- the list after the line: only a message changes it
-abbrev pub line_after : ℕ → Bool → History → List ℕ → History
-line_after greatest true H line = H
-line_after greatest false H line = if nat_lt LONGEST_LINE (length line) then H else list_after greatest H line
+abbrev pub line_after : Rules → ℕ → Bool → History → List ℕ → History
+line_after rules greatest true H line = H
+line_after rules greatest false H line = if nat_lt LONGEST_LINE (length line) then H else list_after rules greatest H line
 
 -- ---- lines one after the other
 
 -- Each line has a mark: whether it was answered Unavailable.
 
 -- the answers to the lines, each by the list before it
-abbrev pub answers_to : ℕ → List Bool → History → List (List ℕ) → List Told
-answers_to greatest [] H lines = []
-answers_to greatest (m ∷ ms) H [] = []
-answers_to greatest (m ∷ ms) H (line ∷ lines) = line_answer greatest m H line ∷ answers_to greatest ms (line_after greatest m H line) lines
+abbrev pub answers_to : Rules → ℕ → List Bool → History → List (List ℕ) → List Told
+answers_to rules greatest [] H lines = []
+answers_to rules greatest (m ∷ ms) H [] = []
+answers_to rules greatest (m ∷ ms) H (line ∷ lines) = line_answer rules greatest m H line ∷ answers_to rules greatest ms (line_after rules greatest m H line) lines
 
 -- the list after them all
-abbrev pub after_lines : ℕ → List Bool → History → List (List ℕ) → History
-after_lines greatest [] H lines = H
-after_lines greatest (m ∷ ms) H [] = H
-after_lines greatest (m ∷ ms) H (line ∷ lines) = after_lines greatest ms (line_after greatest m H line) lines
+abbrev pub after_lines : Rules → ℕ → List Bool → History → List (List ℕ) → History
+after_lines rules greatest [] H lines = H
+after_lines rules greatest (m ∷ ms) H [] = H
+after_lines rules greatest (m ∷ ms) H (line ∷ lines) = after_lines rules greatest ms (line_after rules greatest m H line) lines
 
--- an answer as it is written: its text and a line feed
-abbrev pub written : Told → List ℕ
-written told = told.text ++ 10 ∷ []
+-- an answer as it goes out: its text and a line feed
+abbrev pub sent : Told → List ℕ
+sent told = told.text ++ 10 ∷ []
 
 -- what an input is answered after H, and the list after it; there is one mark for each of its lines
-abbrev pub stream_of : ℕ → History → List ℕ → List Bool → List ℕ × History
-stream_of greatest H input marks = (flat_map written (answers_to greatest marks H (lines_of input)), after_lines greatest marks H (lines_of input))
+abbrev pub stream_of : Rules → ℕ → History → List ℕ → List Bool → List ℕ × History
+stream_of rules greatest H input marks = (flat_map sent (answers_to rules greatest marks H (lines_of input)), after_lines rules greatest marks H (lines_of input))
 
 -- ---- a run
 
 -- the lines were answered, each as its mark says: so many bytes went out, so the list went on, and so many were counted
-pub record Answered (greatest : ℕ) (lines : List (List ℕ)) (marks : List Bool) (H : History) (out : Option (List ℕ)) (before : Served) (H' : History) (out' : Option (List ℕ)) (after : Served) : Type 0 where
+pub record Answered (rules : Rules) (greatest : ℕ) (lines : List (List ℕ)) (marks : List Bool) (H : History) (out : Option (List ℕ)) (before : Served) (H' : History) (out' : Option (List ℕ)) (after : Served) : Type 0 where
   pub each : length marks ≡ length lines
-  pub bytes : Appends out out' (flat_map written (answers_to greatest marks H lines))
-  pub history : H' ≡ after_lines greatest marks H lines
+  pub bytes : Appends out out' (flat_map sent (answers_to rules greatest marks H lines))
+  pub history : H' ≡ after_lines rules greatest marks H lines
   pub answered : after.answered ≡ before.answered + length lines
-  pub refused : after.refused ≡ before.refused + count_by (λ (told : Told). told.refused) (answers_to greatest marks H lines)
+  pub refused : after.refused ≡ before.refused + count_by (λ (told : Told). told.refused) (answers_to rules greatest marks H lines)
 
 -- the first lines of a list
 abbrev pub IsFront : List (List ℕ) → List (List ℕ) → Type 0
@@ -71,17 +72,17 @@ abbrev pub none_served : Served
 none_served = record { answered = 0; refused = 0 }
 
 -- all lines of the reader's bytes, where they are known, were answered
-abbrev pub AnsweredAll : ℕ → Option (List ℕ) → History → Option (List ℕ) → History → Option (List ℕ) → Served → Type 0
-AnsweredAll greatest input H out H' out' served = (lines : List (List ℕ)) × (marks : List Bool)
-    × IfSome input (λ bytes. lines ≡ lines_of bytes) × Answered greatest lines marks H out none_served H' out' served
+abbrev pub AnsweredAll : Rules → ℕ → Option (List ℕ) → History → Option (List ℕ) → History → Option (List ℕ) → Served → Type 0
+AnsweredAll rules greatest input H out H' out' served = (lines : List (List ℕ)) × (marks : List Bool)
+    × IfSome input (λ bytes. lines ≡ lines_of bytes) × Answered rules greatest lines marks H out none_served H' out' served
 
 -- the first lines of them were answered, each whole, and nothing else went out
-abbrev pub AnsweredFront : ℕ → Option (List ℕ) → History → Option (List ℕ) → History → Option (List ℕ) → Served → Type 0
-AnsweredFront greatest input H out H' out' served = (lines : List (List ℕ)) × (marks : List Bool)
-    × IfSome input (λ bytes. IsFront lines (lines_of bytes)) × Answered greatest lines marks H out none_served H' out' served
+abbrev pub AnsweredFront : Rules → ℕ → Option (List ℕ) → History → Option (List ℕ) → History → Option (List ℕ) → Served → Type 0
+AnsweredFront rules greatest input H out H' out' served = (lines : List (List ℕ)) × (marks : List Bool)
+    × IfSome input (λ bytes. IsFront lines (lines_of bytes)) × Answered rules greatest lines marks H out none_served H' out' served
 
 -- the first lines of them were answered, each whole; then one more was answered, and of that answer only the first bytes went out
-abbrev pub AnsweredInto : ℕ → Option (List ℕ) → History → Option (List ℕ) → History → Option (List ℕ) → Served → Type 0
-AnsweredInto greatest input H out H' out' served = (lines : List (List ℕ)) × (marks : List Bool) × (line : List ℕ) × (mark : Bool) × (H₁ : History) × (out₁ : Option (List ℕ))
-    × IfSome input (λ bytes. IsFront (lines ++ line ∷ []) (lines_of bytes)) × Answered greatest lines marks H out none_served H₁ out₁ served
-    × (H' ≡ line_after greatest mark H₁ line) × SendsFront out₁ out' (written (line_answer greatest mark H₁ line))
+abbrev pub AnsweredInto : Rules → ℕ → Option (List ℕ) → History → Option (List ℕ) → History → Option (List ℕ) → Served → Type 0
+AnsweredInto rules greatest input H out H' out' served = (lines : List (List ℕ)) × (marks : List Bool) × (line : List ℕ) × (mark : Bool) × (H₁ : History) × (out₁ : Option (List ℕ))
+    × IfSome input (λ bytes. IsFront (lines ++ line ∷ []) (lines_of bytes)) × Answered rules greatest lines marks H out none_served H₁ out₁ served
+    × (H' ≡ line_after rules greatest mark H₁ line) × SendsFront out₁ out' (sent (line_answer rules greatest mark H₁ line))

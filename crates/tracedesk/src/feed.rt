@@ -63,26 +63,27 @@ pub fn feed<R: Read, W: Write>(
     alloc: Global,
     input: &mut Wire<R>,
     output: &mut Wire<W>,
-    line: &mut PlainLine,
+    desk: &mut PlainLine,
 ) -> Result<Served, ServeFault>
     requires read_failures { failures_of input.old < 2 ^ 63 }
     requires reads { reads_of input.old < 2 ^ 63 }
     requires write_failures { failures_of output.old < 2 ^ 63 }
-    ensures ok { IfOk result (λ served. AnsweredAll line.old.greatest (R.remaining (inner_of input.old))
-        line.old.history (W.contents (inner_of output.old)) line.new.history (W.contents (inner_of output.new)) served) }
+    ensures ok { IfOk result (λ served. AnsweredAll desk.old.rules desk.old.greatest (R.remaining (inner_of input.old))
+        desk.old.history (W.contents (inner_of output.old)) desk.new.history (W.contents (inner_of output.new)) served) }
     ensures end { OnOk result (IsAtEnd (R.remaining (inner_of input.new))) }
     ensures kept { OnOk result ((failures_of input.new ≡ failures_of input.old) × (failures_of output.new ≡ failures_of output.old)) }
-    ensures greatest { line.new.greatest ≡ line.old.greatest }
+    ensures rules { desk.new.rules ≡ desk.old.rules }
+    ensures greatest { desk.new.greatest ≡ desk.old.greatest }
     ensures few_reads { reads_of input.new ≤ reads_of input.old + MOST_READS }
     ensures read { (served : Served) → result ≡ Err (ServeFault.Read served) → (failures_of input.old < failures_of input.new)
-        × AnsweredFront line.old.greatest (R.remaining (inner_of input.old))
-        line.old.history (W.contents (inner_of output.old)) line.new.history (W.contents (inner_of output.new)) served }
+        × AnsweredFront desk.old.rules desk.old.greatest (R.remaining (inner_of input.old))
+        desk.old.history (W.contents (inner_of output.old)) desk.new.history (W.contents (inner_of output.new)) served }
     ensures too_many { (served : Served) → result ≡ Err (ServeFault.TooManyReads served) → (reads_of input.new ≡ reads_of input.old + MOST_READS)
-        × AnsweredFront line.old.greatest (R.remaining (inner_of input.old))
-        line.old.history (W.contents (inner_of output.old)) line.new.history (W.contents (inner_of output.new)) served }
+        × AnsweredFront desk.old.rules desk.old.greatest (R.remaining (inner_of input.old))
+        desk.old.history (W.contents (inner_of output.old)) desk.new.history (W.contents (inner_of output.new)) served }
     ensures write { (served : Served) → result ≡ Err (ServeFault.Write served) → (failures_of output.old < failures_of output.new)
-        × AnsweredInto line.old.greatest (R.remaining (inner_of input.old))
-        line.old.history (W.contents (inner_of output.old)) line.new.history (W.contents (inner_of output.new)) served }
+        × AnsweredInto desk.old.rules desk.old.greatest (R.remaining (inner_of input.old))
+        desk.old.history (W.contents (inner_of output.old)) desk.new.history (W.contents (inner_of output.new)) served }
 {
     let most_reads = input.reads() + MOST_READS;
     let mut inbox = Inbox::new();
@@ -93,7 +94,7 @@ pub fn feed<R: Read, W: Write>(
     'lines: loop {
         match inbox.next_line(alloc, input, most_reads) {
             Ok(Taken { line: raw, last }) => {
-                match serve_line(alloc, output, line, raw, &mut served) {
+                match serve_line(alloc, output, desk, raw, &mut served) {
                     Ok(()) if last => return Ok(served),
                     Ok(()) => {}
                     Err(WriteFailed) => return Err(ServeFault::Write(served)),
@@ -109,24 +110,25 @@ pub fn feed<R: Read, W: Write>(
 fn serve_line<W: Write>(
     alloc: Global,
     output: &mut Wire<W>,
-    line: &mut PlainLine,
+    desk: &mut PlainLine,
     raw: RawLine,
     served: &mut Served,
 ) -> Result<(), WriteFailed>
     requires few_failures { failures_of output.old < 2 ^ 63 }
     requires few_answers { served.old.answered < 2 ^ 63 }
     requires refused { served.old.refused ≤ served.old.answered }
-    ensures ok { (bytes : List ℕ) → HoldsLine raw bytes → OnOk result (Serves line.old.greatest (lines_in bytes)
-        line.old.history (W.contents (inner_of output.old)) served.old line.new.history (W.contents (inner_of output.new)) served.new) }
-    ensures err { (bytes : List ℕ) → HoldsLine raw bytes → OnErr result (Breaks line.old.greatest (lines_in bytes)
-        line.old.history (W.contents (inner_of output.old)) served.old line.new.history (W.contents (inner_of output.new)) served.new) }
+    ensures ok { (bytes : List ℕ) → HoldsLine raw bytes → OnOk result (Serves desk.old.rules desk.old.greatest (lines_in bytes)
+        desk.old.history (W.contents (inner_of output.old)) served.old desk.new.history (W.contents (inner_of output.new)) served.new) }
+    ensures err { (bytes : List ℕ) → HoldsLine raw bytes → OnErr result (Breaks desk.old.rules desk.old.greatest (lines_in bytes)
+        desk.old.history (W.contents (inner_of output.old)) served.old desk.new.history (W.contents (inner_of output.new)) served.new) }
     ensures few_answers { OnOk result (served.new.answered ≤ served.old.answered + 1) }
     ensures refused { served.new.refused ≤ served.new.answered }
-    ensures greatest { line.new.greatest ≡ line.old.greatest }
+    ensures rules { desk.new.rules ≡ desk.old.rules }
+    ensures greatest { desk.new.greatest ≡ desk.old.greatest }
     ensures kept { OnOk result (failures_of output.new ≡ failures_of output.old) }
     ensures failed { OnErr result (failures_of output.old < failures_of output.new) }
 {
-    if let Some(answer) = answer_line(alloc, line, raw) {
+    if let Some(answer) = answer_line(alloc, desk, raw) {
         send_line(output, answer.text())?;
         served.count(answer.is_refused());
     }
@@ -134,13 +136,14 @@ fn serve_line<W: Write>(
 }
 
 /// The answers to the lines of a text.
-pub fn answers(alloc: Global, input: &[u8], line: &mut PlainLine) -> Result<Vec<u8>, ServeFault>
+pub fn answers(alloc: Global, input: &[u8], desk: &mut PlainLine) -> Result<Vec<u8>, ServeFault>
     ensures stream { IfOk result (λ text. (marks : List Bool) × (length marks ≡ length (lines_of input.now))
-        × (stream_of line.old.greatest line.old.history input.now marks ≡ (text.items, line.new.history))) }
-    ensures greatest { line.new.greatest ≡ line.old.greatest }
+        × (stream_of desk.old.rules desk.old.greatest desk.old.history input.now marks ≡ (text.items, desk.new.history))) }
+    ensures rules { desk.new.rules ≡ desk.old.rules }
+    ensures greatest { desk.new.greatest ≡ desk.old.greatest }
 {
     let mut input = Wire::new(input);
     let mut output = Wire::new(Vec::new(alloc));
-    feed(alloc, &mut input, &mut output, line)?;
+    feed(alloc, &mut input, &mut output, desk)?;
     Ok(output.into_inner())
 }

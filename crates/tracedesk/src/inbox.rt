@@ -43,8 +43,10 @@ pub enum RawLine {
     Whole(Vec<u8>),
     /// It is longer than a line with its carriage return may be.
     Over,
-    /// Memory was refused for it; whether it has nothing but at most a carriage return.
-    NoMemory(bool),
+    /// Memory was refused for it.
+    NoMemory,
+    /// Memory was refused for it, and it is a carriage return alone: an empty line.
+    NoMemoryReturn,
 }
 
 /// A line, and whether it is what stands after the last line feed.
@@ -157,16 +159,18 @@ fn grown(line: RawLine, piece: &[u8]) -> RawLine
             if piece.len() > LONGEST_RAW.saturating_sub(bytes.len()) {
                 RawLine::Over
             } else {
-                let blank = bytes.is_empty() && without_return(piece).is_empty();
-                if bytes.extend_from_slice(piece).is_err() {
-                    RawLine::NoMemory(blank)
-                } else {
+                let is_return = bytes.is_empty() && without_return(piece).is_empty();
+                if bytes.extend_from_slice(piece).is_ok() {
                     RawLine::Whole(bytes)
+                } else if is_return {
+                    RawLine::NoMemoryReturn
+                } else {
+                    RawLine::NoMemory
                 }
             }
         }
         RawLine::Over => RawLine::Over,
-        RawLine::NoMemory(_) => RawLine::NoMemory(false),
+        RawLine::NoMemory | RawLine::NoMemoryReturn => RawLine::NoMemory,
     }
 }
 

@@ -53,13 +53,14 @@ fn too_long_text() -> &'static str
 }
 
 /// Answers what is kept of a line; an empty line has no answer.
-pub fn answer_line(alloc: Global, line: &mut PlainLine, raw: RawLine) -> Option<LineAnswer>
-    ensures answer { (bytes : List ℕ) → HoldsLine raw bytes → AnswersRaw line.old.greatest line.old.history bytes result line.new.history }
-    ensures greatest { line.new.greatest ≡ line.old.greatest }
+pub fn answer_line(alloc: Global, desk: &mut PlainLine, raw: RawLine) -> Option<LineAnswer>
+    ensures answer { (bytes : List ℕ) → HoldsLine raw bytes → AnswersRaw desk.old.rules desk.old.greatest desk.old.history bytes result desk.new.history }
+    ensures rules { desk.new.rules ≡ desk.old.rules }
+    ensures greatest { desk.new.greatest ≡ desk.old.greatest }
 {
     match raw {
-        RawLine::NoMemory(true) => None,
-        RawLine::NoMemory(false) => Some(LineAnswer::Unavailable),
+        RawLine::NoMemoryReturn => None,
+        RawLine::NoMemory => Some(LineAnswer::Unavailable),
         RawLine::Over => Some(LineAnswer::TooLong),
         RawLine::Whole(bytes) => {
             let bytes = without_return(&bytes);
@@ -68,7 +69,7 @@ pub fn answer_line(alloc: Global, line: &mut PlainLine, raw: RawLine) -> Option<
             } else if bytes.len() > LONGEST_LINE {
                 Some(LineAnswer::TooLong)
             } else {
-                match answer_message(alloc, line, bytes) {
+                match answer_message(alloc, desk, bytes) {
                     Ok(told) => Some(LineAnswer::Made(told)),
                     Err(_) => Some(LineAnswer::Unavailable),
                 }

@@ -16,17 +16,17 @@ pub struct Told {
 }
 
 /// Answers the bytes of one message. Where memory is refused, the desk is as before.
-pub fn answer_message(alloc: Global, line: &mut PlainLine, bytes: &[u8]) -> Result<Told, AllocError>
-    ensures told { IfOk result (λ told. told ≡ answer_to line.old.greatest line.old.history bytes.now) }
-    ensures after { OnOk result (line.new ≡ record { greatest = line.old.greatest; history = list_after line.old.greatest line.old.history bytes.now }) }
-    ensures err { OnErr result (line.new ≡ line.old) }
+pub fn answer_message(alloc: Global, desk: &mut PlainLine, bytes: &[u8]) -> Result<Told, AllocError>
+    ensures told { IfOk result (λ told. told ≡ answer_to desk.old.rules desk.old.greatest desk.old.history bytes.now) }
+    ensures after { OnOk result (desk.new ≡ record { rules = desk.old.rules; greatest = desk.old.greatest; history = list_after desk.old.rules desk.old.greatest desk.old.history bytes.now }) }
+    ensures err { OnErr result (desk.new ≡ desk.old) }
 {
     match read_message(alloc, bytes) {
         Ok(Said::Ignored(name)) => Ok(Told {
             text: ignored_text(alloc, &name)?,
             refused: false,
         }),
-        Ok(Said::Asked(stamped)) => answer_command(alloc, line, &stamped),
+        Ok(Said::Asked(stamped)) => answer_command(alloc, desk, &stamped),
         Err(MessageFault::NoMemory) => Err(AllocError),
         Err(fault) => Ok(Told {
             text: fault.write_text(alloc)?,
@@ -38,14 +38,14 @@ pub fn answer_message(alloc: Global, line: &mut PlainLine, bytes: &[u8]) -> Resu
 /// Answers a command.
 fn answer_command(
     alloc: Global,
-    line: &mut PlainLine,
+    desk: &mut PlainLine,
     stamped: &Stamped,
 ) -> Result<Told, AllocError>
-    ensures told { IfOk result (λ told. told ≡ answer_heard line.old.greatest line.old.history (Ok (Said.Asked stamped.now))) }
-    ensures after { OnOk result (line.new ≡ record { greatest = line.old.greatest; history = after_heard line.old.greatest line.old.history (Ok (Said.Asked stamped.now)) }) }
-    ensures err { OnErr result (line.new ≡ line.old) }
+    ensures told { IfOk result (λ told. told ≡ answer_heard desk.old.rules desk.old.greatest desk.old.history (Ok (Said.Asked stamped.now))) }
+    ensures after { OnOk result (desk.new ≡ record { rules = desk.old.rules; greatest = desk.old.greatest; history = after_heard desk.old.rules desk.old.greatest desk.old.history (Ok (Said.Asked stamped.now)) }) }
+    ensures err { OnErr result (desk.new ≡ desk.old) }
 {
-    match line.command(stamped) {
+    match desk.command(stamped) {
         Answer::Accepted(_, text) => Ok(Told {
             text,
             refused: false,

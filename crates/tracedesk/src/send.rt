@@ -1,46 +1,22 @@
 //! Whole pieces to a writer.
 
 ghost use Rattle.std.specs.Prelude.{take, ◌≡◌, ◌+◌, ◌^◌, ◌<◌, ◌++◌, ◌∷◌, [], length, OnOk, OnErr};
-ghost use Rattle.std.specs.Io.KnownBytes.{Appends, Keeps};
+ghost use Rattle.std.specs.Io.KnownBytes.{Appends};
 ghost use Rattle.desk_types.specs.Wire.{inner_of, failures_of};
 ghost use Rattle.tracedesk.specs.Sent.{SendsFront};
 
 use desk_types::Wire;
 use std::io::Write;
 
-/// A write or a flush failed, or a write took nothing.
+/// A write failed, or took nothing.
 #[derive(Drop)]
 pub struct WriteFailed;
 
 /// The longest text that goes out with its line feed in one write, and one more.
 const SHORT: usize = 4096;
 
-/// Writes a text and a line feed, and flushes, so that who waits for the line gets it.
-pub fn send_line<W: Write>(wire: &mut Wire<W>, text: &[u8]) -> Result<(), WriteFailed>
-    requires few_failures { failures_of wire.old < 2 ^ 63 }
-    ensures ok { OnOk result (Appends (W.contents (inner_of wire.old)) (W.contents (inner_of wire.new)) (text.now ++ 10 ∷ [])) }
-    ensures kept { OnOk result (failures_of wire.new ≡ failures_of wire.old) }
-    ensures failed { OnErr result (failures_of wire.old < failures_of wire.new) }
-    ensures front { OnErr result (SendsFront (W.contents (inner_of wire.old)) (W.contents (inner_of wire.new)) (text.now ++ 10 ∷ [])) }
-{
-    put_line(wire, text)?;
-    flush(wire)
-}
-
-/// Writes a text as it is, and flushes.
-pub fn send_text<W: Write>(wire: &mut Wire<W>, text: &[u8]) -> Result<(), WriteFailed>
-    requires few_failures { failures_of wire.old < 2 ^ 63 }
-    ensures ok { OnOk result (Appends (W.contents (inner_of wire.old)) (W.contents (inner_of wire.new)) text.now) }
-    ensures kept { OnOk result (failures_of wire.new ≡ failures_of wire.old) }
-    ensures failed { OnErr result (failures_of wire.old < failures_of wire.new) }
-    ensures front { OnErr result (SendsFront (W.contents (inner_of wire.old)) (W.contents (inner_of wire.new)) text.now) }
-{
-    send(wire, text)?;
-    flush(wire)
-}
-
 /// Writes a text and a line feed: in one write where the text is short, which is most of the speed.
-fn put_line<W: Write>(wire: &mut Wire<W>, text: &[u8]) -> Result<(), WriteFailed>
+pub fn send_line<W: Write>(wire: &mut Wire<W>, text: &[u8]) -> Result<(), WriteFailed>
     requires few_failures { failures_of wire.old < 2 ^ 63 }
     ensures ok { OnOk result (Appends (W.contents (inner_of wire.old)) (W.contents (inner_of wire.new)) (text.now ++ 10 ∷ [])) }
     ensures kept { OnOk result (failures_of wire.new ≡ failures_of wire.old) }
@@ -67,7 +43,7 @@ fn ended(text: &[u8]) -> [u8; SHORT]
 }
 
 /// Writes all the bytes.
-fn send<W: Write>(wire: &mut Wire<W>, bytes: &[u8]) -> Result<(), WriteFailed>
+pub fn send<W: Write>(wire: &mut Wire<W>, bytes: &[u8]) -> Result<(), WriteFailed>
     requires few_failures { failures_of wire.old < 2 ^ 63 }
     ensures ok { OnOk result (Appends (W.contents (inner_of wire.old)) (W.contents (inner_of wire.new)) bytes.now) }
     ensures kept { OnOk result (failures_of wire.new ≡ failures_of wire.old) }
@@ -83,17 +59,4 @@ fn send<W: Write>(wire: &mut Wire<W>, bytes: &[u8]) -> Result<(), WriteFailed>
         }
     }
     Ok(())
-}
-
-/// Sees to it that what was written goes out.
-fn flush<W: Write>(wire: &mut Wire<W>) -> Result<(), WriteFailed>
-    requires few_failures { failures_of wire.old < 2 ^ 63 }
-    ensures bytes { Keeps (W.contents (inner_of wire.old)) (W.contents (inner_of wire.new)) }
-    ensures kept { OnOk result (failures_of wire.new ≡ failures_of wire.old) }
-    ensures failed { OnErr result (failures_of wire.old < failures_of wire.new) }
-{
-    match wire.flush() {
-        Ok(()) => Ok(()),
-        Err(_) => Err(WriteFailed),
-    }
 }

@@ -1,4 +1,5 @@
-//! A small desk that knows one word, the definition of a part. It shows what a desk owes.
+//! A small desk that shows what a desk owes. Of the seventeen words it has memory for one alone, the
+//! definition of a part.
 
 ghost use Rattle.std.specs.Prelude.{◌≡◌, ◌+◌, nat_lt, max, unwrap_or, [], false, IfOk};
 ghost use Rattle.std.specs.List.{list_any};
@@ -8,47 +9,50 @@ ghost use Rattle.desk_types.specs.Id.{same};
 use crate::*;
 use std::alloc::{AllocError, Global};
 
-/// The parts, the newest first, and the desk minute.
+/// Its rules, the parts, the newest first, and the desk minute.
 #[derive(Drop)]
 pub struct PartsDesk {
     alloc: Global,
+    rules: Rules,
     parts: Vec<Id>,
     minute: Option<Minute>,
-}
-
-impl PartsDesk {
-    pub fn new(alloc: Global) -> PartsDesk
-        ensures parts { result.parts.items ≡ [] }
-        ensures minute { result.minute ≡ None }
-    {
-        PartsDesk {
-            alloc,
-            parts: Vec::new(alloc),
-            minute: None,
-        }
-    }
 }
 
 impl Desk for PartsDesk {
     ghost use Rattle.std.specs.Prelude.{◌≡◌, None, [], false};
     ghost use Rattle.std.specs.List.{list_any};
-    ghost use Rattle.desk_types.specs.declared.command.Command.TheVariants.{PartDefined};
     ghost use Rattle.desk_types.specs.Id.{Name, same};
     ghost use Rattle.desk_types.specs.History.{desk_minute};
     ghost use Rattle.desk_types.specs.Setup.{is_part, receipt_of, selected_on, sheet_of};
     ghost use Rattle.desk_types.specs.View.{has_sheet};
     ghost use Rattle.desk_types.specs.Free.{reels_received};
+    ghost use Rattle.desk_types.specs.Judged.{IsJudged};
 
-    ghost Stands = { λ desk H. ((part : Name) → list_any (λ p. same p part) desk.parts.items ≡ is_part H part) × (desk.minute ≡ desk_minute H)
+    ghost Stands = { λ desk H. IsJudged desk.rules H × ((part : Name) → list_any (λ p. same p part) desk.parts.items ≡ is_part H part) × (desk.minute ≡ desk_minute H)
         × ((machine : Name) → selected_on H machine ≡ None) × ((product machine : Name) → sheet_of H product machine ≡ None)
         × ((reel : Name) → receipt_of H reel ≡ None) × ((machine : Name) → has_sheet H machine ≡ false) × (reels_received H ≡ []) };
 
-    ghost Knows = { λ command. (part : Name) × (command ≡ PartDefined part) };
+    ghost kept_rules = { λ desk. desk.rules };
+
+    fn fresh(alloc: Global, rules: Rules) -> PartsDesk {
+        PartsDesk {
+            alloc,
+            rules,
+            parts: Vec::new(alloc),
+            minute: None,
+        }
+    }
+
+    fn rules(&self) -> Rules {
+        self.rules
+    }
+
+    fn is_judged(&self) {}
 
     #[tactic(auto, unfolding(crate::specs::Refusals::refusal_of, crate::specs::Refusals::command_refusal, crate::specs::Refusals::part_refusal))]
     fn judge(&self, stamped: &Stamped) -> Result<Change, JudgeFault> {
         let Command::PartDefined { part } = &stamped.command else {
-            unreachable!()
+            return Err(JudgeFault::NoMemory);
         };
         if is_too_far_ahead(self.minute, stamped.minute) {
             return Err(JudgeFault::Refused(Refusal::TooFarAhead));
@@ -60,9 +64,12 @@ impl Desk for PartsDesk {
     }
 
     fn settle(&mut self, change: Change) -> Result<(), AllocError> {
-        if let Command::PartDefined { part } = &change.stamped.command {
-            self.parts.insert(0, *part)?;
-        }
+        let Command::PartDefined { part } = &change.stamped.command else {
+            return Err(AllocError);
+        };
+        change.stamped.ranges_hold();
+        let _ = change.minute.get();
+        self.parts.insert(0, *part)?;
         self.minute = Some(change.minute);
         Ok(())
     }

@@ -1,22 +1,8 @@
-//! Texts of commands: from outside, there and back, cut, and long.
+//! Stored texts: of each word, there and back, and a long one.
 
 use crate::*;
 use std::alloc::Global;
 use std::test::Fail;
-
-#[test]
-fn a_load_has_its_text(rt: HostRuntime) -> Result<(), Fail> {
-    let load = Command::MaterialsLoaded {
-        machine: super::id(b"M")?,
-        slot: super::id(b"1")?,
-        reel: super::id(b"K1")?,
-    };
-    let text = b"MaterialsLoaded\tM\t1\tK1".as_slice();
-    assert_eq!(rt; load.write_text(rt.alloc())?.as_slice(), text);
-    assert_eq!(rt; Command::read_text(rt.alloc(), text)?, Some(load));
-    texts_tell_commands_apart();
-    Ok(())
-}
 
 /// Whether the text is read, and the command that it says has this text.
 fn is_kept(alloc: Global, text: &[u8]) -> Result<bool, Fail> {
@@ -51,67 +37,17 @@ fn texts_are_read(rt: HostRuntime) -> Result<(), Fail> {
     for text in texts {
         assert!(rt; is_kept(rt.alloc(), text)?, "at {text:?}");
     }
-    Ok(())
-}
-
-#[test]
-fn other_texts_are_refused(rt: HostRuntime) -> Result<(), Fail> {
-    let texts = [
+    let refused = [
         b"".as_slice(),
-        b"\t",
         b"ClockSet\t",
-        b"Clockset",
-        b"TraceDesk.ClockSet",
-        b"ReelOpened",
-        b"ReelOpened\t",
-        b"ReelOpened\t K1",
         b"ReelOpened\tK1 ",
-        b"ReelOpened\tK1\n",
-        b"ReelOpened\tK1\t",
-        b"ReelOpened\tK1\tK2",
-        b"MaterialsLoaded\tM\t1",
-        b"MaterialsScrapped\tM\t1\t0",
         b"MaterialsScrapped\tM\t1\t01",
-        b"MaterialsScrapped\tM\t1\t+1",
-        b"MaterialsScrapped\tM\t1\t 1",
-        b"MaterialsScrapped\tM\t1\t1.0",
-        b"MaterialsScrapped\tM\t1\t",
-        b"MaterialsScrapped\tM\t1\t10000001",
-        b"MaterialsScrapped\tM\t1\t18446744073709551617",
-        b"MaterialsInstalled\tM\tB\t0",
-        b"MaterialsInstalled\tM\tB\t1",
-        b"MaterialsInstalled\tM\tB\t1\tR1\tR2",
         b"MaterialsInstalled\tM\tB\t2\tR1",
-        b"MaterialsInstalled\tM\tB\t5001\tR1",
-        b"MaterialsInstalled\tM\tB\t1\tR 1",
-        b"CountsTaken\t1\tK1\t1\tK2\t1",
-        b"CountsTaken\t01\tK1\t1",
-        b"ReelReceived\tK1\tP\tL\t6\t1\t0",
-        b"ReelReceived\tK1\tP\tL\t6\t1\t525601",
-        b"ReelReceived\tK1\tP\tL\t3\t1\t1",
-        b"ReelReceived\tK1\tP\tL\t3\t1",
-        b"ReelReceived\tK1\tP\tL\t5A\t1\t0",
-        b"ReelReceived\tK1\tP\tL\t3\t0\t0",
     ];
-    for text in texts {
+    for text in refused {
         assert_eq!(rt; Command::read_text(rt.alloc(), text)?, None, "at {text:?}");
     }
-    Ok(())
-}
-
-#[test]
-fn a_cut_text_is_refused(rt: HostRuntime) -> Result<(), Fail> {
-    let text = b"SheetDefined\tPR\tM\t3\t1\tP\t2\tR1\tR2\t2\tQ\t1\tC1\t3\tQ\t2\tC2\tC345";
-    for end in 0..text.len() - 3 {
-        assert_eq!(rt;
-            Command::read_text(rt.alloc(), &text[..end])?,
-            None,
-            "at {end}"
-        );
-    }
-    for end in text.len() - 3..text.len() + 1 {
-        assert!(rt; is_kept(rt.alloc(), &text[..end])?, "at {end}");
-    }
+    texts_tell_commands_apart();
     Ok(())
 }
 

@@ -2,6 +2,7 @@
 
 ghost use Rattle.std.specs.Prelude.{◌≡◌, ◌≤◌, Some, ◌∷◌, OnOk};
 ghost use Rattle.std.specs.Option.{ForSome, option_copied};
+ghost use Rattle.desk_types.specs.declared.rules.Rules.TheVariants.{Two};
 ghost use Rattle.desk_types.specs.Id.{Name};
 ghost use Rattle.desk_types.specs.History.{History};
 ghost use Rattle.desk_types.specs.FloorLife.{open_by};
@@ -42,7 +43,7 @@ pub fn reel_in(reels: &BTreeMap<Id, Reel>, name: &Id) -> Option<Reel>
 /// The reels after an entry.
 pub fn note_reel(reels: &mut BTreeMap<Id, Reel>, entry: &Entry) -> Result<(), AllocError>
     requires { AreReelsBy reels.old entry.now.effective }
-    ensures { (H : History) → IsJudged (entry.now ∷ H) → AreReels H reels.old → OnOk result (AreReels (entry.now ∷ H) reels.new) }
+    ensures { (H : History) → IsJudged Two (entry.now ∷ H) → AreReels H reels.old → OnOk result (AreReels (entry.now ∷ H) reels.new) }
 {
     let Some(name) = handled(&entry.stamped.command) else {
         return Ok(());

@@ -1,7 +1,8 @@
-//! A reader that gives little at a time, and a writer that takes little at a time. Both fail in
-//! the end.
+//! Readers and a writer for tests: ones that give or take little at a time and fail in the end, and
+//! a machine that waits for its answers.
 
 use std::alloc::{AllocError, Global};
+use std::cell::Cell;
 use std::io;
 use std::io::{ErrorKind, Read, Write};
 
@@ -10,7 +11,7 @@ use std::io::{ErrorKind, Read, Write};
 pub struct Giver<'a> {
     pub bytes: &'a [u8],
     pub piece: usize,
-    pub good: u32,
+    pub good: usize,
 }
 
 impl Read for Giver<'_> {
@@ -33,7 +34,7 @@ impl Read for Giver<'_> {
 pub struct Taker {
     pub taken: Vec<u8>,
     pub piece: usize,
-    pub good: u32,
+    pub good: usize,
 }
 
 impl Taker {
@@ -42,7 +43,7 @@ impl Taker {
         Ok(Taker {
             taken: Vec::with_capacity(alloc, 4096)?,
             piece: 4096,
-            good: u32::MAX,
+            good: usize::MAX,
         })
     }
 }
@@ -56,6 +57,48 @@ impl Write for Taker {
         let count = self.piece.min(buf.len());
         self.taken.extend_from_slice(&buf[..count])?;
         Ok(count)
+    }
+
+    fn flush(&mut self) -> io::Result<()> {
+        Ok(())
+    }
+}
+
+/// Sends a line at each read, and fails where the line before was not answered by then.
+#[derive(Drop)]
+pub struct Machine<'a> {
+    pub lines: &'a [&'a str],
+    pub sent: usize,
+    pub answered: &'a Cell<usize>,
+}
+
+impl Read for Machine<'_> {
+    fn read(&mut self, buf: &mut [u8]) -> io::Result<usize> {
+        if self.answered.get() != self.sent {
+            return Err(io::Error::from(ErrorKind::TimedOut));
+        }
+        let Some(line) = self.lines.get(self.sent) else {
+            return Ok(0);
+        };
+        let bytes = line.as_bytes();
+        let count = bytes.len().min(buf.len());
+        buf[..count].copy_from_slice(&bytes[..count]);
+        self.sent = self.sent.saturating_add(1);
+        Ok(count)
+    }
+}
+
+/// Counts the line feeds that it takes.
+#[derive(Drop)]
+pub struct Counter<'a> {
+    pub answered: &'a Cell<usize>,
+}
+
+impl Write for Counter<'_> {
+    fn write(&mut self, buf: &[u8]) -> io::Result<usize> {
+        let feeds = buf.iter().filter(|b| **b == b'\n').count();
+        self.answered.set(self.answered.get().saturating_add(feeds));
+        Ok(buf.len())
     }
 
     fn flush(&mut self) -> io::Result<()> {

@@ -1,5 +1,6 @@
+use Rattle.desk_types.proofs.BothRules.{judged-by-two}
 use Rattle.desk_laws.proofs.Spent.{spent-stays}
 use Rattle.desk_laws.proofs.pieces.spent_stays_spent.Goals as goal
 
 pub returns : goal.returns
-returns c = spent-stays
+returns c = λ rules G H reel before judged. spent-stays G H reel before (judged-by-two rules H judged)

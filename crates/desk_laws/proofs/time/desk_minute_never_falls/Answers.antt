@@ -1,5 +1,5 @@
-use Rattle.desk_laws.proofs.Judgements.{desk_minute-prefix}
+use Rattle.desk_laws.proofs.Judgements.{desk_minute-stays}
 use Rattle.desk_laws.proofs.time.desk_minute_never_falls.Goals as goal
 
 pub returns : goal.returns
-returns c = desk_minute-prefix
+returns c = desk_minute-stays

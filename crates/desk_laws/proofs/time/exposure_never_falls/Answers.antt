@@ -1,3 +1,4 @@
+use Rattle.desk_types.proofs.BothRules.{judged-by-two}
 use Rattle.desk_laws.proofs.Exposures.{exposure-rises, exposure-later}
 use Rattle.desk_laws.proofs.time.exposure_never_falls.Goals as goal
 
@@ -5,4 +6,4 @@ pub returns-clause-minutes : goal.returns-clause-minutes
 returns-clause-minutes c = exposure-rises
 
 pub returns-clause-entries : goal.returns-clause-entries
-returns-clause-entries c = exposure-later
+returns-clause-entries c = λ rules G more reel earlier later judged. exposure-later G more reel earlier later (judged-by-two rules _ judged)

@@ -3,6 +3,7 @@ use Rattle.std.specs.Option.{option_map_or}
 use Rattle.desk_types.specs.declared.command.Stamped.{Stamped}
 use Rattle.desk_types.specs.declared.answer.Reply.{Reply}
 use Rattle.desk_types.specs.declared.answer.Refusal.{Refusal}
+use Rattle.desk_types.specs.declared.rules.Rules.{Rules}
 use Rattle.desk_types.specs.History.{History, accept}
 use Rattle.desk_types.specs.Refusals.{refusal_of}
 use Rattle.desk_types.proofs.Steps.{drop-next}
@@ -10,18 +11,18 @@ use Rattle.desk_types.specs.Outcome.{after_command, after_commands, reply_to, re
 use Rattle.desk_types.proofs.desk.run.Goals as goal
 
 -- one more reply, and the replies to the others, are still what all give
-told_more : (H first : History) (ms : List Stamped) (i : ℕ) (s : Stamped) (rs : List Reply) (r : Reply)
-    → drop i ms ≡ s ∷ drop (i + 1) ms → r ≡ reply_to H s → rs ++ replies_to H (drop i ms) ≡ replies_to first ms
-    → (rs ++ r ∷ []) ++ replies_to (after_command H s) (drop (i + 1) ms) ≡ replies_to first ms
-told_more H first ms i s rs r left is told =
+told_more : (rules : Rules) (H first : History) (ms : List Stamped) (i : ℕ) (s : Stamped) (rs : List Reply) (r : Reply)
+    → drop i ms ≡ s ∷ drop (i + 1) ms → r ≡ reply_to rules H s → rs ++ replies_to rules H (drop i ms) ≡ replies_to rules first ms
+    → (rs ++ r ∷ []) ++ replies_to rules (after_command rules H s) (drop (i + 1) ms) ≡ replies_to rules first ms
+told_more rules H first ms i s rs r left is told =
     append_assoc rs (r ∷ []) _
-    ∙ ap (λ x. rs ++ x ∷ replies_to (after_command H s) (drop (i + 1) ms)) is
-    ∙ ap (λ l. rs ++ replies_to H l) (sym left)
+    ∙ ap (λ x. rs ++ x ∷ replies_to rules (after_command rules H s) (drop (i + 1) ms)) is
+    ∙ ap (λ l. rs ++ replies_to rules H l) (sym left)
     ∙ told
 
 -- a command adds one entry at most
-length-after_command : (H : History) (s : Stamped) → length (after_command H s) ≤ length H + 1
-length-after_command H s = by (refusal_of H s)
+length-after_command : (rules : Rules) (H : History) (s : Stamped) → length (after_command rules H s) ≤ length H + 1
+length-after_command rules H s = by (refusal_of rules H s)
   where
     by : (r : Option Refusal) → length (option_map_or (λ _. H) r (accept H s)) ≤ length H + 1
     by None = omega arith
@@ -29,19 +30,22 @@ length-after_command H s = by (refusal_of H s)
 
 pub loop-message-preserved : goal.loop-message-preserved
 loop-message-preserved g c =
+    let kept = g.D.Desk.kept_rules c.args.desk.now in
+    let same = c.loop-message.invariant.rules in
     let message = c.message-item.result in
     let i = c.loop-message.message-index in
     let ms = c.args.messages.now in
     let here = drop-next ms i message (omega arith) c.message-item.is in
     record {
+      rules = c.in_ok-reply.ensures.rules ∙ same;
       told = λ first stands.
           let now = c.loop-message.invariant.told first stands in (
-            after_command now.0 message,
-            c.in_ok-reply.ensures.stands now.0 now.1,
-            rw c.in_ok-push.ensures.items (told_more now.0 first ms i message _ _ here (c.in_ok-reply.ensures.reply now.0 now.1) now.2),
-            ap (after_commands now.0) (sym here) ∙ now.3,
+            after_command kept now.0 message,
+            rw (← same) (c.in_ok-reply.ensures.stands now.0 now.1),
+            rw c.in_ok-push.ensures.items (told_more kept now.0 first ms i message _ _ here (rw (← same) (c.in_ok-reply.ensures.reply now.0 now.1)) now.2),
+            ap (after_commands kept now.0) (sym here) ∙ now.3,
           );
       room =
           let now = c.loop-message.invariant.room in
-          (after_command now.0 message, c.in_ok-reply.ensures.stands now.0 now.1, omega (arith, length-after_command now.0 message));
+          (after_command kept now.0 message, rw (← same) (c.in_ok-reply.ensures.stands now.0 now.1), omega (arith, length-after_command kept now.0 message));
     }

@@ -19,8 +19,8 @@ returns-in-Err c = λ H judged is_floor.
     let inv = c.loop-row.invariant H judged is_floor in
     let here = rw c.in-Err.is at (c.in_ok-pieces.ensures H before judged is_floor inv.seen) in
     sym inv.refusal
-    ∙ ap (counts_refusal H before) (drop-next rows i row c.loop-row-test.true c.row-item.is)
-    ∙ ap (λ o. option_or o (counts_refusal H (before ++ row.reel ∷ []) (drop (i + 1) rows))) here
+    ∙ ap (counts_refusal c.args.rules H before) (drop-next rows i row c.loop-row-test.true c.row-item.is)
+    ∙ ap (λ o. option_or o (counts_refusal c.args.rules H (before ++ row.reel ∷ []) (drop (i + 1) rows))) here
 
 pub loop-row-preserved : goal.loop-row-preserved
 loop-row-preserved c = λ H judged is_floor.
@@ -35,9 +35,9 @@ loop-row-preserved c = λ H judged is_floor.
     ap (map (λ (r : CountRow). r.reel)) (take-next rows i row c.loop-row-test.true c.row-item.is) ∙ map-append (λ (r : CountRow). r.reel) (take i rows) (row ∷ []) in
     record {
       seen = subst (HasSeen c.missing.new.seen) (sym more) here.2;
-      refusal = ap (λ names. counts_refusal H names (drop (i + 1) rows)) more
-          ∙ ap (λ o. option_or o (counts_refusal H (before ++ row.reel ∷ []) (drop (i + 1) rows))) (sym here.0)
-          ∙ ap (counts_refusal H before) (sym rest)
+      refusal = ap (λ names. counts_refusal c.args.rules H names (drop (i + 1) rows)) more
+          ∙ ap (λ o. option_or o (counts_refusal c.args.rules H (before ++ row.reel ∷ []) (drop (i + 1) rows))) (sym here.0)
+          ∙ ap (counts_refusal c.args.rules H before) (sym rest)
           ∙ inv.refusal;
       picks = ap (λ ps. ps ++ count_picks (left_of H) (drop (i + 1) rows))
           (c.in_ok-put_off-in-Ok.ensures ∙ ap (λ n. c.loop-row.picks.items ++ pieces_off row.reel n Counted) here.1)

@@ -1,8 +1,8 @@
-use Rattle.std.proofs.Common.{◌≡◌, true, false, nat_lt, sym, ◌∙◌, arith}
+use Rattle.std.proofs.Common.{◌≡◌, true, false, sym, ◌∙◌, arith}
 use Rattle.desk_types.specs.Pieces.{left_of, is_mounted}
+use Rattle.desk_types.specs.Refusals.{is_above}
 use Rattle.setup_sheets.proofs.Seen.{HasSeen-push, was-new, was-seen}
 use Rattle.entry_search.proofs.Flooring.{floor-unknown, floor-known}
-use Rattle.look_back.proofs.Counting.{not-above}
 use Rattle.look_back.proofs.counts.missing.Goals as goal
 
 pub returns-in_default : goal.returns-in_default
@@ -34,7 +34,7 @@ returns c = λ H before judged is_floor seen.
     let mounted : is_mounted H reel ≡ false = sym (c.is_mounted.ensures H judged is_floor) ∙ c.if-is_mounted.false in
     let left : c.pieces-left.result ≡ left_of H reel = c.pieces-left.ensures ∙ is_floor.stock reel in
     let counted : c.get-counted.result ≡ c.args.row.now.quantity = c.get-counted.ensures.value in
-    let above : nat_lt (left_of H reel) c.args.row.now.quantity ≡ false = not-above (left_of H reel) c.args.row.now.quantity (omega (arith, c.if-left-counted.false, left, counted)) in (
+    let above : is_above c.args.rules (left_of H reel) c.args.row.now.quantity ≡ false = rw (← left, ← counted) (sym c.is_above.ensures ∙ c.if-is_above.false) in (
       rw (known, once, mounted, above),
       omega (arith, left, counted),
       HasSeen-push c.args.seen.now c.insert.new.self reel before seen c.in_ok-insert.ensures.updates.0,

@@ -14,12 +14,13 @@ invariant-lines g l = record {
   write_failures : failures_of l.output ≡ failures_of l.fn.output;
   counted : l.served.answered + fuel l.most_reads (reads_of l.input) l.inbox ≤ MOST_READS * (BLOCK + 1);
   refused : l.served.refused ≤ l.served.answered;
-  greatest : l.line.greatest ≡ l.fn.line.greatest;
+  rules : l.desk.rules ≡ l.fn.desk.rules;
+  greatest : l.desk.greatest ≡ l.fn.desk.greatest;
   lines : List (List ℕ);
   marks : List Bool;
   gone : LinesGone (g.R.Read.remaining (inner_of l.fn.input)) lines (source l.inbox (g.R.Read.remaining (inner_of l.input)));
-  answered : Answered l.fn.line.greatest lines marks l.fn.line.history (g.W.Write.contents (inner_of l.fn.output)) none_served
-      l.line.history (g.W.Write.contents (inner_of l.output)) l.served;
+  answered : Answered l.fn.desk.rules l.fn.desk.greatest lines marks l.fn.desk.history (g.W.Write.contents (inner_of l.fn.output)) none_served
+      l.desk.history (g.W.Write.contents (inner_of l.output)) l.served;
 }
 
 abbrev pub decreases-lines : goal.decreases-lines

@@ -14,5 +14,5 @@ invariant_of-self c =
 
 pub returns-clause-stands : goal.returns-clause-stands
 returns-clause-stands c = λ H name e stands says at.
-    StandsFor-open H e name c.args.self.now _ stands says (record { part = refl; lot = refl; level = refl; label = refl; received = refl }) refl refl c.requires at
+    StandsFor-open H e name c.args.self.now _ stands says (record { part = refl; lot = refl; level = refl; label = refl }) (record { received = refl; found = refl; placed = refl; scrapped = refl; remaining = refl }) refl refl c.requires at
     (λ s is. (c.args.self.now.open_minutes s is).1) (ap Some c.unwrap_or.ensures)

@@ -4,6 +4,7 @@ use Rattle.desk_types.specs.declared.answer.Detail.TheVariants.{Plain}
 use Rattle.desk_types.specs.declared.command.Command.TheVariants.{PartDefined}
 use Rattle.desk_types.specs.declared.command.Stamped.{Stamped}
 use Rattle.desk_types.specs.declared.command.TheConstants.{FURTHEST_AHEAD}
+use Rattle.desk_types.specs.declared.rules.Rules.{Rules}
 use Rattle.desk_types.specs.Desk.{IsChange}
 use Rattle.desk_types.specs.Id.{Name}
 use Rattle.desk_types.specs.History.{History, desk_minute}
@@ -12,11 +13,11 @@ use Rattle.desk_types.specs.Setup.{is_part}
 use Rattle.desk_types.proofs.tests.parts_desk.PartsDeskDesk.judge.Goals as goal
 
 -- a part that is new, and not too far ahead, is accepted; it tells nothing more and takes nothing
-defines : (H : History) (s : Stamped) (part : Name) (desk : Option ℕ) → s.command ≡ PartDefined part → desk ≡ desk_minute H
+defines : (kept : Rules) (H : History) (s : Stamped) (part : Name) (desk : Option ℕ) → s.command ≡ PartDefined part → desk ≡ desk_minute H
     → is_part H part ≡ false → option_map_or (λ minute. nat_lt (minute + FURTHEST_AHEAD) s.minute) desk false ≡ false
-    → IsChange H s (record { stamped = s; minute = max s.minute (unwrap_or desk 0); detail = Plain; takes = [] })
+    → IsChange kept H s (record { stamped = s; minute = max s.minute (unwrap_or desk 0); detail = Plain; takes = [] })
 unfolding refusal_of command_refusal part_refusal
-defines H s part desk is now new near = record {
+defines kept H s part desk is now new near = record {
   accepted = rw (← now, near, is, new);
   value = rw (is, now);
 }
@@ -24,7 +25,7 @@ defines H s part desk is now new near = record {
 pub returns : goal.returns
 returns c = λ H stands.
     let part = c.in-PartDefined.part in
-    let new : is_part H part ≡ false = let told = stands.0 part in search rules in
+    let new : is_part H part ≡ false = let told = stands.1 part in search rules in
     let near : option_map_or (λ minute. nat_lt (minute + FURTHEST_AHEAD) c.args.stamped.now.minute) c.args.self.now.minute false ≡ false = search rules in
-    let is = defines H c.args.stamped.now part c.args.self.now.minute c.in-PartDefined.is stands.1 new near in
+    let is = defines c.args.self.now.rules H c.args.stamped.now part c.args.self.now.minute c.in-PartDefined.is stands.2 new near in
     search (rules, is)

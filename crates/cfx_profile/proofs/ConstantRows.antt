@@ -1,0 +1,48 @@
+-- The numbers of the profile, computed.
+use Rattle.std.specs.Prelude.{◌≡◌, pos, length, Some, Ok, Err, refl}
+use Rattle.serde_json.specs.Read.{max_depth}
+use Rattle.desk_types.specs.declared.number.TheConstants.{GREATEST_QUANTITY}
+use Rattle.desk_types.specs.declared.level.TheConstants.{GREATEST_LABEL}
+use Rattle.cfx_profile.specs.declared.fault.MessageFault.TheVariants.{BodyMember, OverLimit}
+use Rattle.cfx_profile.specs.declared.member.Member.TheVariants.{Quantity, LabelMinutes}
+use Rattle.cfx_profile.specs.Forms.{at_most, from_1_to}
+use Rattle.cfx_profile.specs.Minute.{minute_of_nanos, minute_of_day}
+use Rattle.cfx_profile.specs.Word.{words}
+
+pub seventeen_words : length words ≡ 17
+seventeen_words = refl
+
+-- arrays and objects in one another, the envelope counted
+pub deepest : max_depth ≡ 127
+deepest = refl
+
+-- ---- numbers at their limits
+
+pub greatest_quantity : from_1_to Quantity GREATEST_QUANTITY 10_000_000 ≡ Ok 10_000_000
+greatest_quantity = refl
+
+pub quantity_above : from_1_to Quantity GREATEST_QUANTITY 10_000_001 ≡ Err (OverLimit Quantity)
+quantity_above = refl
+
+pub no_quantity : from_1_to Quantity GREATEST_QUANTITY 0 ≡ Err (BodyMember Quantity)
+no_quantity = refl
+
+pub empty_count : at_most Quantity GREATEST_QUANTITY 0 ≡ Ok 0
+empty_count = refl
+
+pub greatest_label : from_1_to LabelMinutes GREATEST_LABEL 525_600 ≡ Ok 525_600
+greatest_label = refl
+
+pub label_above : from_1_to LabelMinutes GREATEST_LABEL 525_601 ≡ Err (OverLimit LabelMinutes)
+label_above = refl
+
+-- ---- minutes
+
+pub last_of_minute_0 : minute_of_nanos (pos 59_999_999_999) ≡ Some 0
+last_of_minute_0 = refl
+
+pub first_of_minute_1 : minute_of_nanos (pos 60_000_000_000) ≡ Some 1
+first_of_minute_1 = refl
+
+pub second_day : minute_of_day (pos 1) 1 1 ≡ Some 1501
+second_day = refl

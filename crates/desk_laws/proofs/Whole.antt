@@ -1,0 +1,165 @@
+-- Accepted installs and scraps, whole.
+use Rattle.std.proofs.Common.{◌≡◌, ℕ, ◌+◌, ◌-◌, ◌≤◌, min, nat_lt, Bool, true, false, None, List, [], ◌∷◌, ◌++◌, map, filter_map, refl, sym, ap, ◌∙◌, arith, zero-add, filter, cond}
+use Rattle.std.specs.Prelude.{if◌then◌else◌}
+use Rattle.std.specs.List.{cons_option, enumerate_from, sum_by}
+use Rattle.std.proofs.lemmas.Bool.{ltb-false}
+use Rattle.std.proofs.lemmas.List.{append_cancel_left}
+use Rattle.std.proofs.lemmas.List.Elements.{filter_map-append}
+use Rattle.std.proofs.lemmas.List.Sums.{sum_by-append}
+use Rattle.desk_types.specs.declared.answer.Detail.TheVariants.{Reels}
+use Rattle.desk_types.specs.declared.answer.Refusal.{Refusal}
+use Rattle.desk_types.specs.declared.answer.Refusal.TheVariants.{SlotEmpty, ReelShort}
+use Rattle.desk_types.specs.declared.command.Command.TheVariants.{MaterialsInstalled, MaterialsScrapped}
+use Rattle.desk_types.specs.declared.command.Entry.{Entry}
+use Rattle.desk_types.specs.declared.command.Stamped.{Stamped}
+use Rattle.desk_types.specs.declared.rules.Rules.TheVariants.{Two}
+use Rattle.desk_types.specs.declared.take.Pick.{Pick}
+use Rattle.desk_types.specs.declared.take.Purpose.{Purpose}
+use Rattle.desk_types.specs.declared.take.Purpose.TheVariants.{Rejected}
+use Rattle.desk_types.specs.Id.{Name}
+use Rattle.desk_types.specs.History.{History, effective_minute, entry_of, accept}
+use Rattle.desk_types.specs.Tape.{tape_of}
+use Rattle.desk_types.specs.Pieces.{pieces_off, scrap_picks, left_of, live_on, picks_of}
+use Rattle.desk_types.specs.Outcome.{reels_of, pieces_of, take_of, detail_of}
+use Rattle.desk_types.specs.Placements.{Placement, entry_takes, takes_of, placement_of, placements_of}
+use Rattle.desk_types.specs.Refusals.{is_vacant, scrap_refusal, command_refusal, refusal_of}
+use Rattle.desk_laws.specs.Whole.{spot_of, spots_from, spots_named}
+use Rattle.desk_laws.proofs.Accepted.{none-holds, command-accepted}
+use Rattle.desk_laws.proofs.Installs.{ArePlacedFor, each-placed}
+
+-- ---- installs
+
+-- the placements of picks of one piece for each designator
+spots-placed : (H : History) (e : Entry) (machine board : Name) (place : ℕ) (ds : List Name) (ps : List Pick) → ArePlacedFor machine board ds ps
+    → map spot_of (filter_map placement_of (
+    map (λ (place, take). record { number = e.number; place = place; effective = e.effective; take = take }) (enumerate_from place (map (take_of H e.effective) ps))))
+    ≡ spots_from place machine board ds
+spots-placed H e machine board place [] [] all = refl
+spots-placed H e machine board place (d ∷ ds) (p ∷ ps) ((slot, is), all) =
+    ap (λ purpose. map spot_of (
+    cons_option (
+    placement_of (
+    record { number = e.number; place = place; effective = e.effective; take = take_of H e.effective (record { reel = p.reel; quantity = p.quantity; purpose = purpose }) }))
+    rest)) is
+    ∙ ap (λ l. record { place = place; machine = machine; board = board; designator = d } ∷ l) (spots-placed H e machine board (place + 1) ds ps all)
+  where
+    rest : List Placement
+    rest =
+        filter_map placement_of (
+        map (λ (place, take). record { number = e.number; place = place; effective = e.effective; take = take }) (enumerate_from (place + 1) (map (take_of H e.effective) ps)))
+spots-placed H e machine board place [] (p ∷ ps) all = absurd all
+spots-placed H e machine board place (d ∷ ds) [] all = absurd all
+
+-- An accepted install places one piece for each designator of its message, each at its place there.
+pub install-whole : (H : History) (s : Stamped) (machine board : Name) (ds : List Name) → refusal_of Two H s ≡ None → s.command ≡ MaterialsInstalled machine board ds
+    → (more : List Placement) × (placements_of (accept H s) ≡ placements_of H ++ more) × (map spot_of more ≡ spots_named machine board ds)
+unfolding takes_of
+install-whole H s machine board ds none is = (
+  filter_map placement_of (entry_takes H (entry_of H s)),
+  filter_map-append placement_of (takes_of H) (entry_takes H (entry_of H s)),
+  spots-placed H (entry_of H s) machine board 1 ds (picks_of H s.command) (each-placed H (effective_minute H s.minute) s.command machine board ds (command-accepted H s none) is),
+)
+
+-- the reels of the placements are those of the picks
+reels-placed : (H : History) (e : Entry) (machine board : Name) (place : ℕ) (ds : List Name) (ps : List Pick) → ArePlacedFor machine board ds ps
+    → map (λ (p : Placement). p.reel) (filter_map placement_of (
+    map (λ (place, take). record { number = e.number; place = place; effective = e.effective; take = take }) (enumerate_from place (map (take_of H e.effective) ps))))
+    ≡ reels_of ps
+reels-placed H e machine board place [] [] all = refl
+reels-placed H e machine board place (d ∷ ds) (p ∷ ps) ((slot, is), all) =
+    ap (λ purpose. map (λ (q : Placement). q.reel) (
+    cons_option (
+    placement_of (
+    record { number = e.number; place = place; effective = e.effective; take = take_of H e.effective (record { reel = p.reel; quantity = p.quantity; purpose = purpose }) }))
+    rest)) is
+    ∙ ap (λ l. p.reel ∷ l) (reels-placed H e machine board (place + 1) ds ps all)
+  where
+    rest : List Placement
+    rest =
+        filter_map placement_of (
+        map (λ (place, take). record { number = e.number; place = place; effective = e.effective; take = take }) (enumerate_from (place + 1) (map (take_of H e.effective) ps)))
+reels-placed H e machine board place [] (p ∷ ps) all = absurd all
+reels-placed H e machine board place (d ∷ ds) [] all = absurd all
+
+-- The answer to an accepted install tells the reels of its placements, in their order.
+pub install-told : (H : History) (s : Stamped) (machine board : Name) (ds : List Name) (more : List Placement) (minute : ℕ) → refusal_of Two H s ≡ None
+    → s.command ≡ MaterialsInstalled machine board ds → placements_of (accept H s) ≡ placements_of H ++ more
+    → detail_of H minute s.command ≡ Reels (map (λ (p : Placement). p.reel) more)
+unfolding takes_of
+install-told H s machine board ds more minute none is placed =
+    ap (detail_of H minute) is
+    ∙ ap (λ c. Reels (reels_of (picks_of H c))) (sym is)
+    ∙ ap Reels (
+    sym (
+    reels-placed H (entry_of H s) machine board 1 ds (picks_of H s.command) (each-placed H (effective_minute H s.minute) s.command machine board ds (command-accepted H s none) is))
+    ∙ ap (map (λ (p : Placement). p.reel)) (
+    append_cancel_left (placements_of H) (filter_map placement_of (entry_takes H (entry_of H s))) more (
+    sym (filter_map-append placement_of (takes_of H) (entry_takes H (entry_of H s))) ∙ placed)))
+
+-- ---- scraps
+
+-- the spent reels of a tape change nothing
+scrap-filter : (pieces : Name → ℕ) (purpose : Purpose) (reels : List Name) (n : ℕ)
+    → scrap_picks pieces purpose (filter (λ r. nat_lt 0 (pieces r)) reels) n ≡ scrap_picks pieces purpose reels n
+scrap-filter pieces purpose [] n = refl
+scrap-filter pieces purpose (r ∷ rs) n = by (nat_lt 0 (pieces r)) refl (scrap-filter pieces purpose rs)
+  where
+    empty : (k : ℕ) → k ≡ 0 → scrap_picks pieces purpose rs n ≡ pieces_off r (min n k) purpose ++ scrap_picks pieces purpose rs (n - k)
+    empty k is =
+        let nothing : min n k ≡ 0 = omega (arith, is) in
+        let all : n - k ≡ n = omega (arith, is) in
+        sym (ap (λ q. pieces_off r q purpose ++ scrap_picks pieces purpose rs (n - k)) nothing ∙ ap (scrap_picks pieces purpose rs) all)
+
+    by : (b : Bool) → nat_lt 0 (pieces r) ≡ b → ((k : ℕ) → scrap_picks pieces purpose (filter (λ x. nat_lt 0 (pieces x)) rs) k ≡ scrap_picks pieces purpose rs k)
+        → scrap_picks pieces purpose (cond b (r ∷ filter (λ x. nat_lt 0 (pieces x)) rs) (filter (λ x. nat_lt 0 (pieces x)) rs)) n
+        ≡ pieces_off r (min n (pieces r)) purpose ++ scrap_picks pieces purpose rs (n - pieces r)
+    by true some rest = ap (λ l. pieces_off r (min n (pieces r)) purpose ++ l) (rest (n - pieces r))
+    by false none rest = rest n ∙ empty (pieces r) (let few = ltb-false 0 (pieces r) none in omega (arith, few))
+
+-- A scrap takes of the live reels what it takes of the tape.
+scrap-live : (H : History) (purpose : Purpose) (machine slot : Name) (n : ℕ)
+    → scrap_picks (left_of H) purpose (live_on H machine slot) n ≡ scrap_picks (left_of H) purpose (tape_of H machine slot) n
+unfolding live_on
+scrap-live H purpose machine slot n = scrap-filter (left_of H) purpose (tape_of H machine slot) n
+
+-- n pieces off a reel are n pieces
+pieces-off : (r : Name) (n : ℕ) (purpose : Purpose) → pieces_of (pieces_off r n purpose) ≡ n
+pieces-off r n purpose = by (nat_lt 0 n) refl
+  where
+    by : (b : Bool) → nat_lt 0 n ≡ b → pieces_of (if◌then◌else◌ {A = List Pick} b (record { reel = r; quantity = n; purpose = purpose } ∷ []) []) ≡ n
+    by true is = zero-add n
+    by false is = let none = ltb-false 0 n is in omega (arith, none)
+
+-- what a scrap takes together: as many as are asked for, where there are so many
+scrap-takes : (pieces : Name → ℕ) (purpose : Purpose) (reels : List Name) (n : ℕ) → pieces_of (scrap_picks pieces purpose reels n) ≡ min n (sum_by pieces reels)
+scrap-takes pieces purpose [] n = omega arith
+scrap-takes pieces purpose (r ∷ rs) n =
+    let both = sum_by-append (λ (p : Pick). p.quantity) (pieces_off r (min n (pieces r)) purpose) (scrap_picks pieces purpose rs (n - pieces r)) in
+    let first = pieces-off r (min n (pieces r)) purpose in
+    let rest = scrap-takes pieces purpose rs (n - pieces r) in
+    let whole : sum_by pieces (r ∷ rs) ≡ 0 + pieces r + sum_by pieces rs = sum_by-append pieces (r ∷ []) rs in
+    omega (arith, both, first, rest, whole)
+
+-- an accepted scrap finds as many pieces as it takes
+scrap-has : (H : History) (machine slot : Name) (n : ℕ) → scrap_refusal H machine slot n ≡ None → n ≤ sum_by (left_of H) (live_on H machine slot)
+unfolding scrap_refusal
+scrap-has H machine slot n none = ltb-false _ _ (none-holds tests none).1.0
+  where
+    tests : List (Bool × Refusal)
+    tests = (is_vacant H machine slot, SlotEmpty slot) ∷ (nat_lt (sum_by (left_of H) (live_on H machine slot)) n, ReelShort slot) ∷ []
+
+scrap-exact : (H : History) (minute : ℕ) (machine slot : Name) (n : ℕ) → command_refusal Two H minute (MaterialsScrapped machine slot n) ≡ None
+    → pieces_of (picks_of H (MaterialsScrapped machine slot n)) ≡ n
+unfolding command_refusal
+scrap-exact H minute machine slot n none =
+    let live = ap pieces_of (scrap-live H (Rejected machine slot) machine slot n) in
+    let all = scrap-takes (left_of H) (Rejected machine slot) (live_on H machine slot) n in
+    let enough = scrap-has H machine slot n none in
+    sym live ∙ all ∙ omega (arith, enough)
+
+-- An accepted scrap takes exactly its quantity.
+pub scrap-whole : (H : History) (s : Stamped) (machine slot : Name) (n : ℕ) → refusal_of Two H s ≡ None → s.command ≡ MaterialsScrapped machine slot n
+    → pieces_of (picks_of H s.command) ≡ n
+scrap-whole H s machine slot n none is =
+    ap (λ c. pieces_of (picks_of H c)) is
+    ∙ scrap-exact H (effective_minute H s.minute) machine slot n (sym (ap (command_refusal Two H (effective_minute H s.minute)) is) ∙ command-accepted H s none)

@@ -1,0 +1,6 @@
+use Rattle.desk_types.proofs.BothRules.{accepted-by-two}
+use Rattle.desk_laws.proofs.Counting.{mounted-finds-none}
+use Rattle.desk_laws.proofs.pieces.mounted_reels_gain_nothing.Goals as goal
+
+pub returns : goal.returns
+returns c = λ rules H s reel none. mounted-finds-none H s reel (accepted-by-two rules H s none)

@@ -1,0 +1,23 @@
+use Rattle.std.proofs.Common.{ap, ◌∙◌}
+use Rattle.std.specs.Option.{option_map_or}
+use Rattle.desk_types.specs.declared.answer.Reply.TheVariants.{Accepted, Refused}
+use Rattle.desk_types.specs.History.{effective_minute}
+use Rattle.desk_types.specs.Outcome.{change_of}
+use Rattle.desk_types.proofs.BothRules.{accepted-by-two}
+use Rattle.desk_laws.proofs.Accepted.{command-accepted}
+use Rattle.desk_laws.proofs.Installs.{named-once}
+use Rattle.desk_laws.proofs.Whole.{install-whole, install-told}
+use Rattle.desk_laws.proofs.placements.installs_are_whole.Goals as goal
+
+pub returns-clause-spots : goal.returns-clause-spots
+returns-clause-spots c = λ rules H s machine board designators none. install-whole H s machine board designators (accepted-by-two rules H s none)
+
+pub returns-clause-told : goal.returns-clause-told
+returns-clause-told c = λ rules H s machine board designators more none is placed.
+    ap (λ refusal. option_map_or Refused refusal (Accepted (change_of H s).detail)) none
+    ∙ ap (λ detail. Accepted detail)
+    (install-told H s machine board designators more (effective_minute H s.minute) (accepted-by-two rules H s none) is placed)
+
+pub returns-clause-once : goal.returns-clause-once
+returns-clause-once c = λ rules H s machine board designators none.
+    named-once H (effective_minute H s.minute) s.command machine board designators (command-accepted H s (accepted-by-two rules H s none))

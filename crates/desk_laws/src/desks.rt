@@ -1,0 +1,27 @@
+//! What the laws say of every desk. It is for proofs, and does nothing when it runs.
+
+ghost use Rattle.std.specs.Prelude.{◌≡◌, ◌+◌, ◌↔◌, All, Contains};
+ghost use Rattle.std.specs.List.{IsDistinct};
+ghost use Rattle.desk_types.specs.Id.{Name, same};
+ghost use Rattle.desk_types.specs.History.{History};
+ghost use Rattle.desk_types.specs.Pieces.{left_of, received_of, placed_of, scrapped_of, live_on};
+ghost use Rattle.desk_types.specs.Placements.{placements_of, lots_of, boards_of};
+ghost use Rattle.desk_laws.specs.Verified.{IsRightlyPlaced};
+
+use desk_types::Desk;
+
+/// Each list for which a desk stands is consistent: the pieces of each reel balance, a reel is live on one
+/// slot at most and stands there once, only verified reels are placed, each piece off the first reel of its
+/// slot with a piece left, and the two traces are converse.
+pub fn desk_is_consistent<D: Desk>(desk: &D)
+    ensures balance { (H : History) (reel : Name) → D.Stands desk.now H
+        → received_of H reel ≡ placed_of H reel + scrapped_of H reel + left_of H reel }
+    ensures one_place { (H : History) (m s machine slot reel : Name) → D.Stands desk.now H → Contains (live_on H m s) reel
+        → Contains (live_on H machine slot) reel → (m ≡ machine) × (s ≡ slot) }
+    ensures once { (H : History) (machine slot : Name) → D.Stands desk.now H → IsDistinct same (live_on H machine slot) }
+    ensures rightly_placed { (H : History) → D.Stands desk.now H → All (IsRightlyPlaced H) (placements_of H) }
+    ensures traces { (H : History) (board lot : Name) → D.Stands desk.now H
+        → Contains (lots_of H board) lot ↔ Contains (boards_of H lot) board }
+{
+    desk.is_judged();
+}

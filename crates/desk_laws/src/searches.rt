@@ -1,0 +1,26 @@
+//! Laws of what is looked up in a list. They are for proofs, and do nothing when they run.
+
+ghost use Rattle.std.specs.Prelude.{◌≡◌, ◌≢◌, ◌↔◌, true, Some, [], Any, Contains};
+ghost use Rattle.desk_types.specs.declared.rules.Rules.{Rules};
+ghost use Rattle.desk_types.specs.Id.{Name};
+ghost use Rattle.desk_types.specs.History.{History};
+ghost use Rattle.desk_types.specs.Tape.{tape_of};
+ghost use Rattle.desk_types.specs.Pieces.{live_on, is_mounted};
+ghost use Rattle.desk_types.specs.Work.{in_work_on, is_in_work, is_placed_on};
+ghost use Rattle.desk_types.specs.Judged.{IsJudged};
+ghost use Rattle.desk_types.specs.Placements.{Placement, placements_of};
+ghost use Rattle.desk_types.specs.View.{loaded_slots};
+
+/// Four definitions look only at the commands that can matter. What they find is the plain rule: a reel
+/// is mounted exactly where it is live on some slot; a designator of a board is placed exactly where it
+/// is among the placements; a board is in work exactly where it is so on some machine; and each slot
+/// that has a tape is among the loaded slots of its machine. The second holds of every judged list, and
+/// the others of every list.
+pub fn searches_say_the_rule()
+    ensures mounted { (H : History) (reel : Name)
+        → (is_mounted H reel ≡ true) ↔ ((machine : Name) × (slot : Name) × Contains (live_on H machine slot) reel) }
+    ensures placed { (rules : Rules) (H : History) (board designator : Name) → IsJudged rules H
+        → (is_placed_on H board designator ≡ true) ↔ Any (λ (p : Placement). (p.board ≡ board) × (p.designator ≡ designator)) (placements_of H) }
+    ensures in_work { (H : History) (board : Name) → (is_in_work H board ≡ true) ↔ ((machine : Name) × (in_work_on H machine ≡ Some board)) }
+    ensures loaded { (H : History) (machine slot : Name) → tape_of H machine slot ≢ [] → Contains (loaded_slots H machine) slot }
+{}

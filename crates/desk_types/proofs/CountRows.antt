@@ -1,0 +1,60 @@
+-- Worked runs of counts, by both sets of rules, computed by the definitions.
+use Rattle.std.specs.Prelude.{◌≡◌, None, List, [], ◌∷◌, ◌++◌, refl}
+use Rattle.desk_types.specs.declared.answer.Detail.TheVariants.{Plain, MinutesLeft, Taken}
+use Rattle.desk_types.specs.declared.answer.Refusal.TheVariants.{ReelMounted, CountAbove}
+use Rattle.desk_types.specs.declared.answer.Reply.TheVariants.{Accepted, Refused}
+use Rattle.desk_types.specs.declared.command.Command.TheVariants.{MaterialsLoaded, CountsTaken}
+use Rattle.desk_types.specs.declared.command.Stamped.{Stamped}
+use Rattle.desk_types.specs.declared.rules.Rules.TheVariants.{One, Two}
+use Rattle.desk_types.specs.History.{History}
+use Rattle.desk_types.specs.Tape.{tape_of}
+use Rattle.desk_types.specs.Pieces.{left_of, all_picks, received_of, found_of, scrapped_of, live_on}
+use Rattle.desk_types.specs.Refusals.{part_refusal, sheet_refusal, definition_refusal, selection_refusal, receipt_refusal, mounting_refusal, command_refusal, refusal_of}
+use Rattle.desk_types.specs.Outcome.{replies_to, after_commands}
+use Rattle.desk_types.proofs.RowsCommon.{P, L1, M, S1, K1, said, counted, received, base, base_replies}
+
+-- A reel of ten pieces is counted with fifteen, then with twelve, with none, and then with one.
+abbrev counts : List Stamped
+counts = base ++ said (
+    received K1 P L1 10
+    ∷ CountsTaken (counted K1 15 ∷ [])
+    ∷ CountsTaken (counted K1 12 ∷ [])
+    ∷ CountsTaken (counted K1 0 ∷ [])
+    ∷ CountsTaken (counted K1 1 ∷ [])
+    ∷ [])
+
+-- By rules Two the first count takes nothing, since it finds five pieces. The last is refused: a spent reel stays spent.
+pub a_count_rises_by_rules_two : replies_to Two [] counts ≡
+    base_replies ++ Accepted Plain ∷ Accepted (Taken 0) ∷ Accepted (Taken 3) ∷ Accepted (Taken 12) ∷ Refused (CountAbove K1) ∷ []
+unfolding refusal_of command_refusal part_refusal definition_refusal sheet_refusal selection_refusal receipt_refusal tape_of left_of live_on
+a_count_rises_by_rules_two = refl
+
+-- By rules One no count rises.
+pub no_count_rises_by_rules_one : replies_to One [] counts ≡
+    base_replies ++ Accepted Plain ∷ Refused (CountAbove K1) ∷ Refused (CountAbove K1) ∷ Accepted (Taken 10) ∷ Refused (CountAbove K1) ∷ []
+unfolding refusal_of command_refusal part_refusal definition_refusal sheet_refusal selection_refusal receipt_refusal tape_of left_of live_on
+no_count_rises_by_rules_one = refl
+
+-- the list after the first two counts by rules Two
+abbrev after_rise : History
+after_rise = after_commands Two [] (base ++ said (
+    received K1 P L1 10
+    ∷ CountsTaken (counted K1 15 ∷ [])
+    ∷ CountsTaken (counted K1 12 ∷ [])
+    ∷ []))
+
+-- The found pieces count as received: of fifteen three were missing later, and twelve are left.
+pub found_pieces_count_as_received :
+    (received_of after_rise K1 ≡ 15) × (found_of after_rise K1 ≡ 5) × (scrapped_of after_rise K1 ≡ 3) × (left_of after_rise K1 ≡ 12)
+unfolding refusal_of command_refusal part_refusal definition_refusal sheet_refusal selection_refusal receipt_refusal tape_of left_of live_on all_picks found_of
+found_pieces_count_as_received = (refl, refl, refl, refl)
+
+-- By neither rules is a reel counted that stands on a slot.
+pub a_mounted_reel_is_not_counted : replies_to Two [] (base ++ said (
+    received K1 P L1 10
+    ∷ MaterialsLoaded M S1 K1
+    ∷ CountsTaken (counted K1 15 ∷ [])
+    ∷ [])) ≡
+    base_replies ++ Accepted Plain ∷ Accepted (MinutesLeft None) ∷ Refused (ReelMounted K1) ∷ []
+unfolding refusal_of command_refusal part_refusal definition_refusal sheet_refusal selection_refusal receipt_refusal mounting_refusal tape_of left_of live_on
+a_mounted_reel_is_not_counted = refl
