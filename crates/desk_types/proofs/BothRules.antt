@@ -38,9 +38,9 @@ last-test ((false, x) ∷ ts) a b r less none = last-test ts a b r less none
 row-by-two : (H : History) (seen : List Name) (row : CountRow) → count_refusal One H seen row ≡ None → count_refusal Two H seen row ≡ None
 row-by-two H seen row none =
     last-test
-      ((is_none (receipt_of H row.reel), UnknownReel row.reel) ∷ (list_any (same row.reel) seen, ReelTwice row.reel)
-        ∷ (is_mounted H row.reel, ReelMounted row.reel) ∷ [])
-      (nat_lt (left_of H row.reel) row.quantity) _ (CountAbove row.reel) (above-by-two (left_of H row.reel) row.quantity) none
+    ((is_none (receipt_of H row.reel), UnknownReel row.reel) ∷ (list_any (same row.reel) seen, ReelTwice row.reel)
+    ∷ (is_mounted H row.reel, ReelMounted row.reel) ∷ [])
+    (nat_lt (left_of H row.reel) row.quantity) _ (CountAbove row.reel) (above-by-two (left_of H row.reel) row.quantity) none
 
 both-none : (a b : Option Refusal) → option_or a b ≡ None → (a ≡ None) × (b ≡ None)
 both-none None b none = (refl, none)
@@ -86,9 +86,12 @@ accepted-by-two One H s none = by (is_too_far_ahead H s) none
 -- so a list that is judged by either rules is judged by rules Two
 pub judged-by-two : (rules : Rules) (H : History) → IsJudged rules H → IsJudged Two H
 judged-by-two rules [] judged = judged
-judged-by-two rules (e ∷ H) (next, judged) = (record {
-  in_range = next.in_range;
-  number = next.number;
-  effective = next.effective;
-  accepted = accepted-by-two rules H e.stamped next.accepted;
-}, judged-by-two rules H judged)
+judged-by-two rules (e ∷ H) (next, judged) = (
+  record {
+    in_range = next.in_range;
+    number = next.number;
+    effective = next.effective;
+    accepted = accepted-by-two rules H e.stamped next.accepted;
+  },
+  judged-by-two rules H judged,
+)
