@@ -17,10 +17,10 @@ abbrev pub schema_1 : Schema
 schema_1 = record { tables = version ∷ []; indexes = []; views = [] }
 
 abbrev pub version_text : List ℕ
-version_text = codes "CREATE TABLE version (one INTEGER PRIMARY KEY, number INTEGER NOT NULL, greatest INTEGER NOT NULL) STRICT"
+version_text = codes "CREATE TABLE version (one INTEGER NOT NULL PRIMARY KEY, number INTEGER NOT NULL, greatest INTEGER NOT NULL) STRICT"
 
 abbrev pub accepted_text : List ℕ
-accepted_text = codes "CREATE TABLE accepted (number INTEGER PRIMARY KEY, uid TEXT NOT NULL UNIQUE, source TEXT NOT NULL, own INTEGER NOT NULL, effective INTEGER NOT NULL, command TEXT NOT NULL, detail TEXT NOT NULL) STRICT"
+accepted_text = codes "CREATE TABLE accepted (number INTEGER NOT NULL PRIMARY KEY, uid TEXT NOT NULL UNIQUE, source TEXT NOT NULL, own INTEGER NOT NULL, effective INTEGER NOT NULL, command TEXT NOT NULL, detail TEXT NOT NULL) STRICT"
 
 pub version_is : (command_of (understood no_schema version_text) ≡ CreateTable) × (statement_of version_text (understood no_schema version_text) ≡ version_text) × IsPlain (understood no_schema version_text)
 unfolding understood everything

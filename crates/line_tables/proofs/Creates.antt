@@ -6,7 +6,7 @@ use Rattle.sqlite.specs.Compile.{table_defined_by}
 use Rattle.sqlite.specs.Command.TheVariants.{CreateTable}
 use Rattle.sqlite.specs.Change.{created, next_tree, KeepsRows}
 use Rattle.sqlite.specs.Does.{Tally, lacks_sequence}
-use Rattle.sqlite.specs.Effect.{Database}
+use Rattle.sqlite.specs.Effect.{Database, IsDatabase}
 use Rattle.sqlite.specs.Listing.{understood}
 use Rattle.sqlite.specs.State.{State, Writes, Executes}
 use Rattle.sqlite.proofs.Callers.{IsPlain, command_of, statement_of, runs_as}
@@ -55,7 +55,7 @@ version_cast : (greatest : ℕ) → cast_row version (Int (pos 1) ∷ Null ∷ I
 version_cast greatest = rw (cast_int (pos 1), cast_int (pos 2), cast_int (pos greatest), cast_null) refl
 
 makes_tables : (greatest : ℕ) (a b c d : State) → Runs version_text [] a b → Runs accepted_text [] b c → Runs insert_version (Int (pos greatest) ∷ []) c d → a.now.schema ≡ no_schema
-    → Holds d.now (blank greatest)
+    → Holds d.now (blank greatest) × IsDatabase d.now
 makes_tables greatest a b c d one two three has =
     let first = create_does version_text a b no_schema has version version_is.0 version_is.1 version_is.2 version_defined refl one.count one.executed in
     let second = create_does accepted_text b c schema_1 first.same (record accepted { tree = 0 }) accepted_is.0 accepted_is.1 accepted_is.2 accepted_defined refl two.count two.executed in
@@ -64,12 +64,16 @@ makes_tables greatest a b c d one two three has =
     let unfilled : c.now.trees 1 ≡ [] = second.empty in
     let row = Int (pos 1) ∷ Null ∷ Int (pos 2) ∷ Int (pos greatest) ∷ [] in
     let is : d.now.trees 0 ≡ row ∷ [] = put.step.rows ∙ ap (λ r. put_row (with_rowid Chosen (c.now.trees 0) r) (c.now.trees 0)) (version_cast greatest) ∙ ap (λ l. put_row row l) empty in
-    let other : d.now.trees 1 ≡ [] = put.step.tables.1.0 (λ e. cc) ∙ unfilled in
-    record {
-      schema = put.same;
-      version = ap (map version_columns) is;
-      accepted = subst (λ l. IsPermutation (map accepted_columns l) []) (sym other) (IsPermutation-refl []);
-    }
+    let other : d.now.trees 1 ≡ [] = put.step.tables.1.0 (λ e. cc) ∙ unfilled in (
+      record {
+        schema = put.same;
+        version = ap (map version_columns) is;
+        accepted = subst (λ l. IsPermutation (map accepted_columns l) []) (sym other) (IsPermutation-refl []);
+      },
+      put.sound,
+    )
 
 pub makes_all : (greatest : ℕ) (a b c d : State) → Runs version_text [] a b → Runs accepted_text [] b c → Runs insert_version (Int (pos greatest) ∷ []) c d → Makes greatest a d
-makes_all greatest a b c d one two three = record { was_open = one.shown.was_open; done = makes_tables greatest a b c d one two three }
+makes_all greatest a b c d one two three =
+    let made = makes_tables greatest a b c d one two three in
+    record { was_open = one.shown.was_open; done = λ has. (made has).0; sound = λ has. (made has).1 }

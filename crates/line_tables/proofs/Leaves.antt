@@ -13,8 +13,8 @@ module _ {S : Type 0} (g : Ghosts S) (old last : Held S) (trees : Trees) where
       → LeavesEdited edits (state g old) trees
   leaves_edited edits settled w is = record {
     was_open = w.was_open;
-    holds = λ tables holds. ((state g last).now, w.done tables (subst (λ (db : Database). Holds db tables) (sym (settled w.was_open)) holds), is);
+    holds = λ tables holds. let held = subst (λ (db : Database). Holds db tables) (sym (settled w.was_open)) holds in ((state g last).now, w.done tables held, w.sound tables held, is);
   }
 
   pub leaves_blank : (greatest : ℕ) → Makes greatest (state g (record old { in_transaction = true })) (state g last) → trees ≡ (state g last).now.trees → LeavesBlank greatest (state g old) trees
-  leaves_blank greatest w is = record { was_open = w.was_open; holds = λ blank. ((state g last).now, w.done blank, is) }
+  leaves_blank greatest w is = record { was_open = w.was_open; holds = λ blank. ((state g last).now, w.done blank, w.sound blank, is) }

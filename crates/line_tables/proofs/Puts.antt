@@ -87,11 +87,14 @@ inserted_edits a old new went tables holds =
     }
 
 pub puts_accepted : (a : Accepted) (old new : State) → Runs insert_accepted (columns_of a) old new → Writes (PutAccepted a ∷ []) old new
-puts_accepted a old new h = record {
-  was_open = h.shown.was_open;
-  done = λ tables holds.
-      inserted_edits a old new (insert_does insert_accepted (columns_of a) old new line_schema holds.schema 1 accepted accepted_terms 8 refl refl refl insert_accepted_is.0 insert_accepted_is.1 h.count h.executed (quiet 1 [])) tables holds;
-}
+puts_accepted a old new h =
+    let inserted : old.now.schema ≡ line_schema → Inserted line_schema accepted (kept_row (columns_of a) ∷ []) old new =
+    λ has. insert_does insert_accepted (columns_of a) old new line_schema has 1 accepted accepted_terms 8 refl refl refl insert_accepted_is.0 insert_accepted_is.1 h.count h.executed (quiet 1 []) in
+    record {
+      was_open = h.shown.was_open;
+      done = λ tables holds. inserted_edits a old new (inserted holds.schema) tables holds;
+      sound = λ tables holds. (inserted holds.schema).sound;
+    }
 
 fold_push : {A B : Type 0} (f : B → A → B) (b : B) (xs : List A) (x : A) → fold f b (xs ++ x ∷ []) ≡ f (fold f b xs) x
 fold_push f b [] x = refl

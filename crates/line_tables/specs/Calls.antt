@@ -12,7 +12,7 @@ use Rattle.sqlite_sql.specs.Ops.{binary, is_true}
 use Rattle.sqlite_sql.specs.declared.ops.BinaryOp.TheVariants.{Compare}
 use Rattle.sqlite_sql.specs.declared.ops.CompareOp.TheVariants.{Lt}
 use Rattle.sqlite.specs.Collation.TheVariants.{Binary}
-use Rattle.sqlite.specs.Effect.{Database}
+use Rattle.sqlite.specs.Effect.{Database, IsDatabase}
 use Rattle.sqlite_trees.specs.Tree.{Trees}
 use Rattle.sqlite_trees.specs.declared.store.Store.{Ghosts}
 use Rattle.sqlite.specs.Held.{Held, state}
@@ -27,10 +27,11 @@ use Rattle.line_tables.specs.Rows.{Tables, Holds, HoldsAt, columns_of, blank, ed
 abbrev pub Edits : List Edit → Database → Database → Type 0
 Edits edits before after = (tables : Tables) → Holds before tables → Holds after (edited edits tables)
 
--- the connection was open, and the edits were made inside its transaction
+-- the connection was open, and the edits were made inside its transaction, whose trees list its schema
 pub record Writes (edits : List Edit) (old new : State) : Type 0 where
   pub was_open : IsTrue old.is_open
   pub done : Edits edits old.now new.now
+  pub sound : (tables : Tables) → Holds old.now tables → IsDatabase new.now
 
 -- a crash may leave the tables of the last commit with the edits made
 pub record LeavesEdited (edits : List Edit) (old : State) (trees : Trees) : Type 0 where
@@ -42,10 +43,11 @@ pub record LeavesBlank (greatest : ℕ) (old : State) (trees : Trees) : Type 0 w
   pub was_open : IsTrue old.is_open
   pub holds : old.now.schema ≡ no_schema → HoldsAt (blank greatest) trees
 
--- the connection was open, and the tables of an empty list were made inside its transaction, where there was no table before
+-- the connection was open, and the tables of an empty list were made inside its transaction, where there was no table before; its trees list its schema
 pub record Makes (greatest : ℕ) (old new : State) : Type 0 where
   pub was_open : IsTrue old.is_open
   pub done : old.now.schema ≡ no_schema → Holds new.now (blank greatest)
+  pub sound : old.now.schema ≡ no_schema → IsDatabase new.now
 
 -- the statement ran inside a transaction, which goes on
 pub record Runs (sql : List ℕ) (params : Row) (old new : State) : Type 0 where

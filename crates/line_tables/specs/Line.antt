@@ -32,9 +32,9 @@ plain = record { digits = 0 }
 abbrev pub column : List ℕ → Kind → Column
 column name kind = record { name = name; kind = kind; is_strict = true; not_null = true; default = Null; collation = Binary }
 
--- the INTEGER PRIMARY KEY, which a row keeps as its rowid
+-- the INTEGER NOT NULL PRIMARY KEY, which a row keeps as its rowid
 abbrev pub key_column : List ℕ → Column
-key_column name = record { name = name; kind = Integer; is_strict = true; not_null = false; default = Null; collation = Binary }
+key_column name = record { name = name; kind = Integer; is_strict = true; not_null = true; default = Null; collation = Binary }
 
 abbrev pub version : Table
 version = record {

@@ -3,7 +3,7 @@ use Rattle.std.specs.Prelude.{◌≡◌, ℕ, pos, List, [], ◌∷◌, map, fol
 use Rattle.std.specs.List.Sorted.{IsPermutation}
 use Rattle.sqlite.specs.declared.types.Value.TheVariants.{Int, Text}
 use Rattle.sqlite_value.specs.Order.{Row, column}
-use Rattle.sqlite.specs.Effect.{Database}
+use Rattle.sqlite.specs.Effect.{Database, IsDatabase}
 use Rattle.sqlite_trees.specs.Tree.{Trees}
 use Rattle.line_tables.specs.declared.edit.Accepted.{Accepted}
 use Rattle.line_tables.specs.declared.edit.Edit.{Edit}
@@ -43,9 +43,9 @@ pub record Holds (db : Database) (tables : Tables) : Type 0 where
   pub version : version_in db ≡ version_row tables.greatest ∷ []
   pub accepted : IsPermutation (accepted_in db) tables.accepted
 
--- what a crash may leave is a database with these tables
+-- what a crash may leave is a database with these tables, whose schema the trees list
 abbrev pub HoldsAt : Tables → Trees → Type 0
-HoldsAt tables trees = (db : Database) × Holds db tables × (trees ≡ db.trees)
+HoldsAt tables trees = (db : Database) × Holds db tables × IsDatabase db × (trees ≡ db.trees)
 
 -- the tables of an empty list
 abbrev pub blank : ℕ → Tables

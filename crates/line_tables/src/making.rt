@@ -1,7 +1,9 @@
 //! The tables of an empty list.
 
-ghost use Rattle.std.specs.Prelude.{◌≡◌, false, IsTrue, OnOk, OnErr};
+ghost use Rattle.std.specs.Prelude.{◌≡◌, false, Err, IsTrue, OnOk, OnErr};
 ghost use Rattle.sqlite_trees.specs.Tree.{Trees};
+ghost use Rattle.sqlite.specs.declared.error.Error.TheVariants as Error;
+ghost use Rattle.sqlite.specs.declared.error.ErrorCode.TheVariants as code;
 ghost use Rattle.sqlite.specs.State.{HasCleanDisk, Survives, KeepsCommit};
 ghost use Rattle.sqlite.specs.Held.{state};
 ghost use Rattle.line_tables.specs.Line.{no_schema};
@@ -13,14 +15,14 @@ use sqlite::{Alter, Connection, Error, ErrorCode, Transaction, params};
 
 /// Makes the tables of an empty list, whose numbers are given up to the greatest, and commits them,
 /// or nothing. Tables of other names stay, and what is said of values is said where there was none.
-/// In an open transaction of the caller's nothing is done, and the error is `TransactionState`; a
-/// name that is taken is `NameTaken`.
+/// In an open transaction of the caller's nothing is done; a name that is taken is `NameTaken`.
 pub fn make<S: Alter>(conn: &mut Connection<S>, greatest: u32) -> Result<(), Error>
     ensures made { HasCleanDisk (state S.Store conn.new) → OnOk result ((state S.Store conn.old).now.schema ≡ no_schema → Holds (state S.Store conn.new).committed (blank greatest)) }
     ensures stays_open { HasCleanDisk (state S.Store conn.new) → OnOk result (IsTrue (state S.Store conn.old).is_open × IsTrue (state S.Store conn.new).is_open) }
     ensures neither { HasCleanDisk (state S.Store conn.new) → OnErr result (KeepsCommit (state S.Store conn.old) (state S.Store conn.new)) }
     ensures alone { HasCleanDisk (state S.Store conn.new) → OnOk result ((trees : Trees) → (state S.Store conn.new).may_leave trees → LeavesBlank greatest (state S.Store conn.old) trees) }
     ensures crash { Survives (state S.Store conn.old) (state S.Store conn.new) (LeavesBlank greatest (state S.Store conn.old)) }
+    ensures inside { IsTrue conn.old.in_transaction → (result ≡ Err (Error.SqliteFailure code.TransactionState)) × (conn.new ≡ conn.old) }
     ensures mode { conn.old.in_transaction ≡ false → conn.new.in_transaction ≡ false }
 {
     if !conn.is_autocommit() {
@@ -39,12 +41,12 @@ fn make_all<S: Alter>(tx: &mut Transaction<'_, S>, greatest: u32) -> Result<(), 
 {
     run(
         tx,
-        "CREATE TABLE version (one INTEGER PRIMARY KEY, number INTEGER NOT NULL, greatest INTEGER NOT NULL) STRICT",
+        "CREATE TABLE version (one INTEGER NOT NULL PRIMARY KEY, number INTEGER NOT NULL, greatest INTEGER NOT NULL) STRICT",
         &[],
     )?;
     run(
         tx,
-        "CREATE TABLE accepted (number INTEGER PRIMARY KEY, uid TEXT NOT NULL UNIQUE, source TEXT NOT NULL, own INTEGER NOT NULL, effective INTEGER NOT NULL, command TEXT NOT NULL, detail TEXT NOT NULL) STRICT",
+        "CREATE TABLE accepted (number INTEGER NOT NULL PRIMARY KEY, uid TEXT NOT NULL UNIQUE, source TEXT NOT NULL, own INTEGER NOT NULL, effective INTEGER NOT NULL, command TEXT NOT NULL, detail TEXT NOT NULL) STRICT",
         &[],
     )?;
     run(

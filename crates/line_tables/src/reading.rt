@@ -1,9 +1,11 @@
-//! What is read of the accepted commands. Each call reads what is committed, and changes nothing; in
-//! an open transaction of the caller's the error is `TransactionState`.
+//! What is read of the accepted commands. Each call reads what is committed, and changes nothing. In
+//! an open transaction of the caller's it reads nothing.
 
-ghost use Rattle.std.specs.Prelude.{◌≡◌, ◌<◌, false, pos, length, IfOk, [], ◌∷◌, filter};
+ghost use Rattle.std.specs.Prelude.{◌≡◌, ◌<◌, false, pos, length, Err, IsTrue, IfOk, [], ◌∷◌, filter};
 ghost use Rattle.std.specs.List.{list_any};
 ghost use Rattle.sqlite.specs.declared.types.Value.TheVariants.{Int};
+ghost use Rattle.sqlite.specs.declared.error.Error.TheVariants as Error;
+ghost use Rattle.sqlite.specs.declared.error.ErrorCode.TheVariants as code;
 ghost use Rattle.sqlite.specs.State.{HasCleanDisk, Survives, KeepsCommit};
 ghost use Rattle.sqlite.specs.Held.{state};
 ghost use Rattle.line_tables.specs.Rows.{columns_of, accepted_in};
@@ -22,6 +24,7 @@ const MOST_COUNTED: u64 = 9_223_372_036_854_775_807;
 pub fn find<S: Alter>(conn: &mut Connection<S>, uid: &str) -> Result<Option<Accepted>, Error>
     ensures found { HasCleanDisk (state S.Store conn.new) → IfOk result (λ found. Reads (state S.Store conn.old) (λ db. filter (has_uid uid.now) (accepted_in db) ≡ row_of found)) }
     ensures kept { HasCleanDisk (state S.Store conn.new) → KeepsCommit (state S.Store conn.old) (state S.Store conn.new) }
+    ensures inside { IsTrue conn.old.in_transaction → (result ≡ Err (Error.SqliteFailure code.TransactionState)) × (conn.new ≡ conn.old) }
     ensures mode { conn.old.in_transaction ≡ false → conn.new.in_transaction ≡ false }
     ensures survives { Survives (state S.Store conn.old) (state S.Store conn.new) (λ _. ⊥) }
 {
@@ -41,6 +44,7 @@ pub fn find<S: Alter>(conn: &mut Connection<S>, uid: &str) -> Result<Option<Acce
 pub fn row_at<S: Alter>(conn: &mut Connection<S>, number: u32) -> Result<Option<Row>, Error>
     ensures found { HasCleanDisk (state S.Store conn.new) → IfOk result (λ found. Reads (state S.Store conn.old) (λ db. filter (has_number number) (accepted_in db) ≡ only found)) }
     ensures kept { HasCleanDisk (state S.Store conn.new) → KeepsCommit (state S.Store conn.old) (state S.Store conn.new) }
+    ensures inside { IsTrue conn.old.in_transaction → (result ≡ Err (Error.SqliteFailure code.TransactionState)) × (conn.new ≡ conn.old) }
     ensures mode { conn.old.in_transaction ≡ false → conn.new.in_transaction ≡ false }
     ensures survives { Survives (state S.Store conn.old) (state S.Store conn.new) (λ _. ⊥) }
 {
@@ -56,6 +60,7 @@ pub fn row_at<S: Alter>(conn: &mut Connection<S>, number: u32) -> Result<Option<
 pub fn is_repeat<S: Alter>(conn: &mut Connection<S>, uid: &str, number: u32) -> Result<bool, Error>
     ensures found { HasCleanDisk (state S.Store conn.new) → IfOk result (λ found. Reads (state S.Store conn.old) (λ db. found ≡ list_any (is_before uid.now number) (accepted_in db))) }
     ensures kept { HasCleanDisk (state S.Store conn.new) → KeepsCommit (state S.Store conn.old) (state S.Store conn.new) }
+    ensures inside { IsTrue conn.old.in_transaction → (result ≡ Err (Error.SqliteFailure code.TransactionState)) × (conn.new ≡ conn.old) }
     ensures mode { conn.old.in_transaction ≡ false → conn.new.in_transaction ≡ false }
     ensures survives { Survives (state S.Store conn.old) (state S.Store conn.new) (λ _. ⊥) }
 {
@@ -71,6 +76,7 @@ pub fn is_repeat<S: Alter>(conn: &mut Connection<S>, uid: &str, number: u32) -> 
 pub fn least_number<S: Alter>(conn: &mut Connection<S>) -> Result<Option<i64>, Error>
     ensures least { HasCleanDisk (state S.Store conn.new) → IfOk result (λ least. Reads (state S.Store conn.old) (λ db. IsLeast (accepted_in db) least)) }
     ensures kept { HasCleanDisk (state S.Store conn.new) → KeepsCommit (state S.Store conn.old) (state S.Store conn.new) }
+    ensures inside { IsTrue conn.old.in_transaction → (result ≡ Err (Error.SqliteFailure code.TransactionState)) × (conn.new ≡ conn.old) }
     ensures mode { conn.old.in_transaction ≡ false → conn.new.in_transaction ≡ false }
     ensures survives { Survives (state S.Store conn.old) (state S.Store conn.new) (λ _. ⊥) }
 {
@@ -86,6 +92,7 @@ pub fn least_number<S: Alter>(conn: &mut Connection<S>) -> Result<Option<i64>, E
 pub fn count<S: Alter>(conn: &mut Connection<S>) -> Result<u64, Error>
     ensures counted { HasCleanDisk (state S.Store conn.new) → IfOk result (λ n. Reads (state S.Store conn.old) (λ db. n ≡ length (accepted_in db))) }
     ensures kept { HasCleanDisk (state S.Store conn.new) → KeepsCommit (state S.Store conn.old) (state S.Store conn.new) }
+    ensures inside { IsTrue conn.old.in_transaction → (result ≡ Err (Error.SqliteFailure code.TransactionState)) × (conn.new ≡ conn.old) }
     ensures mode { conn.old.in_transaction ≡ false → conn.new.in_transaction ≡ false }
     ensures survives { Survives (state S.Store conn.old) (state S.Store conn.new) (λ _. ⊥) }
 {

@@ -1,6 +1,8 @@
 //! One query, which changes nothing.
 
-ghost use Rattle.std.specs.Prelude.{◌≡◌, false, IsTrue, IfOk};
+ghost use Rattle.std.specs.Prelude.{◌≡◌, false, Err, IsTrue, IfOk};
+ghost use Rattle.sqlite.specs.declared.error.Error.TheVariants as Error;
+ghost use Rattle.sqlite.specs.declared.error.ErrorCode.TheVariants as code;
 ghost use Rattle.sqlite.specs.State.{HasCleanDisk, Survives, KeepsCommit, Shown};
 ghost use Rattle.sqlite.specs.Values.{bound};
 ghost use Rattle.sqlite.specs.Held.{state};
@@ -18,6 +20,7 @@ pub fn select<S: Alter>(
 ) -> Result<Vec<Row>, Error>
     ensures shown { HasCleanDisk (state S.Store conn.new) → IfOk result (λ rows. Selects S.Store sql.now (bound values.now) conn.old rows.items) }
     ensures kept { HasCleanDisk (state S.Store conn.new) → KeepsCommit (state S.Store conn.old) (state S.Store conn.new) }
+    ensures inside { IsTrue conn.old.in_transaction → (result ≡ Err (Error.SqliteFailure code.TransactionState)) × (conn.new ≡ conn.old) }
     ensures mode { conn.old.in_transaction ≡ false → conn.new.in_transaction ≡ false }
     ensures survives { Survives (state S.Store conn.old) (state S.Store conn.new) (λ _. ⊥) }
 {

@@ -1,7 +1,9 @@
 //! Edits, written in one transaction.
 
-ghost use Rattle.std.specs.Prelude.{◌≡◌, ◌<◌, false, length, IsTrue, OnOk, OnErr, [], ◌∷◌};
+ghost use Rattle.std.specs.Prelude.{◌≡◌, ◌<◌, false, length, Err, IsTrue, OnOk, OnErr, [], ◌∷◌};
 ghost use Rattle.sqlite_trees.specs.Tree.{Trees};
+ghost use Rattle.sqlite.specs.declared.error.Error.TheVariants as Error;
+ghost use Rattle.sqlite.specs.declared.error.ErrorCode.TheVariants as code;
 ghost use Rattle.sqlite.specs.State.{HasCleanDisk, Survives, KeepsCommit};
 ghost use Rattle.sqlite.specs.Held.{state};
 ghost use Rattle.line_tables.specs.declared.edit.Edit.TheVariants as Edit;
@@ -12,8 +14,8 @@ use crate::statement::run;
 use sqlite::{Alter, Connection, Error, ErrorCode, Transaction, params};
 
 /// Writes all edits in their order and commits them, or none of them. In an open transaction of the
-/// caller's nothing is done, and the error is `TransactionState`. An edit that a rule of its table
-/// refuses is told with the rule, as `ConstraintViolation(Unique)`.
+/// caller's nothing is done. An edit that a rule of its table refuses is told with the rule, as
+/// `ConstraintViolation(Unique)`.
 pub fn append<S: Alter>(conn: &mut Connection<S>, edits: &[Edit]) -> Result<(), Error>
     requires some { 0 < length edits.now }
     ensures done { HasCleanDisk (state S.Store conn.new) → OnOk result (Edits edits.now (state S.Store conn.old).committed (state S.Store conn.new).committed) }
@@ -21,6 +23,7 @@ pub fn append<S: Alter>(conn: &mut Connection<S>, edits: &[Edit]) -> Result<(), 
     ensures neither { HasCleanDisk (state S.Store conn.new) → OnErr result (KeepsCommit (state S.Store conn.old) (state S.Store conn.new)) }
     ensures alone { HasCleanDisk (state S.Store conn.new) → OnOk result ((trees : Trees) → (state S.Store conn.new).may_leave trees → LeavesEdited edits.now (state S.Store conn.old) trees) }
     ensures crash { Survives (state S.Store conn.old) (state S.Store conn.new) (LeavesEdited edits.now (state S.Store conn.old)) }
+    ensures inside { IsTrue conn.old.in_transaction → (result ≡ Err (Error.SqliteFailure code.TransactionState)) × (conn.new ≡ conn.old) }
     ensures mode { conn.old.in_transaction ≡ false → conn.new.in_transaction ≡ false }
 {
     if !conn.is_autocommit() {

@@ -29,11 +29,15 @@ AnswersFront remaining contents input output output' =
 
 -- ---- what failed
 
--- the wires show the fault: a read failed, a write failed, or as many reads were made as may be
+-- the failures are as they were
+abbrev pub FailsNever : {R W : Type 0} → Wire R → Wire R → Wire W → Wire W → Type 0
+FailsNever input input' output output' = (failures_of input' ≡ failures_of input) × (failures_of output' ≡ failures_of output)
+
+-- the wires show the fault: one read failed and no write, one write and no read, or nothing failed and as many reads were made as may be
 abbrev pub IsShown : {R W : Type 0} → ServeFault → Wire R → Wire R → Wire W → Wire W → Type 0
-IsShown (Read served) input input' output output' = failures_of input < failures_of input'
-IsShown (Write served) input input' output output' = failures_of output < failures_of output'
-IsShown (TooManyReads served) input input' output output' = reads_of input' ≡ reads_of input + MOST_READS
+IsShown (Read served) input input' output output' = (failures_of input' ≡ failures_of input + 1) × (failures_of output' ≡ failures_of output)
+IsShown (Write served) input input' output output' = (failures_of output' ≡ failures_of output + 1) × (failures_of input' ≡ failures_of input)
+IsShown (TooManyReads served) input input' output output' = (reads_of input' ≡ reads_of input + MOST_READS) × FailsNever input input' output output'
 
 -- the line that tells of the fault
 abbrev pub fault_line : ServeFault → List ℕ

@@ -49,10 +49,6 @@ after_lines rules greatest (m ∷ ms) H (line ∷ lines) = after_lines rules gre
 abbrev pub sent : Told → List ℕ
 sent told = told.text ++ 10 ∷ []
 
--- what an input is answered after H, and the list after it; there is one mark for each of its lines
-abbrev pub stream_of : Rules → ℕ → History → List ℕ → List Bool → List ℕ × History
-stream_of rules greatest H input marks = (flat_map sent (answers_to rules greatest marks H (lines_of input)), after_lines rules greatest marks H (lines_of input))
-
 -- ---- a run
 
 -- the lines were answered, each as its mark says: so many bytes went out, so the list went on, and so many were counted

@@ -1,12 +1,13 @@
 //! Lines in, answers out.
 
-ghost use Rattle.std.specs.Prelude.{◌≡◌, ◌+◌, ◌^◌, ◌<◌, ◌≤◌, ℕ, List, Bool, length, if◌then◌else◌, IfOk, OnOk, OnErr, Err};
+ghost use Rattle.std.specs.Prelude.{◌≡◌, ◌+◌, ◌^◌, ◌<◌, ◌≤◌, ℕ, List, if◌then◌else◌, IfOk, OnOk, OnErr, Err};
 ghost use Rattle.std.specs.Io.KnownBytes.{IsAtEnd};
 ghost use Rattle.desk_types.specs.Wire.{inner_of, reads_of, failures_of};
 ghost use Rattle.tracedesk.specs.Inbox.{HoldsLine};
 ghost use Rattle.tracedesk.specs.LineAnswers.{Serves, Breaks};
-ghost use Rattle.tracedesk.specs.Lines.{lines_in, lines_of};
-ghost use Rattle.tracedesk.specs.Stream.{AnsweredAll, AnsweredFront, AnsweredInto, stream_of};
+ghost use Rattle.tracedesk.specs.Lines.{lines_in};
+ghost use Rattle.tracedesk.specs.Program.{FailsNever, IsShown};
+ghost use Rattle.tracedesk.specs.Stream.{AnsweredAll, AnsweredFront, AnsweredInto};
 
 use crate::inbox::{Inbox, InboxFault, RawLine, Taken};
 use crate::line::answer_line;
@@ -49,7 +50,7 @@ pub enum ServeFault {
     /// A write failed. The first bytes of one answer more may have gone out, and its command may
     /// be accepted.
     Write(Served),
-    /// As many reads were made as may be, and the input had not ended.
+    /// As many reads were made as may be.
     TooManyReads(Served),
 }
 
@@ -71,17 +72,17 @@ pub fn feed<R: Read, W: Write>(
     ensures ok { IfOk result (λ served. AnsweredAll desk.old.rules desk.old.greatest (R.remaining (inner_of input.old))
         desk.old.history (W.contents (inner_of output.old)) desk.new.history (W.contents (inner_of output.new)) served) }
     ensures end { OnOk result (IsAtEnd (R.remaining (inner_of input.new))) }
-    ensures kept { OnOk result ((failures_of input.new ≡ failures_of input.old) × (failures_of output.new ≡ failures_of output.old)) }
+    ensures kept { OnOk result (FailsNever input.old input.new output.old output.new) }
     ensures rules { desk.new.rules ≡ desk.old.rules }
     ensures greatest { desk.new.greatest ≡ desk.old.greatest }
     ensures few_reads { reads_of input.new ≤ reads_of input.old + MOST_READS }
-    ensures read { (served : Served) → result ≡ Err (ServeFault.Read served) → (failures_of input.old < failures_of input.new)
+    ensures read { (served : Served) → result ≡ Err (ServeFault.Read served) → IsShown (ServeFault.Read served) input.old input.new output.old output.new
         × AnsweredFront desk.old.rules desk.old.greatest (R.remaining (inner_of input.old))
         desk.old.history (W.contents (inner_of output.old)) desk.new.history (W.contents (inner_of output.new)) served }
-    ensures too_many { (served : Served) → result ≡ Err (ServeFault.TooManyReads served) → (reads_of input.new ≡ reads_of input.old + MOST_READS)
+    ensures too_many { (served : Served) → result ≡ Err (ServeFault.TooManyReads served) → IsShown (ServeFault.TooManyReads served) input.old input.new output.old output.new
         × AnsweredFront desk.old.rules desk.old.greatest (R.remaining (inner_of input.old))
         desk.old.history (W.contents (inner_of output.old)) desk.new.history (W.contents (inner_of output.new)) served }
-    ensures write { (served : Served) → result ≡ Err (ServeFault.Write served) → (failures_of output.old < failures_of output.new)
+    ensures write { (served : Served) → result ≡ Err (ServeFault.Write served) → IsShown (ServeFault.Write served) input.old input.new output.old output.new
         × AnsweredInto desk.old.rules desk.old.greatest (R.remaining (inner_of input.old))
         desk.old.history (W.contents (inner_of output.old)) desk.new.history (W.contents (inner_of output.new)) served }
 {
@@ -126,24 +127,11 @@ fn serve_line<W: Write>(
     ensures rules { desk.new.rules ≡ desk.old.rules }
     ensures greatest { desk.new.greatest ≡ desk.old.greatest }
     ensures kept { OnOk result (failures_of output.new ≡ failures_of output.old) }
-    ensures failed { OnErr result (failures_of output.old < failures_of output.new) }
+    ensures failed { OnErr result (failures_of output.new ≡ failures_of output.old + 1) }
 {
     if let Some(answer) = answer_line(alloc, desk, raw) {
         send_line(output, answer.text())?;
         served.count(answer.is_refused());
     }
     Ok(())
-}
-
-/// The answers to the lines of a text.
-pub fn answers(alloc: Global, input: &[u8], desk: &mut PlainLine) -> Result<Vec<u8>, ServeFault>
-    ensures stream { IfOk result (λ text. (marks : List Bool) × (length marks ≡ length (lines_of input.now))
-        × (stream_of desk.old.rules desk.old.greatest desk.old.history input.now marks ≡ (text.items, desk.new.history))) }
-    ensures rules { desk.new.rules ≡ desk.old.rules }
-    ensures greatest { desk.new.greatest ≡ desk.old.greatest }
-{
-    let mut input = Wire::new(input);
-    let mut output = Wire::new(Vec::new(alloc));
-    feed(alloc, &mut input, &mut output, desk)?;
-    Ok(output.into_inner())
 }

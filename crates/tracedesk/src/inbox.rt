@@ -86,8 +86,8 @@ impl Inbox {
         ensures falls { OnOk result (fuel most_reads (reads_of wire.new) self.new < fuel most_reads (reads_of wire.old) self.old) }
         ensures few_reads { reads_of wire.new ≤ most_reads }
         ensures kept { OnOk result (failures_of wire.new ≡ failures_of wire.old) }
-        ensures read { result ≡ Err InboxFault.Read → failures_of wire.old < failures_of wire.new }
-        ensures too_many { result ≡ Err InboxFault.TooManyReads → reads_of wire.new ≡ most_reads }
+        ensures read { result ≡ Err InboxFault.Read → failures_of wire.new ≡ failures_of wire.old + 1 }
+        ensures too_many { result ≡ Err InboxFault.TooManyReads → (reads_of wire.new ≡ most_reads) × (failures_of wire.new ≡ failures_of wire.old) }
     {
         let mut line = RawLine::Whole(Vec::new(alloc));
         while self.ready(wire, most_reads)? {
@@ -120,8 +120,8 @@ impl Inbox {
         ensures falls_at_end { result ≡ Ok false → fuel most_reads (reads_of wire.new) self.new < fuel most_reads (reads_of wire.old) self.old }
         ensures few_reads { reads_of wire.new ≤ most_reads }
         ensures kept { OnOk result (failures_of wire.new ≡ failures_of wire.old) }
-        ensures read { result ≡ Err InboxFault.Read → failures_of wire.old < failures_of wire.new }
-        ensures too_many { result ≡ Err InboxFault.TooManyReads → reads_of wire.new ≡ most_reads }
+        ensures read { result ≡ Err InboxFault.Read → failures_of wire.new ≡ failures_of wire.old + 1 }
+        ensures too_many { result ≡ Err InboxFault.TooManyReads → (reads_of wire.new ≡ most_reads) × (failures_of wire.new ≡ failures_of wire.old) }
     {
         if self.at == self.end {
             if wire.reads() >= most_reads {

@@ -1,13 +1,14 @@
 //! A run of the program.
 
-ghost use Rattle.std.specs.Prelude.{◌≡◌, ◌≢◌, ◌⊎◌, ◌^◌, ◌<◌, ◌≤◌, ◌++◌, ◌∷◌, [], codes, map, string_bytes, List, ℕ};
+ghost use Rattle.std.specs.Prelude.{◌≡◌, ◌≢◌, ◌⊎◌, ◌+◌, ◌^◌, ◌<◌, ◌≤◌, ◌++◌, ◌∷◌, [], codes, map, string_bytes, List, ℕ};
 ghost use Rattle.std.specs.IoError.{error_kind};
 ghost use Rattle.std.specs.Io.KnownBytes.{Appends};
 ghost use Rattle.desk_types.specs.Wire.{inner_of, reads_of, failures_of};
 ghost use Rattle.tracedesk.specs.declared.feed.Served.{Served};
 ghost use Rattle.tracedesk.specs.declared.feed.ServeFault.{ServeFault};
+ghost use Rattle.tracedesk.specs.declared.feed.TheConstants.{MOST_READS};
 ghost use Rattle.tracedesk.specs.CommandLine.{AsksForFeed, AsksForText, AsksForNothing};
-ghost use Rattle.tracedesk.specs.Program.{AnswersInput, AnswersFront, IsShown, fault_line, Tells, TellsLine};
+ghost use Rattle.tracedesk.specs.Program.{AnswersInput, AnswersFront, FailsNever, IsShown, fault_line, Tells, TellsLine};
 
 use crate::command_line::{Asked, read_words};
 use crate::feed::{ServeFault, feed};
@@ -94,6 +95,9 @@ pub fn program<R: Read, W: Write, E: Write>(
     ensures failed { result ≡ 4
         → (fault : ServeFault) × IsShown fault input.old input.new output.old output.new × TellsLine E.contents errors.old errors.new (fault_line fault) }
     ensures front { result ≡ 4 → AsksForFeed (map string_bytes words.now) → AnswersFront R.remaining W.contents input.old output.old output.new }
+    ensures kept { (result ≡ 0) ⊎ (result ≡ 1) → FailsNever input.old input.new output.old output.new }
+    ensures few_reads { reads_of input.new ≤ reads_of input.old + MOST_READS }
+    ensures unread { AsksForText (map string_bytes words.now) → input.new ≡ input.old }
     ensures quiet { (result ≡ 0) ⊎ (result ≡ 1) → errors.new ≡ errors.old }
 {
     match read_words(rt.alloc(), words) {

@@ -20,7 +20,7 @@ pub fn send_line<W: Write>(wire: &mut Wire<W>, text: &[u8]) -> Result<(), WriteF
     requires few_failures { failures_of wire.old < 2 ^ 63 }
     ensures ok { OnOk result (Appends (W.contents (inner_of wire.old)) (W.contents (inner_of wire.new)) (text.now ++ 10 ∷ [])) }
     ensures kept { OnOk result (failures_of wire.new ≡ failures_of wire.old) }
-    ensures failed { OnErr result (failures_of wire.old < failures_of wire.new) }
+    ensures failed { OnErr result (failures_of wire.new ≡ failures_of wire.old + 1) }
     ensures front { OnErr result (SendsFront (W.contents (inner_of wire.old)) (W.contents (inner_of wire.new)) (text.now ++ 10 ∷ [])) }
 {
     if text.len() < SHORT {
@@ -47,7 +47,7 @@ pub fn send<W: Write>(wire: &mut Wire<W>, bytes: &[u8]) -> Result<(), WriteFaile
     requires few_failures { failures_of wire.old < 2 ^ 63 }
     ensures ok { OnOk result (Appends (W.contents (inner_of wire.old)) (W.contents (inner_of wire.new)) bytes.now) }
     ensures kept { OnOk result (failures_of wire.new ≡ failures_of wire.old) }
-    ensures failed { OnErr result (failures_of wire.old < failures_of wire.new) }
+    ensures failed { OnErr result (failures_of wire.new ≡ failures_of wire.old + 1) }
     ensures front { OnErr result (SendsFront (W.contents (inner_of wire.old)) (W.contents (inner_of wire.new)) bytes.now) }
 {
     let mut at = 0;

@@ -1,12 +1,12 @@
-//! Readers and a writer for tests: ones that give or take little at a time and fail in the end, and
-//! a machine that waits for its answers.
+//! Readers and writers for tests: ones that give or take little at a time and fail once, and a
+//! machine that waits for its answers.
 
 use std::alloc::{AllocError, Global};
 use std::cell::Cell;
 use std::io;
 use std::io::{ErrorKind, Read, Write};
 
-/// Gives at most `piece` bytes a read, and fails after so many good reads.
+/// Gives at most `piece` bytes a read. After so many good reads one fails, and then they are good.
 #[derive(Drop)]
 pub struct Giver<'a> {
     pub bytes: &'a [u8],
@@ -17,6 +17,7 @@ pub struct Giver<'a> {
 impl Read for Giver<'_> {
     fn read(&mut self, buf: &mut [u8]) -> io::Result<usize> {
         if self.good == 0 {
+            self.good = usize::MAX;
             return Err(io::Error::from(ErrorKind::ConnectionReset));
         }
         self.good -= 1;
@@ -28,8 +29,8 @@ impl Read for Giver<'_> {
     }
 }
 
-/// Takes at most `piece` bytes a write, and fails after so many good writes. It has room for the
-/// bytes of a test from the first.
+/// Takes at most `piece` bytes a write. After so many good writes one fails, and then they are
+/// good. It has room for the bytes of a test from the first.
 #[derive(Drop)]
 pub struct Taker {
     pub taken: Vec<u8>,
@@ -51,6 +52,7 @@ impl Taker {
 impl Write for Taker {
     fn write(&mut self, buf: &[u8]) -> io::Result<usize> {
         if self.good == 0 {
+            self.good = usize::MAX;
             return Err(io::Error::from(ErrorKind::BrokenPipe));
         }
         self.good -= 1;
@@ -64,28 +66,36 @@ impl Write for Taker {
     }
 }
 
-/// Sends a line at each read, and fails where the line before was not answered by then.
+/// Sends a piece of whole lines at each read, and fails where a line sent before was not answered by
+/// then.
 #[derive(Drop)]
 pub struct Machine<'a> {
-    pub lines: &'a [&'a str],
+    pub pieces: &'a [&'a str],
     pub sent: usize,
+    pub lines: usize,
     pub answered: &'a Cell<usize>,
 }
 
 impl Read for Machine<'_> {
     fn read(&mut self, buf: &mut [u8]) -> io::Result<usize> {
-        if self.answered.get() != self.sent {
+        if self.answered.get() != self.lines {
             return Err(io::Error::from(ErrorKind::TimedOut));
         }
-        let Some(line) = self.lines.get(self.sent) else {
+        let Some(piece) = self.pieces.get(self.sent) else {
             return Ok(0);
         };
-        let bytes = line.as_bytes();
+        let bytes = piece.as_bytes();
         let count = bytes.len().min(buf.len());
         buf[..count].copy_from_slice(&bytes[..count]);
         self.sent = self.sent.saturating_add(1);
+        self.lines = self.lines.saturating_add(lines_in(bytes));
         Ok(count)
     }
+}
+
+/// How many line feeds there are.
+pub fn lines_in(bytes: &[u8]) -> usize {
+    bytes.iter().filter(|b| **b == b'\n').count()
 }
 
 /// Counts the line feeds that it takes.
@@ -96,8 +106,8 @@ pub struct Counter<'a> {
 
 impl Write for Counter<'_> {
     fn write(&mut self, buf: &[u8]) -> io::Result<usize> {
-        let feeds = buf.iter().filter(|b| **b == b'\n').count();
-        self.answered.set(self.answered.get().saturating_add(feeds));
+        self.answered
+            .set(self.answered.get().saturating_add(lines_in(buf)));
         Ok(buf.len())
     }
 

@@ -121,7 +121,7 @@ returns-in-Err-clause-write g c = λ served e.
     let failed = c.in-Err.ensures.failed in
     let same : served ≡ c.lines.served = sym (same_write c.serve_line.new.served served e) ∙ broke.3 in
     let first = next_first asked before behind inv.lines raw broke.1 c.in-Ok.field-0.last inv.gone took broke.2 in (
-      omega (arith, failed, inv.write_failures),
+      (omega (arith, failed, inv.write_failures), c.in-Ok.ensures.kept ∙ inv.read_failures),
       subst (λ (s : Served). AnsweredInto rules greatest asked H₀ out₀ H₂ out₂ s) (sym same)
           (inv.lines, inv.marks, broke.1, broke.0, H₁, out₁, first, inv.answered, broke.4, broke.5),
     )
