@@ -32,7 +32,7 @@ pub keeps-none : (greatest : ℕ) → greatest ≤ MOST_ENTRIES → IsKept great
 keeps-none greatest most = record { most = most; numbers = omega arith; uids = none-yet; answered = refl }
 
 -- no entry has the UniqueID of a message that comes for the first time
-first-uid : (H : History) (s : Stamped) → earlier_answer H s ≡ None → AllByRecursion (λ uid. same s.uid uid ≡ false) (map (λ (e : Entry). e.stamped.uid) H)
+pub first-uid : (H : History) (s : Stamped) → earlier_answer H s ≡ None → AllByRecursion (λ uid. same s.uid uid ≡ false) (map (λ (e : Entry). e.stamped.uid) H)
 first-uid [] s none = tt
 first-uid (e ∷ H) s none = by (same e.stamped.uid s.uid) refl none (first-uid H s)
   where

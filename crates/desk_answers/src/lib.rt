@@ -6,5 +6,5 @@ mod answer;
 mod plain_line;
 mod repeat;
 
-pub use answer::Answer;
+pub use answer::{Answer, accepted_text};
 pub use plain_line::PlainLine;

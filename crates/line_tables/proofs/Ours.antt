@@ -6,7 +6,7 @@ use base.Stored.{Gv, gnil, gnum, gcons}
 use Rattle.sqlite.specs.Schema.{Schema}
 use Rattle.sqlite_schema.specs.Names.{same_name}
 use Rattle.sqlite_schema.specs.contracts.schema.Schema.{the_row}
-use Rattle.line_tables.specs.Line.{line_schema, is_ours, is_same_code}
+use Rattle.line_tables.specs.Line.{line_schema, no_schema, is_ours, is_blank, is_same_schema, is_same_code}
 use Rattle.line_tables.specs.Names.{has_name, is_version, is_accepted}
 
 both : (a b : Bool) → (a && b) ≡ true → (a ≡ true) × (b ≡ true)
@@ -29,11 +29,19 @@ same_itself gnil = refl
 same_itself (gnum n) = eq-eqb n n refl
 same_itself (gcons a b) = ap₂ (λ x y. x && y) (same_itself a) (same_itself b)
 
--- the test finds our schema, and no other
+-- the test finds the same schema, and no other
+same_schema : (a b : Schema) → is_same_schema a b ≡ true → a ≡ b
+unfolding is_same_schema
+same_schema a b h = the_row.coded.inj a b (same_is _ _ h)
+
 pub ours_is : (schema : Schema) → is_ours schema ≡ true → schema ≡ line_schema
-ours_is schema h = the_row.coded.inj schema line_schema (same_is _ _ h)
+ours_is schema h = same_schema schema line_schema h
+
+pub blank_is : (schema : Schema) → is_blank schema ≡ true → schema ≡ no_schema
+blank_is schema h = same_schema schema no_schema h
 
 pub is_ours_of : (schema : Schema) → schema ≡ line_schema → is_ours schema ≡ true
+unfolding is_same_schema
 is_ours_of schema is = subst (λ s. is_ours s ≡ true) (sym is) (same_itself (the_row.coded.code line_schema))
 
 -- our schema has the names

@@ -76,6 +76,14 @@ no_schema = record { tables = []; indexes = []; views = [] }
 abbrev pub line_schema : Schema
 line_schema = record { tables = version ∷ accepted ∷ []; indexes = listing.automatic accepted 0 (2 ∷ []) 2 ∷ []; views = [] }
 
--- the schema is ours, columns and all: both have one code
+-- two schemas are one, columns and all: both have one code
+unfoldable pub is_same_schema : Schema → Schema → Bool
+is_same_schema a b = is_same_code (the_row.coded.code a) (the_row.coded.code b)
+
+-- the schema is ours
 abbrev pub is_ours : Schema → Bool
-is_ours schema = is_same_code (the_row.coded.code schema) (the_row.coded.code line_schema)
+is_ours schema = is_same_schema schema line_schema
+
+-- there is no table, index or view
+abbrev pub is_blank : Schema → Bool
+is_blank schema = is_same_schema schema no_schema

@@ -1,0 +1,90 @@
+-- What was taken of the rows, told of the rows that were committed at first.
+use Rattle.std.proofs.Common.{◌≡◌, ◌∙◌, ◌==◌, ◌+◌, ◌≤◌, ◌⊎◌, inl, inr, IsTrue, ℕ, Bool, true, false, [], length, filter, sym, ap, subst, arith}
+use Rattle.std.proofs.lemmas.Bool.{eqb-true, eq-eqb, true≢false}
+use Rattle.std.specs.List.Sorted.{IsPermutation}
+use Rattle.std.proofs.lemmas.List.Sorted.{IsPermutation-sym, IsPermutation-trans}
+use Rattle.sqlite.specs.Effect.{Database}
+use Rattle.sqlite.specs.State.{State, KeepsCommit}
+use Rattle.desk_types.specs.declared.rules.Rules.{Rules}
+use Rattle.desk_types.specs.History.{History}
+use Rattle.desk_types.specs.Judged.{IsJudged}
+use Rattle.line_tables.specs.Line.{line_schema}
+use Rattle.line_tables.specs.Rows.{Holds, accepted_in}
+use Rattle.line_tables.specs.Calls.{Reads, has_number}
+use Rattle.line_tables.proofs.Keeps.{keeps_then}
+use Rattle.line_rows.specs.Rows.{rows_of, tables_of}
+use Rattle.line_replay.specs.declared.fault.ReplayFault.{ReplayFault}
+use Rattle.line_replay.specs.declared.fault.ReplayFault.TheVariants.{NotLawful, Unavailable}
+use Rattle.line_replay.specs.Listed.{AreAt, StopsAt}
+use Rattle.line_replay.specs.Replay.{IsReplayed, IsFaultOf, IsNumbered, IsStuck, IsTaken, IsEnd, IsStop}
+use Rattle.line_replay.proofs.Reading.{reads_two, reads_back}
+use Rattle.line_replay.proofs.Listing.{are_rows}
+use Rattle.line_replay.proofs.Stopping.{stops_stuck, stops_short}
+
+-- a place where the rows stop, told of the rows at first
+pub stops_before : (rules : Rules) (greatest : ℕ) (old mid : State) (n : ℕ) → KeepsCommit old mid → Reads old (λ db. IsNumbered (accepted_in db)) → IsStop rules greatest mid n → IsFaultOf rules greatest old (NotLawful n)
+stops_before rules greatest old mid n kept numbered stop =
+    let H = stop.0 in
+    let low : length H + 1 ≤ greatest = omega (arith, stop.2, stop.3) in
+    subst (λ m. Reads old (λ db. StopsAt rules greatest (accepted_in db) m)) stop.2
+    (reads_two old (λ db. IsNumbered (accepted_in db)) (λ db. AreAt (accepted_in db) H × IsStuck rules H (accepted_in db)) (λ db. StopsAt rules greatest (accepted_in db) (length H + 1))
+    (λ db first at. stops_stuck rules greatest (accepted_in db) H first stop.1 at.0 low at.1) numbered (reads_back old mid _ kept stop.4))
+
+-- what the loop tells of a fault
+pub fault_before : (rules : Rules) (greatest : ℕ) (old mid : State) (f : ReplayFault) → KeepsCommit old mid → Reads old (λ db. IsNumbered (accepted_in db))
+    → (f ≡ Unavailable) ⊎ ((n : ℕ) × (f ≡ NotLawful n) × IsStop rules greatest mid n) → IsFaultOf rules greatest old f
+fault_before rules greatest old mid f kept numbered (inl is) = subst (IsFaultOf rules greatest old) (sym is) tt
+fault_before rules greatest old mid f kept numbered (inr stop) = subst (IsFaultOf rules greatest old) (sym stop.1) (stops_before rules greatest old mid stop.0 kept numbered stop.2)
+
+module _ {D : Type 0} (F : D → History → Type 0) (rules : Rules) (greatest : ℕ) (first mid last : State) (desk : D) (n : ℕ) (H : History) (Before After : Type 0)
+    (early : After → Before) (kept : After → KeepsCommit first mid) (kept_on : After → KeepsCommit mid last) (low : n ≤ greatest) (taken : IsTaken F rules Before mid.committed desk n H)
+    (are : Bool) (counted : After → Reads last (λ db. are ≡ (n == length (accepted_in db)))) where
+  same : After → mid.committed ≡ first.committed
+  same clean = (kept clean).committed ((kept_on clean).was_open (counted clean).was_open)
+
+  here : After → first.committed.schema ≡ line_schema → AreAt (accepted_in first.committed) H
+  here clean schema = subst (λ (db : Database). AreAt (accepted_in db) H) (same clean) (taken.rows (early clean) (ap (λ (db : Database). db.schema) (same clean) ∙ schema))
+
+  counted_first : After → Reads first (λ db. are ≡ (n == length (accepted_in db)))
+  counted_first clean = reads_back first last _ (keeps_then first mid last (kept clean) (kept_on clean)) (counted clean)
+
+  within : length H ≤ greatest
+  within = omega (arith, low, taken.counted)
+
+  pub replayed : are ≡ true → IsReplayed F rules greatest After first desk n H
+  replayed is = record {
+    stands = taken.stands;
+    judged = taken.judged;
+    counted = taken.counted;
+    within = within;
+    rows = λ clean.
+        let r = counted_first clean in record {
+          was_open = r.was_open;
+          are = λ schema. are_rows rules greatest (accepted_in first.committed) H taken.judged (here clean schema) within (sym (eqb-true n _ (sym (r.are schema) ∙ is)) ∙ sym taken.counted);
+        };
+  }
+
+  -- the rows are more than were taken
+  apart : (long : ℕ) → are ≡ (n == long) → are ≡ false → length H ≡ long → ⊥
+  apart long told not is = true≢false (sym (eq-eqb n long (sym taken.counted ∙ is)) ∙ sym told ∙ not)
+
+  end_of : After → IsEnd greatest mid n → first.committed.schema ≡ line_schema → (length H ≡ greatest) ⊎ (filter (has_number (length H + 1)) (accepted_in first.committed) ≡ [])
+  end_of clean (inl full) schema = inl (taken.counted ∙ full)
+  end_of clean (inr none) schema = inr (subst (λ m. filter (has_number (m + 1)) (accepted_in first.committed) ≡ []) (sym taken.counted) ((reads_back first mid _ (kept clean) none).are schema))
+
+  pub too_few : are ≡ false → After → Reads first (λ db. IsNumbered (accepted_in db)) → IsEnd greatest mid n → IsFaultOf rules greatest first (NotLawful (n + 1))
+  too_few not clean numbered end =
+      let r = counted_first clean in record {
+        was_open = r.was_open;
+        are = λ schema. subst (λ m. StopsAt rules greatest (accepted_in first.committed) (m + 1)) taken.counted
+            (stops_short rules greatest (accepted_in first.committed) H (numbered.are schema) taken.judged (here clean schema) within (end_of clean end schema) (apart _ (r.are schema) not));
+      }
+
+-- the list that was read again is the one whose tables these are
+pub same_list : {D : Type 0} (F : D → History → Type 0) (rules : Rules) (greatest : ℕ) (Clean : Type 0) (old : State) (desk : D) (count : ℕ) (H G : History)
+    → ((A B : History) → IsJudged rules A → IsJudged rules B → IsPermutation (rows_of A) (rows_of B) → A ≡ B) → IsReplayed F rules greatest Clean old desk count H → IsJudged rules G
+    → (IsTrue old.is_open → Holds old.committed (tables_of greatest G)) → Clean → H ≡ G
+same_list F rules greatest Clean old desk count H G tell all judged holds clean =
+    let r = all.rows clean in
+    let tables = holds r.was_open in
+    tell H G all.judged judged (IsPermutation-trans _ _ _ (IsPermutation-sym _ _ (r.are tables.schema).same) tables.accepted)

@@ -1,0 +1,6 @@
+pub mod Tests
+pub mod Reading
+pub mod Listing
+pub mod Stopping
+pub mod Taken
+pub mod Committed

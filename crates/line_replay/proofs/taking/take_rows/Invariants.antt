@@ -1,0 +1,18 @@
+use Rattle.std.proofs.Common.{◌≡◌, false}
+use Rattle.sqlite.specs.State.{HasCleanDisk, Survives, KeepsCommit}
+use Rattle.sqlite.specs.Held.{state}
+use Rattle.desk_types.specs.History.{History}
+use Rattle.line_replay.specs.Replay.{IsTaken}
+use Rattle.line_replay.proofs.taking.take_rows.Given as goal
+
+abbrev pub invariant-loop-number : goal.invariant-loop-number
+invariant-loop-number g l =
+    let kept_rules = g.D.Desk.kept_rules in
+    let old = state g.S.Store l.fn.conn in
+    let now = state g.S.Store l.conn in record {
+      rules : kept_rules l.desk ≡ kept_rules l.fn.desk;
+      taken : (H : History) × IsTaken g.D.Desk.Stands (kept_rules l.fn.desk) (HasCleanDisk now) old.committed l.desk l.number H;
+      kept : HasCleanDisk now → KeepsCommit old now;
+      mode : l.fn.conn.in_transaction ≡ false → l.conn.in_transaction ≡ false;
+      survives : Survives old now (λ _. ⊥);
+    }

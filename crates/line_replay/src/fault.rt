@@ -1,0 +1,34 @@
+//! Why a list can't be read again.
+
+use std::alloc::AllocError;
+
+/// Why a list can't be read again.
+#[derive(Clone, Copy, Debug, PartialEq, Eq)]
+pub enum ReplayFault {
+    /// The first place of the list, from 1, with which it doesn't go on.
+    NotLawful(u32),
+    /// Memory was refused, or the database failed.
+    Unavailable,
+}
+
+impl From<AllocError> for ReplayFault {
+    ghost use Rattle.std.specs.Prelude.{◌≡◌};
+    ghost use Rattle.line_replay.specs.declared.fault.ReplayFault.TheVariants.{Unavailable};
+
+    ghost from_gives = { λ _ fault. fault ≡ Unavailable };
+
+    fn from(_error: AllocError) -> ReplayFault {
+        ReplayFault::Unavailable
+    }
+}
+
+impl From<sqlite::Error> for ReplayFault {
+    ghost use Rattle.std.specs.Prelude.{◌≡◌};
+    ghost use Rattle.line_replay.specs.declared.fault.ReplayFault.TheVariants.{Unavailable};
+
+    ghost from_gives = { λ _ fault. fault ≡ Unavailable };
+
+    fn from(_error: sqlite::Error) -> ReplayFault {
+        ReplayFault::Unavailable
+    }
+}

@@ -1,0 +1,75 @@
+//! The desk of the list that a table keeps.
+
+ghost use Rattle.std.specs.Prelude.{◌≡◌, ◌≤◌, false, IsTrue, IfOk, IfErr, IfSome, length};
+ghost use Rattle.sqlite.specs.State.{HasCleanDisk, Survives, KeepsCommit};
+ghost use Rattle.sqlite.specs.Held.{state};
+ghost use Rattle.desk_types.specs.declared.desk.TheConstants.{MOST_ENTRIES};
+ghost use Rattle.desk_types.specs.History.{History};
+ghost use Rattle.desk_types.specs.Judged.{IsJudged};
+ghost use Rattle.line_tables.specs.Rows.{Holds};
+ghost use Rattle.line_rows.specs.Rows.{tables_of};
+ghost use Rattle.line_replay.specs.Replay.{IsReplayed, IsFaultOf};
+
+use crate::fault::ReplayFault;
+use crate::taking::{are_all, least_is_one, take_rows};
+use desk_types::{Desk, Rules};
+use line_rows::rows_tell_lists_apart;
+use sqlite::{Alter, Connection};
+use std::alloc::Global;
+
+/// A desk, and how many entries its list has.
+pub struct Replayed<D: Desk + Drop> {
+    pub desk: D,
+    pub count: u32,
+}
+
+/// Judges each row of `accepted` once more, by number, with a fresh desk of these rules. Numbers go
+/// up to the greatest. One row is in memory at a time. In an open transaction of the caller's
+/// nothing is read, and the fault is Unavailable.
+pub fn replay<S: Alter, D: Desk + Drop>(
+    alloc: Global,
+    conn: &mut Connection<S>,
+    rules: Rules,
+    greatest: u32,
+) -> Result<Replayed<D>, ReplayFault>
+    requires bound { greatest ≤ MOST_ENTRIES }
+    ensures list { IfOk result (λ r. (H : History) × IsReplayed D.Stands rules greatest (HasCleanDisk (state S.Store conn.new)) (state S.Store conn.old) r.desk r.count H) }
+    ensures rules { IfOk result (λ r. D.kept_rules r.desk ≡ rules) }
+    ensures fault { HasCleanDisk (state S.Store conn.new) → IfErr result (IsFaultOf rules greatest (state S.Store conn.old)) }
+    ensures kept { HasCleanDisk (state S.Store conn.new) → KeepsCommit (state S.Store conn.old) (state S.Store conn.new) }
+    ensures mode { conn.old.in_transaction ≡ false → conn.new.in_transaction ≡ false }
+    ensures survives { Survives (state S.Store conn.old) (state S.Store conn.new) (λ _. ⊥) }
+{
+    least_is_one(conn)?;
+    let mut desk = D::fresh(alloc, rules);
+    let count = take_rows(alloc, conn, &mut desk, greatest)?;
+    let all = are_all(conn, count)?;
+    if !all {
+        return Err(ReplayFault::NotLawful(count + 1));
+    }
+    Ok(Replayed { desk, count })
+}
+
+/// The desk made again from the tables of a list that was judged by these rules, as after a refused
+/// `settle`. None where memory was refused, where the database failed, and where the rows are no
+/// such list.
+pub fn rebuild<S: Alter, D: Desk + Drop>(
+    alloc: Global,
+    conn: &mut Connection<S>,
+    rules: Rules,
+    greatest: u32,
+) -> Option<Replayed<D>>
+    requires bound { greatest ≤ MOST_ENTRIES }
+    ensures list { IfSome result (λ r. (H : History) × IsReplayed D.Stands rules greatest (HasCleanDisk (state S.Store conn.new)) (state S.Store conn.old) r.desk r.count H) }
+    ensures same { (G : History) → IsJudged rules G → (IsTrue (state S.Store conn.old).is_open → Holds (state S.Store conn.old).committed (tables_of greatest G)) → HasCleanDisk (state S.Store conn.new) → IfSome result (λ r. D.Stands r.desk G × (r.count ≡ length G)) }
+    ensures rules { IfSome result (λ r. D.kept_rules r.desk ≡ rules) }
+    ensures kept { HasCleanDisk (state S.Store conn.new) → KeepsCommit (state S.Store conn.old) (state S.Store conn.new) }
+    ensures mode { conn.old.in_transaction ≡ false → conn.new.in_transaction ≡ false }
+    ensures survives { Survives (state S.Store conn.old) (state S.Store conn.new) (λ _. ⊥) }
+{
+    rows_tell_lists_apart();
+    match replay(alloc, conn, rules, greatest) {
+        Ok(replayed) => Some(replayed),
+        Err(_) => None,
+    }
+}

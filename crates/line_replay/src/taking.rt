@@ -1,0 +1,130 @@
+//! The rows, taken one after the other by their numbers.
+
+ghost use Rattle.std.specs.Prelude.{◌≡◌, ◌==◌, ◌+◌, ◌≤◌, ◌⊎◌, ℕ, true, false, IfOk, IfErr, OnOk, [], ◌∷◌, length};
+ghost use Rattle.std.specs.List.{list_any};
+ghost use Rattle.sqlite.specs.State.{HasCleanDisk, Survives, KeepsCommit};
+ghost use Rattle.sqlite.specs.Held.{state};
+ghost use Rattle.desk_types.specs.declared.command.Entry.{Entry};
+ghost use Rattle.desk_types.specs.declared.desk.TheConstants.{MOST_ENTRIES};
+ghost use Rattle.desk_types.specs.declared.rules.Rules.{Rules};
+ghost use Rattle.desk_types.specs.Desk.{HasRoom};
+ghost use Rattle.desk_types.specs.History.{History};
+ghost use Rattle.line_tables.specs.Rows.{accepted_in};
+ghost use Rattle.line_tables.specs.Calls.{Reads, is_before};
+ghost use Rattle.line_rows.specs.Judging.{GoesOn};
+ghost use Rattle.line_replay.specs.declared.fault.ReplayFault.TheVariants.{NotLawful, Unavailable};
+ghost use Rattle.line_replay.specs.Replay.{IsFaultOf, IsNumbered, IsStuck, Goes, IsTaken, IsEnd, IsStop};
+
+use crate::fault::ReplayFault;
+use desk_types::Desk;
+use line_rows::{RowFault, accept_row};
+use line_tables::{count, is_repeat, least_number, row_at};
+use sqlite::{Alter, Connection, Row};
+use std::alloc::Global;
+
+/// Asks that the least number is 1, where there is a row.
+pub fn least_is_one<S: Alter>(conn: &mut Connection<S>) -> Result<(), ReplayFault>
+    ensures ok { HasCleanDisk (state S.Store conn.new) → OnOk result (Reads (state S.Store conn.old) (λ db. IsNumbered (accepted_in db))) }
+    ensures err { HasCleanDisk (state S.Store conn.new) → IfErr result (λ f. (rules : Rules) (greatest : ℕ) → IsFaultOf rules greatest (state S.Store conn.old) f) }
+    ensures kept { HasCleanDisk (state S.Store conn.new) → KeepsCommit (state S.Store conn.old) (state S.Store conn.new) }
+    ensures mode { conn.old.in_transaction ≡ false → conn.new.in_transaction ≡ false }
+    ensures survives { Survives (state S.Store conn.old) (state S.Store conn.new) (λ _. ⊥) }
+{
+    let least = least_number(conn)?;
+    match least {
+        None => Ok(()),
+        Some(1) => Ok(()),
+        Some(_) => Err(ReplayFault::NotLawful(1)),
+    }
+}
+
+/// Asks that there are this many rows.
+pub fn are_all<S: Alter>(conn: &mut Connection<S>, taken: u32) -> Result<bool, ReplayFault>
+    ensures counted { HasCleanDisk (state S.Store conn.new) → IfOk result (λ are. Reads (state S.Store conn.old) (λ db. are ≡ (taken == length (accepted_in db)))) }
+    ensures err { IfErr result (λ f. f ≡ Unavailable) }
+    ensures kept { HasCleanDisk (state S.Store conn.new) → KeepsCommit (state S.Store conn.old) (state S.Store conn.new) }
+    ensures mode { conn.old.in_transaction ≡ false → conn.new.in_transaction ≡ false }
+    ensures survives { Survives (state S.Store conn.old) (state S.Store conn.new) (λ _. ⊥) }
+{
+    Ok(count(conn)? == u64::from(taken))
+}
+
+/// Takes row after row, up to the greatest number, into a desk of an empty list. Answers how many.
+pub fn take_rows<S: Alter, D: Desk>(
+    alloc: Global,
+    conn: &mut Connection<S>,
+    desk: &mut D,
+    greatest: u32,
+) -> Result<u32, ReplayFault>
+    requires fresh { D.Stands desk.old [] }
+    requires bound { greatest ≤ MOST_ENTRIES }
+    ensures taken { IfOk result (λ n. (H : History) × (n ≤ greatest) × IsTaken D.Stands (D.kept_rules desk.old) (HasCleanDisk (state S.Store conn.new)) (state S.Store conn.old).committed desk.new n H) }
+    ensures ends { HasCleanDisk (state S.Store conn.new) → IfOk result (IsEnd greatest (state S.Store conn.old)) }
+    ensures err { HasCleanDisk (state S.Store conn.new) → IfErr result (λ f. (f ≡ Unavailable) ⊎ ((n : ℕ) × (f ≡ NotLawful n) × IsStop (D.kept_rules desk.old) greatest (state S.Store conn.old) n)) }
+    ensures rules { OnOk result (D.kept_rules desk.new ≡ D.kept_rules desk.old) }
+    ensures kept { HasCleanDisk (state S.Store conn.new) → KeepsCommit (state S.Store conn.old) (state S.Store conn.new) }
+    ensures mode { conn.old.in_transaction ≡ false → conn.new.in_transaction ≡ false }
+    ensures survives { Survives (state S.Store conn.old) (state S.Store conn.new) (λ _. ⊥) }
+{
+    for number in 0..greatest {
+        let taken = take_row(alloc, conn, desk, number + 1)?;
+        if !taken {
+            return Ok(number);
+        }
+    }
+    Ok(greatest)
+}
+
+/// Accepts the command of the row with this number, the next one; or there is no such row.
+fn take_row<S: Alter, D: Desk>(
+    alloc: Global,
+    conn: &mut Connection<S>,
+    desk: &mut D,
+    number: u32,
+) -> Result<bool, ReplayFault>
+    requires room { HasRoom D.Stands desk.old 1 }
+    ensures ok { (H : History) → D.Stands desk.old H → length H + 1 ≡ number → IfOk result (Goes D.Stands (D.kept_rules desk.old) (HasCleanDisk (state S.Store conn.new)) (state S.Store conn.old) H desk.new) }
+    ensures err { (H : History) → D.Stands desk.old H → length H + 1 ≡ number → HasCleanDisk (state S.Store conn.new) → IfErr result (λ f. (f ≡ Unavailable) ⊎ ((f ≡ NotLawful number) × Reads (state S.Store conn.old) (λ db. IsStuck (D.kept_rules desk.old) H (accepted_in db)))) }
+    ensures rules { OnOk result (D.kept_rules desk.new ≡ D.kept_rules desk.old) }
+    ensures kept { HasCleanDisk (state S.Store conn.new) → KeepsCommit (state S.Store conn.old) (state S.Store conn.new) }
+    ensures mode { conn.old.in_transaction ≡ false → conn.new.in_transaction ≡ false }
+    ensures survives { Survives (state S.Store conn.old) (state S.Store conn.new) (λ _. ⊥) }
+{
+    let found = row_at(conn, number)?;
+    match found {
+        Some(row) => {
+            accept_first(alloc, conn, desk, number, &row)?;
+            Ok(true)
+        }
+        None => Ok(false),
+    }
+}
+
+/// Accepts the command of the row, where no row of a lower number has its UniqueID.
+fn accept_first<S: Alter, D: Desk>(
+    alloc: Global,
+    conn: &mut Connection<S>,
+    desk: &mut D,
+    number: u32,
+    row: &Row,
+) -> Result<(), ReplayFault>
+    requires room { HasRoom D.Stands desk.old 1 }
+    ensures ok { (H : History) → D.Stands desk.old H → length H + 1 ≡ number → OnOk result ((e : Entry) × D.Stands desk.new (e ∷ H) × GoesOn (D.kept_rules desk.old) H row.now e × (HasCleanDisk (state S.Store conn.new) → Reads (state S.Store conn.old) (λ db. list_any (is_before e.stamped.uid number) (accepted_in db) ≡ false))) }
+    ensures err { (H : History) → D.Stands desk.old H → length H + 1 ≡ number → HasCleanDisk (state S.Store conn.new) → IfErr result (λ f. (f ≡ Unavailable) ⊎ ((f ≡ NotLawful number) × ((e : Entry) → GoesOn (D.kept_rules desk.old) H row.now e → Reads (state S.Store conn.old) (λ db. list_any (is_before e.stamped.uid number) (accepted_in db) ≡ true)))) }
+    ensures rules { OnOk result (D.kept_rules desk.new ≡ D.kept_rules desk.old) }
+    ensures kept { HasCleanDisk (state S.Store conn.new) → KeepsCommit (state S.Store conn.old) (state S.Store conn.new) }
+    ensures mode { conn.old.in_transaction ≡ false → conn.new.in_transaction ≡ false }
+    ensures survives { Survives (state S.Store conn.old) (state S.Store conn.new) (λ _. ⊥) }
+{
+    match accept_row(alloc, desk, u64::from(number), row) {
+        Ok(uid) => {
+            let repeated = is_repeat(conn, uid.as_str(), number)?;
+            if repeated {
+                return Err(ReplayFault::NotLawful(number));
+            }
+            Ok(())
+        }
+        Err(RowFault::NotLawful) => Err(ReplayFault::NotLawful(number)),
+        Err(RowFault::NoMemory) => Err(ReplayFault::Unavailable),
+    }
+}

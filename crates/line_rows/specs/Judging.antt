@@ -1,0 +1,24 @@
+-- What a row says, and when a list goes on with it.
+use Rattle.std.specs.Prelude.{◌≡◌, pos, length}
+use Rattle.sqlite.specs.declared.types.Value.TheVariants.{Int, Text}
+use Rattle.sqlite_value.specs.Order.{Row, column}
+use Rattle.desk_types.specs.declared.command.Entry.{Entry}
+use Rattle.desk_types.specs.declared.command.Stamped.{Stamped}
+use Rattle.desk_types.specs.declared.rules.Rules.{Rules}
+use Rattle.desk_types.specs.History.{History}
+use Rattle.desk_types.specs.Judged.{IsNext}
+use Rattle.desk_types.specs.StoredText.{stored_text}
+use Rattle.line_rows.specs.Rows.{entry_row}
+
+-- the row has seven columns, and keeps this message
+pub record IsMessageOf (row : Row) (s : Stamped) : Type 0 where
+  pub seven : length row ≡ 7
+  pub uid : column row 1 ≡ Text s.uid
+  pub source : column row 2 ≡ Text s.source
+  pub minute : column row 3 ≡ Int (pos s.minute)
+  pub command : column row 5 ≡ Text (stored_text s.command)
+
+-- the entry may come after H by the rules, and the row is its row
+pub record GoesOn (rules : Rules) (H : History) (row : Row) (e : Entry) : Type 0 where
+  pub next : IsNext rules H e
+  pub same : row ≡ entry_row H e

@@ -1,0 +1,27 @@
+-- The rows that accepted commands have in the tables.
+use Rattle.std.specs.Prelude.{ℕ, pos, List, [], ◌∷◌}
+use Rattle.sqlite.specs.declared.types.Value.TheVariants.{Int, Text}
+use Rattle.sqlite_value.specs.Order.{Row}
+use Rattle.desk_types.specs.declared.command.Entry.{Entry}
+use Rattle.desk_types.specs.declared.command.Stamped.{Stamped}
+use Rattle.desk_types.specs.History.{History}
+use Rattle.desk_types.specs.StoredText.{stored_text}
+use Rattle.desk_answers.specs.Commands.{first_text}
+use Rattle.line_tables.specs.Rows.{Tables}
+
+-- the columns of a message: its number, the message with its command's stored text, the minute at which it takes effect, and the text of its answer
+abbrev pub columns : ℕ → Stamped → ℕ → List ℕ → Row
+columns number s effective answer = Int (pos number) ∷ Text s.uid ∷ Text s.source ∷ Int (pos s.minute) ∷ Int (pos effective) ∷ Text (stored_text s.command) ∷ Text answer ∷ []
+
+-- the row of an entry, where G was accepted before it
+abbrev pub entry_row : History → Entry → Row
+entry_row G e = columns e.number e.stamped e.effective (first_text G e)
+
+-- the rows of all entries, the newest first
+abbrev pub rows_of : History → List Row
+rows_of [] = []
+rows_of (e ∷ G) = entry_row G e ∷ rows_of G
+
+-- the tables of a list whose numbers go up to the greatest
+abbrev pub tables_of : ℕ → History → Tables
+tables_of greatest H = record { greatest = greatest; accepted = rows_of H }

@@ -1,0 +1,38 @@
+//! Why there is no row of a command, and no command of a row.
+
+use std::alloc::AllocError;
+
+/// Why a row is not made: memory was refused, or a text is not UTF-8. Each text of a command and
+/// of an answer is UTF-8.
+#[derive(Clone, Copy, Debug, PartialEq, Eq)]
+pub struct NoRow;
+
+impl From<AllocError> for NoRow {
+    ghost use Rattle.std.specs.Prelude.{⊤};
+
+    ghost from_gives = { λ _ _. ⊤ };
+
+    fn from(_error: AllocError) -> NoRow {
+        NoRow
+    }
+}
+
+/// Why a row is not accepted.
+#[derive(Clone, Copy, Debug, PartialEq, Eq)]
+pub enum RowFault {
+    /// It is no row with which the list goes on.
+    NotLawful,
+    /// Memory was refused.
+    NoMemory,
+}
+
+impl From<AllocError> for RowFault {
+    ghost use Rattle.std.specs.Prelude.{◌≡◌};
+    ghost use Rattle.line_rows.specs.declared.fault.RowFault.TheVariants.{NoMemory};
+
+    ghost from_gives = { λ _ fault. fault ≡ NoMemory };
+
+    fn from(_error: AllocError) -> RowFault {
+        RowFault::NoMemory
+    }
+}

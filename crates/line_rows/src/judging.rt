@@ -1,0 +1,50 @@
+//! A row, judged again by a desk.
+
+ghost use Rattle.std.specs.Prelude.{◌≡◌, ◌+◌, ◌⊎◌, IfOk, IfErr, OnOk, ◌∷◌, length};
+ghost use Rattle.desk_types.specs.declared.command.Entry.{Entry};
+ghost use Rattle.desk_types.specs.Desk.{HasRoom};
+ghost use Rattle.desk_types.specs.History.{History};
+ghost use Rattle.line_rows.specs.declared.fault.RowFault.TheVariants.{NotLawful, NoMemory};
+ghost use Rattle.line_rows.specs.Judging.{GoesOn};
+
+use crate::fault::RowFault;
+use crate::reading::{says, stamped_of};
+use desk_answers::accepted_text;
+use desk_types::{Desk, Id, JudgeFault, texts_tell_commands_apart};
+use sqlite::Row;
+use std::alloc::Global;
+
+/// Accepts the command of the row once more, where it has this number and the row is just what
+/// accepting it gives, and answers its UniqueID. UniqueIDs are the caller's to compare, and so is
+/// the greatest number. After an `Err` nothing is known of the desk: drop it.
+pub fn accept_row<D: Desk>(
+    alloc: Global,
+    desk: &mut D,
+    number: u64,
+    row: &Row,
+) -> Result<Id, RowFault>
+    requires room { HasRoom D.Stands desk.old 1 }
+    ensures ok { (H : History) → D.Stands desk.old H → length H + 1 ≡ number → IfOk result (λ uid. (e : Entry) × (e.stamped.uid ≡ uid) × D.Stands desk.new (e ∷ H) × GoesOn (D.kept_rules desk.old) H row.now e) }
+    ensures err { (H : History) → D.Stands desk.old H → length H + 1 ≡ number → IfErr result (λ f. (f ≡ NoMemory) ⊎ ((f ≡ NotLawful) × ((e : Entry) → GoesOn (D.kept_rules desk.old) H row.now e → ⊥))) }
+    ensures rules { OnOk result (D.kept_rules desk.new ≡ D.kept_rules desk.old) }
+{
+    texts_tell_commands_apart();
+    let Some(stamped) = stamped_of(alloc, row)? else {
+        return Err(RowFault::NotLawful);
+    };
+    stamped.ranges_hold();
+    match desk.judge(&stamped) {
+        Ok(change) => {
+            let uid = stamped.uid;
+            let minute = change.minute.get();
+            let text = accepted_text(alloc, number, &uid, &change.detail)?;
+            if !says(row, number, minute, &text) {
+                return Err(RowFault::NotLawful);
+            }
+            desk.settle(change)?;
+            Ok(uid)
+        }
+        Err(JudgeFault::Refused(_)) => Err(RowFault::NotLawful),
+        Err(JudgeFault::NoMemory) => Err(RowFault::NoMemory),
+    }
+}

@@ -1,0 +1,15 @@
+//! The rows of accepted commands: what a command is as a row, and what a row is as a command that a
+//! desk judges again.
+#![tactic(auto)]
+
+mod fault;
+mod judging;
+mod kept;
+mod reading;
+mod repeated;
+
+pub use fault::{NoRow, RowFault};
+pub use judging::accept_row;
+pub use kept::{row_of, rows_tell_lists_apart};
+pub use reading::stamped_of;
+pub use repeated::answer_under;

@@ -1,0 +1,5 @@
+pub mod Lookup
+pub mod Standing
+pub mod Leaving
+pub mod Putting
+pub mod Reading

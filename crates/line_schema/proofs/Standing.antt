@@ -1,0 +1,148 @@
+-- For which list a store stands after a call.
+use Rattle.std.proofs.Common.{◌≡◌, ◌∙◌, ◌+◌, ◌<◌, ◌≤◌, IsTrue, IfSome, IsSomeAnd, Option, Some, None, Result, Ok, Err, OnOk, OnErr, List, [], ◌∷◌, map, length, true, false, true≢false, refl, sym, ap, subst, arith}
+use Rattle.std.specs.List.{IsDistinct}
+use Rattle.std.proofs.lemmas.Map.Keys.{IsDistinct-cons}
+use Rattle.sqlite_trees.specs.declared.store.Store.{Ghosts}
+use Rattle.sqlite_trees.specs.Tree.{Trees}
+use Rattle.sqlite.specs.Effect.{Database}
+use Rattle.sqlite.specs.State.{State, HasCleanDisk, KeepsCommit, Survives}
+use Rattle.sqlite.proofs.StateLemmas.{survives_weaker}
+use Rattle.sqlite.specs.Held.{state}
+use Rattle.desk_types.specs.declared.change.Change.{Change}
+use Rattle.desk_types.specs.declared.command.Entry.{Entry}
+use Rattle.desk_types.specs.declared.command.Stamped.{Stamped}
+use Rattle.desk_types.specs.declared.rules.Rules.{Rules}
+use Rattle.desk_types.specs.declared.rules.Rules.TheVariants.{Two}
+use Rattle.desk_types.specs.Command.{IsStamped}
+use Rattle.desk_types.specs.Number.{IsMinute}
+use Rattle.desk_types.specs.Desk.{IsChange}
+use Rattle.desk_types.specs.History.{History, accept}
+use Rattle.desk_types.specs.Id.{same}
+use Rattle.desk_types.specs.Judged.{IsJudged, IsLawful}
+use Rattle.desk_types.specs.Outcome.{after_command}
+use Rattle.std.specs.Option.{option_map_or}
+use Rattle.desk_answers.specs.declared.answer.Answer.{Answer}
+use Rattle.desk_answers.specs.Commands.{earlier_answer}
+use Rattle.desk_answers.proofs.Keeping.{first-uid}
+use Rattle.line_tables.specs.declared.edit.Edit.{Edit}
+use Rattle.line_tables.specs.Rows.{Tables, Holds, HoldsAt, edited}
+use Rattle.line_tables.specs.Calls.{Edits, LeavesEdited}
+use Rattle.line_rows.specs.Rows.{tables_of}
+use Rattle.line_rows.proofs.Judgements.{next_is, stamped_is}
+use Rattle.line_schema.specs.declared.store.LineStore.{LineStore}
+use Rattle.line_schema.specs.declared.unavailable.Unavailable.{Unavailable as Fault}
+use Rattle.line_schema.specs.Stands.{Line, Stands, accepting}
+
+-- a desk that may have judged it stands for the list
+pub judged_for : {D : Type 0} (F : D → History → Type 0) (K : D → Rules) (o : Option D) (H : History) (change : Change)
+    → IsSomeAnd o (λ d. (G : History) → F d G → IsChange (K d) G change.stamped change) → IfSome o (λ d. F d H × (K d ≡ Two)) → IsChange Two H change.stamped change
+judged_for F K None H change h desk = absurd h
+judged_for F K (Some d) H change h desk = subst (λ (r : Rules). IsChange r H change.stamped change) desk.1 (h H desk.0)
+
+-- no UniqueID comes twice where there is none
+pub none_yet : IsDistinct same []
+unfolding IsDistinct
+none_yet = tt
+
+-- a list with a message that comes for the first time is lawful
+lawful_on : (greatest : _) (H : History) (s : Stamped) → IsLawful Two greatest H → IsJudged Two (accept H s) → earlier_answer H s ≡ None → length H < greatest → IsLawful Two greatest (accept H s)
+lawful_on greatest H s lawful judged none room = record {
+  judged = judged;
+  uids = IsDistinct-cons same s.uid (map (λ (e : Entry). e.stamped.uid) H) (first-uid H s none) lawful.uids;
+  numbers = omega (arith, room);
+}
+
+-- the list after a command that makes a change
+accepted_list : (rules : Rules) (H : History) (s : Stamped) (change : Change) → IsChange rules H s change → accept H change.stamped ≡ after_command rules H s
+accepted_list rules H s change is = ap (accept H) (stamped_is rules H s change is) ∙ sym (ap (λ o. option_map_or (λ _. H) o (accept H s)) is.accepted)
+
+pub first_as : (L : Line) (s : Stamped) (change : Change) → IsChange Two L.history s change → earlier_answer L.history s ≡ None → earlier_answer L.history change.stamped ≡ None
+first_as L s change is none = subst (λ t. earlier_answer L.history t ≡ None) (sym (stamped_is Two L.history s change is)) none
+
+module _ {S D : Type 0} (g : Ghosts S) (F : D → History → Type 0) (K : D → Rules) where
+  -- of tables that are not its own less is said
+  pub disowned : (store : LineStore S D) (L : Line) → Stands g F K store L → Stands g F K store (record L { own = false })
+  disowned store L s = record {
+    greatest = s.greatest;
+    bound = s.bound;
+    count = s.count;
+    within = s.within;
+    judged = s.judged;
+    desk = s.desk;
+    mode = s.mode;
+    lawful = λ clean own. absurd (true≢false (sym own));
+    tables = λ clean own. absurd (true≢false (sym own));
+  }
+
+  -- the connection read, and what is committed stayed
+  pub read_on : (old new : LineStore S D) → new.greatest ≡ old.greatest → new.count ≡ old.count → new.desk ≡ old.desk → new.conn.in_transaction ≡ false
+      → (HasCleanDisk (state g new.conn) → HasCleanDisk (state g old.conn)) → (HasCleanDisk (state g new.conn) → KeepsCommit (state g old.conn) (state g new.conn))
+      → (L : Line) → Stands g F K old L → Stands g F K new L
+  read_on old new greatest count desk mode early kept L s = record {
+    greatest = greatest ∙ s.greatest;
+    bound = s.bound;
+    count = count ∙ s.count;
+    within = s.within;
+    judged = s.judged;
+    desk = subst (λ (o : Option D). IfSome o (λ d. F d L.history × (K d ≡ Two))) (sym desk) s.desk;
+    mode = mode;
+    lawful = λ clean own. s.lawful (early clean) own;
+    tables = λ clean own is_open. subst (λ (db : Database). Holds db (tables_of L.greatest L.history)) (sym ((kept clean).committed is_open)) (s.tables (early clean) own ((kept clean).was_open is_open));
+  }
+
+  -- the desk was made again
+  pub remade : (old new : LineStore S D) (d : D) (H : History) → new.greatest ≡ old.greatest → new.count ≡ length H → new.desk ≡ Some d → new.conn.in_transaction ≡ false → F d H → K d ≡ Two → IsJudged Two H
+      → (L : Line) → Stands g F K old L → length H ≤ L.greatest → Stands g F K new (record { greatest = L.greatest; history = H; own = false })
+  remade old new d H greatest count desk mode stands rules judged L s within = record {
+    greatest = greatest ∙ s.greatest;
+    bound = s.bound;
+    count = count;
+    within = within;
+    judged = judged;
+    desk = subst (λ (o : Option D). IfSome o (λ d. F d H × (K d ≡ Two))) (sym desk) (stands, rules);
+    mode = mode;
+    lawful = λ clean own. absurd (true≢false (sym own));
+    tables = λ clean own. absurd (true≢false (sym own));
+  }
+
+  -- a change was committed
+  pub stands_on : (old new : LineStore S D) (L : Line) (change : Change) (edits : List Edit) → Stands g F K old L → old.count < old.greatest
+      → IsChange Two L.history change.stamped change → IsStamped change.stamped → IsMinute change.minute
+      → new.count ≡ old.count + 1 → new.greatest ≡ old.greatest → new.conn.in_transaction ≡ false → IfSome new.desk (λ d. F d (accept L.history change.stamped) × (K d ≡ Two))
+      → edited edits (tables_of L.greatest L.history) ≡ tables_of L.greatest (accept L.history change.stamped)
+      → (HasCleanDisk (state g new.conn) → HasCleanDisk (state g old.conn)) → (HasCleanDisk (state g new.conn) → Edits edits (state g old.conn).committed (state g new.conn).committed)
+      → (HasCleanDisk (state g new.conn) → IsTrue (state g old.conn).is_open) → (HasCleanDisk (state g new.conn) → IsTrue L.own → earlier_answer L.history change.stamped ≡ None)
+      → Stands g F K new (accepting L change.stamped)
+  stands_on old new L change edits s room is stamped minute count greatest mode desk after early done was_open first = record {
+    greatest = greatest ∙ s.greatest;
+    bound = s.bound;
+    count = omega (arith, count, s.count);
+    within = omega (arith, room, s.count, s.greatest);
+    judged = judged;
+    desk = desk;
+    mode = mode;
+    lawful = λ clean own. lawful_on L.greatest L.history change.stamped (s.lawful (early clean) own) judged (first clean own) (omega (arith, room, s.count, s.greatest));
+    tables = λ clean own is_open.
+        subst (Holds (state g new.conn).committed) after (done clean (tables_of L.greatest L.history) (s.tables (early clean) own (was_open clean)));
+  }
+    where
+      judged : IsJudged Two (accept L.history change.stamped)
+      judged = (next_is Two L.history change.stamped change stamped minute is, s.judged)
+
+  -- a call that may have accepted it
+  pub stands_either : (r : Result Answer Fault) (new : LineStore S D) (L M : Line) → OnOk r (Stands g F K new M) → OnErr r (Stands g F K new L) → (N : Line) × Stands g F K new N
+  stands_either (Ok a) new L M ok err = (M, ok)
+  stands_either (Err e) new L M ok err = (L, err)
+
+  pub accepted_as : (r : Result Answer Fault) (new : LineStore S D) (L : Line) (s : Stamped) (change : Change) → IsChange Two L.history s change → OnOk r (Stands g F K new (accepting L change.stamped))
+      → OnOk r (Stands g F K new (record L { history = after_command Two L.history s }))
+  accepted_as (Ok a) new L s change is ok = subst (λ H. Stands g F K new (record L { history = H })) (accepted_list Two L.history s change is) ok
+  accepted_as (Err e) new L s change is ok = ok
+
+-- what a crash may leave of edits, where the tables were those of the list
+module _ (old : State) (tables after : Tables) (edits : List Edit) (is : edited edits tables ≡ after) (holds : HasCleanDisk old → IsTrue old.is_open → Holds old.committed tables) where
+  pub left_on : HasCleanDisk old → (trees : Trees) → LeavesEdited edits old trees → HoldsAt after trees
+  left_on clean trees left = subst (λ t. HoldsAt t trees) is (left.holds tables (holds clean left.was_open))
+
+  pub survives_on : (new : State) → Survives old new (LeavesEdited edits old) → Survives old new (HoldsAt after)
+  survives_on new h = survives_weaker old new _ _ (λ clean trees left. left_on (omega (arith, h.clean, clean)) trees left) h

@@ -1,0 +1,21 @@
+use Rattle.std.proofs.Common.{◌≡◌, refl, rules, arith}
+use Rattle.sqlite.specs.Held.{state}
+use Rattle.line_tables.proofs.Ours.{blank_is}
+use Rattle.line_schema.proofs.Standing.{none_yet}
+use Rattle.line_schema.proofs.store.LineStore.create.Goals as goal
+
+pub returns-in-Ok-clause-stands : goal.returns-in-Ok-clause-stands
+returns-in-Ok-clause-stands g c = record {
+  greatest = refl;
+  bound = c.requires.most;
+  count = refl;
+  within = omega arith;
+  judged = tt;
+  desk = (c.fresh.ensures.stands, c.fresh.ensures.rules);
+  mode = search rules;
+  lawful = λ clean own. record { judged = tt; uids = none_yet; numbers = omega arith };
+  tables = λ clean own is_open. c.in-Ok.ensures.made clean (blank_is _ own);
+}
+
+pub returns-in-Ok-clause-alone : goal.returns-in-Ok-clause-alone
+returns-in-Ok-clause-alone g c clean own trees left = (c.in-Ok.ensures.alone clean trees left).holds (blank_is _ own)

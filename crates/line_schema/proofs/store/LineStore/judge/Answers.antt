@@ -1,0 +1,24 @@
+use Rattle.std.proofs.Common.{◌≡◌, true≢false, sym, rules}
+use Rattle.desk_types.specs.declared.rules.Rules.TheVariants.{Two}
+use Rattle.desk_types.specs.Desk.{IsChange}
+use Rattle.line_schema.proofs.Leaving.{accepted_leaves}
+use Rattle.line_schema.proofs.Standing.{disowned, stands_either, accepted_as, first_as}
+use Rattle.line_schema.proofs.store.LineStore.judge.Goals as goal
+
+pub returns-in-Ok-clause-kept : goal.returns-in-Ok-clause-kept
+returns-in-Ok-clause-kept g c =
+    let stands = disowned g.S.Store g.D.Desk.Stands g.D.Desk.kept_rules _ c.requires.stands.0 c.requires.stands.1 in
+    stands_either g.S.Store g.D.Desk.Stands g.D.Desk.kept_rules c.accept.result c.accept.new.self _ _ (c.accept.ensures.ok _ stands (λ clean own. absurd (true≢false (sym own)))) (c.accept.ensures.err _ stands)
+
+pub returns-in-Ok-clause-ok : goal.returns-in-Ok-clause-ok
+returns-in-Ok-clause-ok g c L stands first =
+    let s = c.args.stamped.now in
+    let is : IsChange Two L.history s c.in-Ok.change = search rules in
+    accepted_as g.S.Store g.D.Desk.Stands g.D.Desk.kept_rules c.accept.result c.accept.new.self L s c.in-Ok.change is
+    (c.accept.ensures.ok L stands (λ clean own. first_as L s c.in-Ok.change is (first clean own)))
+
+pub returns-in-Ok-clause-crash : goal.returns-in-Ok-clause-crash
+returns-in-Ok-clause-crash g c L stands clean own trees left =
+    let is : IsChange Two L.history c.args.stamped.now c.in-Ok.change = search rules in
+    let may = (c.accept.ensures.survives L stands own).crash clean trees left in
+    accepted_leaves L c.args.stamped.now c.in-Ok.change c.accept.result _ _ trees is (c.accept.ensures.answer L stands) (c.accept.ensures.alone L stands clean own) may left

@@ -1,0 +1,47 @@
+//! Why there is no store.
+
+use line_replay::ReplayFault;
+
+/// Why no store is made or opened. Of those that apply the first is told; Unavailable may stand in
+/// the place of any.
+#[derive(Clone, Copy, Debug, PartialEq, Eq)]
+pub enum OpenFault {
+    /// `version` or a column of it is missing, or it has not just one row of three whole numbers, of
+    /// which the first is 1 and the last 1 to 1,000,000,000; or, where the version is ours, `accepted`
+    /// or a column of it is missing.
+    NotADesk,
+    /// The tables are of another version.
+    OtherVersion(i64),
+    /// The first place of the list, from 1, whose row is missing, can't be read, or isn't what judging
+    /// it again gives.
+    NotLawful(u32),
+    /// A table of one of our names is there.
+    NotBlank,
+    /// Memory was refused, or the database failed.
+    Unavailable,
+}
+
+impl From<ReplayFault> for OpenFault {
+    ghost use Rattle.std.specs.Prelude.{◌≡◌};
+    ghost use Rattle.line_schema.specs.Opening.{told_as};
+
+    ghost from_gives = { λ fault told. told ≡ told_as fault };
+
+    fn from(fault: ReplayFault) -> OpenFault {
+        match fault {
+            ReplayFault::NotLawful(place) => OpenFault::NotLawful(place),
+            ReplayFault::Unavailable => OpenFault::Unavailable,
+        }
+    }
+}
+
+impl From<sqlite::Error> for OpenFault {
+    ghost use Rattle.std.specs.Prelude.{◌≡◌};
+    ghost use Rattle.line_schema.specs.declared.fault.OpenFault.TheVariants.{Unavailable};
+
+    ghost from_gives = { λ _ fault. fault ≡ Unavailable };
+
+    fn from(_error: sqlite::Error) -> OpenFault {
+        OpenFault::Unavailable
+    }
+}

@@ -1,0 +1,13 @@
+//! The desk of a line, whose accepted commands are kept in tables.
+#![tactic(auto)]
+
+mod edits;
+mod fault;
+mod opening;
+mod settled;
+mod store;
+mod unavailable;
+
+pub use fault::OpenFault;
+pub use store::LineStore;
+pub use unavailable::Unavailable;

@@ -1,0 +1,87 @@
+//! What a store is made of, as its tables say.
+
+ghost use Rattle.std.specs.Prelude.{◌≡◌, ◌≢◌, ◌≤◌, ◌⊎◌, ℕ, pos, false, IfOk, IfErr};
+ghost use Rattle.sqlite.specs.State.{HasCleanDisk, Survives, KeepsCommit};
+ghost use Rattle.sqlite.specs.Held.{state};
+ghost use Rattle.desk_types.specs.declared.desk.TheConstants.{MOST_ENTRIES};
+ghost use Rattle.desk_types.specs.History.{History};
+ghost use Rattle.line_tables.specs.Calls.{Reads};
+ghost use Rattle.line_schema.specs.declared.fault.OpenFault.TheVariants as Fault;
+ghost use Rattle.line_schema.specs.Opening.{IsVersion, IsFaultOf, IsOpened, IsGreatest};
+
+use crate::fault::OpenFault;
+use desk_types::{Desk, MOST_ENTRIES, Rules};
+use line_replay::{Replayed, replay};
+use line_tables::{Version, find_version, has_accepted, has_version};
+use sqlite::{Alter, Connection};
+use std::alloc::Global;
+
+/// The version of the tables.
+const VERSION: i64 = 2;
+
+/// The desk of a list, how many entries it has, and how many it may have.
+pub struct Opened<D: Desk + Drop> {
+    pub desk: D,
+    pub count: u32,
+    pub greatest: u32,
+}
+
+/// Reads the version and then the list, each of whose entries is judged again.
+pub fn read_tables<S: Alter, D: Desk + Drop>(
+    alloc: Global,
+    conn: &mut Connection<S>,
+) -> Result<Opened<D>, OpenFault>
+    ensures ok { IfOk result (λ r. (H : History) × IsOpened D.Stands D.kept_rules (HasCleanDisk (state S.Store conn.new)) (state S.Store conn.old) r H) }
+    ensures err { HasCleanDisk (state S.Store conn.new) → IfErr result (IsFaultOf (state S.Store conn.old)) }
+    ensures kept { HasCleanDisk (state S.Store conn.new) → KeepsCommit (state S.Store conn.old) (state S.Store conn.new) }
+    ensures mode { conn.old.in_transaction ≡ false → conn.new.in_transaction ≡ false }
+    ensures survives { Survives (state S.Store conn.old) (state S.Store conn.new) (λ _. ⊥) }
+{
+    let listed = has_accepted(conn);
+    if !has_version(conn) {
+        return Err(OpenFault::NotADesk);
+    }
+    let greatest = read_greatest(conn)?;
+    if !listed {
+        return Err(OpenFault::NotADesk);
+    }
+    let Replayed { desk, count } = replay(alloc, conn, Rules::Two, greatest)?;
+    Ok(Opened {
+        desk,
+        count,
+        greatest,
+    })
+}
+
+/// The greatest number, where the tables are of our version.
+fn read_greatest<S: Alter>(conn: &mut Connection<S>) -> Result<u32, OpenFault>
+    ensures ok { HasCleanDisk (state S.Store conn.new) → IfOk result (λ greatest. Reads (state S.Store conn.old) (λ db. IsVersion db (pos 2) greatest)) }
+    ensures bound { IfOk result (λ greatest. greatest ≤ MOST_ENTRIES) }
+    ensures err { HasCleanDisk (state S.Store conn.new) → IfErr result (IsFaultOf (state S.Store conn.old)) }
+    ensures kept { HasCleanDisk (state S.Store conn.new) → KeepsCommit (state S.Store conn.old) (state S.Store conn.new) }
+    ensures mode { conn.old.in_transaction ≡ false → conn.new.in_transaction ≡ false }
+    ensures survives { Survives (state S.Store conn.old) (state S.Store conn.new) (λ _. ⊥) }
+{
+    let found = find_version(conn)?;
+    match found {
+        Some(version) => greatest_of(&version),
+        None => Err(OpenFault::NotADesk),
+    }
+}
+
+fn greatest_of(version: &Version) -> Result<u32, OpenFault>
+    ensures ok { IfOk result (λ greatest. (version.now.number ≡ pos 2) × IsGreatest version.now.greatest greatest) }
+    ensures err { IfErr result (λ f. ((f ≡ Fault.NotADesk) × ((greatest : ℕ) → IsGreatest version.now.greatest greatest → ⊥))
+        ⊎ ((f ≡ Fault.OtherVersion version.now.number) × (version.now.number ≢ pos 2) × (greatest : ℕ) × IsGreatest version.now.greatest greatest)) }
+{
+    let Ok(greatest) = u64::try_from(version.greatest) else {
+        return Err(OpenFault::NotADesk);
+    };
+    if greatest < 1 || greatest > MOST_ENTRIES {
+        return Err(OpenFault::NotADesk);
+    }
+    if version.number != VERSION {
+        return Err(OpenFault::OtherVersion(version.number));
+    }
+    Ok(greatest as u32)
+}

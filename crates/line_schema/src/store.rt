@@ -1,0 +1,290 @@
+//! The store of one line.
+
+ghost use Rattle.std.specs.Prelude.{◌≡◌, ◌<◌, ◌≤◌, ◌⊎◌, [], true, false, IsTrue, IfOk, IfErr, OnOk, OnErr, IfSome, IsSomeAnd, is_some, length, None};
+ghost use Rattle.std.specs.List.{list_any};
+ghost use Rattle.sqlite_trees.specs.Tree.{Trees};
+ghost use Rattle.sqlite.specs.State.{HasCleanDisk, KeepsCommit, Survives};
+ghost use Rattle.sqlite.specs.Held.{state};
+ghost use Rattle.desk_types.specs.declared.answer.Reply.TheVariants as Reply;
+ghost use Rattle.desk_types.specs.declared.desk.TheConstants.{MOST_ENTRIES};
+ghost use Rattle.desk_types.specs.declared.rules.Rules.TheVariants.{Two};
+ghost use Rattle.desk_types.specs.Desk.{IsChange};
+ghost use Rattle.desk_types.specs.History.{History};
+ghost use Rattle.desk_types.specs.Outcome.{reply_to, after_command};
+ghost use Rattle.desk_answers.specs.Commands.{earlier_answer, judged_answer, command_answer, command_after};
+ghost use Rattle.line_tables.specs.Calls.{LeavesBlank};
+ghost use Rattle.line_tables.specs.Line.{is_blank, is_ours};
+ghost use Rattle.line_tables.specs.Names.{has_name};
+ghost use Rattle.line_tables.specs.Rows.{HoldsAt, blank};
+ghost use Rattle.line_rows.specs.Rows.{tables_of};
+ghost use Rattle.line_schema.specs.declared.fault.OpenFault.TheVariants as Fault;
+ghost use Rattle.line_schema.specs.Opening.{IsFaultOf};
+ghost use Rattle.line_schema.specs.Stands.{Line, Stands, has_desk, accepting, line_after, IsAnswer, answer_in, NewlyLeaves, Leaves};
+
+use crate::edits::{Acceptance, prepare};
+use crate::fault::OpenFault;
+use crate::opening::{Opened, read_tables};
+use crate::settled::settled;
+use crate::unavailable::Unavailable;
+use desk_answers::Answer;
+use desk_types::{Change, Desk, JudgeFault, Rules, Stamped};
+use line_replay::{Replayed, rebuild};
+use line_rows::answer_under;
+use line_tables::{append, find, has_our_name, make};
+use sqlite::{Alter, Connection};
+use std::alloc::Global;
+
+/// A desk whose accepted commands are kept in the tables of a database. A command is answered
+/// Accepted once it is committed; after a restart the list is read again.
+///
+/// It is closed by giving its connection back: [`LineStore::into_connection`].
+pub struct LineStore<S: Alter, D: Desk + Drop> {
+    alloc: Global,
+    conn: Connection<S>,
+    desk: Option<D>,
+    count: u32,
+    greatest: u32,
+}
+
+impl<S: Alter, D: Desk + Drop> LineStore<S, D> {
+    /// The store of an empty list, whose numbers are given up to the greatest, from 1 to
+    /// 1,000,000,000. Tables of other names are let be, and then what is committed is not told. Its
+    /// faults are NotBlank and Unavailable; in an open transaction of the caller's it is Unavailable.
+    pub fn create(
+        alloc: Global,
+        conn: Connection<S>,
+        greatest: u32,
+    ) -> Result<LineStore<S, D>, (OpenFault, Connection<S>)>
+        requires least { 1 ≤ greatest }
+        requires most { greatest ≤ MOST_ENTRIES }
+        ensures stands { IfOk result (λ store. Stands S.Store D.Stands D.kept_rules store (record { greatest = greatest; history = []; own = is_blank (state S.Store conn).now.schema })) }
+        ensures alone { IfOk result (λ store. HasCleanDisk (state S.Store store.conn) → IsTrue (is_blank (state S.Store conn).now.schema) → (trees : Trees) → (state S.Store store.conn).may_leave trees → HoldsAt (blank greatest) trees) }
+        ensures nameless { IfOk result (λ _. list_any has_name (state S.Store conn).now.schema.tables ≡ false) }
+        ensures fault { IfErr result (λ e. (e.0 ≡ Fault.Unavailable) ⊎ ((e.0 ≡ Fault.NotBlank) × (list_any has_name (state S.Store conn).now.schema.tables ≡ true))) }
+        ensures unchanged { IfErr result (λ e. HasCleanDisk (state S.Store e.1) → KeepsCommit (state S.Store conn) (state S.Store e.1)) }
+        ensures survives { IfErr result (λ e. Survives (state S.Store conn) (state S.Store e.1) (LeavesBlank greatest (state S.Store conn))) }
+    {
+        let mut conn = conn;
+        if !conn.is_autocommit() {
+            return Err((OpenFault::Unavailable, conn));
+        }
+        if has_our_name(&conn) {
+            return Err((OpenFault::NotBlank, conn));
+        }
+        match make(&mut conn, greatest) {
+            Ok(()) => Ok(LineStore {
+                alloc,
+                conn,
+                desk: Some(D::fresh(alloc, Rules::Two)),
+                count: 0,
+                greatest,
+            }),
+            Err(_) => Err((OpenFault::Unavailable, conn)),
+        }
+    }
+
+    /// The store that the tables keep, each of whose commands is judged again. In an open transaction
+    /// of the caller's it is Unavailable.
+    pub fn open(
+        alloc: Global,
+        conn: Connection<S>,
+    ) -> Result<LineStore<S, D>, (OpenFault, Connection<S>)>
+        ensures stands { IfOk result (λ store. (L : Line) × (L.own ≡ is_ours (state S.Store conn).committed.schema) × Stands S.Store D.Stands D.kept_rules store L) }
+        ensures fault { IfErr result (λ e. HasCleanDisk (state S.Store e.1) → IsFaultOf (state S.Store conn) e.0) }
+        ensures same { IfOk result (λ store. HasCleanDisk (state S.Store store.conn) → KeepsCommit (state S.Store conn) (state S.Store store.conn)) }
+        ensures unchanged { IfErr result (λ e. HasCleanDisk (state S.Store e.1) → KeepsCommit (state S.Store conn) (state S.Store e.1)) }
+        ensures leaves { IfOk result (λ store. Survives (state S.Store conn) (state S.Store store.conn) (λ _. ⊥)) }
+        ensures survives { IfErr result (λ e. Survives (state S.Store conn) (state S.Store e.1) (λ _. ⊥)) }
+    {
+        let mut conn = conn;
+        if !conn.is_autocommit() {
+            return Err((OpenFault::Unavailable, conn));
+        }
+        match read_tables(alloc, &mut conn) {
+            Ok(
+                Opened {
+                    desk,
+                    count,
+                    greatest,
+                },
+            ) => Ok(LineStore {
+                alloc,
+                conn,
+                desk: Some(desk),
+                count,
+                greatest,
+            }),
+            Err(fault) => Err((fault, conn)),
+        }
+    }
+
+    /// Gives the connection back. Takes no memory.
+    pub fn into_connection(self) -> Connection<S>
+        ensures { result ≡ self.conn }
+    {
+        let LineStore {
+            alloc: _,
+            conn,
+            desk: _desk,
+            count: _,
+            greatest: _,
+        } = self;
+        conn
+    }
+
+    /// How many commands are accepted. Takes no memory.
+    pub fn count(&self) -> u32
+        ensures { (L : Line) → Stands S.Store D.Stands D.kept_rules self.now L → result ≡ length L.history }
+    {
+        self.count
+    }
+
+    /// The desk, where it is at hand: after [`LineStore::ready`] it is.
+    pub fn desk(&self) -> Option<&D>
+        ensures there { is_some result ≡ has_desk self.now }
+        ensures stands { (L : Line) → Stands S.Store D.Stands D.kept_rules self.now L → IfSome result (λ desk. D.Stands desk.now L.history × (D.kept_rules desk.now ≡ Two)) }
+    {
+        self.desk.as_ref()
+    }
+
+    /// Sees to it that the desk is at hand, by reading the tables where it isn't.
+    pub fn ready(&mut self) -> Result<(), Unavailable>
+        requires stands { (L : Line) × Stands S.Store D.Stands D.kept_rules self.old L }
+        ensures ok { OnOk result (IsTrue (has_desk self.new)) }
+        ensures kept { (L : Line) × Stands S.Store D.Stands D.kept_rules self.new L }
+        ensures stands { (L : Line) → Stands S.Store D.Stands D.kept_rules self.old L → HasCleanDisk (state S.Store self.new.conn) → IsTrue L.own → Stands S.Store D.Stands D.kept_rules self.new L }
+        ensures survives { Survives (state S.Store self.old.conn) (state S.Store self.new.conn) (λ _. ⊥) }
+    {
+        if self.desk.is_some() {
+            return Ok(());
+        }
+        self.remake()
+    }
+
+    /// Makes the desk from the tables.
+    fn remake(&mut self) -> Result<(), Unavailable>
+        requires stands { (L : Line) × Stands S.Store D.Stands D.kept_rules self.old L }
+        ensures ok { OnOk result (IsTrue (has_desk self.new)) }
+        ensures kept { (L : Line) × Stands S.Store D.Stands D.kept_rules self.new L }
+        ensures stands { (L : Line) → Stands S.Store D.Stands D.kept_rules self.old L → HasCleanDisk (state S.Store self.new.conn) → IsTrue L.own → Stands S.Store D.Stands D.kept_rules self.new L }
+        ensures survives { Survives (state S.Store self.old.conn) (state S.Store self.new.conn) (λ _. ⊥) }
+    {
+        match rebuild(self.alloc, &mut self.conn, Rules::Two, self.greatest) {
+            Some(Replayed { desk, count }) => {
+                self.desk = Some(desk);
+                self.count = count;
+                Ok(())
+            }
+            None => Err(Unavailable),
+        }
+    }
+
+    /// Answers a command. A message that was accepted before gets its first answer again, and
+    /// changes nothing. Accepted is answered once the command is committed. After Unavailable it may
+    /// be sent again.
+    pub fn command(&mut self, stamped: &Stamped) -> Answer
+        requires stands { (L : Line) × Stands S.Store D.Stands D.kept_rules self.old L }
+        ensures kept { (L : Line) × Stands S.Store D.Stands D.kept_rules self.new L }
+        ensures answer { (L : Line) → Stands S.Store D.Stands D.kept_rules self.old L → HasCleanDisk (state S.Store self.new.conn) → IsTrue L.own → IsAnswer L stamped.now result }
+        ensures stands { (L : Line) → Stands S.Store D.Stands D.kept_rules self.old L → HasCleanDisk (state S.Store self.new.conn) → IsTrue L.own → Stands S.Store D.Stands D.kept_rules self.new (line_after L stamped.now result) }
+        ensures crash { (L : Line) → Stands S.Store D.Stands D.kept_rules self.old L → HasCleanDisk (state S.Store self.new.conn) → IsTrue L.own → (trees : Trees) → (state S.Store self.new.conn).may_leave trees → Leaves L stamped.now result ((state S.Store self.old.conn).may_leave trees) trees }
+        ensures clean { HasCleanDisk (state S.Store self.new.conn) → HasCleanDisk (state S.Store self.old.conn) }
+    {
+        match self.answer(stamped) {
+            Ok(answer) => answer,
+            Err(_) => Answer::Unavailable,
+        }
+    }
+
+    fn answer(&mut self, stamped: &Stamped) -> Result<Answer, Unavailable>
+        requires stands { (L : Line) × Stands S.Store D.Stands D.kept_rules self.old L }
+        ensures kept { (L : Line) × Stands S.Store D.Stands D.kept_rules self.new L }
+        ensures answer { (L : Line) → Stands S.Store D.Stands D.kept_rules self.old L → HasCleanDisk (state S.Store self.new.conn) → IsTrue L.own → IfOk result (λ answer. answer ≡ command_answer Two L.greatest L.history stamped.now) }
+        ensures ok { (L : Line) → Stands S.Store D.Stands D.kept_rules self.old L → HasCleanDisk (state S.Store self.new.conn) → IsTrue L.own → OnOk result (Stands S.Store D.Stands D.kept_rules self.new (record L { history = command_after Two L.greatest L.history stamped.now })) }
+        ensures err { (L : Line) → Stands S.Store D.Stands D.kept_rules self.old L → HasCleanDisk (state S.Store self.new.conn) → IsTrue L.own → OnErr result (Stands S.Store D.Stands D.kept_rules self.new L) }
+        ensures crash { (L : Line) → Stands S.Store D.Stands D.kept_rules self.old L → HasCleanDisk (state S.Store self.new.conn) → IsTrue L.own → (trees : Trees) → (state S.Store self.new.conn).may_leave trees → Leaves L stamped.now (answer_in result) ((state S.Store self.old.conn).may_leave trees) trees }
+        ensures clean { HasCleanDisk (state S.Store self.new.conn) → HasCleanDisk (state S.Store self.old.conn) }
+    {
+        if let Some(answer) = self.earlier(stamped)? {
+            return Ok(answer);
+        }
+        if self.count >= self.greatest {
+            return Ok(Answer::DeskFull);
+        }
+        self.judged(stamped)
+    }
+
+    /// The answer by the row that has the UniqueID, where there is one.
+    fn earlier(&mut self, stamped: &Stamped) -> Result<Option<Answer>, Unavailable>
+        requires stands { (L : Line) × Stands S.Store D.Stands D.kept_rules self.old L }
+        ensures answer { (L : Line) → Stands S.Store D.Stands D.kept_rules self.old L → HasCleanDisk (state S.Store self.new.conn) → IsTrue L.own → IfOk result (λ answer. answer ≡ earlier_answer L.history stamped.now) }
+        ensures stands { (L : Line) → Stands S.Store D.Stands D.kept_rules self.old L → Stands S.Store D.Stands D.kept_rules self.new L }
+        ensures survives { Survives (state S.Store self.old.conn) (state S.Store self.new.conn) (λ _. ⊥) }
+    {
+        match find(&mut self.conn, stamped.uid.as_str())? {
+            Some(row) => Ok(Some(answer_under(self.alloc, row, stamped)?)),
+            None => Ok(None),
+        }
+    }
+
+    /// Judges the command, for which there is room and no row with its UniqueID, by the desk, which
+    /// may have to be made first; and accepts it where it isn't refused.
+    fn judged(&mut self, stamped: &Stamped) -> Result<Answer, Unavailable>
+        requires stands { (L : Line) × Stands S.Store D.Stands D.kept_rules self.old L }
+        ensures kept { (L : Line) × Stands S.Store D.Stands D.kept_rules self.new L }
+        ensures answer { (L : Line) → Stands S.Store D.Stands D.kept_rules self.old L → HasCleanDisk (state S.Store self.new.conn) → IsTrue L.own → IfOk result (λ answer. answer ≡ judged_answer L.history stamped.now (reply_to Two L.history stamped.now)) }
+        ensures ok { (L : Line) → Stands S.Store D.Stands D.kept_rules self.old L → HasCleanDisk (state S.Store self.new.conn) → IsTrue L.own → earlier_answer L.history stamped.now ≡ None → OnOk result (Stands S.Store D.Stands D.kept_rules self.new (record L { history = after_command Two L.history stamped.now })) }
+        ensures err { (L : Line) → Stands S.Store D.Stands D.kept_rules self.old L → HasCleanDisk (state S.Store self.new.conn) → IsTrue L.own → OnErr result (Stands S.Store D.Stands D.kept_rules self.new L) }
+        ensures crash { (L : Line) → Stands S.Store D.Stands D.kept_rules self.old L → HasCleanDisk (state S.Store self.new.conn) → IsTrue L.own → (trees : Trees) → (state S.Store self.new.conn).may_leave trees → NewlyLeaves L stamped.now (answer_in result) ((state S.Store self.old.conn).may_leave trees) trees }
+        ensures clean { HasCleanDisk (state S.Store self.new.conn) → HasCleanDisk (state S.Store self.old.conn) }
+    {
+        self.ready()?;
+        self.judge(stamped)
+    }
+
+    /// Judges the command by the desk, and accepts it where it isn't refused.
+    fn judge(&mut self, stamped: &Stamped) -> Result<Answer, Unavailable>
+        requires stands { (L : Line) × Stands S.Store D.Stands D.kept_rules self.old L }
+        ensures kept { (L : Line) × Stands S.Store D.Stands D.kept_rules self.new L }
+        ensures answer { (L : Line) → Stands S.Store D.Stands D.kept_rules self.old L → IfOk result (λ answer. answer ≡ judged_answer L.history stamped.now (reply_to Two L.history stamped.now)) }
+        ensures ok { (L : Line) → Stands S.Store D.Stands D.kept_rules self.old L → (HasCleanDisk (state S.Store self.new.conn) → IsTrue L.own → earlier_answer L.history stamped.now ≡ None) → OnOk result (Stands S.Store D.Stands D.kept_rules self.new (record L { history = after_command Two L.history stamped.now })) }
+        ensures err { (L : Line) → Stands S.Store D.Stands D.kept_rules self.old L → OnErr result (Stands S.Store D.Stands D.kept_rules self.new L) }
+        ensures crash { (L : Line) → Stands S.Store D.Stands D.kept_rules self.old L → HasCleanDisk (state S.Store self.new.conn) → IsTrue L.own → (trees : Trees) → (state S.Store self.new.conn).may_leave trees → NewlyLeaves L stamped.now (answer_in result) ((state S.Store self.old.conn).may_leave trees) trees }
+        ensures clean { HasCleanDisk (state S.Store self.new.conn) → HasCleanDisk (state S.Store self.old.conn) }
+    {
+        if self.count >= self.greatest {
+            return Err(Unavailable);
+        }
+        let Some(desk) = &self.desk else {
+            return Err(Unavailable);
+        };
+        match desk.judge(stamped) {
+            Ok(change) => self.accept(change),
+            Err(JudgeFault::Refused(refusal)) => Ok(Answer::Refused(refusal)),
+            Err(JudgeFault::NoMemory) => Err(Unavailable),
+        }
+    }
+
+    /// Accepts what was judged: the answer and the edits are made, then the edits are committed, and
+    /// then the desk settles.
+    fn accept(&mut self, change: Change) -> Result<Answer, Unavailable>
+        requires stands { (L : Line) × Stands S.Store D.Stands D.kept_rules self.old L }
+        requires room { self.old.count < self.old.greatest }
+        requires judged { IsSomeAnd self.old.desk (λ d. (H : History) → D.Stands d H → IsChange (D.kept_rules d) H change.stamped change) }
+        ensures answer { (L : Line) → Stands S.Store D.Stands D.kept_rules self.old L → IfOk result (λ answer. answer ≡ judged_answer L.history change.stamped (Reply.Accepted change.detail)) }
+        ensures ok { (L : Line) → Stands S.Store D.Stands D.kept_rules self.old L → (HasCleanDisk (state S.Store self.new.conn) → IsTrue L.own → earlier_answer L.history change.stamped ≡ None) → OnOk result (Stands S.Store D.Stands D.kept_rules self.new (accepting L change.stamped)) }
+        ensures err { (L : Line) → Stands S.Store D.Stands D.kept_rules self.old L → OnErr result (Stands S.Store D.Stands D.kept_rules self.new L) }
+        ensures survives { (L : Line) → Stands S.Store D.Stands D.kept_rules self.old L → IsTrue L.own → Survives (state S.Store self.old.conn) (state S.Store self.new.conn) (HoldsAt (tables_of L.greatest (accepting L change.stamped).history)) }
+        ensures alone { (L : Line) → Stands S.Store D.Stands D.kept_rules self.old L → HasCleanDisk (state S.Store self.new.conn) → IsTrue L.own → OnOk result ((trees : Trees) → (state S.Store self.new.conn).may_leave trees → HoldsAt (tables_of L.greatest (accepting L change.stamped).history) trees) }
+        ensures clean { HasCleanDisk (state S.Store self.new.conn) → HasCleanDisk (state S.Store self.old.conn) }
+    {
+        change.stamped.ranges_hold();
+        let _ = change.minute.get();
+        let number = self.count + 1;
+        let Acceptance { text, edits } = prepare(self.alloc, number, &change)?;
+        append(&mut self.conn, edits.as_slice())?;
+        self.count = number;
+        self.desk = settled(self.desk.take(), change);
+        Ok(Answer::Accepted(u64::from(number), text))
+    }
+}
