@@ -1,3 +1,4 @@
 pub mod Keeping
+pub mod Refusing
 pub mod Sameness
 pub mod Strings

@@ -3,8 +3,10 @@
 #![tactic(auto)]
 
 mod answer;
+mod line;
 mod plain_line;
 mod repeat;
 
 pub use answer::{Answer, accepted_text};
+pub use line::Line;
 pub use plain_line::PlainLine;

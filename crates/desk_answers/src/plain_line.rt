@@ -1,16 +1,15 @@
 //! A desk that keeps the answers to the commands that it accepted.
 
-ghost use Rattle.std.specs.Prelude.{◌≡◌, ◌<◌, ◌≤◌, [], length, None, true, IfOk, OnOk, OnErr};
+ghost use Rattle.std.specs.Prelude.{◌≡◌, ◌<◌, ◌≤◌, [], length, None, IfOk, OnOk, OnErr};
 ghost use Rattle.desk_types.specs.declared.answer.Reply.TheVariants as Reply;
 ghost use Rattle.desk_types.specs.declared.rules.Rules.TheVariants.{Two};
 ghost use Rattle.desk_types.specs.Desk.{IsChange};
 ghost use Rattle.desk_types.specs.History.{accept};
-ghost use Rattle.desk_types.specs.Judged.{IsLawful};
 ghost use Rattle.desk_types.specs.declared.desk.TheConstants.{MOST_ENTRIES};
-ghost use Rattle.desk_answers.specs.Commands.{earlier_answer, judged_answer, command_answer, command_after, is_refused};
-ghost use Rattle.desk_answers.specs.PlainLine.{Answers};
+ghost use Rattle.desk_answers.specs.Commands.{earlier_answer, judged_answer, command_answer, command_after};
 
 use crate::answer::{Answer, accepted_text};
+use crate::line::Line;
 use crate::repeat::is_same;
 use desk_types::{Change, Desk, JudgeFault, Stamped, Text};
 use look_back::PlainDesk;
@@ -29,7 +28,8 @@ pub struct PlainLine {
 }
 
 impl Model for PlainLine {
-    ghost use Rattle.desk_answers.specs.PlainLine.{Ledger, IsKept};
+    ghost use Rattle.desk_answers.specs.Ledger.{Ledger};
+    ghost use Rattle.desk_answers.specs.PlainLine.{IsKept};
 
     ghost Value = { Ledger };
 
@@ -58,26 +58,6 @@ impl PlainLine {
         ensures { result ≡ length self.now.history }
     {
         self.desk.entries().len() as u64
-    }
-
-    /// A law: the list is one that a desk of these rules and numbers can come to have. It is for proofs,
-    /// and does nothing when it runs.
-    pub fn is_lawful(&self)
-        ensures { IsLawful self.now.rules self.now.greatest self.now.history }
-    {
-        self.desk.is_judged();
-    }
-
-    /// Answers a command. A message that was accepted before gets its first answer again, and
-    /// changes nothing.
-    pub fn command(&mut self, stamped: &Stamped) -> Answer
-        ensures answers { Answers self.old stamped.now result self.new }
-        ensures refused { is_refused result ≡ true → self.new ≡ self.old }
-    {
-        match self.answer(stamped) {
-            Ok(answer) => answer,
-            Err(_) => Answer::Unavailable,
-        }
     }
 
     fn answer(&mut self, stamped: &Stamped) -> Result<Answer, AllocError>
@@ -132,5 +112,26 @@ impl PlainLine {
                 Err(AllocError)
             }
         }
+    }
+}
+
+impl Line for PlainLine {
+    ghost use Rattle.std.specs.Prelude.{◌≡◌, ⊤};
+
+    ghost Stands = { λ line L. line ≡ L };
+
+    ghost Ready = { λ _. ⊤ };
+
+    ghost Trusts = { λ _. ⊤ };
+
+    fn command(&mut self, stamped: &Stamped) -> Answer {
+        match self.answer(stamped) {
+            Ok(answer) => answer,
+            Err(_) => Answer::Unavailable,
+        }
+    }
+
+    fn is_lawful(&self) {
+        self.desk.is_judged();
     }
 }

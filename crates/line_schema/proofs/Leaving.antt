@@ -1,5 +1,5 @@
 -- What a command's answer says of the list after it, and of what a crash may leave.
-use Rattle.std.proofs.Common.{◌≡◌, ◌∙◌, ◌⊎◌, inl, inr, Bool, true, false, Option, Some, None, is_some, MatchBool, Result, Ok, Err, IfOk, OnOk, refl, sym, ap, subst, [], ◌∷◌, if◌then◌else◌, unwrap_or}
+use Rattle.std.proofs.Common.{◌≡◌, ◌∙◌, ◌⊎◌, ◌<◌, length, inl, inr, Bool, true, false, Option, Some, None, is_some, MatchBool, Result, Ok, Err, IfOk, OnOk, refl, sym, ap, subst, [], ◌∷◌, if◌then◌else◌, unwrap_or}
 use Rattle.sqlite_trees.specs.Tree.{Trees}
 use Rattle.desk_types.specs.declared.answer.Reply.{Reply}
 use Rattle.desk_types.specs.declared.answer.Reply.TheVariants as reply
@@ -17,7 +17,7 @@ use Rattle.desk_answers.specs.Repeats.{is_same}
 use Rattle.line_tables.specs.Rows.{HoldsAt}
 use Rattle.line_rows.specs.Rows.{tables_of}
 use Rattle.line_schema.specs.declared.unavailable.Unavailable.{Unavailable as Fault}
-use Rattle.line_schema.specs.Stands.{Line, line_after, answer_in, NewlyLeaves, Leaves}
+use Rattle.line_schema.specs.Stands.{Kept, kept_after, answer_in, NewlyLeaves, Leaves}
 
 -- ---- the definition never answers Unavailable
 
@@ -37,7 +37,7 @@ judged_never : (H : History) (s : Stamped) (r : Reply) → judged_answer H s r �
 judged_never H s (reply.Accepted detail) h = cc
 judged_never H s (reply.Refused refusal) h = cc
 
-answer_never : (L : Line) (s : Stamped) → command_answer Two L.greatest L.history s ≡ Unavailable → ⊥
+answer_never : (L : Kept) (s : Stamped) → command_answer Two L.greatest L.history s ≡ Unavailable → ⊥
 answer_never L s h = by (earlier_answer L.history s) refl (is_full L.greatest L.history) h
   where
     by : (o : Option Answer) → earlier_answer L.history s ≡ o → (b : Bool) → unwrap_or o (if b then DeskFull else judged_answer L.history s (reply_to Two L.history s)) ≡ Unavailable → ⊥
@@ -45,27 +45,28 @@ answer_never L s h = by (earlier_answer L.history s) refl (is_full L.greatest L.
     by None is true h = cc
     by None is false h = judged_never L.history s _ h
 
-pub line_so : (L : Line) (s : Stamped) (a : Answer) → a ≡ command_answer Two L.greatest L.history s → line_after L s a ≡ record L { history = command_after Two L.greatest L.history s }
-line_so L s (Accepted n text) h = refl
-line_so L s (Refused r) h = refl
-line_so L s (IdReused n) h = refl
-line_so L s DeskFull h = refl
-line_so L s Unavailable h = absurd (answer_never L s (sym h))
+pub kept_so : (L : Kept) (s : Stamped) (a : Answer) → a ≡ command_answer Two L.greatest L.history s → kept_after L s a ≡ record L { history = command_after Two L.greatest L.history s }
+kept_so L s (Accepted n text) h = refl
+kept_so L s (Refused r) h = refl
+kept_so L s (IdReused n) h = refl
+kept_so L s DeskFull h = refl
+kept_so L s Unavailable h = absurd (answer_never L s (sym h))
 
 -- ---- what a crash may leave
 
-abbrev pub left_with : Line → Stamped → Trees → Type 0
+abbrev pub left_with : Kept → Stamped → Trees → Type 0
 left_with L s trees = HoldsAt (tables_of L.greatest (accept L.history s)) trees
 
-pub accepted_leaves : (L : Line) (s : Stamped) (change : Change) (r : Result Answer Fault) (before : Type 0) (left : Trees → Type 0) (trees : Trees) → IsChange Two L.history s change
+pub accepted_leaves : (L : Kept) (s : Stamped) (change : Change) (r : Result Answer Fault) (before : Type 0) (left : Trees → Type 0) (trees : Trees) → IsChange Two L.history s change → length L.history < L.greatest
     → IfOk r (λ a. a ≡ judged_answer L.history change.stamped (reply.Accepted change.detail)) → OnOk r ((t : Trees) → left t → left_with L change.stamped t)
     → before ⊎ left_with L change.stamped trees → left trees → NewlyLeaves L s (answer_in r) before trees
-accepted_leaves L s change (Ok a) before left trees is told alone may h =
+accepted_leaves L s change (Ok a) before left trees is room told alone may h =
     subst (λ b. NewlyLeaves L s b before trees) (sym told) (subst (λ (t : Stamped). left_with L t trees) (ap (λ (c : Change). c.stamped) is.value) (alone trees h))
-accepted_leaves L s change (Err e) before left trees is told alone may h =
-    subst (λ (t : Stamped). before ⊎ left_with L t trees) (ap (λ (c : Change). c.stamped) is.value) may
+accepted_leaves L s change (Err e) before left trees is room told alone (inl was) h = inl was
+accepted_leaves L s change (Err e) before left trees is room told alone (inr made) h =
+    inr (record { accepted = is.accepted; room = room }, subst (λ (t : Stamped). left_with L t trees) (ap (λ (c : Change). c.stamped) is.value) made)
 
-pub newly_weaker : (L : Line) (s : Stamped) (a : Answer) (before first : Type 0) (trees : Trees) → (before → first) → NewlyLeaves L s a before trees → NewlyLeaves L s a first trees
+pub newly_weaker : (L : Kept) (s : Stamped) (a : Answer) (before first : Type 0) (trees : Trees) → (before → first) → NewlyLeaves L s a before trees → NewlyLeaves L s a first trees
 newly_weaker L s (Accepted n text) before first trees f h = h
 newly_weaker L s (Refused r) before first trees f h = f h
 newly_weaker L s (IdReused n) before first trees f h = f h
@@ -73,6 +74,6 @@ newly_weaker L s DeskFull before first trees f h = f h
 newly_weaker L s Unavailable before first trees f (inl h) = inl (f h)
 newly_weaker L s Unavailable before first trees f (inr h) = inr h
 
-pub leaves_newly : (L : Line) (s : Stamped) (a : Answer) (before first : Type 0) (trees : Trees) → earlier_answer L.history s ≡ None → (before → first) → NewlyLeaves L s a before trees → Leaves L s a first trees
+pub leaves_newly : (L : Kept) (s : Stamped) (a : Answer) (before first : Type 0) (trees : Trees) → earlier_answer L.history s ≡ None → (before → first) → NewlyLeaves L s a before trees → Leaves L s a first trees
 leaves_newly L s a before first trees none f h =
     subst (λ (o : Option Answer). MatchBool (is_some o) first (NewlyLeaves L s a first trees)) (sym none) (newly_weaker L s a before first trees f h)

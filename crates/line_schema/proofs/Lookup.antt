@@ -1,5 +1,5 @@
 -- The answer by the row that has the UniqueID.
-use Rattle.std.proofs.Common.{◌≡◌, ◌∙◌, IsTrue, inl, inr, Bool, true, false, List, [], ◌∷◌, Option, Some, None, filter, refl, sym, ap, if◌then◌else◌}
+use Rattle.std.proofs.Common.{◌≡◌, ◌∙◌, IsTrue, inl, inr, Bool, true, false, [], ◌∷◌, Option, Some, None, filter, refl, sym, ap, if◌then◌else◌}
 use Rattle.std.proofs.lemmas.Bool.{cases_Bool}
 use Rattle.sqlite_value.specs.Order.{Row}
 use Rattle.sqlite.specs.State.{State}

@@ -1,26 +1,22 @@
 -- What was read of the version and of the list, told of what was committed before.
-use Rattle.std.proofs.Common.{◌≡◌, ◌≢◌, ◌≤◌, ◌∙◌, inl, inr, ℕ, ℤ, pos, IsTrue, Option, Some, None, length, refl, sym, ap, subst}
-use Rattle.sqlite_trees.specs.declared.store.Store.{Ghosts}
-use Rattle.sqlite.specs.Effect.{Database}
-use Rattle.sqlite.specs.State.{State, HasCleanDisk, KeepsCommit}
-use Rattle.sqlite.specs.Held.{Held, state}
+use Rattle.std.proofs.Common.{◌≡◌, ◌≢◌, ◌≤◌, ◌∙◌, inr, ℕ, ℤ, pos, IsTrue, Some, None, refl, sym, ap, subst}
+use Rattle.sqlite.specs.State.{State, KeepsCommit}
 use Rattle.desk_types.specs.declared.rules.Rules.{Rules}
 use Rattle.desk_types.specs.declared.rules.Rules.TheVariants.{Two}
 use Rattle.desk_types.specs.declared.desk.TheConstants.{MOST_ENTRIES}
 use Rattle.desk_types.specs.History.{History}
 use Rattle.desk_types.specs.Judged.{IsLawful}
 use Rattle.line_tables.specs.declared.version.Version.{Version}
-use Rattle.line_tables.specs.Line.{line_schema, is_ours}
-use Rattle.line_tables.specs.Rows.{Holds, version_in, accepted_in}
+use Rattle.line_tables.specs.Line.{is_ours}
+use Rattle.line_tables.specs.Rows.{Holds, version_in}
 use Rattle.line_tables.specs.Calls.{Reads, IsVersionOf}
 use Rattle.line_tables.proofs.Ours.{ours_is}
 use Rattle.line_rows.specs.Rows.{tables_of}
 use Rattle.line_replay.specs.declared.fault.ReplayFault.{ReplayFault}
 use Rattle.line_replay.specs.declared.fault.ReplayFault.TheVariants as replay
-use Rattle.line_replay.specs.Listed.{StopsAt}
 use Rattle.line_replay.specs.Replay.{IsReplayed, IsFaultOf as IsReplayFault}
 use Rattle.line_replay.proofs.Reading.{reads_back}
-use Rattle.line_schema.specs.declared.fault.OpenFault.TheVariants.{NotADesk, OtherVersion}
+use Rattle.line_schema.specs.declared.fault.OpenFault.TheVariants.{OtherVersion}
 use Rattle.line_schema.specs.declared.opening.Opened.{Opened}
 use Rattle.line_schema.specs.Opening.{IsGreatest, IsVersion, IsNoDesk, IsFaultOf, IsOpened, told_as}
 
@@ -64,14 +60,17 @@ opened_on F K Clean old mid desk count opened H r rules is counted bound kept ve
 }
 
 -- the tables that were read are those of the list
+pub opened_holds : {D : Type 0} (F : D → History → Type 0) (K : D → Rules) (Clean : Type 0) (old : State) (opened : Opened D) (H : History) → IsOpened F K Clean old opened H → Clean
+    → Reads old (λ db. Holds db (tables_of opened.greatest H))
+opened_holds F K Clean old opened H o clean =
+    let version = o.version clean in record {
+      was_open = version.was_open;
+      are = λ schema. record { schema = schema; version = (version.are schema).row; accepted = ((o.rows clean).are schema).same };
+    }
+
 pub opened_tables : {D : Type 0} (F : D → History → Type 0) (K : D → Rules) (Clean : Type 0) (old : State) (opened : Opened D) (H : History) → IsOpened F K Clean old opened H → Clean → IsTrue (is_ours old.committed.schema)
     → Holds old.committed (tables_of opened.greatest H)
-opened_tables F K Clean old opened H o clean own =
-    let schema = ours_is old.committed.schema own in record {
-      schema = schema;
-      version = ((o.version clean).are schema).row;
-      accepted = ((o.rows clean).are schema).same;
-    }
+opened_tables F K Clean old opened H o clean own = (opened_holds F K Clean old opened H o clean).are (ours_is old.committed.schema own)
 
 -- and it is lawful
 pub opened_lawful : {D : Type 0} (F : D → History → Type 0) (K : D → Rules) (Clean : Type 0) (old : State) (opened : Opened D) (H : History) → IsOpened F K Clean old opened H → Clean → IsTrue (is_ours old.committed.schema)

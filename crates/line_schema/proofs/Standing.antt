@@ -1,5 +1,5 @@
 -- For which list a store stands after a call.
-use Rattle.std.proofs.Common.{◌≡◌, ◌∙◌, ◌+◌, ◌<◌, ◌≤◌, IsTrue, IfSome, IsSomeAnd, Option, Some, None, Result, Ok, Err, OnOk, OnErr, List, [], ◌∷◌, map, length, true, false, true≢false, refl, sym, ap, subst, arith}
+use Rattle.std.proofs.Common.{◌≡◌, ◌∙◌, ◌+◌, ◌<◌, ◌≤◌, IsTrue, IfSome, IsSomeAnd, Option, Some, None, Result, Ok, Err, OnOk, OnErr, List, [], map, length, false, true≢false, sym, ap, subst, arith}
 use Rattle.std.specs.List.{IsDistinct}
 use Rattle.std.proofs.lemmas.Map.Keys.{IsDistinct-cons}
 use Rattle.sqlite_trees.specs.declared.store.Store.{Ghosts}
@@ -31,7 +31,7 @@ use Rattle.line_rows.specs.Rows.{tables_of}
 use Rattle.line_rows.proofs.Judgements.{next_is, stamped_is}
 use Rattle.line_schema.specs.declared.store.LineStore.{LineStore}
 use Rattle.line_schema.specs.declared.unavailable.Unavailable.{Unavailable as Fault}
-use Rattle.line_schema.specs.Stands.{Line, Stands, accepting}
+use Rattle.line_schema.specs.Stands.{Kept, Stands, accepting}
 
 -- a desk that may have judged it stands for the list
 pub judged_for : {D : Type 0} (F : D → History → Type 0) (K : D → Rules) (o : Option D) (H : History) (change : Change)
@@ -56,12 +56,12 @@ lawful_on greatest H s lawful judged none room = record {
 accepted_list : (rules : Rules) (H : History) (s : Stamped) (change : Change) → IsChange rules H s change → accept H change.stamped ≡ after_command rules H s
 accepted_list rules H s change is = ap (accept H) (stamped_is rules H s change is) ∙ sym (ap (λ o. option_map_or (λ _. H) o (accept H s)) is.accepted)
 
-pub first_as : (L : Line) (s : Stamped) (change : Change) → IsChange Two L.history s change → earlier_answer L.history s ≡ None → earlier_answer L.history change.stamped ≡ None
+pub first_as : (L : Kept) (s : Stamped) (change : Change) → IsChange Two L.history s change → earlier_answer L.history s ≡ None → earlier_answer L.history change.stamped ≡ None
 first_as L s change is none = subst (λ t. earlier_answer L.history t ≡ None) (sym (stamped_is Two L.history s change is)) none
 
 module _ {S D : Type 0} (g : Ghosts S) (F : D → History → Type 0) (K : D → Rules) where
   -- of tables that are not its own less is said
-  pub disowned : (store : LineStore S D) (L : Line) → Stands g F K store L → Stands g F K store (record L { own = false })
+  pub disowned : (store : LineStore S D) (L : Kept) → Stands g F K store L → Stands g F K store (record L { own = false })
   disowned store L s = record {
     greatest = s.greatest;
     bound = s.bound;
@@ -77,7 +77,7 @@ module _ {S D : Type 0} (g : Ghosts S) (F : D → History → Type 0) (K : D →
   -- the connection read, and what is committed stayed
   pub read_on : (old new : LineStore S D) → new.greatest ≡ old.greatest → new.count ≡ old.count → new.desk ≡ old.desk → new.conn.in_transaction ≡ false
       → (HasCleanDisk (state g new.conn) → HasCleanDisk (state g old.conn)) → (HasCleanDisk (state g new.conn) → KeepsCommit (state g old.conn) (state g new.conn))
-      → (L : Line) → Stands g F K old L → Stands g F K new L
+      → (L : Kept) → Stands g F K old L → Stands g F K new L
   read_on old new greatest count desk mode early kept L s = record {
     greatest = greatest ∙ s.greatest;
     bound = s.bound;
@@ -92,7 +92,7 @@ module _ {S D : Type 0} (g : Ghosts S) (F : D → History → Type 0) (K : D →
 
   -- the desk was made again
   pub remade : (old new : LineStore S D) (d : D) (H : History) → new.greatest ≡ old.greatest → new.count ≡ length H → new.desk ≡ Some d → new.conn.in_transaction ≡ false → F d H → K d ≡ Two → IsJudged Two H
-      → (L : Line) → Stands g F K old L → length H ≤ L.greatest → Stands g F K new (record { greatest = L.greatest; history = H; own = false })
+      → (L : Kept) → Stands g F K old L → length H ≤ L.greatest → Stands g F K new (record { greatest = L.greatest; history = H; own = false })
   remade old new d H greatest count desk mode stands rules judged L s within = record {
     greatest = greatest ∙ s.greatest;
     bound = s.bound;
@@ -106,7 +106,7 @@ module _ {S D : Type 0} (g : Ghosts S) (F : D → History → Type 0) (K : D →
   }
 
   -- a change was committed
-  pub stands_on : (old new : LineStore S D) (L : Line) (change : Change) (edits : List Edit) → Stands g F K old L → old.count < old.greatest
+  pub stands_on : (old new : LineStore S D) (L : Kept) (change : Change) (edits : List Edit) → Stands g F K old L → old.count < old.greatest
       → IsChange Two L.history change.stamped change → IsStamped change.stamped → IsMinute change.minute
       → new.count ≡ old.count + 1 → new.greatest ≡ old.greatest → new.conn.in_transaction ≡ false → IfSome new.desk (λ d. F d (accept L.history change.stamped) × (K d ≡ Two))
       → edited edits (tables_of L.greatest L.history) ≡ tables_of L.greatest (accept L.history change.stamped)
@@ -130,11 +130,11 @@ module _ {S D : Type 0} (g : Ghosts S) (F : D → History → Type 0) (K : D →
       judged = (next_is Two L.history change.stamped change stamped minute is, s.judged)
 
   -- a call that may have accepted it
-  pub stands_either : (r : Result Answer Fault) (new : LineStore S D) (L M : Line) → OnOk r (Stands g F K new M) → OnErr r (Stands g F K new L) → (N : Line) × Stands g F K new N
+  pub stands_either : (r : Result Answer Fault) (new : LineStore S D) (L M : Kept) → OnOk r (Stands g F K new M) → OnErr r (Stands g F K new L) → (N : Kept) × Stands g F K new N
   stands_either (Ok a) new L M ok err = (M, ok)
   stands_either (Err e) new L M ok err = (L, err)
 
-  pub accepted_as : (r : Result Answer Fault) (new : LineStore S D) (L : Line) (s : Stamped) (change : Change) → IsChange Two L.history s change → OnOk r (Stands g F K new (accepting L change.stamped))
+  pub accepted_as : (r : Result Answer Fault) (new : LineStore S D) (L : Kept) (s : Stamped) (change : Change) → IsChange Two L.history s change → OnOk r (Stands g F K new (accepting L change.stamped))
       → OnOk r (Stands g F K new (record L { history = after_command Two L.history s }))
   accepted_as (Ok a) new L s change is ok = subst (λ H. Stands g F K new (record L { history = H })) (accepted_list Two L.history s change is) ok
   accepted_as (Err e) new L s change is ok = ok

@@ -1,5 +1,5 @@
 -- What is read when a store is opened, and what a fault says of what is committed.
-use Rattle.std.specs.Prelude.{◌≡◌, ◌≢◌, ◌⊎◌, ◌≤◌, ⊤, ℕ, ℤ, pos, false, length, [], ◌∷◌}
+use Rattle.std.specs.Prelude.{◌≡◌, ◌≢◌, ◌⊎◌, ◌≤◌, ⊤, ℕ, ℤ, pos, true, false, length, [], ◌∷◌}
 use Rattle.std.specs.List.{list_any}
 use Rattle.sqlite.specs.declared.types.Value.TheVariants.{Int}
 use Rattle.sqlite.specs.Effect.{Database}
@@ -36,6 +36,10 @@ pub record IsVersion (db : Database) (number : ℤ) (greatest : ℕ) : Type 0 wh
   pub least : 1 ≤ greatest
   pub most : greatest ≤ MOST_ENTRIES
 
+-- the tables are there, with their columns, by name
+abbrev pub IsNamed : State → Type 0
+IsNamed old = (list_any is_version old.now.schema.tables ≡ true) × (list_any is_accepted old.now.schema.tables ≡ true)
+
 -- a table or a column of it is missing, or `version` has no such row
 abbrev pub IsNoDesk : State → Type 0
 IsNoDesk old = (list_any is_version old.now.schema.tables ≡ false) ⊎ (list_any is_accepted old.now.schema.tables ≡ false) ⊎ Reads old (λ db. (number : ℤ) (greatest : ℕ) → IsVersion db number greatest → ⊥)
@@ -48,7 +52,7 @@ IsFaultOf old (NotLawful n) = (greatest : ℕ) × Reads old (λ db. IsVersion db
 IsFaultOf old NotBlank = ⊥
 IsFaultOf old Unavailable = ⊤
 
--- The desk stands by rules Two for a judged list of so many entries, no more than the greatest number. On a clean disk that is the greatest number of `version`, the list is lawful, and its rows are those that are committed.
+-- The desk stands by rules Two for a judged list of so many entries, no more than the greatest number. On a clean disk, where the schema is ours, that is the greatest number of `version`, the list is lawful, and its rows are those that are committed.
 pub record IsOpened {D : Type 0} (StandsFor : D → History → Type 0) (kept_rules : D → Rules) (Clean : Type 0) (old : State) (opened : Opened D) (H : History) : Type 0 where
   pub stands : StandsFor opened.desk H
   pub rules : kept_rules opened.desk ≡ Two

@@ -3,6 +3,7 @@
 
 mod edits;
 mod fault;
+mod line;
 mod opening;
 mod settled;
 mod store;

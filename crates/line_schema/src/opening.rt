@@ -7,7 +7,7 @@ ghost use Rattle.desk_types.specs.declared.desk.TheConstants.{MOST_ENTRIES};
 ghost use Rattle.desk_types.specs.History.{History};
 ghost use Rattle.line_tables.specs.Calls.{Reads};
 ghost use Rattle.line_schema.specs.declared.fault.OpenFault.TheVariants as Fault;
-ghost use Rattle.line_schema.specs.Opening.{IsVersion, IsFaultOf, IsOpened, IsGreatest};
+ghost use Rattle.line_schema.specs.Opening.{IsVersion, IsFaultOf, IsNamed, IsOpened, IsGreatest};
 
 use crate::fault::OpenFault;
 use desk_types::{Desk, MOST_ENTRIES, Rules};
@@ -32,6 +32,8 @@ pub fn read_tables<S: Alter, D: Desk + Drop>(
     conn: &mut Connection<S>,
 ) -> Result<Opened<D>, OpenFault>
     ensures ok { IfOk result (λ r. (H : History) × IsOpened D.Stands D.kept_rules (HasCleanDisk (state S.Store conn.new)) (state S.Store conn.old) r H) }
+    ensures named { IfOk result (λ _. IsNamed (state S.Store conn.old)) }
+    ensures never { IfErr result (λ f. f ≢ Fault.NotBlank) }
     ensures err { HasCleanDisk (state S.Store conn.new) → IfErr result (IsFaultOf (state S.Store conn.old)) }
     ensures kept { HasCleanDisk (state S.Store conn.new) → KeepsCommit (state S.Store conn.old) (state S.Store conn.new) }
     ensures mode { conn.old.in_transaction ≡ false → conn.new.in_transaction ≡ false }
@@ -57,6 +59,7 @@ pub fn read_tables<S: Alter, D: Desk + Drop>(
 fn read_greatest<S: Alter>(conn: &mut Connection<S>) -> Result<u32, OpenFault>
     ensures ok { HasCleanDisk (state S.Store conn.new) → IfOk result (λ greatest. Reads (state S.Store conn.old) (λ db. IsVersion db (pos 2) greatest)) }
     ensures bound { IfOk result (λ greatest. greatest ≤ MOST_ENTRIES) }
+    ensures never { IfErr result (λ f. f ≢ Fault.NotBlank) }
     ensures err { HasCleanDisk (state S.Store conn.new) → IfErr result (IsFaultOf (state S.Store conn.old)) }
     ensures kept { HasCleanDisk (state S.Store conn.new) → KeepsCommit (state S.Store conn.old) (state S.Store conn.new) }
     ensures mode { conn.old.in_transaction ≡ false → conn.new.in_transaction ≡ false }

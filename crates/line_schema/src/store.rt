@@ -1,6 +1,6 @@
 //! The store of one line.
 
-ghost use Rattle.std.specs.Prelude.{◌≡◌, ◌<◌, ◌≤◌, ◌⊎◌, [], true, false, IsTrue, IfOk, IfErr, OnOk, OnErr, IfSome, IsSomeAnd, is_some, length, None};
+ghost use Rattle.std.specs.Prelude.{◌≡◌, ◌<◌, ◌≤◌, ◌⊎◌, [], true, false, IsTrue, IfOk, IfErr, OnOk, OnErr, IfSome, IsSomeAnd, is_some, length, None, Err, ◌≢◌};
 ghost use Rattle.std.specs.List.{list_any};
 ghost use Rattle.sqlite_trees.specs.Tree.{Trees};
 ghost use Rattle.sqlite.specs.State.{HasCleanDisk, KeepsCommit, Survives};
@@ -12,14 +12,15 @@ ghost use Rattle.desk_types.specs.Desk.{IsChange};
 ghost use Rattle.desk_types.specs.History.{History};
 ghost use Rattle.desk_types.specs.Outcome.{reply_to, after_command};
 ghost use Rattle.desk_answers.specs.Commands.{earlier_answer, judged_answer, command_answer, command_after};
-ghost use Rattle.line_tables.specs.Calls.{LeavesBlank};
+ghost use Rattle.desk_answers.specs.Ledger.{IsAnswer};
+ghost use Rattle.line_tables.specs.Calls.{Reads, LeavesBlank};
 ghost use Rattle.line_tables.specs.Line.{is_blank, is_ours};
 ghost use Rattle.line_tables.specs.Names.{has_name};
-ghost use Rattle.line_tables.specs.Rows.{HoldsAt, blank};
+ghost use Rattle.line_tables.specs.Rows.{Holds, HoldsAt, blank};
 ghost use Rattle.line_rows.specs.Rows.{tables_of};
 ghost use Rattle.line_schema.specs.declared.fault.OpenFault.TheVariants as Fault;
-ghost use Rattle.line_schema.specs.Opening.{IsFaultOf};
-ghost use Rattle.line_schema.specs.Stands.{Line, Stands, has_desk, accepting, line_after, IsAnswer, answer_in, NewlyLeaves, Leaves};
+ghost use Rattle.line_schema.specs.Opening.{IsFaultOf, IsNamed};
+ghost use Rattle.line_schema.specs.Stands.{Kept, Stands, state_of, conn_of, has_desk, accepting, ledger, kept_after, answer_in, NewlyLeaves, Leaves};
 
 use crate::edits::{Acceptance, prepare};
 use crate::fault::OpenFault;
@@ -58,9 +59,15 @@ impl<S: Alter, D: Desk + Drop> LineStore<S, D> {
         requires least { 1 ≤ greatest }
         requires most { greatest ≤ MOST_ENTRIES }
         ensures stands { IfOk result (λ store. Stands S.Store D.Stands D.kept_rules store (record { greatest = greatest; history = []; own = is_blank (state S.Store conn).now.schema })) }
-        ensures alone { IfOk result (λ store. HasCleanDisk (state S.Store store.conn) → IsTrue (is_blank (state S.Store conn).now.schema) → (trees : Trees) → (state S.Store store.conn).may_leave trees → HoldsAt (blank greatest) trees) }
+        ensures alone { IfOk result (λ store. HasCleanDisk (state_of S.Store store) → IsTrue (is_blank (state S.Store conn).now.schema) → (trees : Trees) → (state_of S.Store store).may_leave trees → HoldsAt (blank greatest) trees) }
+        ensures ready { IfOk result (λ store. IsTrue (has_desk store)) }
+        ensures stays_open { IfOk result (λ store. HasCleanDisk (state_of S.Store store) → IsTrue (state_of S.Store store).is_open) }
+        ensures leaves { IfOk result (λ store. Survives (state S.Store conn) (state_of S.Store store) (LeavesBlank greatest (state S.Store conn))) }
         ensures nameless { IfOk result (λ _. list_any has_name (state S.Store conn).now.schema.tables ≡ false) }
         ensures fault { IfErr result (λ e. (e.0 ≡ Fault.Unavailable) ⊎ ((e.0 ≡ Fault.NotBlank) × (list_any has_name (state S.Store conn).now.schema.tables ≡ true))) }
+        ensures untouched { IfErr result (λ e. e.0 ≡ Fault.NotBlank → e.1 ≡ conn) }
+        ensures inside { IsTrue conn.in_transaction → result ≡ Err (Fault.Unavailable, conn) }
+        ensures mode { IfErr result (λ e. conn.in_transaction ≡ false → e.1.in_transaction ≡ false) }
         ensures unchanged { IfErr result (λ e. HasCleanDisk (state S.Store e.1) → KeepsCommit (state S.Store conn) (state S.Store e.1)) }
         ensures survives { IfErr result (λ e. Survives (state S.Store conn) (state S.Store e.1) (LeavesBlank greatest (state S.Store conn))) }
     {
@@ -89,11 +96,16 @@ impl<S: Alter, D: Desk + Drop> LineStore<S, D> {
         alloc: Global,
         conn: Connection<S>,
     ) -> Result<LineStore<S, D>, (OpenFault, Connection<S>)>
-        ensures stands { IfOk result (λ store. (L : Line) × (L.own ≡ is_ours (state S.Store conn).committed.schema) × Stands S.Store D.Stands D.kept_rules store L) }
+        ensures stands { IfOk result (λ store. (L : Kept) × (L.own ≡ is_ours (state S.Store conn).committed.schema) × Stands S.Store D.Stands D.kept_rules store L × (HasCleanDisk (state_of S.Store store) → Reads (state S.Store conn) (λ db. Holds db (tables_of L.greatest L.history)))) }
+        ensures named { IfOk result (λ _. IsNamed (state S.Store conn)) }
+        ensures ready { IfOk result (λ store. IsTrue (has_desk store)) }
         ensures fault { IfErr result (λ e. HasCleanDisk (state S.Store e.1) → IsFaultOf (state S.Store conn) e.0) }
-        ensures same { IfOk result (λ store. HasCleanDisk (state S.Store store.conn) → KeepsCommit (state S.Store conn) (state S.Store store.conn)) }
+        ensures never { IfErr result (λ e. e.0 ≢ Fault.NotBlank) }
+        ensures inside { IsTrue conn.in_transaction → result ≡ Err (Fault.Unavailable, conn) }
+        ensures mode { IfErr result (λ e. conn.in_transaction ≡ false → e.1.in_transaction ≡ false) }
+        ensures same { IfOk result (λ store. HasCleanDisk (state_of S.Store store) → KeepsCommit (state S.Store conn) (state_of S.Store store)) }
         ensures unchanged { IfErr result (λ e. HasCleanDisk (state S.Store e.1) → KeepsCommit (state S.Store conn) (state S.Store e.1)) }
-        ensures leaves { IfOk result (λ store. Survives (state S.Store conn) (state S.Store store.conn) (λ _. ⊥)) }
+        ensures leaves { IfOk result (λ store. Survives (state S.Store conn) (state_of S.Store store) (λ _. ⊥)) }
         ensures survives { IfErr result (λ e. Survives (state S.Store conn) (state S.Store e.1) (λ _. ⊥)) }
     {
         let mut conn = conn;
@@ -120,7 +132,7 @@ impl<S: Alter, D: Desk + Drop> LineStore<S, D> {
 
     /// Gives the connection back. Takes no memory.
     pub fn into_connection(self) -> Connection<S>
-        ensures { result ≡ self.conn }
+        ensures { result ≡ conn_of self }
     {
         let LineStore {
             alloc: _,
@@ -134,7 +146,7 @@ impl<S: Alter, D: Desk + Drop> LineStore<S, D> {
 
     /// How many commands are accepted. Takes no memory.
     pub fn count(&self) -> u32
-        ensures { (L : Line) → Stands S.Store D.Stands D.kept_rules self.now L → result ≡ length L.history }
+        ensures { (L : Kept) → Stands S.Store D.Stands D.kept_rules self.now L → result ≡ length L.history }
     {
         self.count
     }
@@ -142,18 +154,19 @@ impl<S: Alter, D: Desk + Drop> LineStore<S, D> {
     /// The desk, where it is at hand: after [`LineStore::ready`] it is.
     pub fn desk(&self) -> Option<&D>
         ensures there { is_some result ≡ has_desk self.now }
-        ensures stands { (L : Line) → Stands S.Store D.Stands D.kept_rules self.now L → IfSome result (λ desk. D.Stands desk.now L.history × (D.kept_rules desk.now ≡ Two)) }
+        ensures stands { (L : Kept) → Stands S.Store D.Stands D.kept_rules self.now L → IfSome result (λ desk. D.Stands desk.now L.history × (D.kept_rules desk.now ≡ Two)) }
     {
         self.desk.as_ref()
     }
 
     /// Sees to it that the desk is at hand, by reading the tables where it isn't.
     pub fn ready(&mut self) -> Result<(), Unavailable>
-        requires stands { (L : Line) × Stands S.Store D.Stands D.kept_rules self.old L }
+        requires stands { (L : Kept) × Stands S.Store D.Stands D.kept_rules self.old L }
+        ensures at_hand { IsTrue (has_desk self.old) → self.new ≡ self.old }
         ensures ok { OnOk result (IsTrue (has_desk self.new)) }
-        ensures kept { (L : Line) × Stands S.Store D.Stands D.kept_rules self.new L }
-        ensures stands { (L : Line) → Stands S.Store D.Stands D.kept_rules self.old L → HasCleanDisk (state S.Store self.new.conn) → IsTrue L.own → Stands S.Store D.Stands D.kept_rules self.new L }
-        ensures survives { Survives (state S.Store self.old.conn) (state S.Store self.new.conn) (λ _. ⊥) }
+        ensures kept { (L : Kept) × Stands S.Store D.Stands D.kept_rules self.new L }
+        ensures stands { (L : Kept) → Stands S.Store D.Stands D.kept_rules self.old L → HasCleanDisk (state_of S.Store self.new) → IsTrue L.own → Stands S.Store D.Stands D.kept_rules self.new L }
+        ensures survives { Survives (state_of S.Store self.old) (state_of S.Store self.new) (λ _. ⊥) }
     {
         if self.desk.is_some() {
             return Ok(());
@@ -163,11 +176,11 @@ impl<S: Alter, D: Desk + Drop> LineStore<S, D> {
 
     /// Makes the desk from the tables.
     fn remake(&mut self) -> Result<(), Unavailable>
-        requires stands { (L : Line) × Stands S.Store D.Stands D.kept_rules self.old L }
+        requires stands { (L : Kept) × Stands S.Store D.Stands D.kept_rules self.old L }
         ensures ok { OnOk result (IsTrue (has_desk self.new)) }
-        ensures kept { (L : Line) × Stands S.Store D.Stands D.kept_rules self.new L }
-        ensures stands { (L : Line) → Stands S.Store D.Stands D.kept_rules self.old L → HasCleanDisk (state S.Store self.new.conn) → IsTrue L.own → Stands S.Store D.Stands D.kept_rules self.new L }
-        ensures survives { Survives (state S.Store self.old.conn) (state S.Store self.new.conn) (λ _. ⊥) }
+        ensures kept { (L : Kept) × Stands S.Store D.Stands D.kept_rules self.new L }
+        ensures stands { (L : Kept) → Stands S.Store D.Stands D.kept_rules self.old L → HasCleanDisk (state_of S.Store self.new) → IsTrue L.own → Stands S.Store D.Stands D.kept_rules self.new L }
+        ensures survives { Survives (state_of S.Store self.old) (state_of S.Store self.new) (λ _. ⊥) }
     {
         match rebuild(self.alloc, &mut self.conn, Rules::Two, self.greatest) {
             Some(Replayed { desk, count }) => {
@@ -183,12 +196,12 @@ impl<S: Alter, D: Desk + Drop> LineStore<S, D> {
     /// changes nothing. Accepted is answered once the command is committed. After Unavailable it may
     /// be sent again.
     pub fn command(&mut self, stamped: &Stamped) -> Answer
-        requires stands { (L : Line) × Stands S.Store D.Stands D.kept_rules self.old L }
-        ensures kept { (L : Line) × Stands S.Store D.Stands D.kept_rules self.new L }
-        ensures answer { (L : Line) → Stands S.Store D.Stands D.kept_rules self.old L → HasCleanDisk (state S.Store self.new.conn) → IsTrue L.own → IsAnswer L stamped.now result }
-        ensures stands { (L : Line) → Stands S.Store D.Stands D.kept_rules self.old L → HasCleanDisk (state S.Store self.new.conn) → IsTrue L.own → Stands S.Store D.Stands D.kept_rules self.new (line_after L stamped.now result) }
-        ensures crash { (L : Line) → Stands S.Store D.Stands D.kept_rules self.old L → HasCleanDisk (state S.Store self.new.conn) → IsTrue L.own → (trees : Trees) → (state S.Store self.new.conn).may_leave trees → Leaves L stamped.now result ((state S.Store self.old.conn).may_leave trees) trees }
-        ensures clean { HasCleanDisk (state S.Store self.new.conn) → HasCleanDisk (state S.Store self.old.conn) }
+        requires stands { (L : Kept) × Stands S.Store D.Stands D.kept_rules self.old L }
+        ensures kept { (L : Kept) × Stands S.Store D.Stands D.kept_rules self.new L }
+        ensures answer { (L : Kept) → Stands S.Store D.Stands D.kept_rules self.old L → HasCleanDisk (state_of S.Store self.new) → IsTrue L.own → IsAnswer (ledger L) stamped.now result }
+        ensures stands { (L : Kept) → Stands S.Store D.Stands D.kept_rules self.old L → HasCleanDisk (state_of S.Store self.new) → IsTrue L.own → Stands S.Store D.Stands D.kept_rules self.new (kept_after L stamped.now result) }
+        ensures crash { (L : Kept) → Stands S.Store D.Stands D.kept_rules self.old L → HasCleanDisk (state_of S.Store self.new) → IsTrue L.own → (trees : Trees) → (state_of S.Store self.new).may_leave trees → Leaves L stamped.now result ((state_of S.Store self.old).may_leave trees) trees }
+        ensures clean { HasCleanDisk (state_of S.Store self.new) → HasCleanDisk (state_of S.Store self.old) }
     {
         match self.answer(stamped) {
             Ok(answer) => answer,
@@ -197,13 +210,13 @@ impl<S: Alter, D: Desk + Drop> LineStore<S, D> {
     }
 
     fn answer(&mut self, stamped: &Stamped) -> Result<Answer, Unavailable>
-        requires stands { (L : Line) × Stands S.Store D.Stands D.kept_rules self.old L }
-        ensures kept { (L : Line) × Stands S.Store D.Stands D.kept_rules self.new L }
-        ensures answer { (L : Line) → Stands S.Store D.Stands D.kept_rules self.old L → HasCleanDisk (state S.Store self.new.conn) → IsTrue L.own → IfOk result (λ answer. answer ≡ command_answer Two L.greatest L.history stamped.now) }
-        ensures ok { (L : Line) → Stands S.Store D.Stands D.kept_rules self.old L → HasCleanDisk (state S.Store self.new.conn) → IsTrue L.own → OnOk result (Stands S.Store D.Stands D.kept_rules self.new (record L { history = command_after Two L.greatest L.history stamped.now })) }
-        ensures err { (L : Line) → Stands S.Store D.Stands D.kept_rules self.old L → HasCleanDisk (state S.Store self.new.conn) → IsTrue L.own → OnErr result (Stands S.Store D.Stands D.kept_rules self.new L) }
-        ensures crash { (L : Line) → Stands S.Store D.Stands D.kept_rules self.old L → HasCleanDisk (state S.Store self.new.conn) → IsTrue L.own → (trees : Trees) → (state S.Store self.new.conn).may_leave trees → Leaves L stamped.now (answer_in result) ((state S.Store self.old.conn).may_leave trees) trees }
-        ensures clean { HasCleanDisk (state S.Store self.new.conn) → HasCleanDisk (state S.Store self.old.conn) }
+        requires stands { (L : Kept) × Stands S.Store D.Stands D.kept_rules self.old L }
+        ensures kept { (L : Kept) × Stands S.Store D.Stands D.kept_rules self.new L }
+        ensures answer { (L : Kept) → Stands S.Store D.Stands D.kept_rules self.old L → HasCleanDisk (state_of S.Store self.new) → IsTrue L.own → IfOk result (λ answer. answer ≡ command_answer Two L.greatest L.history stamped.now) }
+        ensures ok { (L : Kept) → Stands S.Store D.Stands D.kept_rules self.old L → HasCleanDisk (state_of S.Store self.new) → IsTrue L.own → OnOk result (Stands S.Store D.Stands D.kept_rules self.new (record L { history = command_after Two L.greatest L.history stamped.now })) }
+        ensures err { (L : Kept) → Stands S.Store D.Stands D.kept_rules self.old L → HasCleanDisk (state_of S.Store self.new) → IsTrue L.own → OnErr result (Stands S.Store D.Stands D.kept_rules self.new L) }
+        ensures crash { (L : Kept) → Stands S.Store D.Stands D.kept_rules self.old L → HasCleanDisk (state_of S.Store self.new) → IsTrue L.own → (trees : Trees) → (state_of S.Store self.new).may_leave trees → Leaves L stamped.now (answer_in result) ((state_of S.Store self.old).may_leave trees) trees }
+        ensures clean { HasCleanDisk (state_of S.Store self.new) → HasCleanDisk (state_of S.Store self.old) }
     {
         if let Some(answer) = self.earlier(stamped)? {
             return Ok(answer);
@@ -216,10 +229,10 @@ impl<S: Alter, D: Desk + Drop> LineStore<S, D> {
 
     /// The answer by the row that has the UniqueID, where there is one.
     fn earlier(&mut self, stamped: &Stamped) -> Result<Option<Answer>, Unavailable>
-        requires stands { (L : Line) × Stands S.Store D.Stands D.kept_rules self.old L }
-        ensures answer { (L : Line) → Stands S.Store D.Stands D.kept_rules self.old L → HasCleanDisk (state S.Store self.new.conn) → IsTrue L.own → IfOk result (λ answer. answer ≡ earlier_answer L.history stamped.now) }
-        ensures stands { (L : Line) → Stands S.Store D.Stands D.kept_rules self.old L → Stands S.Store D.Stands D.kept_rules self.new L }
-        ensures survives { Survives (state S.Store self.old.conn) (state S.Store self.new.conn) (λ _. ⊥) }
+        requires stands { (L : Kept) × Stands S.Store D.Stands D.kept_rules self.old L }
+        ensures answer { (L : Kept) → Stands S.Store D.Stands D.kept_rules self.old L → HasCleanDisk (state_of S.Store self.new) → IsTrue L.own → IfOk result (λ answer. answer ≡ earlier_answer L.history stamped.now) }
+        ensures stands { (L : Kept) → Stands S.Store D.Stands D.kept_rules self.old L → Stands S.Store D.Stands D.kept_rules self.new L }
+        ensures survives { Survives (state_of S.Store self.old) (state_of S.Store self.new) (λ _. ⊥) }
     {
         match find(&mut self.conn, stamped.uid.as_str())? {
             Some(row) => Ok(Some(answer_under(self.alloc, row, stamped)?)),
@@ -230,13 +243,13 @@ impl<S: Alter, D: Desk + Drop> LineStore<S, D> {
     /// Judges the command, for which there is room and no row with its UniqueID, by the desk, which
     /// may have to be made first; and accepts it where it isn't refused.
     fn judged(&mut self, stamped: &Stamped) -> Result<Answer, Unavailable>
-        requires stands { (L : Line) × Stands S.Store D.Stands D.kept_rules self.old L }
-        ensures kept { (L : Line) × Stands S.Store D.Stands D.kept_rules self.new L }
-        ensures answer { (L : Line) → Stands S.Store D.Stands D.kept_rules self.old L → HasCleanDisk (state S.Store self.new.conn) → IsTrue L.own → IfOk result (λ answer. answer ≡ judged_answer L.history stamped.now (reply_to Two L.history stamped.now)) }
-        ensures ok { (L : Line) → Stands S.Store D.Stands D.kept_rules self.old L → HasCleanDisk (state S.Store self.new.conn) → IsTrue L.own → earlier_answer L.history stamped.now ≡ None → OnOk result (Stands S.Store D.Stands D.kept_rules self.new (record L { history = after_command Two L.history stamped.now })) }
-        ensures err { (L : Line) → Stands S.Store D.Stands D.kept_rules self.old L → HasCleanDisk (state S.Store self.new.conn) → IsTrue L.own → OnErr result (Stands S.Store D.Stands D.kept_rules self.new L) }
-        ensures crash { (L : Line) → Stands S.Store D.Stands D.kept_rules self.old L → HasCleanDisk (state S.Store self.new.conn) → IsTrue L.own → (trees : Trees) → (state S.Store self.new.conn).may_leave trees → NewlyLeaves L stamped.now (answer_in result) ((state S.Store self.old.conn).may_leave trees) trees }
-        ensures clean { HasCleanDisk (state S.Store self.new.conn) → HasCleanDisk (state S.Store self.old.conn) }
+        requires stands { (L : Kept) × Stands S.Store D.Stands D.kept_rules self.old L }
+        ensures kept { (L : Kept) × Stands S.Store D.Stands D.kept_rules self.new L }
+        ensures answer { (L : Kept) → Stands S.Store D.Stands D.kept_rules self.old L → HasCleanDisk (state_of S.Store self.new) → IsTrue L.own → IfOk result (λ answer. answer ≡ judged_answer L.history stamped.now (reply_to Two L.history stamped.now)) }
+        ensures ok { (L : Kept) → Stands S.Store D.Stands D.kept_rules self.old L → HasCleanDisk (state_of S.Store self.new) → IsTrue L.own → earlier_answer L.history stamped.now ≡ None → OnOk result (Stands S.Store D.Stands D.kept_rules self.new (record L { history = after_command Two L.history stamped.now })) }
+        ensures err { (L : Kept) → Stands S.Store D.Stands D.kept_rules self.old L → HasCleanDisk (state_of S.Store self.new) → IsTrue L.own → OnErr result (Stands S.Store D.Stands D.kept_rules self.new L) }
+        ensures crash { (L : Kept) → Stands S.Store D.Stands D.kept_rules self.old L → HasCleanDisk (state_of S.Store self.new) → IsTrue L.own → (trees : Trees) → (state_of S.Store self.new).may_leave trees → NewlyLeaves L stamped.now (answer_in result) ((state_of S.Store self.old).may_leave trees) trees }
+        ensures clean { HasCleanDisk (state_of S.Store self.new) → HasCleanDisk (state_of S.Store self.old) }
     {
         self.ready()?;
         self.judge(stamped)
@@ -244,13 +257,13 @@ impl<S: Alter, D: Desk + Drop> LineStore<S, D> {
 
     /// Judges the command by the desk, and accepts it where it isn't refused.
     fn judge(&mut self, stamped: &Stamped) -> Result<Answer, Unavailable>
-        requires stands { (L : Line) × Stands S.Store D.Stands D.kept_rules self.old L }
-        ensures kept { (L : Line) × Stands S.Store D.Stands D.kept_rules self.new L }
-        ensures answer { (L : Line) → Stands S.Store D.Stands D.kept_rules self.old L → IfOk result (λ answer. answer ≡ judged_answer L.history stamped.now (reply_to Two L.history stamped.now)) }
-        ensures ok { (L : Line) → Stands S.Store D.Stands D.kept_rules self.old L → (HasCleanDisk (state S.Store self.new.conn) → IsTrue L.own → earlier_answer L.history stamped.now ≡ None) → OnOk result (Stands S.Store D.Stands D.kept_rules self.new (record L { history = after_command Two L.history stamped.now })) }
-        ensures err { (L : Line) → Stands S.Store D.Stands D.kept_rules self.old L → OnErr result (Stands S.Store D.Stands D.kept_rules self.new L) }
-        ensures crash { (L : Line) → Stands S.Store D.Stands D.kept_rules self.old L → HasCleanDisk (state S.Store self.new.conn) → IsTrue L.own → (trees : Trees) → (state S.Store self.new.conn).may_leave trees → NewlyLeaves L stamped.now (answer_in result) ((state S.Store self.old.conn).may_leave trees) trees }
-        ensures clean { HasCleanDisk (state S.Store self.new.conn) → HasCleanDisk (state S.Store self.old.conn) }
+        requires stands { (L : Kept) × Stands S.Store D.Stands D.kept_rules self.old L }
+        ensures kept { (L : Kept) × Stands S.Store D.Stands D.kept_rules self.new L }
+        ensures answer { (L : Kept) → Stands S.Store D.Stands D.kept_rules self.old L → IfOk result (λ answer. answer ≡ judged_answer L.history stamped.now (reply_to Two L.history stamped.now)) }
+        ensures ok { (L : Kept) → Stands S.Store D.Stands D.kept_rules self.old L → (HasCleanDisk (state_of S.Store self.new) → IsTrue L.own → earlier_answer L.history stamped.now ≡ None) → OnOk result (Stands S.Store D.Stands D.kept_rules self.new (record L { history = after_command Two L.history stamped.now })) }
+        ensures err { (L : Kept) → Stands S.Store D.Stands D.kept_rules self.old L → OnErr result (Stands S.Store D.Stands D.kept_rules self.new L) }
+        ensures crash { (L : Kept) → Stands S.Store D.Stands D.kept_rules self.old L → HasCleanDisk (state_of S.Store self.new) → IsTrue L.own → (trees : Trees) → (state_of S.Store self.new).may_leave trees → NewlyLeaves L stamped.now (answer_in result) ((state_of S.Store self.old).may_leave trees) trees }
+        ensures clean { HasCleanDisk (state_of S.Store self.new) → HasCleanDisk (state_of S.Store self.old) }
     {
         if self.count >= self.greatest {
             return Err(Unavailable);
@@ -268,15 +281,15 @@ impl<S: Alter, D: Desk + Drop> LineStore<S, D> {
     /// Accepts what was judged: the answer and the edits are made, then the edits are committed, and
     /// then the desk settles.
     fn accept(&mut self, change: Change) -> Result<Answer, Unavailable>
-        requires stands { (L : Line) × Stands S.Store D.Stands D.kept_rules self.old L }
+        requires stands { (L : Kept) × Stands S.Store D.Stands D.kept_rules self.old L }
         requires room { self.old.count < self.old.greatest }
         requires judged { IsSomeAnd self.old.desk (λ d. (H : History) → D.Stands d H → IsChange (D.kept_rules d) H change.stamped change) }
-        ensures answer { (L : Line) → Stands S.Store D.Stands D.kept_rules self.old L → IfOk result (λ answer. answer ≡ judged_answer L.history change.stamped (Reply.Accepted change.detail)) }
-        ensures ok { (L : Line) → Stands S.Store D.Stands D.kept_rules self.old L → (HasCleanDisk (state S.Store self.new.conn) → IsTrue L.own → earlier_answer L.history change.stamped ≡ None) → OnOk result (Stands S.Store D.Stands D.kept_rules self.new (accepting L change.stamped)) }
-        ensures err { (L : Line) → Stands S.Store D.Stands D.kept_rules self.old L → OnErr result (Stands S.Store D.Stands D.kept_rules self.new L) }
-        ensures survives { (L : Line) → Stands S.Store D.Stands D.kept_rules self.old L → IsTrue L.own → Survives (state S.Store self.old.conn) (state S.Store self.new.conn) (HoldsAt (tables_of L.greatest (accepting L change.stamped).history)) }
-        ensures alone { (L : Line) → Stands S.Store D.Stands D.kept_rules self.old L → HasCleanDisk (state S.Store self.new.conn) → IsTrue L.own → OnOk result ((trees : Trees) → (state S.Store self.new.conn).may_leave trees → HoldsAt (tables_of L.greatest (accepting L change.stamped).history) trees) }
-        ensures clean { HasCleanDisk (state S.Store self.new.conn) → HasCleanDisk (state S.Store self.old.conn) }
+        ensures answer { (L : Kept) → Stands S.Store D.Stands D.kept_rules self.old L → IfOk result (λ answer. answer ≡ judged_answer L.history change.stamped (Reply.Accepted change.detail)) }
+        ensures ok { (L : Kept) → Stands S.Store D.Stands D.kept_rules self.old L → (HasCleanDisk (state_of S.Store self.new) → IsTrue L.own → earlier_answer L.history change.stamped ≡ None) → OnOk result (Stands S.Store D.Stands D.kept_rules self.new (accepting L change.stamped)) }
+        ensures err { (L : Kept) → Stands S.Store D.Stands D.kept_rules self.old L → OnErr result (Stands S.Store D.Stands D.kept_rules self.new L) }
+        ensures survives { (L : Kept) → Stands S.Store D.Stands D.kept_rules self.old L → IsTrue L.own → Survives (state_of S.Store self.old) (state_of S.Store self.new) (HoldsAt (tables_of L.greatest (accepting L change.stamped).history)) }
+        ensures alone { (L : Kept) → Stands S.Store D.Stands D.kept_rules self.old L → HasCleanDisk (state_of S.Store self.new) → IsTrue L.own → OnOk result ((trees : Trees) → (state_of S.Store self.new).may_leave trees → HoldsAt (tables_of L.greatest (accepting L change.stamped).history) trees) }
+        ensures clean { HasCleanDisk (state_of S.Store self.new) → HasCleanDisk (state_of S.Store self.old) }
     {
         change.stamped.ranges_hold();
         let _ = change.minute.get();

@@ -3,7 +3,8 @@
 use line_rows::NoRow;
 use std::alloc::AllocError;
 
-/// Memory was refused, or the database failed. Nothing has changed, and the call may be made again.
+/// Memory was refused, or the database failed. The list is as before, and the call may be made again;
+/// where it was a commit that failed, a crash may leave the command all the same.
 #[derive(Clone, Copy, Debug, PartialEq, Eq)]
 pub struct Unavailable;
 

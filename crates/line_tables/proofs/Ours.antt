@@ -40,9 +40,15 @@ ours_is schema h = same_schema schema line_schema h
 pub blank_is : (schema : Schema) → is_blank schema ≡ true → schema ≡ no_schema
 blank_is schema h = same_schema schema no_schema h
 
-pub is_ours_of : (schema : Schema) → schema ≡ line_schema → is_ours schema ≡ true
+same_of : (a b : Schema) → a ≡ b → is_same_schema a b ≡ true
 unfolding is_same_schema
-is_ours_of schema is = subst (λ s. is_ours s ≡ true) (sym is) (same_itself (the_row.coded.code line_schema))
+same_of a b is = subst (λ s. is_same_code (the_row.coded.code s) (the_row.coded.code b) ≡ true) (sym is) (same_itself (the_row.coded.code b))
+
+pub is_ours_of : (schema : Schema) → schema ≡ line_schema → is_ours schema ≡ true
+is_ours_of schema is = same_of schema line_schema is
+
+pub is_blank_of : (schema : Schema) → schema ≡ no_schema → is_blank schema ≡ true
+is_blank_of schema is = same_of schema no_schema is
 
 -- our schema has the names
 pub ours_named : list_any has_name line_schema.tables ≡ true

@@ -1,7 +1,9 @@
 -- Lines that are answered one after another.
-use Rattle.std.proofs.Common.{◌≡◌, ◌∙◌, ◌+◌, ℕ, Bool, true, false, cond, List, [], ◌∷◌, ◌++◌, sym, ap, refl, subst, Option, append-nil, length, length-append, take, arith, count_by, Result, Err}
+use Rattle.std.proofs.Common.{◌≡◌, ◌∙◌, ◌+◌, ℕ, Bool, true, false, cond, List, [], ◌∷◌, ◌++◌, sym, ap, refl, subst, Option, append-nil, length, length-append, take, arith, count_by, Result, Err, Some, ◌<◌, ◌≤◌, ◌-◌, ◌==◌, get_or}
 use Rattle.std.specs.List.{flat_map}
+use Rattle.std.proofs.lemmas.Bool.{lt-ltb}
 use Rattle.std.proofs.lemmas.Grind.{flat_map-append, common_steps}
+use Rattle.std.proofs.lemmas.List.{length-take}
 use Rattle.std.proofs.Math.Seq.{take-append-add}
 use Rattle.std.specs.Io.KnownBytes.{Appends}
 use Rattle.std.proofs.KnownBytes.{Appends-trans}
@@ -10,7 +12,12 @@ use Rattle.desk_types.specs.History.{History}
 use Rattle.tracedesk.specs.declared.feed.ServeFault.{ServeFault}
 use Rattle.tracedesk.specs.declared.feed.ServeFault.TheVariants.{Write}
 use Rattle.tracedesk.specs.declared.feed.Served.{Served}
+use Rattle.tracedesk.specs.declared.inbox.TheConstants.{LONGEST_LINE}
+use Rattle.tracedesk.specs.declared.line.LineAnswer.TheVariants.{TooLong}
 use Rattle.tracedesk.specs.declared.message.Told.{Told}
+use Rattle.tracedesk.specs.LineAnswers.{AnswersRaw}
+use Rattle.tracedesk.specs.Lines.{is_empty, without_return}
+use Rattle.tracedesk.specs.Messages.{answer_to, list_after}
 use Rattle.tracedesk.specs.Sent.{SendsFront}
 use Rattle.tracedesk.specs.Stream.{Answered, line_answer, line_after, answers_to, after_lines, sent}
 
@@ -83,3 +90,28 @@ answered_more rules greatest ls ks ms ns H₀ H₁ H₂ out₀ out₁ out₂ s�
 -- a fault's count is the one that it was made with
 pub same_write : (a b : Served) → ◌≡◌ {A = Result Served ServeFault} (Err (Write a)) (Err (Write b)) → a ≡ b
 same_write a b e = cc
+
+-- ---- a line that is too long
+
+if_true : {A : Type 0} (b : Bool) (x y : A) → b ≡ true → x ≡ cond b x y
+if_true true x y e = refl
+if_true false x y e = absurd (cc)
+
+one_line : (line : List ℕ) → 0 < length line → cond (is_empty line) [] (line ∷ []) ≡ line ∷ []
+one_line [] long = absurd (omega arith)
+one_line (b ∷ line) long = refl
+
+-- it is told so, and the list stays
+pub told_too_long : (rules : Rules) (greatest : ℕ) (H : History) (raw : List ℕ) → LONGEST_LINE < length (without_return raw) → AnswersRaw rules greatest H raw (Some TooLong) H
+told_too_long rules greatest H raw long =
+    let line = without_return raw in
+    let is_long = lt-ltb LONGEST_LINE (length line) long in
+    (false, one_line line (omega arith), if_true _ _ (answer_to rules greatest H line) is_long, if_true _ _ (list_after rules greatest H line) is_long)
+
+-- without the carriage return it is at most one byte shorter
+pub one_shorter : (raw : List ℕ) → length raw ≤ length (without_return raw) + 1
+one_shorter raw = by (get_or raw (length raw - 1) 0 == 13)
+  where
+    by : (b : Bool) → length raw ≤ length (cond b (take (length raw - 1) raw) raw) + 1
+    by true = omega (arith, length-take (length raw - 1) raw)
+    by false = omega arith

@@ -1,6 +1,8 @@
 //! What one line is answered.
 
 ghost use Rattle.std.specs.Prelude.{◌≡◌, ℕ, List};
+ghost use Rattle.desk_types.specs.History.{History};
+ghost use Rattle.desk_answers.specs.Ledger.{Ledger};
 ghost use Rattle.tracedesk.specs.Inbox.{HoldsLine};
 ghost use Rattle.tracedesk.specs.LineAnswers.{told_by, AnswersRaw};
 ghost use Rattle.tracedesk.specs.Stream.{too_long_text};
@@ -8,7 +10,7 @@ ghost use Rattle.tracedesk.specs.Stream.{too_long_text};
 use crate::inbox::{LONGEST_LINE, RawLine, without_return};
 use crate::message::{Told, answer_message};
 use cfx_profile::unavailable_text;
-use desk_answers::PlainLine;
+use desk_answers::Line;
 use std::alloc::Global;
 
 /// What one line is answered.
@@ -53,10 +55,12 @@ fn too_long_text() -> &'static str
 }
 
 /// Answers what is kept of a line; an empty line has no answer.
-pub fn answer_line(alloc: Global, desk: &mut PlainLine, raw: RawLine) -> Option<LineAnswer>
-    ensures answer { (bytes : List ℕ) → HoldsLine raw bytes → AnswersRaw desk.old.rules desk.old.greatest desk.old.history bytes result desk.new.history }
-    ensures rules { desk.new.rules ≡ desk.old.rules }
-    ensures greatest { desk.new.greatest ≡ desk.old.greatest }
+pub fn answer_line<L: Line>(alloc: Global, line: &mut L, raw: RawLine) -> Option<LineAnswer>
+    requires ready { L.Ready line.old }
+    ensures ready { L.Ready line.new }
+    ensures trusts { L.Trusts line.new → L.Trusts line.old }
+    ensures answer { (G : Ledger) → L.Stands line.old G → L.Trusts line.new → (bytes : List ℕ) → HoldsLine raw bytes
+        → (H : History) × L.Stands line.new (record G { history = H }) × AnswersRaw G.rules G.greatest G.history bytes result H }
 {
     match raw {
         RawLine::NoMemoryReturn => None,
@@ -64,12 +68,13 @@ pub fn answer_line(alloc: Global, desk: &mut PlainLine, raw: RawLine) -> Option<
         RawLine::Over => Some(LineAnswer::TooLong),
         RawLine::Whole(bytes) => {
             let bytes = without_return(&bytes);
+            let too_long = bytes.len() > LONGEST_LINE;
             if bytes.is_empty() {
                 None
-            } else if bytes.len() > LONGEST_LINE {
+            } else if too_long {
                 Some(LineAnswer::TooLong)
             } else {
-                match answer_message(alloc, desk, bytes) {
+                match answer_message(alloc, line, bytes) {
                     Ok(told) => Some(LineAnswer::Made(told)),
                     Err(_) => Some(LineAnswer::Unavailable),
                 }

@@ -1,7 +1,8 @@
 //! The program of the trace desk: messages in, one a line, and their answers out.
 //!
-//! `feed` answers lines over any reader and writer, `PlainLine` answers commands, and
-//! `answer_message` stands between them. What all of them answer is defined in `specs/`.
+//! `feed` answers lines over any reader, any writer and any owner of a list, as `PlainLine`, which
+//! answers commands; `answer_message` stands between them. What all of them answer is defined in
+//! `specs/`.
 #![tactic(auto)]
 
 mod command_line;

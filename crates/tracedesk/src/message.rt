@@ -1,10 +1,11 @@
 //! What a message is answered.
 
 ghost use Rattle.std.specs.Prelude.{◌≡◌, IfOk, OnOk, OnErr};
+ghost use Rattle.desk_answers.specs.Ledger.{Ledger};
 ghost use Rattle.tracedesk.specs.Messages.{answer_heard, after_heard, answer_to, list_after};
 
 use cfx_profile::{MessageFault, Said, ignored_text, read_message};
-use desk_answers::{Answer, PlainLine};
+use desk_answers::{Answer, Line};
 use desk_types::{Stamped, Text};
 use std::alloc::{AllocError, Global};
 
@@ -15,18 +16,25 @@ pub struct Told {
     pub refused: bool,
 }
 
-/// Answers the bytes of one message. Where memory is refused, the desk is as before.
-pub fn answer_message(alloc: Global, desk: &mut PlainLine, bytes: &[u8]) -> Result<Told, AllocError>
-    ensures told { IfOk result (λ told. told ≡ answer_to desk.old.rules desk.old.greatest desk.old.history bytes.now) }
-    ensures after { OnOk result (desk.new ≡ record { rules = desk.old.rules; greatest = desk.old.greatest; history = list_after desk.old.rules desk.old.greatest desk.old.history bytes.now }) }
-    ensures err { OnErr result (desk.new ≡ desk.old) }
+/// Answers the bytes of one message. Where memory is refused, the list is as before.
+pub fn answer_message<L: Line>(
+    alloc: Global,
+    line: &mut L,
+    bytes: &[u8],
+) -> Result<Told, AllocError>
+    requires ready { L.Ready line.old }
+    ensures ready { L.Ready line.new }
+    ensures trusts { L.Trusts line.new → L.Trusts line.old }
+    ensures told { (G : Ledger) → L.Stands line.old G → L.Trusts line.new → IfOk result (λ told. told ≡ answer_to G.rules G.greatest G.history bytes.now) }
+    ensures after { (G : Ledger) → L.Stands line.old G → L.Trusts line.new → OnOk result (L.Stands line.new (record G { history = list_after G.rules G.greatest G.history bytes.now })) }
+    ensures err { (G : Ledger) → L.Stands line.old G → L.Trusts line.new → OnErr result (L.Stands line.new G) }
 {
     match read_message(alloc, bytes) {
         Ok(Said::Ignored(name)) => Ok(Told {
             text: ignored_text(alloc, &name)?,
             refused: false,
         }),
-        Ok(Said::Asked(stamped)) => answer_command(alloc, desk, &stamped),
+        Ok(Said::Asked(stamped)) => answer_command(alloc, line, &stamped),
         Err(MessageFault::NoMemory) => Err(AllocError),
         Err(fault) => Ok(Told {
             text: fault.write_text(alloc)?,
@@ -36,16 +44,20 @@ pub fn answer_message(alloc: Global, desk: &mut PlainLine, bytes: &[u8]) -> Resu
 }
 
 /// Answers a command.
-fn answer_command(
+#[tactic(auto, using(desk_answers::proofs::Refusing::refused_leaves))]
+fn answer_command<L: Line>(
     alloc: Global,
-    desk: &mut PlainLine,
+    line: &mut L,
     stamped: &Stamped,
 ) -> Result<Told, AllocError>
-    ensures told { IfOk result (λ told. told ≡ answer_heard desk.old.rules desk.old.greatest desk.old.history (Ok (Said.Asked stamped.now))) }
-    ensures after { OnOk result (desk.new ≡ record { rules = desk.old.rules; greatest = desk.old.greatest; history = after_heard desk.old.rules desk.old.greatest desk.old.history (Ok (Said.Asked stamped.now)) }) }
-    ensures err { OnErr result (desk.new ≡ desk.old) }
+    requires ready { L.Ready line.old }
+    ensures ready { L.Ready line.new }
+    ensures trusts { L.Trusts line.new → L.Trusts line.old }
+    ensures told { (G : Ledger) → L.Stands line.old G → L.Trusts line.new → IfOk result (λ told. told ≡ answer_heard G.rules G.greatest G.history (Ok (Said.Asked stamped.now))) }
+    ensures after { (G : Ledger) → L.Stands line.old G → L.Trusts line.new → OnOk result (L.Stands line.new (record G { history = after_heard G.rules G.greatest G.history (Ok (Said.Asked stamped.now)) })) }
+    ensures err { (G : Ledger) → L.Stands line.old G → L.Trusts line.new → OnErr result (L.Stands line.new G) }
 {
-    match desk.command(stamped) {
+    match line.command(stamped) {
         Answer::Accepted(_, text) => Ok(Told {
             text,
             refused: false,

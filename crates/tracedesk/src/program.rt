@@ -102,8 +102,8 @@ pub fn program<R: Read, W: Write, E: Write>(
 {
     match read_words(rt.alloc(), words) {
         Ok(Asked::Feed) => {
-            let mut desk = PlainLine::new(rt.alloc(), MOST_ENTRIES);
-            match feed(rt.alloc(), input, output, &mut desk) {
+            let mut line = PlainLine::new(rt.alloc(), MOST_ENTRIES);
+            match feed(rt.alloc(), input, output, &mut line) {
                 Ok(served) if served.refused == 0 => Exit::Done as u8,
                 Ok(_) => Exit::Refused as u8,
                 Err(fault) => {

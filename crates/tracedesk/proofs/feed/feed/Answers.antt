@@ -1,11 +1,9 @@
-use Rattle.std.proofs.Common.{◌≡◌, ◌∙◌, ◌++◌, true, false, subst, sym, arith, [], refl, Bool, ℕ, drop, take}
-use Rattle.std.proofs.KnownBytes.{Appends-nil}
-use Rattle.desk_types.specs.declared.rules.Rules.{Rules}
+use Rattle.std.proofs.Common.{◌≡◌, ◌∙◌, ◌++◌, true, false, subst, arith, [], refl, Bool, drop, take}
 use Rattle.desk_types.specs.Wire.{inner_of}
-use Rattle.tracedesk.proofs.Answering.{none_answered, answered_more, same_write}
+use Rattle.tracedesk.proofs.Answering.{same_write}
+use Rattle.tracedesk.proofs.Going.{ForLists, goes_none, goes_on, stops_into}
 use Rattle.tracedesk.proofs.Lining.{start_gone, lines_go, last_goes, next_first, end_behind}
 use Rattle.tracedesk.specs.Inbox.{TakesLine, source}
-use Rattle.tracedesk.specs.LineAnswers.{Serves, Breaks}
 use Rattle.tracedesk.specs.Lines.{lines_in}
 use Rattle.tracedesk.specs.Stream.{AnsweredInto, none_served}
 use Rattle.tracedesk.specs.declared.feed.Served.{Served}
@@ -21,12 +19,11 @@ lines-init g c =
       write_failures = refl;
       counted = omega (arith, e.0, e.1, r);
       refused = omega arith;
-      rules = refl;
-      greatest = refl;
+      ready = c.requires.ready;
+      trusts = λ trusts. trusts;
       lines = [];
-      marks = [];
       gone = start_gone c.new-inbox.result (g.R.Read.remaining (inner_of c.args.input.now)) e.0 e.1;
-      answered = none_answered c.args.desk.now.rules c.args.desk.now.greatest c.args.desk.now.history (g.W.Write.contents (inner_of c.args.output.now)) none_served (Appends-nil (g.W.Write.contents (inner_of c.args.output.now)));
+      answered = goes_none g.L.Line.Stands g.L.Line.Trusts c.args.line.now (g.W.Write.contents (inner_of c.args.output.now));
     }
 
 pub returns-in-Ok-serve_line-clause-end : goal.returns-in-Ok-serve_line-clause-end
@@ -41,7 +38,7 @@ returns-in-Ok-serve_line-clause-end g c =
     end_behind (drop inbox.at (take inbox.end inbox.block)) known took.2
 
 pub returns-in-Ok-serve_line-clause-ok : goal.returns-in-Ok-serve_line-clause-ok
-returns-in-Ok-serve_line-clause-ok g c =
+returns-in-Ok-serve_line-clause-ok g c = λ G stands trusts.
     let inv = c.lines.invariant in
     let got = c.in-Ok.ensures.line in
     let raw = got.0 in
@@ -49,19 +46,13 @@ returns-in-Ok-serve_line-clause-ok g c =
     let before = source c.lines.inbox (g.R.Read.remaining (inner_of c.lines.input)) in
     let behind = source c.next_line.new.self (g.R.Read.remaining (inner_of c.next_line.new.wire)) in
     let took : TakesLine before raw c.in-Ok.field-0.last behind = got.2 in
-    let rules = c.args.desk.now.rules in
-    let greatest = c.args.desk.now.greatest in
-    let H₀ = c.args.desk.now.history in
-    let H₁ = c.lines.desk.history in
-    let H₂ = c.serve_line.new.desk.history in
-    let out₀ = g.W.Write.contents (inner_of c.args.output.now) in
-    let out₁ = g.W.Write.contents (inner_of c.lines.output) in
-    let out₂ = g.W.Write.contents (inner_of c.serve_line.new.output) in
-    let done = subst (λ (r : Rules). Serves r greatest (lines_in raw) H₁ out₁ c.lines.served H₂ out₂ c.serve_line.new.served) inv.rules (subst (λ (n : ℕ). Serves c.lines.desk.rules n (lines_in raw) H₁ out₁ c.lines.served H₂ out₂ c.serve_line.new.served) inv.greatest (c.in-Ok-serve_line.ensures.ok raw got.1)) in
-    let all = answered_more rules greatest inv.lines (lines_in raw) inv.marks done.0 H₀ H₁ H₂ out₀ out₁ out₂ none_served c.lines.served c.serve_line.new.served inv.answered done.1 in
     let is_last : c.in-Ok.field-0.last ≡ true = cc in
     let took = subst (λ (b : Bool). TakesLine before raw b behind) is_last took in
-    (inv.lines ++ lines_in raw, inv.marks ++ done.0, last_goes asked before behind inv.lines raw inv.gone took, all)
+    let contents = g.W.Write.contents in
+    let all = goes_on g.L.Line.Stands g.L.Line.Trusts inv.lines (lines_in raw) c.args.line.now c.lines.line c.serve_line.new.line
+    (contents (inner_of c.args.output.now)) (contents (inner_of c.lines.output)) (contents (inner_of c.serve_line.new.output)) none_served c.lines.served c.serve_line.new.served
+    c.serve_line.ensures.trusts inv.answered (λ G stands trusts. c.in-Ok-serve_line.ensures.ok G stands trusts raw got.1) G stands trusts in
+    (all.0, all.1, (inv.lines ++ lines_in raw, all.2.0, last_goes asked before behind inv.lines raw inv.gone took, all.2.1))
 
 pub lines-preserved : goal.lines-preserved
 lines-preserved g c =
@@ -72,18 +63,9 @@ lines-preserved g c =
     let before = source c.lines.inbox (g.R.Read.remaining (inner_of c.lines.input)) in
     let behind = source c.next_line.new.self (g.R.Read.remaining (inner_of c.next_line.new.wire)) in
     let took : TakesLine before raw c.in-Ok.field-0.last behind = got.2 in
-    let rules = c.args.desk.now.rules in
-    let greatest = c.args.desk.now.greatest in
-    let H₀ = c.args.desk.now.history in
-    let H₁ = c.lines.desk.history in
-    let H₂ = c.serve_line.new.desk.history in
-    let out₀ = g.W.Write.contents (inner_of c.args.output.now) in
-    let out₁ = g.W.Write.contents (inner_of c.lines.output) in
-    let out₂ = g.W.Write.contents (inner_of c.serve_line.new.output) in
-    let done = subst (λ (r : Rules). Serves r greatest (lines_in raw) H₁ out₁ c.lines.served H₂ out₂ c.serve_line.new.served) inv.rules (subst (λ (n : ℕ). Serves c.lines.desk.rules n (lines_in raw) H₁ out₁ c.lines.served H₂ out₂ c.serve_line.new.served) inv.greatest (c.in-Ok-serve_line.ensures.ok raw got.1)) in
-    let all = answered_more rules greatest inv.lines (lines_in raw) inv.marks done.0 H₀ H₁ H₂ out₀ out₁ out₂ none_served c.lines.served c.serve_line.new.served inv.answered done.1 in
     let not_last : c.in-Ok.field-0.last ≡ false = cc in
     let took = subst (λ (b : Bool). TakesLine before raw b behind) not_last took in
+    let contents = g.W.Write.contents in
     let falls = c.in-Ok.ensures.falls in
     let few = c.in-Ok-serve_line.ensures.few_answers in record {
       inbox = c.next_line.ensures.valid;
@@ -92,12 +74,13 @@ lines-preserved g c =
       write_failures = c.in-Ok-serve_line.ensures.kept ∙ inv.write_failures;
       counted = omega (arith, inv.counted, falls, few);
       refused = c.serve_line.ensures.refused;
-      rules = c.serve_line.ensures.rules ∙ inv.rules;
-      greatest = c.serve_line.ensures.greatest ∙ inv.greatest;
+      ready = c.serve_line.ensures.ready;
+      trusts = λ trusts. inv.trusts (c.serve_line.ensures.trusts trusts);
       lines = inv.lines ++ lines_in raw;
-      marks = inv.marks ++ done.0;
       gone = lines_go asked before behind inv.lines raw inv.gone took;
-      answered = all;
+      answered = goes_on g.L.Line.Stands g.L.Line.Trusts inv.lines (lines_in raw) c.args.line.now c.lines.line c.serve_line.new.line
+          (contents (inner_of c.args.output.now)) (contents (inner_of c.lines.output)) (contents (inner_of c.serve_line.new.output)) none_served c.lines.served c.serve_line.new.served
+          c.serve_line.ensures.trusts inv.answered (λ G stands trusts. c.in-Ok-serve_line.ensures.ok G stands trusts raw got.1);
     }
 
 pub returns-in-Err-clause-write : goal.returns-in-Err-clause-write
@@ -109,19 +92,13 @@ returns-in-Err-clause-write g c = λ served e.
     let before = source c.lines.inbox (g.R.Read.remaining (inner_of c.lines.input)) in
     let behind = source c.next_line.new.self (g.R.Read.remaining (inner_of c.next_line.new.wire)) in
     let took : TakesLine before raw c.in-Ok.field-0.last behind = got.2 in
-    let rules = c.args.desk.now.rules in
-    let greatest = c.args.desk.now.greatest in
-    let H₀ = c.args.desk.now.history in
-    let H₁ = c.lines.desk.history in
-    let H₂ = c.serve_line.new.desk.history in
-    let out₀ = g.W.Write.contents (inner_of c.args.output.now) in
-    let out₁ = g.W.Write.contents (inner_of c.lines.output) in
-    let out₂ = g.W.Write.contents (inner_of c.serve_line.new.output) in
-    let broke = subst (λ (r : Rules). Breaks r greatest (lines_in raw) H₁ out₁ c.lines.served H₂ out₂ c.serve_line.new.served) inv.rules (subst (λ (n : ℕ). Breaks c.lines.desk.rules n (lines_in raw) H₁ out₁ c.lines.served H₂ out₂ c.serve_line.new.served) inv.greatest (c.in-Err.ensures.err raw got.1)) in
+    let contents = g.W.Write.contents in
+    let out₀ = contents (inner_of c.args.output.now) in
+    let out₂ = contents (inner_of c.serve_line.new.output) in
     let failed = c.in-Err.ensures.failed in
-    let same : served ≡ c.lines.served = sym (same_write c.serve_line.new.served served e) ∙ broke.3 in
-    let first = next_first asked before behind inv.lines raw broke.1 c.in-Ok.field-0.last inv.gone took broke.2 in (
+    let into = stops_into g.L.Line.Stands g.L.Line.Trusts inv.lines (lines_in raw) asked c.args.line.now c.lines.line c.serve_line.new.line out₀ (contents (inner_of c.lines.output)) out₂ c.lines.served c.serve_line.new.served
+    c.serve_line.ensures.trusts (λ line is. next_first asked before behind inv.lines raw line c.in-Ok.field-0.last inv.gone took is) inv.answered (λ G stands trusts. c.in-Err.ensures.err G stands trusts raw got.1) in (
       (omega (arith, failed, inv.write_failures), c.in-Ok.ensures.kept ∙ inv.read_failures),
-      subst (λ (s : Served). AnsweredInto rules greatest asked H₀ out₀ H₂ out₂ s) (sym same)
-          (inv.lines, inv.marks, broke.1, broke.0, H₁, out₁, first, inv.answered, broke.4, broke.5),
+      subst (λ (s : Served). ForLists g.L.Line.Stands g.L.Line.Trusts c.args.line.now c.serve_line.new.line (λ G H. AnsweredInto G.rules G.greatest asked G.history out₀ H out₂ s))
+          (same_write c.serve_line.new.served served e) into,
     )

@@ -1,9 +1,10 @@
-use Rattle.std.proofs.Common.{◌≡◌, ◌≤◌, ◌+◌, ◌*◌, ℕ, List, Bool}
+use Rattle.std.proofs.Common.{◌≡◌, ◌≤◌, ◌+◌, ◌*◌, ℕ, List}
 use Rattle.desk_types.specs.Wire.{inner_of, reads_of, failures_of}
 use Rattle.tracedesk.specs.declared.feed.TheConstants.{MOST_READS}
 use Rattle.tracedesk.specs.declared.inbox.TheConstants.{BLOCK}
 use Rattle.tracedesk.specs.Inbox.{IsInbox, source, fuel, LinesGone}
-use Rattle.tracedesk.specs.Stream.{Answered, none_served}
+use Rattle.tracedesk.specs.Stream.{none_served}
+use Rattle.tracedesk.proofs.Going.{Goes}
 use Rattle.tracedesk.proofs.feed.feed.Given as goal
 
 abbrev pub invariant-lines : goal.invariant-lines
@@ -14,13 +15,11 @@ invariant-lines g l = record {
   write_failures : failures_of l.output ≡ failures_of l.fn.output;
   counted : l.served.answered + fuel l.most_reads (reads_of l.input) l.inbox ≤ MOST_READS * (BLOCK + 1);
   refused : l.served.refused ≤ l.served.answered;
-  rules : l.desk.rules ≡ l.fn.desk.rules;
-  greatest : l.desk.greatest ≡ l.fn.desk.greatest;
+  ready : g.L.Line.Ready l.line;
+  trusts : g.L.Line.Trusts l.line → g.L.Line.Trusts l.fn.line;
   lines : List (List ℕ);
-  marks : List Bool;
   gone : LinesGone (g.R.Read.remaining (inner_of l.fn.input)) lines (source l.inbox (g.R.Read.remaining (inner_of l.input)));
-  answered : Answered l.fn.desk.rules l.fn.desk.greatest lines marks l.fn.desk.history (g.W.Write.contents (inner_of l.fn.output)) none_served
-      l.desk.history (g.W.Write.contents (inner_of l.output)) l.served;
+  answered : Goes g.L.Line.Stands g.L.Line.Trusts lines l.fn.line (g.W.Write.contents (inner_of l.fn.output)) none_served l.line (g.W.Write.contents (inner_of l.output)) l.served;
 }
 
 abbrev pub decreases-lines : goal.decreases-lines

@@ -4,7 +4,7 @@ use Rattle.desk_types.specs.Desk.{IsChange}
 use Rattle.look_back.specs.Plain.{Plain}
 use Rattle.desk_answers.proofs.Keeping.{keeps-on}
 use Rattle.desk_answers.specs.Commands.{earlier_answer}
-use Rattle.desk_answers.specs.PlainLine.{Ledger}
+use Rattle.desk_answers.specs.Ledger.{Ledger}
 use Rattle.desk_answers.proofs.plain_line.PlainLine.accept.Goals as goal
 
 pub invariant_of-self-in-Ok : goal.invariant_of-self-in-Ok

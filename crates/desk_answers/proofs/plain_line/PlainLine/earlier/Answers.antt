@@ -3,7 +3,7 @@ use Rattle.std.specs.List.{each_same}
 use Rattle.desk_types.specs.Id.{same}
 use Rattle.desk_types.specs.declared.command.Entry.{Entry}
 use Rattle.desk_answers.specs.Commands.{earlier_answer}
-use Rattle.desk_answers.specs.PlainLine.{Ledger}
+use Rattle.desk_answers.specs.Ledger.{Ledger}
 use Rattle.desk_answers.specs.declared.answer.Answer.TheVariants.{Accepted}
 use Rattle.desk_answers.proofs.Keeping.{none_stands, some_stands, text_stands, again_stands, reused_stands}
 use Rattle.desk_answers.proofs.plain_line.PlainLine.earlier.Goals as goal

@@ -1,4 +1,4 @@
-use Rattle.std.proofs.Common.{◌≡◌, ◌+◌, ap, length, refl, rules, arith}
+use Rattle.std.proofs.Common.{◌+◌, ap, refl, rules, arith}
 use Rattle.sqlite.specs.State.{HasCleanDisk}
 use Rattle.sqlite.specs.Held.{state}
 use Rattle.desk_types.specs.declared.rules.Rules.TheVariants.{Two}

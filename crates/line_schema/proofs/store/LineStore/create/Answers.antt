@@ -1,5 +1,4 @@
-use Rattle.std.proofs.Common.{◌≡◌, refl, rules, arith}
-use Rattle.sqlite.specs.Held.{state}
+use Rattle.std.proofs.Common.{refl, rules, arith}
 use Rattle.line_tables.proofs.Ours.{blank_is}
 use Rattle.line_schema.proofs.Standing.{none_yet}
 use Rattle.line_schema.proofs.store.LineStore.create.Goals as goal

@@ -1,7 +1,6 @@
-use Rattle.std.proofs.Common.{◌≡◌, ◌∙◌, sym, ap, subst, rules, arith, Option, Some, None, filter, [], ◌∷◌}
+use Rattle.std.proofs.Common.{◌≡◌, ◌∙◌, sym, ap, subst, arith, Some, None, filter, [], ◌∷◌}
 use Rattle.sqlite.specs.State.{HasCleanDisk}
 use Rattle.sqlite.specs.Held.{state}
-use Rattle.line_tables.specs.declared.edit.Accepted.{Accepted}
 use Rattle.line_tables.specs.Calls.{Reads, has_uid, row_of}
 use Rattle.line_tables.specs.Rows.{accepted_in, columns_of}
 use Rattle.line_schema.proofs.Lookup.{none_stood, one_stood, looked_up}

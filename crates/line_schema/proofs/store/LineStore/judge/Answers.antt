@@ -1,4 +1,4 @@
-use Rattle.std.proofs.Common.{◌≡◌, true≢false, sym, rules}
+use Rattle.std.proofs.Common.{true≢false, sym, rules, arith, ◌<◌}
 use Rattle.desk_types.specs.declared.rules.Rules.TheVariants.{Two}
 use Rattle.desk_types.specs.Desk.{IsChange}
 use Rattle.line_schema.proofs.Leaving.{accepted_leaves}
@@ -20,5 +20,6 @@ returns-in-Ok-clause-ok g c L stands first =
 pub returns-in-Ok-clause-crash : goal.returns-in-Ok-clause-crash
 returns-in-Ok-clause-crash g c L stands clean own trees left =
     let is : IsChange Two L.history c.args.stamped.now c.in-Ok.change = search rules in
+    let room : c.args.self.now.count < c.args.self.now.greatest = search rules in
     let may = (c.accept.ensures.survives L stands own).crash clean trees left in
-    accepted_leaves L c.args.stamped.now c.in-Ok.change c.accept.result _ _ trees is (c.accept.ensures.answer L stands) (c.accept.ensures.alone L stands clean own) may left
+    accepted_leaves L c.args.stamped.now c.in-Ok.change c.accept.result _ _ trees is (omega (arith, stands.count, stands.greatest, room)) (c.accept.ensures.answer L stands) (c.accept.ensures.alone L stands clean own) may left
