@@ -24,7 +24,8 @@ pub enum Answer {
     IdReused(u64),
     /// As many commands are accepted as the desk may number.
     DeskFull,
-    /// Memory was refused. Nothing has changed, and it may be sent again.
+    /// Memory was refused, or a database failed that keeps the list. The list is as before, and it
+    /// may be sent again.
     Unavailable,
 }
 

@@ -21,8 +21,8 @@ pub struct Acceptance {
     pub edits: Vec<Edit>,
 }
 
-/// What is answered and written where the change is accepted under this number. The edits make of the tables
-/// of a list those of the list with it.
+/// What is answered and written where the change is accepted under this number. The edits make of
+/// the tables of a list those of the list with it.
 pub fn prepare(alloc: Global, number: u32, change: &Change) -> Result<Acceptance, Unavailable>
     ensures text { IfOk result (λ it. it.text ≡ accepted_text number change.now.stamped.uid change.now.detail) }
     ensures some { IfOk result (λ it. 0 < length it.edits.items) }
