@@ -1,4 +1,4 @@
-pub mod Keeping
+pub mod FirstTime
 pub mod Refusing
 pub mod Sameness
 pub mod Strings

@@ -4,9 +4,6 @@
 
 mod answer;
 mod line;
-mod plain_line;
-mod repeat;
 
 pub use answer::{Answer, accepted_text};
 pub use line::Line;
-pub use plain_line::PlainLine;

@@ -23,7 +23,7 @@ use Rattle.desk_types.specs.Outcome.{after_command}
 use Rattle.std.specs.Option.{option_map_or}
 use Rattle.desk_answers.specs.declared.answer.Answer.{Answer}
 use Rattle.desk_answers.specs.Commands.{earlier_answer}
-use Rattle.desk_answers.proofs.Keeping.{first-uid}
+use Rattle.desk_answers.proofs.FirstTime.{first-uid}
 use Rattle.line_tables.specs.declared.edit.Edit.{Edit}
 use Rattle.line_tables.specs.Rows.{Tables, Holds, HoldsAt, edited}
 use Rattle.line_tables.specs.Calls.{Edits, LeavesEdited}

@@ -1,5 +1,6 @@
 -- What is read when a store is opened, and what a fault says of what is committed.
-use Rattle.std.specs.Prelude.{◌≡◌, ◌≢◌, ◌⊎◌, ◌≤◌, ⊤, ℕ, ℤ, pos, true, false, length, [], ◌∷◌}
+use Rattle.std.specs.Prelude.{◌≡◌, ◌≢◌, ◌⊎◌, ◌≤◌, ⊤, ℕ, ℤ, pos, true, false, length, List, [], ◌∷◌, ◌++◌, codes, decimal}
+use Rattle.std.specs.Fmt.{signed_decimal}
 use Rattle.std.specs.List.{list_any}
 use Rattle.sqlite.specs.declared.types.Value.TheVariants.{Int}
 use Rattle.sqlite.specs.Effect.{Database}
@@ -51,6 +52,14 @@ IsFaultOf old (OtherVersion n) = (n ≢ pos 2) × Reads old (λ db. (greatest : 
 IsFaultOf old (NotLawful n) = (greatest : ℕ) × Reads old (λ db. IsVersion db (pos 2) greatest) × Reads old (λ db. StopsAt Two greatest (accepted_in db) n)
 IsFaultOf old NotBlank = ⊥
 IsFaultOf old Unavailable = ⊤
+
+-- the name of a fault and, after a space, its number
+abbrev pub fault_text : OpenFault → List ℕ
+fault_text NotADesk = codes "NotADesk"
+fault_text (OtherVersion n) = codes "OtherVersion " ++ signed_decimal n
+fault_text (NotLawful n) = codes "NotLawful " ++ decimal n
+fault_text NotBlank = codes "NotBlank"
+fault_text Unavailable = codes "Unavailable"
 
 -- The desk stands by rules Two for a judged list of so many entries, no more than the greatest number. On a clean disk, where the schema is ours, that is the greatest number of `version`, the list is lawful, and its rows are those that are committed.
 pub record IsOpened {D : Type 0} (StandsFor : D → History → Type 0) (kept_rules : D → Rules) (Clean : Type 0) (old : State) (opened : Opened D) (H : History) : Type 0 where

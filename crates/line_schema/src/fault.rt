@@ -1,6 +1,7 @@
 //! Why there is no store.
 
 use line_replay::ReplayFault;
+use std::fmt;
 
 /// Why no store is made or opened. Of those that apply the first is told; Unavailable may stand in
 /// the place of any.
@@ -19,6 +20,24 @@ pub enum OpenFault {
     NotBlank,
     /// Memory was refused, or the database failed.
     Unavailable,
+}
+
+/// Its name and, after a space, its number.
+impl fmt::Display for OpenFault {
+    ghost use Rattle.std.specs.Prelude.{Some};
+    ghost use Rattle.line_schema.specs.Opening.{fault_text};
+
+    ghost output = { λ fault. Some (fault_text fault) };
+
+    fn fmt<W: fmt::Write>(&self, f: &mut fmt::Formatter<W>) -> fmt::Result {
+        match self {
+            OpenFault::NotADesk => f.write_str("NotADesk"),
+            OpenFault::OtherVersion(number) => write!(f, "OtherVersion {number}"),
+            OpenFault::NotLawful(place) => write!(f, "NotLawful {place}"),
+            OpenFault::NotBlank => f.write_str("NotBlank"),
+            OpenFault::Unavailable => f.write_str("Unavailable"),
+        }
+    }
 }
 
 impl From<ReplayFault> for OpenFault {

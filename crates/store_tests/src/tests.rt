@@ -3,7 +3,7 @@
 
 use desk_answers::{Answer, Line};
 use desk_types::{Command, Id, Minute, Stamped};
-use line_schema::{LineStore, OpenFault};
+use line_schema::{LineStore, OpenFault, in_memory};
 use look_back::PlainDesk;
 use sqlite::{Alter, Connection};
 use std::alloc::{AllocError, Global};
@@ -25,26 +25,28 @@ fn stamped(alloc: Global, uid: &str, text: &str) -> Result<Stamped, Fail> {
     })
 }
 
-/// Sends the command, whose answer is to be Accepted with this number, now or before.
-fn accept<L: Line>(
-    rt: &impl Abort,
+/// The command of a stored text in the message of this number, and its answer: Accepted with these
+/// members before that number.
+fn message_of(
     alloc: Global,
-    line: &mut L,
     number: u32,
     text: &str,
-) -> Result<(), Fail>
-    requires { L.Ready line.old }
-    ensures { L.Ready line.new }
-{
+    members: &str,
+) -> Result<(Stamped, String), Fail> {
     let uid = format!(in alloc; "u{number}")?;
     let message = stamped(alloc, uid.as_str(), text)?;
     let wanted = format!(in alloc;
-        "{{\"Answer\":\"Accepted\",\"Number\":{number},\"UniqueID\":\"u{number}\"}}"
+        "{{\"Answer\":\"Accepted\",{members}\"Number\":{number},\"UniqueID\":\"u{number}\"}}"
     )?;
-    match line.command(&message) {
-        Answer::Accepted(told, answer) => {
+    Ok((message, wanted))
+}
+
+/// Whether the answer is Accepted with this number and this text.
+fn is_accepted(rt: &impl Abort, answer: Answer, number: u32, wanted: &str) -> Result<(), Fail> {
+    match answer {
+        Answer::Accepted(told, text) => {
             assert_eq!(rt; told, u64::from(number));
-            assert_eq!(rt; answer.as_slice(), wanted.as_bytes());
+            assert_eq!(rt; text.as_slice(), wanted.as_bytes());
             Ok(())
         }
         Answer::Unavailable => Err(AllocError)?,
@@ -52,13 +54,14 @@ fn accept<L: Line>(
     }
 }
 
-/// Defines the part of this number.
+/// Defines the part of this number, now or before.
 fn define<L: Line>(rt: &impl Abort, alloc: Global, line: &mut L, number: u32) -> Result<(), Fail>
     requires { L.Ready line.old }
     ensures { L.Ready line.new }
 {
     let text = format!(in alloc; "PartDefined\tP{number}")?;
-    accept(rt, alloc, line, number, text.as_str())
+    let (message, wanted) = message_of(alloc, number, text.as_str(), "")?;
+    is_accepted(rt, line.command(&message), number, wanted.as_str())
 }
 
 /// Defines as many parts, each of its own number.
@@ -201,5 +204,58 @@ fn other_tables_stay(rt: HostRuntime) -> Result<(), Fail> {
     outcome?;
     let text: String = conn.query_row("SELECT text FROM note", &[])?.get(0)?;
     assert_eq!(rt; text.as_str(), "kept");
+    Ok(())
+}
+
+/// A part, its sheet, the product, a reel, and the load of that reel, each with the members that its
+/// answer begins with.
+const FIRST_RUN: [(&str, &str); 5] = [
+    ("PartDefined\tP", ""),
+    (
+        "SheetDefined\tPR\tM\t1\t1\tP\t5\tR1\tR2\tR3\tR4\tR5",
+        "",
+    ),
+    ("ProductSelected\tM\tPR", ""),
+    ("ReelReceived\tK1\tP\tL1\t1\t100\t0", ""),
+    ("MaterialsLoaded\tM\t1\tK1", "\"MinutesLeft\":null,"),
+];
+
+/// The command of this number, sent once more where it was Unavailable.
+fn insist<L: Line>(rt: &impl Abort, alloc: Global, line: &mut L, number: u32) -> Result<(), Fail>
+    requires { L.Ready line.old }
+    ensures { L.Ready line.new }
+{
+    let (text, members) = FIRST_RUN[(number.saturating_sub(1) % 5) as usize];
+    let (message, wanted) = message_of(alloc, number, text, members)?;
+    let answer = match line.command(&message) {
+        Answer::Unavailable => line.command(&message),
+        answer => answer,
+    };
+    is_accepted(rt, answer, number, wanted.as_str())
+}
+
+/// Each command of the first run, until it is accepted, and all of them once more.
+fn insist_on_all<L: Line>(rt: &impl Abort, alloc: Global, line: &mut L) -> Result<(), Fail>
+    requires { L.Ready line.old }
+    ensures { L.Ready line.new }
+{
+    for n in 0..10u32 {
+        insist(rt, alloc, line, (n % 5).saturating_add(1))?;
+    }
+    Ok(())
+}
+
+/// Whichever allocation is refused, that of the fifth command's settling or a later one among them:
+/// the command that meets it may be Unavailable, and sent again it has the answer that it has for good.
+#[test]
+fn refused_memory_is_made_good(rt: HostRuntime) -> Result<(), Fail> {
+    let Ok(mut store) = in_memory::<PlainDesk>(rt.alloc(), 5) else {
+        return Err(Fail::from(AllocError));
+    };
+    let outcome = insist_on_all(&rt, rt.alloc(), &mut store);
+    let count = store.count();
+    let _conn = store.into_connection();
+    outcome?;
+    assert_eq!(rt; count, 5);
     Ok(())
 }

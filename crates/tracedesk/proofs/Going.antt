@@ -6,12 +6,9 @@ use Rattle.desk_answers.specs.Ledger.{Ledger}
 use Rattle.tracedesk.specs.declared.feed.Served.{Served}
 use Rattle.tracedesk.specs.LineAnswers.{Serves, Breaks}
 use Rattle.tracedesk.specs.Lines.{lines_of}
+use Rattle.tracedesk.specs.Program.{ForLists}
 use Rattle.tracedesk.specs.Stream.{IsFront, AnsweredInto, none_served}
 use Rattle.tracedesk.proofs.Answering.{none_answered, answered_more}
-
--- What holds of each list for which the owner stood, where what it is kept in told the truth: the owner stands for a list that the fact tells.
-abbrev pub ForLists : {S : Type 0} → (S → Ledger → Type 0) → (S → Type 0) → S → S → (Ledger → History → Type 0) → Type 0
-ForLists Stands Trusts old new Fact = (G : Ledger) → Stands old G → Trusts new → (H : History) × Stands new (record G { history = H }) × Fact G H
 
 -- the lines were answered
 abbrev pub Goes : {S : Type 0} → (S → Ledger → Type 0) → (S → Type 0) → List (List ℕ) → S → Option (List ℕ) → Served → S → Option (List ℕ) → Served → Type 0

@@ -1,31 +1,74 @@
 -- What a run of the program does.
-use Rattle.std.specs.Prelude.{◌≡◌, ℕ, ◌+◌, ◌<◌, ◌⊎◌, List, [], ◌∷◌, ◌++◌, Option, codes}
+use Rattle.std.specs.Prelude.{◌≡◌, ℕ, ◌+◌, ◌<◌, ◌⊎◌, List, [], ◌∷◌, ◌++◌, Option, Some, None, IsSomeAnd, true, codes, decimal}
 use Rattle.std.specs.Io.KnownBytes.{Appends}
-use Rattle.desk_types.specs.declared.desk.TheConstants.{MOST_ENTRIES}
+use Rattle.sqlite_disk.specs.declared.Disk as disk
+use Rattle.sqlite_disk.specs.declared.start.Start as start
+use Rattle.sqlite_wal.specs.Files.{image_at}
+use Rattle.sqlite_store.specs.declared.store.FileStore.{FileStore}
+use Rattle.sqlite.specs.State.{HasCleanDisk}
+use Rattle.sqlite.specs.Files.{over_files}
 use Rattle.desk_types.specs.declared.rules.Rules.TheVariants.{Two}
 use Rattle.desk_types.specs.declared.wire.Wire.{Wire}
 use Rattle.desk_types.specs.History.{History}
 use Rattle.desk_types.specs.Wire.{inner_of, reads_of, failures_of}
+use Rattle.desk_answers.specs.Ledger.{Ledger}
+use Rattle.look_back.specs.declared.plain.PlainDesk.{PlainDesk}
+use Rattle.look_back.specs.contracts.plain.PlainDeskDesk.TheImpl.{ghosts as plain}
+use Rattle.line_schema.specs.declared.fault.OpenFault.{OpenFault}
+use Rattle.line_schema.specs.declared.store.LineStore.{LineStore}
+use Rattle.line_schema.specs.Opening.{fault_text}
+use Rattle.line_schema.specs.Stands.{Stands, state_of}
+use Rattle.desk_file.specs.Files.{Begins, HasLineAlone}
 use Rattle.tracedesk.specs.declared.feed.Served.{Served}
 use Rattle.tracedesk.specs.declared.feed.ServeFault.{ServeFault}
 use Rattle.tracedesk.specs.declared.feed.ServeFault.TheVariants.{Read, Write, TooManyReads}
 use Rattle.tracedesk.specs.declared.feed.TheConstants.{MOST_READS}
+use Rattle.tracedesk.specs.CommandLine.{AsksForFeed}
 use Rattle.tracedesk.specs.Sent.{SendsFront}
-use Rattle.tracedesk.specs.Stream.{AnsweredAll, AnsweredFront, AnsweredInto}
+use Rattle.tracedesk.specs.Stream.{AnsweredAll, AnsweredUpTo}
 
 -- ---- the answers
 
--- all lines of the input were answered, beginning with a desk of rules Two that has accepted nothing
-abbrev pub AnswersInput : {R W : Type 0} → (R → Option (List ℕ)) → (W → Option (List ℕ)) → Wire R → Wire W → Wire W → Served → Type 0
-AnswersInput remaining contents input output output' served =
-    (H : History) × AnsweredAll Two MOST_ENTRIES (remaining (inner_of input)) [] (contents (inner_of output)) H (contents (inner_of output')) served
+-- a desk of rules Two that has accepted nothing
+abbrev pub fresh : ℕ → Ledger
+fresh greatest = record { rules = Two; greatest = greatest; history = [] }
 
--- the first lines of it were, each whole, and of one answer more maybe the first bytes went out
-abbrev pub AnswersFront : {R W : Type 0} → (R → Option (List ℕ)) → (W → Option (List ℕ)) → Wire R → Wire W → Wire W → Type 0
-AnswersFront remaining contents input output output' =
-    (H : History) × (served : Served)
-    × (AnsweredFront Two MOST_ENTRIES (remaining (inner_of input)) [] (contents (inner_of output)) H (contents (inner_of output')) served
-    ⊎ AnsweredInto Two MOST_ENTRIES (remaining (inner_of input)) [] (contents (inner_of output)) H (contents (inner_of output')) served)
+-- all lines of the input were answered, from the list of this desk on
+abbrev pub AnswersAll : {R W : Type 0} → (R → Option (List ℕ)) → (W → Option (List ℕ)) → Wire R → Wire W → Wire W → Served → Ledger → History → Type 0
+AnswersAll remaining contents input output output' served G H =
+    AnsweredAll G.rules G.greatest (remaining (inner_of input)) G.history (contents (inner_of output)) H (contents (inner_of output')) served
+
+-- what was answered of it before the fault
+abbrev pub AnswersUpTo : {R W : Type 0} → (R → Option (List ℕ)) → (W → Option (List ℕ)) → Wire R → Wire W → Wire W → ServeFault → Ledger → History → Type 0
+AnswersUpTo remaining contents input output output' fault G H =
+    AnsweredUpTo G.rules G.greatest (remaining (inner_of input)) G.history (contents (inner_of output)) H (contents (inner_of output')) fault
+
+-- ---- the desk
+
+-- What holds of each list for which the owner stood, where what it is kept in told the truth: the owner stands for a list that the fact tells.
+abbrev pub ForLists : {S : Type 0} → (S → Ledger → Type 0) → (S → Type 0) → S → S → (Ledger → History → Type 0) → Type 0
+ForLists Stands Trusts old new Fact = (G : Ledger) → Stands old G → Trusts new → (H : History) × Stands new (record G { history = H }) × Fact G H
+
+-- What holds of the list with which a run on the files begins, where the disk told the truth and no other table was beside the desk's: the desk stands for a list that the fact tells.
+abbrev pub RunsOn : {T D : Type 0} {g : disk.Ghosts D} → start.Ghosts T → Option ℕ → Option (LineStore (FileStore D g) PlainDesk) → (Ledger → History → Type 0) → Type 0
+RunsOn first make desk Fact = IsSomeAnd desk (λ d. HasCleanDisk (state_of over_files d) → HasLineAlone (image_at first)
+    → (greatest : ℕ) × (H : History) × Begins (image_at first) make greatest H
+    × (H' : History) × Stands over_files plain.Stands plain.kept_rules d (record { greatest = greatest; history = H'; own = true })
+    × Fact (record { rules = Two; greatest = greatest; history = H }) H')
+
+-- the words ask to answer lines, and that was done: on a new desk in memory, or on the one of a file
+abbrev pub RunsAsked : {T D : Type 0} {g : disk.Ghosts D} → start.Ghosts T → List (List ℕ) → Option (LineStore (FileStore D g) PlainDesk) → (Ledger → History → Type 0) → Type 0
+RunsAsked first words desk Fact =
+    ((greatest : ℕ) × AsksForFeed words None greatest × (H : History) × Fact (fresh greatest) H)
+    ⊎ ((file : List ℕ) × (greatest : ℕ) × AsksForFeed words (Some file) greatest × RunsOn first (Some greatest) desk Fact)
+
+-- the line that tells of an audit: how many commands were accepted
+abbrev pub lawful_line : ℕ → List ℕ
+lawful_line count = codes "lawful " ++ decimal count ++ codes "\n"
+
+-- the line that tells why the desk's file was refused
+abbrev pub refusal_line : OpenFault → List ℕ
+refusal_line fault = codes "tracedesk: " ++ fault_text fault
 
 -- ---- what failed
 

@@ -7,6 +7,8 @@ use Rattle.cfx_profile.specs.Answer.{faulty, unavailable_text}
 use Rattle.desk_types.specs.declared.rules.Rules.{Rules}
 use Rattle.desk_types.specs.History.{History}
 use Rattle.tracedesk.specs.declared.feed.Served.{Served}
+use Rattle.tracedesk.specs.declared.feed.ServeFault.{ServeFault}
+use Rattle.tracedesk.specs.declared.feed.ServeFault.TheVariants.{Read, Write, TooManyReads}
 use Rattle.tracedesk.specs.declared.inbox.TheConstants.{LONGEST_LINE}
 use Rattle.tracedesk.specs.declared.message.Told.{Told}
 use Rattle.tracedesk.specs.Lines.{lines_of}
@@ -82,3 +84,9 @@ abbrev pub AnsweredInto : Rules → ℕ → Option (List ℕ) → History → Op
 AnsweredInto rules greatest input H out H' out' served = (lines : List (List ℕ)) × (marks : List Bool) × (line : List ℕ) × (mark : Bool) × (H₁ : History) × (out₁ : Option (List ℕ))
     × IfSome input (λ bytes. IsFront (lines ++ line ∷ []) (lines_of bytes)) × Answered rules greatest lines marks H out none_served H₁ out₁ served
     × (H' ≡ line_after rules greatest mark H₁ line) × SendsFront out₁ out' (sent (line_answer rules greatest mark H₁ line))
+
+-- what was answered before a fault: after a failed read, or as many reads as may be, the first lines alone; after a failed write one more in part
+abbrev pub AnsweredUpTo : Rules → ℕ → Option (List ℕ) → History → Option (List ℕ) → History → Option (List ℕ) → ServeFault → Type 0
+AnsweredUpTo rules greatest input H out H' out' (Read served) = AnsweredFront rules greatest input H out H' out' served
+AnsweredUpTo rules greatest input H out H' out' (TooManyReads served) = AnsweredFront rules greatest input H out H' out' served
+AnsweredUpTo rules greatest input H out H' out' (Write served) = AnsweredInto rules greatest input H out H' out' served

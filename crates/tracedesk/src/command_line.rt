@@ -1,18 +1,33 @@
 //! The command line.
 
-ghost use Rattle.std.specs.Prelude.{◌≡◌, map, string_bytes, List, ℕ, IfOk};
+ghost use Rattle.std.specs.Prelude.{◌≡◌, false, map, string_bytes, List, [], ℕ, IfOk, IfSome, IsNone, codes};
 ghost use Rattle.clap.specs.Kinds.{HasKind};
-ghost use Rattle.clap.specs.Simple.{app_of};
-ghost use Rattle.tracedesk.specs.CommandLine.{commands, told_of, Asks};
+ghost use Rattle.clap.specs.Matches.{found_of};
+ghost use Rattle.clap.specs.Simple.{app_of, shape_of, subcommand_rows_of};
+ghost use Rattle.clap.specs.Walk.{rows_of};
+ghost use Rattle.clap.specs.declared.builder.command.Command.TheViews.{out-Command};
+ghost use Rattle.tracedesk.specs.CommandLine.{audit_shape, commands, feed_shape, named_by, number_of, told_of, Asks, IsGreatest, IsInRange, Names};
 
 use clap::error::ErrorKind;
+use clap::{Arg, ArgMatches};
+use desk_types::MOST_ENTRIES;
 use std::alloc::{AllocError, Global};
 
 /// What the words of a command line ask for.
 #[derive(Drop)]
 pub enum Asked {
-    /// To answer the lines of standard input on a desk in memory.
-    Feed,
+    /// To answer the lines of standard input.
+    Feed {
+        /// The file that keeps the desk. Without one it is in memory.
+        file: Option<String>,
+        /// The greatest number that a desk made by this run gives.
+        greatest: u32,
+    },
+    /// To audit the desk that a file keeps.
+    Audit {
+        /// The file.
+        file: String,
+    },
     /// This text, help or the version, for standard output.
     Text(String),
     /// Nothing that the program does: this text says why, for standard error.
@@ -22,26 +37,28 @@ pub enum Asked {
 /// How a run ends, for the help.
 const STATUSES: &str = "\
 Exit status:
-  0  Each line was Accepted or Ignored, or help or the version was asked for
+  0  Each line was Accepted or Ignored, the audit found nothing wrong, or help or the version was asked for
   1  Some line was answered otherwise
   2  The command line asks for nothing that the program does
-  3  Memory was refused outside of a line
+  3  The desk's file was refused, or memory was, outside of a line
   4  Input or output failed";
 
 /// Reads the words after the program's name.
 pub fn read_words(alloc: Global, words: &[String]) -> Result<Asked, AllocError>
-    ensures { IfOk result (Asks (map string_bytes words.now)) }
+    ensures asks { IfOk result (Asks (map string_bytes words.now)) }
+    ensures range { IfOk result IsInRange }
 {
     let command = commands(alloc)?;
     match command.try_get_matches_from(words) {
-        Ok(_matches) => Ok(Asked::Feed),
+        Ok(matches) => command_of(alloc, &matches),
         Err(error) => told(alloc, &error),
     }
 }
 
 /// What is told where no command is to be run.
 fn told(alloc: Global, error: &clap::Error) -> Result<Asked, AllocError>
-    ensures { (words : List (List ℕ)) → HasKind (told_of words) error.now → IfOk result (Asks words) }
+    ensures asks { (words : List (List ℕ)) → HasKind (told_of words) error.now → IfOk result (Asks words) }
+    ensures range { IfOk result IsInRange }
 {
     if error.kind() == ErrorKind::OutOfMemory {
         return Err(AllocError);
@@ -54,13 +71,77 @@ fn told(alloc: Global, error: &clap::Error) -> Result<Asked, AllocError>
     }
 }
 
+/// The command to be run.
+fn command_of(alloc: Global, matches: &ArgMatches<'_>) -> Result<Asked, AllocError>
+    requires named { (words : List (List ℕ)) × (told_of words ≡ []) × (subcommand_rows_of matches.now ≡ named_by words) }
+    ensures asks { (words : List (List ℕ)) → told_of words ≡ [] → subcommand_rows_of matches.now ≡ named_by words → IfOk result (Asks words) }
+    ensures range { IfOk result IsInRange }
+{
+    match matches.subcommand() {
+        Some((name, found)) if name == "audit" => audit_of(alloc, found),
+        Some((_, found)) => feed_of(alloc, found),
+        None => unreachable!(),
+    }
+}
+
+/// What `feed` asks for, with the options that were found.
+fn feed_of(alloc: Global, found: &ArgMatches<'_>) -> Result<Asked, AllocError>
+    ensures asks { (words : List (List ℕ)) → Names words (codes "feed") (rows_of (found_of found.now)) → IfOk result (Asks words) }
+    ensures range { IfOk result IsInRange }
+{
+    let greatest = match found.get_str("greatest") {
+        None => MOST_ENTRIES as u32,
+        Some(text) => match greatest_of(text) {
+            Some(greatest) => greatest,
+            None => return Ok(Asked::Bad(no_number(alloc, text)?)),
+        },
+    };
+    let file = match found.get_str("db") {
+        None => None,
+        Some(file) => Some(String::from_str(alloc, file)?),
+    };
+    Ok(Asked::Feed { file, greatest })
+}
+
+/// What `audit` asks for, with the options that were found.
+fn audit_of(alloc: Global, found: &ArgMatches<'_>) -> Result<Asked, AllocError>
+    ensures asks { (words : List (List ℕ)) → Names words (codes "audit") (rows_of (found_of found.now)) → IfOk result (Asks words) }
+    ensures range { IfOk result IsInRange }
+{
+    match found.get_str("db") {
+        Some(file) => Ok(Asked::Audit {
+            file: String::from_str(alloc, file)?,
+        }),
+        None => Ok(Asked::Bad(String::from_str(
+            alloc,
+            "error: a value is required for '--db <FILE>'\n",
+        )?)),
+    }
+}
+
+/// The greatest number of a desk, from 1 to 1,000,000,000, as a text shows it.
+fn greatest_of(text: &str) -> Option<u32>
+    ensures some { IfSome result (λ n. IsGreatest text.now × (n ≡ number_of text.now)) }
+    ensures none { IsNone result → IsGreatest text.now → ⊥ }
+{
+    let number = text.parse::<u32>().ok()?;
+    if number < 1 || MOST_ENTRIES < u64::from(number) {
+        return None;
+    }
+    Some(number)
+}
+
+/// Tells that the text is no greatest number.
+fn no_number(alloc: Global, text: &str) -> Result<String, AllocError> {
+    format!(in alloc;
+        "error: invalid value '{text}' for '--greatest <N>': it is no number from 1 to {MOST_ENTRIES}\n\nFor more information, try '--help'.\n"
+    )
+}
+
 /// The commands of the program.
 fn commands<'a>(alloc: Global) -> Result<clap::Command<'a>, AllocError>
     ensures { IfOk result (λ command. app_of command ≡ commands) }
 {
-    let feed = clap::Command::new(alloc, "feed")
-        .about("Answer the messages on standard input, one a line, on a desk in memory")
-        .after_help(STATUSES);
     let tracedesk = clap::Command::new(alloc, "tracedesk")
         .about("Verify feeders and trace boards to lots and back")
         .version("0.1.0")
@@ -69,5 +150,41 @@ fn commands<'a>(alloc: Global) -> Result<clap::Command<'a>, AllocError>
         .no_binary_name(true)
         .disable_help_subcommand(true)
         .subcommand_required(true);
-    tracedesk.subcommand(feed)
+    let with_feed = tracedesk.subcommand(feed(alloc)?)?;
+    with_feed.subcommand(audit(alloc)?)
+}
+
+/// The command `feed`.
+fn feed<'a>(alloc: Global) -> Result<clap::Command<'a>, AllocError>
+    ensures { IfOk result (λ command. (shape_of command ≡ feed_shape) × ((out-Command command).has_globals ≡ false)) }
+{
+    let file = Arg::new(alloc, "db").long("db").value_name("FILE").help(
+        "Keep the desk in FILE; where FILE isn't there or is empty, make a desk",
+    );
+    let greatest = Arg::new(alloc, "greatest")
+        .long("greatest")
+        .value_name("N")
+        .help(
+            "Number commands up to N, from 1 to 1000000000, the default; used only where a desk is made",
+        );
+    clap::Command::new(alloc, "feed")
+        .about("Answer the messages on standard input, one a line")
+        .after_help(STATUSES)
+        .arg(file)?
+        .arg(greatest)
+}
+
+/// The command `audit`.
+fn audit<'a>(alloc: Global) -> Result<clap::Command<'a>, AllocError>
+    ensures { IfOk result (λ command. (shape_of command ≡ audit_shape) × ((out-Command command).has_globals ≡ false)) }
+{
+    let file = Arg::new(alloc, "db")
+        .long("db")
+        .value_name("FILE")
+        .help("The file that keeps the desk")
+        .required(true);
+    clap::Command::new(alloc, "audit")
+        .about("Audit the desk in a file, and count its commands")
+        .after_help(STATUSES)
+        .arg(file)
 }

@@ -5,13 +5,18 @@ mod wires;
 
 use crate::feed::feed;
 use crate::program::program;
-use desk_answers::PlainLine;
+use desk_answers::Line;
+use desk_file::close_desk;
 use desk_types::Wire;
+use line_schema::in_memory;
+use look_back::PlainDesk;
+use sqlite::Unknown;
 use std::alloc::{AllocError, Global};
 use std::cell::Cell;
 use std::io::Read;
+use std::process::Abort;
 use std::test::Fail;
-use wires::{Counter, Giver, Machine, Taker, lines_in};
+use wires::{Counter, Full, Giver, Machine, Taker, lines_in};
 
 const PART: &str =
     "{\"MessageName\":\"TraceDesk.PartDefined\",\"UniqueID\":\"u1\",\"Source\":\"S\",\"TimeStamp\":\"1970-01-01T00:00:00Z\",\"MessageBody\":{\"PartNumber\":\"P\"}}\n";
@@ -63,7 +68,10 @@ fn run_feed<R: Read + Drop>(rt: &HostRuntime, input: R, output: Taker) -> Result
     let mut input = Wire::new(input);
     let mut output = Wire::new(output);
     let mut errors = Wire::new(Taker::new(rt.alloc())?);
-    let status = program(rt, &words, &mut input, &mut output, &mut errors);
+    let (status, desk) = program(rt, &words, Unknown, &mut input, &mut output, &mut errors);
+    if let Some(desk) = desk {
+        let _ = close_desk(desk);
+    }
     let output = output.into_inner().taken;
     let errors = errors.into_inner().taken;
     if errors.as_slice() == b"tracedesk: Unavailable\n".as_slice() || tells_unavailable(&output) {
@@ -131,8 +139,12 @@ fn answers_come_before_the_next_read(rt: HostRuntime) -> Result<(), Fail> {
         answered: &answered,
     };
     let mut input = Wire::new(machine);
-    let mut desk = PlainLine::new(rt.alloc(), 3);
-    let served = feed(rt.alloc(), &mut input, &mut Wire::new(counter), &mut desk)?;
+    let served = feed(
+        rt.alloc(),
+        &mut input,
+        &mut Wire::new(counter),
+        &mut Full,
+    )?;
     assert_eq!(rt; served.answered, 5);
     assert_eq!(rt; input.reads(), 5);
     Ok(())
@@ -151,52 +163,34 @@ fn reads_take_blocks(rt: HostRuntime) -> Result<(), Fail> {
         answered: &answered,
     };
     let mut input = Wire::new(text.as_slice());
-    let mut desk = PlainLine::new(rt.alloc(), 1);
-    let served = feed(rt.alloc(), &mut input, &mut Wire::new(counter), &mut desk)?;
+    let served = feed(
+        rt.alloc(),
+        &mut input,
+        &mut Wire::new(counter),
+        &mut Full,
+    )?;
     assert_eq!(rt; (served.answered, answered.get()), (1_000, 1_000));
     assert_eq!(rt; input.reads(), 4);
     Ok(())
 }
 
-#[test]
-fn a_desk_of_two_is_full(rt: HostRuntime) -> Result<(), Fail> {
-    let mut desk = PlainLine::new(rt.alloc(), 2);
-    let input = joined(rt.alloc(), &[PART, SHEET, PRODUCT, SHEET])?;
-    let full = "{\"Answer\":\"Refused\",\"Refusal\":\"DeskFull\",\"UniqueID\":\"u3\"}\n";
-    let wanted = joined(rt.alloc(), &[TOLD[0], TOLD[1], full, TOLD[1]])?;
-    let mut output = Wire::new(Taker::new(rt.alloc())?);
-    feed(
-        rt.alloc(),
-        &mut Wire::new(input.as_slice()),
-        &mut output,
-        &mut desk,
-    )?;
-    let told = output.into_inner().taken;
-    if tells_unavailable(&told) {
-        return Err(Fail::from(AllocError));
-    }
-    assert_eq!(rt; told.as_slice(), wanted.as_slice());
-    Ok(())
-}
-
-/// Whichever allocation is refused: the line that meets it is Unavailable and nothing else is, no
-/// command is lost or doubled, and where no line met it each command has one answer for good.
-#[test]
-fn refused_memory_loses_nothing(rt: HostRuntime) -> Result<(), Fail> {
-    let input = joined(rt.alloc(), &[PART, SHEET, PRODUCT])?;
-    let all = joined(rt.alloc(), &TOLD)?;
-    let mut desk = PlainLine::new(rt.alloc(), 3);
+/// Three passes of the same three messages.
+fn feed_thrice<L: Line>(rt: &impl Abort, alloc: Global, line: &mut L) -> Result<(), Fail>
+    requires { L.Ready line.old }
+    ensures { L.Ready line.new }
+{
+    let input = joined(alloc, &[PART, SHEET, PRODUCT])?;
+    let all = joined(alloc, &TOLD)?;
     let mut met = 0u8;
-    for _ in 0..3u8 {
+    for pass in 0..3u8 {
         let mut giver = Wire::new(input.as_slice());
-        let mut taker = Wire::new(Taker::new(rt.alloc())?);
-        let served = feed(rt.alloc(), &mut giver, &mut taker, &mut desk)?;
-        assert_eq!(rt; served.answered, 3);
+        let mut taker = Wire::new(Taker::new(alloc)?);
+        let served = feed(alloc, &mut giver, &mut taker, line)?;
+        assert_eq!(rt; served.answered, 3, "in pass {pass}");
         let told = taker.into_inner().taken;
         if tells_unavailable(&told) {
             met = met.saturating_add(1);
         } else {
-            assert_eq!(rt; desk.count(), 3);
             let accepted = told
                 .split(|b| *b == b'\n')
                 .filter(|line| line.starts_with(b"{\"Answer\":\"Accepted\""))
@@ -205,5 +199,20 @@ fn refused_memory_loses_nothing(rt: HostRuntime) -> Result<(), Fail> {
         }
     }
     assert!(rt; met <= 1);
+    Ok(())
+}
+
+/// Whichever allocation is refused: the line that meets it is Unavailable and nothing else is, no
+/// command is lost or doubled, and where no line met it each command has one answer for good.
+#[test]
+fn refused_memory_loses_nothing(rt: HostRuntime) -> Result<(), Fail> {
+    let Ok(mut store) = in_memory::<PlainDesk>(rt.alloc(), 3) else {
+        return Err(Fail::from(AllocError));
+    };
+    let outcome = feed_thrice(&rt, rt.alloc(), &mut store);
+    let count = store.count();
+    let _conn = store.into_connection();
+    outcome?;
+    assert_eq!(rt; count, 3);
     Ok(())
 }

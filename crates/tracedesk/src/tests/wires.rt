@@ -1,6 +1,8 @@
-//! Readers and writers for tests: ones that give or take little at a time and fail once, and a
-//! machine that waits for its answers.
+//! Readers and writers for tests: ones that give or take little at a time and fail once, a machine
+//! that waits for its answers, and an owner of no list.
 
+use desk_answers::{Answer, Line};
+use desk_types::Stamped;
 use std::alloc::{AllocError, Global};
 use std::cell::Cell;
 use std::io;
@@ -114,4 +116,24 @@ impl Write for Counter<'_> {
     fn flush(&mut self) -> io::Result<()> {
         Ok(())
     }
+}
+
+/// An owner that stands for no list: it answers each command that the desk is full.
+#[derive(Drop)]
+pub struct Full;
+
+impl Line for Full {
+    ghost use Rattle.std.specs.Prelude.{⊤};
+
+    ghost Stands = { λ _ _. ⊥ };
+
+    ghost Ready = { λ _. ⊤ };
+
+    ghost Trusts = { λ _. ⊤ };
+
+    fn command(&mut self, _stamped: &Stamped) -> Answer {
+        Answer::DeskFull
+    }
+
+    fn is_lawful(&self) {}
 }

@@ -1,6 +1,7 @@
-use Rattle.std.proofs.Common.{rules, ◌≡◌, ◌∙◌, ap, ap₂, codes, true}
+use Rattle.std.proofs.Common.{rules, ◌≡◌, ◌∙◌, ap₂, codes, true}
 use Rattle.std.proofs.lemmas.Result.{IfOk-weaker}
 use Rattle.clap.specs.Simple.{App, app_of, new_app, on_top, with_subcommand}
+use Rattle.tracedesk.specs.CommandLine.{feed_shape}
 use Rattle.tracedesk.proofs.command_line.commands.Goals as goal
 
 abbrev top : App
@@ -8,6 +9,8 @@ top = on_top (λ s. record s { no_binary_name = true; disable_help_subcommand = 
 
 pub returns : goal.returns
 returns c =
-    let feed_is : app_of c.after_help-feed.result ≡ new_app (codes "feed") = search rules in
     let top_is : app_of c.subcommand_required-tracedesk.result ≡ top = search rules in
-    IfOk-weaker c.subcommand.result _ _ (λ command added. added.shape (search rules) ∙ ap₂ with_subcommand top_is (ap (λ (a : App). a.top) feed_is)) c.subcommand.ensures
+    let feed = c.in_ok-feed.ensures in
+    let audit = c.in_ok-audit.ensures in
+    let with_feed_is : app_of c.in_ok-with_feed.with_feed ≡ with_subcommand top feed_shape = c.in_ok-with_feed.ensures.shape feed.1 ∙ ap₂ with_subcommand top_is feed.0 in
+    IfOk-weaker c.subcommand-2.result _ _ (λ command added. added.shape audit.1 ∙ ap₂ with_subcommand with_feed_is audit.0) c.subcommand-2.ensures

@@ -1,7 +1,8 @@
 use Rattle.std.proofs.Common.{◌≡◌, ◌∙◌, ◌++◌, true, false, subst, arith, [], refl, Bool, drop, take}
 use Rattle.desk_types.specs.Wire.{inner_of}
 use Rattle.tracedesk.proofs.Answering.{same_write}
-use Rattle.tracedesk.proofs.Going.{ForLists, goes_none, goes_on, stops_into}
+use Rattle.tracedesk.specs.Program.{ForLists}
+use Rattle.tracedesk.proofs.Going.{goes_none, goes_on, stops_into}
 use Rattle.tracedesk.proofs.Lining.{start_gone, lines_go, last_goes, next_first, end_behind}
 use Rattle.tracedesk.specs.Inbox.{TakesLine, source}
 use Rattle.tracedesk.specs.Lines.{lines_in}

@@ -1,39 +1,44 @@
-use Rattle.std.proofs.Common.{rules, ◌≡◌, [], refl, inl}
-use Rattle.std.specs.Prelude.{⊤}
-use Rattle.desk_types.specs.declared.desk.TheConstants.{MOST_ENTRIES}
-use Rattle.desk_types.specs.declared.rules.Rules.TheVariants.{Two}
-use Rattle.desk_types.specs.Wire.{inner_of}
-use Rattle.desk_answers.specs.Ledger.{Ledger}
-use Rattle.tracedesk.specs.declared.feed.ServeFault.{ServeFault}
+use Rattle.std.proofs.Common.{rules, Some, map, string_bytes, refl, inl, inr}
+use Rattle.tracedesk.specs.CommandLine.{AsksForAudit, AsksForFeed, AsksForText}
 use Rattle.tracedesk.specs.declared.feed.ServeFault.TheVariants.{Write}
-use Rattle.tracedesk.specs.Program.{IsShown}
-use Rattle.tracedesk.specs.Stream.{AnsweredFront, AnsweredInto, none_served}
-use Rattle.tracedesk.proofs.Failing.{front_of}
+use Rattle.tracedesk.specs.Stream.{none_served}
 use Rattle.tracedesk.proofs.program.program.Goals as goal
 
--- a desk that has accepted nothing
-abbrev fresh : Ledger
-fresh = record { rules = Two; greatest = MOST_ENTRIES; history = [] }
+pub returns-in-Some-clause-done : goal.returns-in-Some-clause-done
+returns-in-Some-clause-done g c = λ is.
+    let file = string_bytes c.in-Some.file in
+    let asks : AsksForFeed (map string_bytes c.args.words.now) (Some file) c.in-Ok-Feed.greatest = search rules in
+    let all = c.feed_in_file.ensures.done is in
+    inl (all.0, all.1, inr (file, c.in-Ok-Feed.greatest, asks, all.2))
 
-pub returns-in-Ok-Feed-clause-front : goal.returns-in-Ok-Feed-clause-front
-returns-in-Ok-Feed-clause-front g c = λ _ asks.
-    let asked = g.R.Read.remaining (inner_of c.args.input.now) in
-    let before = g.W.Write.contents (inner_of c.args.output.now) in
-    let after = g.W.Write.contents (inner_of c.feed.new.output) in
-    let fault = c.in-Err-feed.ensures in
-    front_of (λ (line G : Ledger). line ≡ G) (λ _. ⊤) c.new-line.result c.feed.new.line (λ (f : ServeFault). IsShown f c.args.input.now c.feed.new.input c.args.output.now c.feed.new.output)
-    (λ served G H. AnsweredFront G.rules G.greatest asked G.history before H after served) (λ served G H. AnsweredInto G.rules G.greatest asked G.history before H after served)
-    c.in-Err-feed.fault fault.read fault.too_many fault.write fresh c.new-line.ensures tt
+pub returns-in-Some-clause-refused : goal.returns-in-Some-clause-refused
+returns-in-Some-clause-refused g c = λ is.
+    let file = string_bytes c.in-Some.file in
+    let asks : AsksForFeed (map string_bytes c.args.words.now) (Some file) c.in-Ok-Feed.greatest = search rules in
+    let all = c.feed_in_file.ensures.refused is in
+    (all.0, all.1, inr (file, c.in-Ok-Feed.greatest, asks, all.2))
 
-pub returns-in-Ok-clause-done : goal.returns-in-Ok-clause-done
-returns-in-Ok-clause-done g c = λ _.
-    let all = c.in-Ok.ensures.ok fresh c.new-line.ensures tt in
-    inl (search rules, c.in-Ok.served, c.if-served-eq0.true, (all.0, all.2))
+pub returns-in-Some-clause-failed : goal.returns-in-Some-clause-failed
+returns-in-Some-clause-failed g c = λ is.
+    let file = string_bytes c.in-Some.file in
+    let asks : AsksForFeed (map string_bytes c.args.words.now) (Some file) c.in-Ok-Feed.greatest = search rules in
+    let fault = c.feed_in_file.ensures.failed is in
+    (fault.0, fault.1, fault.2, inl (inr (file, c.in-Ok-Feed.greatest, asks, fault.3)))
 
-pub returns-in-Ok-2-clause-refused : goal.returns-in-Ok-2-clause-refused
-returns-in-Ok-2-clause-refused g c = λ _.
-    let all = c.in-Ok-2.ensures.ok fresh c.new-line.ensures tt in
-    (search rules, c.in-Ok-2.field-0, search rules, (all.0, all.2))
+pub returns-in-Ok-Audit-clause-done : goal.returns-in-Ok-Audit-clause-done
+returns-in-Ok-Audit-clause-done g c = λ is.
+    let asks : AsksForAudit (map string_bytes c.args.words.now) (string_bytes c.in-Ok-Audit.file) = search rules in
+    let all = c.audit_file.ensures.done is in
+    inr (inl (string_bytes c.in-Ok-Audit.file, asks, all.0, all.1, all.2))
+
+pub returns-in-Ok-Audit-clause-failed : goal.returns-in-Ok-Audit-clause-failed
+returns-in-Ok-Audit-clause-failed g c = λ is.
+    let asks : AsksForAudit (map string_bytes c.args.words.now) (string_bytes c.in-Ok-Audit.file) = search rules in
+    let fault = c.audit_file.ensures.failed is in
+    (Write none_served, (fault.0, refl), fault.1, inr (inl (string_bytes c.in-Ok-Audit.file, asks)))
 
 pub returns-in-Ok-Text-clause-failed : goal.returns-in-Ok-Text-clause-failed
-returns-in-Ok-Text-clause-failed g c = λ _. (Write none_served, (c.in-Err-send.ensures.failed, refl), c.tell_line-in-Err-send.ensures)
+returns-in-Ok-Text-clause-failed g c = λ is.
+    let asks : AsksForText (map string_bytes c.args.words.now) = search rules in
+    let fault = c.send_text.ensures.failed is in
+    (Write none_served, (fault.0, refl), fault.1, inr (inr asks))

@@ -1,0 +1,74 @@
+-- The list with which a run on the files begins.
+use Rattle.std.proofs.Common.{◌≡◌, ◌∙◌, ◌⊎◌, ℕ, List, [], Bool, true, false, true≢false, Option, Some, None, refl, sym, ap, inl, inr}
+use Rattle.std.specs.List.{list_any}
+use Rattle.std.specs.List.Sorted.{IsPermutation}
+use Rattle.std.proofs.lemmas.List.Sorted.{IsPermutation-sym, IsPermutation-trans}
+use Rattle.sqlite_wal.specs.Recovery.{Image}
+use Rattle.sqlite_trees.specs.Tree.{Trees}
+use Rattle.sqlite_schema.specs.declared.schema.Schema.{Schema}
+use Rattle.sqlite.specs.Effect.{Database, IsDatabase}
+use Rattle.sqlite.specs.Files.{HoldsDatabase}
+use Rattle.sqlite.specs.Start.{FindsIn}
+use Rattle.sqlite.specs.State.{State, Opens, IsLive}
+use Rattle.desk_types.specs.declared.rules.Rules.TheVariants.{Two}
+use Rattle.desk_types.specs.History.{History}
+use Rattle.desk_types.specs.Judged.{IsJudged}
+use Rattle.line_tables.specs.Calls.{Reads}
+use Rattle.line_tables.specs.Line.{is_blank, is_ours, line_schema, no_schema}
+use Rattle.line_tables.specs.Names.{has_name, is_version}
+use Rattle.line_tables.specs.Rows.{Tables, Holds, HoldsAt}
+use Rattle.line_tables.proofs.Holding.{held_at}
+use Rattle.line_tables.proofs.Ours.{is_blank_of, is_ours_of, ours_named}
+use Rattle.line_rows.specs.Rows.{rows_of, tables_of}
+use Rattle.line_schema.specs.Opening.{IsNamed}
+use Rattle.desk_file.specs.Files.{IsFoundIn, HasLineAlone, HasTables, HasNoTable, Begins}
+
+module _ (image : Image) (s : State) (finds : FindsIn image s) (opens : Opens s) (live : IsLive s) where
+  -- what is committed is what the files hold
+  found : IsFoundIn image s.committed
+  found = record { sound = (live opens.is_open).1; reads = finds.reads; same = finds.holds }
+
+  -- a new desk, in files with none of its tables
+  pub made_begins : (greatest : ℕ) → list_any has_name s.now.schema.tables ≡ false → HasLineAlone image → Begins image (Some greatest) greatest [] × (is_blank s.now.schema ≡ true)
+  made_begins greatest nameless alone =
+      let seen : s.now.schema ≡ s.committed.schema = ap (λ (db : Database). db.schema) opens.clean in
+      elim (alone s.committed found) [
+        | inl ours ↦ absurd (true≢false (sym ours_named ∙ ap (λ (x : Schema). list_any has_name x.tables) (sym (seen ∙ ours)) ∙ nameless))
+        | inr none ↦ (inr ((s.committed, found, none), refl, refl), is_blank_of s.now.schema (seen ∙ none))
+      ]
+
+  -- the desk that was read
+  pub opened_begins : (make : Option ℕ) (greatest : ℕ) (H : History) → IsNamed s → Reads s (λ db. Holds db (tables_of greatest H)) → HasLineAlone image
+      → Begins image make greatest H × (is_ours s.committed.schema ≡ true)
+  opened_begins make greatest H named reads alone =
+      let seen : s.now.schema ≡ s.committed.schema = ap (λ (db : Database). db.schema) opens.clean in
+      elim (alone s.committed found) [
+        | inl ours ↦ (inl (s.committed, found, reads.are ours), is_ours_of s.committed.schema ours)
+        | inr none ↦ absurd (true≢false (sym named.0 ∙ ap (λ (x : Schema). list_any is_version x.tables) (seen ∙ none)))
+      ]
+
+module _ (image : Image) (trees : Trees) (t : Tables) (holds : HoldsDatabase image trees) (tables : HoldsAt t trees) where
+  -- whatever an open finds has these tables
+  held : (db : Database) → IsFoundIn image db → Holds db t
+  held db f = held_at t trees tables db f.sound (f.same trees holds)
+
+  pub line_alone : HasLineAlone image
+  line_alone db f = inl (held db f).schema
+
+-- and a run begins with their list
+pub same_list : (image : Image) (trees : Trees) (greatest : ℕ) (H : History) → ((G H : History) → IsJudged Two G → IsJudged Two H → IsPermutation (rows_of G) (rows_of H) → G ≡ H)
+    → HoldsDatabase image trees → HoldsAt (tables_of greatest H) trees → IsJudged Two H
+    → (make : Option ℕ) (next : ℕ) (H' : History) → Begins image make next H' → IsJudged Two H' → (next ≡ greatest) × (H' ≡ H)
+same_list image trees greatest H tell holds tables judged make next H' (inl has) judged' =
+    let was = held image trees (tables_of greatest H) holds tables has.0 has.1 in
+    let rows = sym was.version ∙ has.2.version in
+    let number : greatest ≡ next = cc in
+    (sym number, tell H' H judged' judged (IsPermutation-trans _ _ _ (IsPermutation-sym _ _ has.2.accepted) was.accepted))
+same_list image trees greatest H tell holds tables judged make next H' (inr (none, made, empty)) judged' =
+    let was = held image trees (tables_of greatest H) holds tables none.0 none.1 in
+    absurd (true≢false (sym ours_named ∙ ap (λ (x : Schema). list_any has_name x.tables) (sym was.schema ∙ none.2)))
+
+-- a run that may make no desk begins as one that may
+pub begins_any : (image : Image) (make : Option ℕ) (greatest : ℕ) (H : History) → Begins image None greatest H → Begins image make greatest H
+begins_any image make greatest H (inl has) = inl has
+begins_any image make greatest H (inr (none, made, empty)) = absurd (cc)

@@ -1,0 +1,18 @@
+use Rattle.std.proofs.Common.{Bool, [], arith, subst}
+use Rattle.sqlite_wal.specs.Files.{image_at}
+use Rattle.sqlite.specs.Files.{file_state, over_files}
+use Rattle.sqlite.specs.State.{HasCleanDisk}
+use Rattle.line_schema.specs.Stands.{Stands}
+use Rattle.desk_file.proofs.Beginning.{made_begins}
+use Rattle.desk_file.proofs.opening.made.Goals as goal
+
+pub returns-in-Ok-clause-begins : goal.returns-in-Ok-clause-begins
+returns-in-Ok-clause-begins g c = λ clean alone.
+    let conn = c.in_ok-conn.conn in
+    let before : HasCleanDisk (file_state conn) = omega (arith, c.in-Ok.ensures.leaves.clean, clean) in
+    let opened = c.in_ok-conn.ensures.opened before in
+    let begins = made_begins (image_at g.T.Start) (file_state conn) (c.in_ok-conn.ensures.found before) opened.0 opened.1 c.args.greatest c.in-Ok.ensures.nameless alone in (
+      begins.0,
+      subst (λ (own : Bool). Stands over_files g.D.Desk.Stands g.D.Desk.kept_rules c.in-Ok.store (record { greatest = c.args.greatest; history = []; own = own }))
+          begins.1 c.in-Ok.ensures.stands,
+    )

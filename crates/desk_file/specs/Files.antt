@@ -1,0 +1,32 @@
+-- With which list a run begins, by what its files held.
+use Rattle.std.specs.Prelude.{◌≡◌, ◌⊎◌, ℕ, List, [], Option, Some}
+use Rattle.sqlite_wal.specs.Recovery.{Image}
+use Rattle.sqlite_trees.specs.Tree.{Trees}
+use Rattle.sqlite.specs.Effect.{Database, IsDatabase}
+use Rattle.sqlite.specs.Files.{HoldsDatabase, AreFoundIn}
+use Rattle.desk_types.specs.History.{History}
+use Rattle.line_tables.specs.Line.{line_schema, no_schema}
+use Rattle.line_tables.specs.Rows.{Tables, Holds}
+use Rattle.line_rows.specs.Rows.{tables_of}
+
+-- an open of the files finds this database, whose trees list its schema: the one that the files hold or, where they hold nothing, an empty one
+pub record IsFoundIn (image : Image) (db : Database) : Type 0 where
+  pub sound : IsDatabase db
+  pub reads : AreFoundIn image db.trees
+  pub same : (trees : Trees) → HoldsDatabase image trees → db.trees ≡ trees
+
+-- the files hold the tables of a line with none beside them, or no table at all
+abbrev pub HasLineAlone : Image → Type 0
+HasLineAlone image = (db : Database) → IsFoundIn image db → (db.schema ≡ line_schema) ⊎ (db.schema ≡ no_schema)
+
+-- the files hold these tables
+abbrev pub HasTables : Image → Tables → Type 0
+HasTables image tables = (db : Database) × IsFoundIn image db × Holds db tables
+
+-- the files hold no table
+abbrev pub HasNoTable : Image → Type 0
+HasNoTable image = (db : Database) × IsFoundIn image db × (db.schema ≡ no_schema)
+
+-- A run on the files begins with the greatest number and the list whose tables they hold. Where they hold no table, and a desk may be made, it begins with an empty list and the greatest number that is asked for.
+abbrev pub Begins : Image → Option ℕ → ℕ → History → Type 0
+Begins image make greatest H = HasTables image (tables_of greatest H) ⊎ (HasNoTable image × (make ≡ Some greatest) × (H ≡ []))

@@ -1,0 +1,8 @@
+//! A desk in a file.
+#![tactic(auto)]
+
+mod law;
+mod opening;
+
+pub use law::next_run_goes_on;
+pub use opening::{FileDesk, close_desk, open_desk};

@@ -1,0 +1,127 @@
+//! The file of a desk: it is made, opened and closed.
+
+ghost use Rattle.std.specs.Prelude.{◌≡◌, ◌≢◌, ◌≤◌, ◌⊎◌, [], true, false, Some, None, IsTrue, IfOk, IfErr, IfSome};
+ghost use Rattle.std.specs.List.{list_any};
+ghost use Rattle.sqlite_wal.specs.Files.{image_at};
+ghost use Rattle.sqlite.specs.State.{HasCleanDisk};
+ghost use Rattle.sqlite.specs.Files.{file_state, over_files, IsOpened};
+ghost use Rattle.sqlite.specs.Start.{FindsIn};
+ghost use Rattle.desk_types.specs.declared.desk.TheConstants.{MOST_ENTRIES};
+ghost use Rattle.desk_types.specs.History.{History};
+ghost use Rattle.line_schema.specs.declared.fault.OpenFault.TheVariants as Fault;
+ghost use Rattle.line_schema.specs.Stands.{Kept, Stands, state_of};
+ghost use Rattle.desk_file.specs.Files.{Begins, HasLineAlone};
+
+use desk_types::Desk;
+use line_schema::{LineStore, OpenFault};
+use sqlite::{Connection, FileFrom, FileStore, Start};
+use std::fs;
+use std::io::ErrorKind;
+
+/// The store of a desk in a file, of which `T` says what it held as it was opened.
+pub type FileDesk<T, D> = LineStore<FileStore<FileFrom<T>>, D>;
+
+/// The desk that the file at a path keeps. Where there is no file, or one of no bytes, a desk of an
+/// empty list is made in it if `make` says up to which number, from 1 to 1,000,000,000; else it is
+/// NotADesk. What is no regular file, or can't be opened, is Unavailable.
+pub fn open_desk<T: Start, D: Desk + Drop>(
+    rt: &HostRuntime,
+    path: &str,
+    start: T,
+    make: Option<u32>,
+) -> Result<FileDesk<T, D>, OpenFault>
+    requires range { IfSome make (λ greatest. (1 ≤ greatest) × (greatest ≤ MOST_ENTRIES)) }
+    ensures stands { IfOk result (λ store. (L : Kept) × Stands over_files D.Stands D.kept_rules store L) }
+    ensures begins { IfOk result (λ store. HasCleanDisk (state_of over_files store) → HasLineAlone (image_at T.Start)
+        → (greatest : _) × (H : History) × Begins (image_at T.Start) make greatest H × Stands over_files D.Stands D.kept_rules store (record { greatest = greatest; history = H; own = true })) }
+{
+    let is_blank = is_blank(rt, path)?;
+    match make {
+        Some(greatest) if is_blank => made(rt, path, start, greatest),
+        None if is_blank => Err(OpenFault::NotADesk),
+        _ => opened(rt, path, start),
+    }
+}
+
+/// Closes the file of a desk: what was committed is in it then, without its log.
+pub fn close_desk<T: Start, D: Desk + Drop>(desk: FileDesk<T, D>) -> Result<(), OpenFault>
+    ensures { IfErr result (λ fault. fault ≡ Fault.Unavailable) }
+{
+    match desk.into_connection().close() {
+        Ok(()) => Ok(()),
+        Err(_) => Err(OpenFault::Unavailable),
+    }
+}
+
+/// Whether there is no file at the path, or one of no bytes.
+fn is_blank(rt: &HostRuntime, path: &str) -> Result<bool, OpenFault>
+    ensures { IfErr result (λ fault. fault ≡ Fault.Unavailable) }
+{
+    match fs::metadata(rt, path) {
+        Ok(found) if found.is_file() => Ok(found.len() == 0),
+        Ok(_) => Err(OpenFault::Unavailable),
+        Err(error) if error.kind() == ErrorKind::NotFound => Ok(true),
+        Err(_) => Err(OpenFault::Unavailable),
+    }
+}
+
+/// A desk of an empty list in the file, which is made where it is missing.
+fn made<T: Start, D: Desk + Drop>(
+    rt: &HostRuntime,
+    path: &str,
+    start: T,
+    greatest: u32,
+) -> Result<FileDesk<T, D>, OpenFault>
+    requires least { 1 ≤ greatest }
+    requires most { greatest ≤ MOST_ENTRIES }
+    ensures stands { IfOk result (λ store. (L : Kept) × Stands over_files D.Stands D.kept_rules store L) }
+    ensures begins { IfOk result (λ store. HasCleanDisk (state_of over_files store) → HasLineAlone (image_at T.Start)
+        → Begins (image_at T.Start) (Some greatest) greatest [] × Stands over_files D.Stands D.kept_rules store (record { greatest = greatest; history = []; own = true })) }
+{
+    let conn = connect(rt, path, start)?;
+    match LineStore::create(rt.alloc(), conn, greatest) {
+        Ok(store) => Ok(store),
+        Err((fault, conn)) => {
+            let _ = conn.close();
+            Err(fault)
+        }
+    }
+}
+
+/// The desk that the file keeps.
+fn opened<T: Start, D: Desk + Drop>(
+    rt: &HostRuntime,
+    path: &str,
+    start: T,
+) -> Result<FileDesk<T, D>, OpenFault>
+    ensures stands { IfOk result (λ store. (L : Kept) × Stands over_files D.Stands D.kept_rules store L) }
+    ensures begins { IfOk result (λ store. HasCleanDisk (state_of over_files store) → HasLineAlone (image_at T.Start)
+        → (greatest : _) × (H : History) × Begins (image_at T.Start) None greatest H × Stands over_files D.Stands D.kept_rules store (record { greatest = greatest; history = H; own = true })) }
+    ensures never { IfErr result (λ fault. fault ≢ Fault.NotBlank) }
+{
+    let conn = connect(rt, path, start)?;
+    match LineStore::open(rt.alloc(), conn) {
+        Ok(store) => Ok(store),
+        Err((fault, conn)) => {
+            let _ = conn.close();
+            Err(fault)
+        }
+    }
+}
+
+/// A connection to the file, which is made where it is missing.
+fn connect<T: Start>(
+    rt: &HostRuntime,
+    path: &str,
+    start: T,
+) -> Result<Connection<FileStore<FileFrom<T>>>, OpenFault>
+    ensures opened { IfOk result (λ conn. HasCleanDisk (file_state conn) → IsOpened conn) }
+    ensures found { IfOk result (λ conn. HasCleanDisk (file_state conn) → FindsIn (image_at T.Start) (file_state conn)) }
+    ensures mode { IfOk result (λ conn. conn.in_transaction ≡ false) }
+    ensures err { IfErr result (λ fault. fault ≡ Fault.Unavailable) }
+{
+    match Connection::open_from(rt, path, false, start) {
+        Ok(conn) => Ok(conn),
+        Err(_) => Err(OpenFault::Unavailable),
+    }
+}

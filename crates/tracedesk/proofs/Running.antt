@@ -1,0 +1,32 @@
+-- A run on a desk in a file.
+use Rattle.std.proofs.Common.{◌≡◌, ℕ, true, Option, Some, refl}
+use Rattle.sqlite_disk.specs.declared.Disk as disk
+use Rattle.sqlite_disk.specs.declared.start.Start as start
+use Rattle.sqlite_wal.specs.Files.{image_at}
+use Rattle.sqlite_store.specs.declared.store.FileStore.{FileStore}
+use Rattle.sqlite.specs.State.{HasCleanDisk}
+use Rattle.sqlite.specs.Files.{over_files}
+use Rattle.desk_types.specs.declared.rules.Rules.TheVariants.{Two}
+use Rattle.desk_types.specs.History.{History}
+use Rattle.desk_answers.specs.Ledger.{Ledger}
+use Rattle.look_back.specs.declared.plain.PlainDesk.{PlainDesk}
+use Rattle.look_back.specs.contracts.plain.PlainDeskDesk.TheImpl.{ghosts as plain}
+use Rattle.line_schema.specs.declared.store.LineStore.{LineStore}
+use Rattle.line_schema.specs.Stands.{Stands, state_of}
+use Rattle.desk_file.specs.Files.{Begins, HasLineAlone}
+use Rattle.tracedesk.specs.Program.{ForLists, RunsOn}
+
+-- the store of a file stands for the list by rules Two, its tables being its own
+abbrev pub IsKept : {D : Type 0} {g : disk.Ghosts D} → LineStore (FileStore D g) PlainDesk → Ledger → Type 0
+IsKept store G = (G.rules ≡ Two) × Stands over_files plain.Stands plain.kept_rules store (record { greatest = G.greatest; history = G.history; own = true })
+
+-- it was opened with a list, and went on from that
+pub runs_on : {T D : Type 0} {g : disk.Ghosts D} (first : start.Ghosts T) (make : Option ℕ) (old new : LineStore (FileStore D g) PlainDesk) (Fact : Ledger → History → Type 0)
+    → (HasCleanDisk (state_of over_files new) → HasCleanDisk (state_of over_files old))
+    → (HasCleanDisk (state_of over_files old) → HasLineAlone (image_at first) → (greatest : ℕ) × (H : History) × Begins (image_at first) make greatest H
+    × Stands over_files plain.Stands plain.kept_rules old (record { greatest = greatest; history = H; own = true }))
+    → ForLists IsKept (λ store. HasCleanDisk (state_of over_files store)) old new Fact → RunsOn first make (Some new) Fact
+runs_on first make old new Fact trusts begins goes clean alone =
+    let b = begins (trusts clean) alone in
+    let after = goes (record { rules = Two; greatest = b.0; history = b.1 }) (refl, b.3) clean in
+    (b.0, b.1, b.2, after.0, after.1.1, after.2)

@@ -1,0 +1,93 @@
+use Rattle.std.proofs.Common.{rules, ◌≡◌, ◌∙◌, ◌⊎◌, ℕ, Bool, cond, true, false, true≢false, sym, ap, codes, List, [], ◌∷◌, Option, Some, None, is_some, option_map, unwrap_or, inl, inr, refl}
+use Rattle.std.specs.Str.{bytes_eq}
+use Rattle.std.proofs.lemmas.Slice.Eq.{bytes_eq-Decides}
+use Rattle.clap.specs.Faults.{check_fault, defaults_fault, level_fault, settle_fault, walk_fault}
+use Rattle.clap.specs.Kinds.{Kinds, or_else}
+use Rattle.clap.specs.Matches.{found_of, subcommand_name_of}
+use Rattle.clap.specs.Simple.{Shape, argument_words, built, entered, names_of, rows_at, subcommand_rows_of}
+use Rattle.clap.specs.Walk.{Held, Names, Row, finished, rows_of, settled, stop_after, walk, walk_from}
+use Rattle.clap.specs.declared.parser.matches.ArgMatches.{ArgMatches}
+use Rattle.clap.specs.declared.parser.matches.ArgMatches.TheViews.{out-ArgMatches}
+use Rattle.tracedesk.specs.CommandLine.{commands, named_by, told_of}
+use Rattle.tracedesk.proofs.command_line.command_of.Goals as goal
+
+last_of : (a b : Kinds) → or_else a b ≡ [] → b ≡ []
+last_of [] b none = none
+last_of (k ∷ ks) b none = cc
+
+-- a level with no mistake passes its last checks
+level_end : (s : Shape) (names : Names) (h : Held) (words : List (List ℕ)) (has : Bool) (below : Kinds) → level_fault s names h words has below ≡ []
+    → check_fault s (finished s.rules (walk s.rules names h words).held) has ≡ []
+level_end s names h words has below none =
+    let end = (walk s.rules names h words).held in
+    last_of (defaults_fault (settled s.rules end).rows s.rules) _
+    (last_of (settle_fault s.rules s.args_override_self end) _
+    (last_of below _ (last_of (walk_fault s names (walk_from h) words) _ none)))
+
+is_wanted : (rows : List Row) (has : Bool) → check_fault (built commands).top rows has ≡ [] → has ≡ true
+is_wanted rows true none = refl
+is_wanted rows false none = cc
+
+-- where a command is wanted, it is there
+level_wants : (names : Names) (h : Held) (words : List (List ℕ)) (has : Bool) (below : Kinds) → level_fault (built commands).top names h words has below ≡ []
+    → has ≡ true
+level_wants names h words has below none =
+    let top = (built commands).top in
+    is_wanted (finished top.rules (walk top.rules names h words).held) has (level_end top names h words has below none)
+
+of_two : (f g : Shape) (x y : Bool) (words : List (List ℕ)) (p : List ℕ × List Row)
+    → option_map (λ s. rows_at s words) (cond x (Some f) (cond y (Some g) None)) ≡ Some p → (p.0 ≡ f.name) ⊎ (p.0 ≡ g.name)
+of_two f g true y words p is = inl (ap (λ (o : Option (List ℕ × List Row)). unwrap_or (option_map (λ q. q.0) o) []) (sym is))
+of_two f g false true words p is = inr (ap (λ (o : Option (List ℕ × List Row)). unwrap_or (option_map (λ q. q.0) o) []) (sym is))
+of_two f g false false words p is = cc
+
+one_of : (stop : Option (List ℕ × List (List ℕ))) (p : List ℕ × List Row) → entered (built commands) stop ≡ Some p
+    → (p.0 ≡ codes "feed") ⊎ (p.0 ≡ codes "audit")
+one_of None p is = cc
+one_of (Some s) p is = of_two _ _ _ _ s.1 p is
+
+abbrev stop_in : List (List ℕ) → Option (List ℕ × List (List ℕ))
+stop_in words = stop_after (built commands).top.rules (names_of (built commands)) (argument_words commands words)
+
+-- words with no mistake name a command
+is_named : (words : List (List ℕ)) → told_of words ≡ [] → is_some (named_by words) ≡ true
+unfolding told_of named_by
+is_named words none = level_wants _ _ _ (is_some (entered (built commands) (stop_in words))) _ none
+
+-- and it is one of the two
+is_one_of : (words : List (List ℕ)) (p : List ℕ × List Row) → named_by words ≡ Some p → (p.0 ≡ codes "feed") ⊎ (p.0 ≡ codes "audit")
+unfolding named_by
+is_one_of words p is = one_of (stop_in words) p is
+
+abbrev both : {X : Type 0} → (X → List ℕ) → (X → List Row) → X → List ℕ × List Row
+both f g x = (f x, g x)
+
+both_of : {X : Type 0} (f : X → List ℕ) (g : X → List Row) (o : Option X) (n : List ℕ) (r : List Row) → Some n ≡ option_map f o
+    → Some r ≡ option_map (λ (p : List ℕ × List Row). p.1) (option_map (both f g) o) → option_map (both f g) o ≡ Some (n, r)
+both_of f g None n r a b = cc
+both_of f g (Some x) n r a b = cc
+
+-- the name and the rows of the command that was met
+rows_named : (m : ArgMatches) (n : List ℕ) (r : List Row) → Some n ≡ subcommand_name_of m → Some r ≡ option_map (λ p. p.1) (subcommand_rows_of m)
+    → subcommand_rows_of m ≡ Some (n, r)
+rows_named m n r a b = both_of _ _ (out-ArgMatches m).subcommand n r a b
+
+pub unreachable-requires : goal.unreachable-requires
+unreachable-requires c =
+    let words = c.requires.named.0 in
+    let some : is_some (named_by words) ≡ true = is_named words c.requires.named.1 in
+    let none : is_some (subcommand_rows_of c.args.matches.now) ≡ false = search rules in
+    absurd (true≢false (sym some ∙ ap is_some (sym c.requires.named.2) ∙ none))
+
+pub returns-in-Some-2-clause-asks : goal.returns-in-Some-2-clause-asks
+returns-in-Some-2-clause-asks c = λ words none is.
+    let rows = rows_of (found_of c.in-Some.found.now) in
+    let name = c.in-Some.name.now in
+    let names : Some name ≡ subcommand_name_of c.args.matches.now = search rules in
+    let finds : Some rows ≡ option_map (λ p. p.1) (subcommand_rows_of c.args.matches.now) = search rules in
+    let is_both : named_by words ≡ Some (name, rows) = sym is ∙ rows_named c.args.matches.now name rows names finds in
+    let no : bytes_eq name (codes "audit") ≡ false = search rules in
+    elim (is_one_of words (name, rows) is_both) [
+      | inl feed ↦ c.feed_of.ensures.asks words (none, is_both ∙ ap (λ n. Some (n, rows)) feed)
+      | inr audit ↦ absurd (true≢false (sym ((bytes_eq-Decides name (codes "audit")).1 audit) ∙ no))
+    ]
