@@ -1,9 +1,11 @@
 -- The list with which a run on the files begins.
 use Rattle.std.proofs.Common.{◌≡◌, ◌∙◌, ◌⊎◌, ℕ, List, [], Bool, true, false, true≢false, Option, Some, None, refl, sym, ap, inl, inr}
+use Rattle.std.proofs.Math.Logic.{∥∥₁_elim}
 use Rattle.std.specs.List.{list_any}
 use Rattle.std.specs.List.Sorted.{IsPermutation}
 use Rattle.std.proofs.lemmas.List.Sorted.{IsPermutation-sym, IsPermutation-trans}
 use Rattle.sqlite_wal.specs.Recovery.{Image}
+use Rattle.sqlite_trees.specs.Props.{Trees-set}
 use Rattle.sqlite_trees.specs.Tree.{Trees}
 use Rattle.sqlite_schema.specs.declared.schema.Schema.{Schema}
 use Rattle.sqlite.specs.Effect.{Database, IsDatabase}
@@ -47,17 +49,17 @@ module _ (image : Image) (s : State) (finds : FindsIn image s) (opens : Opens s)
         | inr none ↦ absurd (true≢false (sym named.0 ∙ ap (λ (x : Schema). list_any is_version x.tables) (seen ∙ none)))
       ]
 
-module _ (image : Image) (trees : Trees) (t : Tables) (holds : HoldsDatabase image trees) (tables : HoldsAt t trees) where
+module _ (image : Image) (trees : Trees) (t : Tables) (holds : ∥ HoldsDatabase image trees ∥₁) (tables : HoldsAt t trees) where
   -- whatever an open finds has these tables
   held : (db : Database) → IsFoundIn image db → Holds db t
-  held db f = held_at t trees tables db f.sound (f.same trees holds)
+  held db f = held_at t trees tables db f.sound (∥∥₁_elim holds (Trees-set _ _) (f.same trees))
 
   pub line_alone : HasLineAlone image
   line_alone db f = inl (held db f).schema
 
 -- and a run begins with their list
 pub same_list : (image : Image) (trees : Trees) (greatest : ℕ) (H : History) → ((G H : History) → IsJudged Two G → IsJudged Two H → IsPermutation (rows_of G) (rows_of H) → G ≡ H)
-    → HoldsDatabase image trees → HoldsAt (tables_of greatest H) trees → IsJudged Two H
+    → ∥ HoldsDatabase image trees ∥₁ → HoldsAt (tables_of greatest H) trees → IsJudged Two H
     → (make : Option ℕ) (next : ℕ) (H' : History) → Begins image make next H' → IsJudged Two H' → (next ≡ greatest) × (H' ≡ H)
 same_list image trees greatest H tell holds tables judged make next H' (inl has) judged' =
     let was = held image trees (tables_of greatest H) holds tables has.0 has.1 in

@@ -1,13 +1,22 @@
 -- With which list a run begins, by what its files held.
-use Rattle.std.specs.Prelude.{◌≡◌, ◌⊎◌, ℕ, List, [], Option, Some}
+use Rattle.std.specs.Prelude.{◌≡◌, ◌⊎◌, ℕ, IsTrue, List, [], Option, Some}
+use Rattle.sqlite_disk.specs.declared.Disk as disk
+use Rattle.sqlite_disk.specs.declared.Files.{Files}
+use Rattle.sqlite_wal.specs.Files.{outcomes}
+use Rattle.sqlite_wal.specs.Reads.{AreClean}
 use Rattle.sqlite_wal.specs.Recovery.{Image}
+use Rattle.sqlite_store.specs.declared.store.FileStore.{FileStore}
 use Rattle.sqlite_trees.specs.Tree.{Trees}
 use Rattle.sqlite.specs.Effect.{Database, IsDatabase}
-use Rattle.sqlite.specs.Files.{HoldsDatabase, AreFoundIn}
+use Rattle.sqlite.specs.Closing.{HoldsAlone}
+use Rattle.sqlite.specs.Files.{HoldsDatabase, AreFoundIn, image_of, over_files}
+use Rattle.desk_types.specs.declared.rules.Rules.{Rules}
 use Rattle.desk_types.specs.History.{History}
 use Rattle.line_tables.specs.Line.{line_schema, no_schema}
-use Rattle.line_tables.specs.Rows.{Tables, Holds}
+use Rattle.line_tables.specs.Rows.{Tables, Holds, HoldsAt}
 use Rattle.line_rows.specs.Rows.{tables_of}
+use Rattle.line_schema.specs.declared.store.LineStore.{LineStore}
+use Rattle.line_schema.specs.Stands.{Kept, Stands}
 
 -- an open of the files finds this database, whose trees list its schema: the one that the files hold or, where they hold nothing, an empty one
 pub record IsFoundIn (image : Image) (db : Database) : Type 0 where
@@ -30,3 +39,12 @@ HasNoTable image = (db : Database) × IsFoundIn image db × (db.schema ≡ no_sc
 -- A run on the files begins with the greatest number and the list whose tables they hold. Where they hold no table, and a desk may be made, it begins with an empty list and the greatest number that is asked for.
 abbrev pub Begins : Image → Option ℕ → ℕ → History → Type 0
 Begins image make greatest H = HasTables image (tables_of greatest H) ⊎ (HasNoTable image × (make ≡ Some greatest) × (H ≡ []))
+
+-- the two files hold these tables, and so does the database file with no log
+abbrev pub IsWhole : Tables → Image → Type 0
+IsWhole tables image = (trees : Trees) × HoldsAt tables trees × HoldsAlone image trees
+
+-- The files of a desk that stood for a list, its tables being its own, hold the tables of that list: as they read now and, whatever a crash leaves of them, then too. That is, where the disk told the truth to the end.
+abbrev pub Closes : {D E : Type 0} {g : disk.Ghosts D} → (E → History → Type 0) → (E → Rules) → LineStore (FileStore D g) E → Files D → Type 0
+Closes {g = g} StandsFor kept_rules desk files = (L : Kept) → Stands over_files StandsFor kept_rules desk L → IsTrue L.own → AreClean g files.log files.db
+    → (image : Image) → (image ≡ image_of g files) ⊎ outcomes g files.log files.db image → IsWhole (tables_of L.greatest L.history) image

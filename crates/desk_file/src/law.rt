@@ -13,12 +13,12 @@ ghost use Rattle.desk_file.specs.Files.{Begins, HasLineAlone};
 
 use line_rows::rows_tell_lists_apart;
 
-/// A law: where the files hold the tables of a judged list, as a run leaves them, each run on them
-/// begins with that list and its greatest number, whatever greatest number is asked for. It is for
-/// proofs, and does nothing when it runs.
+/// A law: where the files hold the tables of a judged list, as `close_desk` leaves them, each run on
+/// them begins with that list and its greatest number, whatever greatest number is asked for. It is
+/// for proofs, and does nothing when it runs.
 pub fn next_run_goes_on()
-    ensures alone { (image : Image) (trees : Trees) (greatest : ℕ) (H : History) → HoldsDatabase image trees → HoldsAt (tables_of greatest H) trees → HasLineAlone image }
-    ensures same { (image : Image) (trees : Trees) (greatest : ℕ) (H : History) → HoldsDatabase image trees → HoldsAt (tables_of greatest H) trees → IsJudged Two H
+    ensures alone { (image : Image) (trees : Trees) (greatest : ℕ) (H : History) → ∥ HoldsDatabase image trees ∥₁ → HoldsAt (tables_of greatest H) trees → HasLineAlone image }
+    ensures same { (image : Image) (trees : Trees) (greatest : ℕ) (H : History) → ∥ HoldsDatabase image trees ∥₁ → HoldsAt (tables_of greatest H) trees → IsJudged Two H
         → (make : Option ℕ) (next : ℕ) (H' : History) → Begins image make next H' → IsJudged Two H' → (next ≡ greatest) × (H' ≡ H) }
 {
     rows_tell_lists_apart();

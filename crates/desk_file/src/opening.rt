@@ -10,11 +10,11 @@ ghost use Rattle.desk_types.specs.declared.desk.TheConstants.{MOST_ENTRIES};
 ghost use Rattle.desk_types.specs.History.{History};
 ghost use Rattle.line_schema.specs.declared.fault.OpenFault.TheVariants as Fault;
 ghost use Rattle.line_schema.specs.Stands.{Kept, Stands, state_of};
-ghost use Rattle.desk_file.specs.Files.{Begins, HasLineAlone};
+ghost use Rattle.desk_file.specs.Files.{Begins, Closes, HasLineAlone};
 
 use desk_types::Desk;
 use line_schema::{LineStore, OpenFault};
-use sqlite::{Connection, FileFrom, FileStore, Start};
+use sqlite::{Connection, FileFrom, FileStore, Files, Start};
 use std::fs;
 use std::io::ErrorKind;
 
@@ -32,6 +32,7 @@ pub fn open_desk<T: Start, D: Desk + Drop>(
 ) -> Result<FileDesk<T, D>, OpenFault>
     requires range { IfSome make (λ greatest. (1 ≤ greatest) × (greatest ≤ MOST_ENTRIES)) }
     ensures stands { IfOk result (λ store. (L : Kept) × Stands over_files D.Stands D.kept_rules store L) }
+    ensures never { make ≡ None → IfErr result (λ fault. fault ≢ Fault.NotBlank) }
     ensures begins { IfOk result (λ store. HasCleanDisk (state_of over_files store) → HasLineAlone (image_at T.Start)
         → (greatest : _) × (H : History) × Begins (image_at T.Start) make greatest H × Stands over_files D.Stands D.kept_rules store (record { greatest = greatest; history = H; own = true })) }
 {
@@ -43,13 +44,22 @@ pub fn open_desk<T: Start, D: Desk + Drop>(
     }
 }
 
-/// Closes the file of a desk: what was committed is in it then, without its log.
-pub fn close_desk<T: Start, D: Desk + Drop>(desk: FileDesk<T, D>) -> Result<(), OpenFault>
-    ensures { IfErr result (λ fault. fault ≡ Fault.Unavailable) }
+/// Closes the file of a desk: what was committed is in it then, without its log. The files come back
+/// for clauses to name; they are closed where they are dropped.
+pub fn close_desk<T: Start, D: Desk + Drop>(
+    desk: FileDesk<T, D>,
+) -> Result<Files<FileFrom<T>>, OpenFault>
+    ensures whole { IfOk result (Closes D.Stands D.kept_rules desk) }
+    ensures err { IfErr result (λ fault. fault ≡ Fault.Unavailable) }
 {
-    match desk.into_connection().close() {
-        Ok(()) => Ok(()),
-        Err(_) => Err(OpenFault::Unavailable),
+    let conn = desk.into_connection();
+    let _obeyed = conn.schema();
+    match conn.close_files() {
+        Ok(files) => Ok(files),
+        Err((_, store)) => {
+            drop(store.close());
+            Err(OpenFault::Unavailable)
+        }
     }
 }
 

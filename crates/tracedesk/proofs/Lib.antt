@@ -5,3 +5,4 @@ pub mod Going
 pub mod Lining
 pub mod Running
 pub mod Sources
+pub mod WithoutRepeats

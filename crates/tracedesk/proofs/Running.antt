@@ -1,5 +1,5 @@
 -- A run on a desk in a file.
-use Rattle.std.proofs.Common.{◌≡◌, ℕ, true, Option, Some, refl}
+use Rattle.std.proofs.Common.{◌≡◌, ℕ, true, Option, Some, None, length, refl}
 use Rattle.sqlite_disk.specs.declared.Disk as disk
 use Rattle.sqlite_disk.specs.declared.start.Start as start
 use Rattle.sqlite_wal.specs.Files.{image_at}
@@ -12,9 +12,9 @@ use Rattle.desk_answers.specs.Ledger.{Ledger}
 use Rattle.look_back.specs.declared.plain.PlainDesk.{PlainDesk}
 use Rattle.look_back.specs.contracts.plain.PlainDeskDesk.TheImpl.{ghosts as plain}
 use Rattle.line_schema.specs.declared.store.LineStore.{LineStore}
-use Rattle.line_schema.specs.Stands.{Stands, state_of}
+use Rattle.line_schema.specs.Stands.{Kept, Stands, state_of}
 use Rattle.desk_file.specs.Files.{Begins, HasLineAlone}
-use Rattle.tracedesk.specs.Program.{ForLists, RunsOn}
+use Rattle.tracedesk.specs.Program.{Audits, ForLists, RunsOn}
 
 -- the store of a file stands for the list by rules Two, its tables being its own
 abbrev pub IsKept : {D : Type 0} {g : disk.Ghosts D} → LineStore (FileStore D g) PlainDesk → Ledger → Type 0
@@ -29,4 +29,14 @@ pub runs_on : {T D : Type 0} {g : disk.Ghosts D} (first : start.Ghosts T) (make 
 runs_on first make old new Fact trusts begins goes clean alone =
     let b = begins (trusts clean) alone in
     let after = goes (record { rules = Two; greatest = b.0; history = b.1 }) (refl, b.3) clean in
-    (b.0, b.1, b.2, after.0, after.1.1, after.2)
+    (b.0, b.1, b.2, b.3.lawful (trusts clean) refl, after.0, after.1.1, after.2)
+
+-- it was opened with a list, and counted
+pub audits : {T D : Type 0} {g : disk.Ghosts D} (first : start.Ghosts T) (store : LineStore (FileStore D g) PlainDesk) (count : ℕ)
+    → (L : Kept) × Stands over_files plain.Stands plain.kept_rules store L
+    → (HasCleanDisk (state_of over_files store) → HasLineAlone (image_at first) → (greatest : ℕ) × (H : History) × Begins (image_at first) None greatest H
+    × Stands over_files plain.Stands plain.kept_rules store (record { greatest = greatest; history = H; own = true }))
+    → ((L : Kept) → Stands over_files plain.Stands plain.kept_rules store L → count ≡ length L.history) → Audits first (Some store) count
+audits first store count stands begins counts = ((stands.0, stands.1, counts stands.0 stands.1), λ clean alone.
+    let b = begins clean alone in
+    (b.0, b.1, b.2, b.3.lawful clean refl, b.1, b.3, (refl, counts (record { greatest = b.0; history = b.1; own = true }) b.3)))

@@ -4,5 +4,6 @@ pub mod LineAnswers
 pub mod Lines
 pub mod Messages
 pub mod Program
+pub mod Repeats
 pub mod Sent
 pub mod Stream

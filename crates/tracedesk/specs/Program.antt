@@ -1,5 +1,5 @@
 -- What a run of the program does.
-use Rattle.std.specs.Prelude.{◌≡◌, ℕ, ◌+◌, ◌<◌, ◌⊎◌, List, [], ◌∷◌, ◌++◌, Option, Some, None, IsSomeAnd, true, codes, decimal}
+use Rattle.std.specs.Prelude.{◌≡◌, ℕ, ◌+◌, ◌<◌, ◌⊎◌, List, [], ◌∷◌, ◌++◌, Option, Some, None, IsSomeAnd, true, length, codes, decimal}
 use Rattle.std.specs.Io.KnownBytes.{Appends}
 use Rattle.sqlite_disk.specs.declared.Disk as disk
 use Rattle.sqlite_disk.specs.declared.start.Start as start
@@ -10,6 +10,7 @@ use Rattle.sqlite.specs.Files.{over_files}
 use Rattle.desk_types.specs.declared.rules.Rules.TheVariants.{Two}
 use Rattle.desk_types.specs.declared.wire.Wire.{Wire}
 use Rattle.desk_types.specs.History.{History}
+use Rattle.desk_types.specs.Judged.{IsLawful}
 use Rattle.desk_types.specs.Wire.{inner_of, reads_of, failures_of}
 use Rattle.desk_answers.specs.Ledger.{Ledger}
 use Rattle.look_back.specs.declared.plain.PlainDesk.{PlainDesk}
@@ -17,13 +18,13 @@ use Rattle.look_back.specs.contracts.plain.PlainDeskDesk.TheImpl.{ghosts as plai
 use Rattle.line_schema.specs.declared.fault.OpenFault.{OpenFault}
 use Rattle.line_schema.specs.declared.store.LineStore.{LineStore}
 use Rattle.line_schema.specs.Opening.{fault_text}
-use Rattle.line_schema.specs.Stands.{Stands, state_of}
+use Rattle.line_schema.specs.Stands.{Kept, Stands, state_of}
 use Rattle.desk_file.specs.Files.{Begins, HasLineAlone}
 use Rattle.tracedesk.specs.declared.feed.Served.{Served}
 use Rattle.tracedesk.specs.declared.feed.ServeFault.{ServeFault}
 use Rattle.tracedesk.specs.declared.feed.ServeFault.TheVariants.{Read, Write, TooManyReads}
 use Rattle.tracedesk.specs.declared.feed.TheConstants.{MOST_READS}
-use Rattle.tracedesk.specs.CommandLine.{AsksForFeed}
+use Rattle.tracedesk.specs.CommandLine.{AsksForAudit, AsksForFeed}
 use Rattle.tracedesk.specs.Sent.{SendsFront}
 use Rattle.tracedesk.specs.Stream.{AnsweredAll, AnsweredUpTo}
 
@@ -49,10 +50,10 @@ AnswersUpTo remaining contents input output output' fault G H =
 abbrev pub ForLists : {S : Type 0} → (S → Ledger → Type 0) → (S → Type 0) → S → S → (Ledger → History → Type 0) → Type 0
 ForLists Stands Trusts old new Fact = (G : Ledger) → Stands old G → Trusts new → (H : History) × Stands new (record G { history = H }) × Fact G H
 
--- What holds of the list with which a run on the files begins, where the disk told the truth and no other table was beside the desk's: the desk stands for a list that the fact tells.
+-- What holds of the list with which a run on the files begins, where the disk told the truth and no other table was beside the desk's: that list is lawful, and the desk stands for a list that the fact tells.
 abbrev pub RunsOn : {T D : Type 0} {g : disk.Ghosts D} → start.Ghosts T → Option ℕ → Option (LineStore (FileStore D g) PlainDesk) → (Ledger → History → Type 0) → Type 0
 RunsOn first make desk Fact = IsSomeAnd desk (λ d. HasCleanDisk (state_of over_files d) → HasLineAlone (image_at first)
-    → (greatest : ℕ) × (H : History) × Begins (image_at first) make greatest H
+    → (greatest : ℕ) × (H : History) × Begins (image_at first) make greatest H × IsLawful Two greatest H
     × (H' : History) × Stands over_files plain.Stands plain.kept_rules d (record { greatest = greatest; history = H'; own = true })
     × Fact (record { rules = Two; greatest = greatest; history = H }) H')
 
@@ -61,6 +62,15 @@ abbrev pub RunsAsked : {T D : Type 0} {g : disk.Ghosts D} → start.Ghosts T →
 RunsAsked first words desk Fact =
     ((greatest : ℕ) × AsksForFeed words None greatest × (H : History) × Fact (fresh greatest) H)
     ⊎ ((file : List ℕ) × (greatest : ℕ) × AsksForFeed words (Some file) greatest × RunsOn first (Some greatest) desk Fact)
+
+-- An audit found so many commands: the desk stands for a judged list of them, whatever its disk did. Where that told the truth and no other table was beside the desk's, it is the list with which the run began.
+abbrev pub Audits : {T D : Type 0} {g : disk.Ghosts D} → start.Ghosts T → Option (LineStore (FileStore D g) PlainDesk) → ℕ → Type 0
+Audits first desk count = IsSomeAnd desk (λ d. (L : Kept) × Stands over_files plain.Stands plain.kept_rules d L × (count ≡ length L.history))
+    × RunsOn first None desk (λ G H. (H ≡ G.history) × (count ≡ length H))
+
+-- the words name a file that keeps a desk
+abbrev pub NamesFile : List (List ℕ) → Type 0
+NamesFile words = (file : List ℕ) × (AsksForAudit words file ⊎ ((greatest : ℕ) × AsksForFeed words (Some file) greatest))
 
 -- the line that tells of an audit: how many commands were accepted
 abbrev pub lawful_line : ℕ → List ℕ

@@ -7,12 +7,14 @@ ghost use Rattle.desk_types.specs.History.{History};
 ghost use Rattle.desk_types.specs.Wire.{inner_of, reads_of, failures_of};
 ghost use Rattle.desk_answers.specs.Ledger.{Ledger};
 ghost use Rattle.line_schema.specs.declared.fault.OpenFault.{OpenFault};
+ghost use Rattle.line_schema.specs.declared.fault.OpenFault.TheVariants.{Unavailable};
 ghost use Rattle.tracedesk.specs.declared.feed.Served.{Served};
 ghost use Rattle.tracedesk.specs.declared.feed.ServeFault.{ServeFault};
 ghost use Rattle.tracedesk.specs.declared.feed.ServeFault.TheVariants.{Write as WriteFault};
 ghost use Rattle.tracedesk.specs.declared.feed.TheConstants.{MOST_READS};
+ghost use Rattle.tracedesk.specs.Sent.{SendsFront};
 ghost use Rattle.tracedesk.specs.Stream.{none_served};
-ghost use Rattle.tracedesk.specs.Program.{AnswersAll, AnswersUpTo, FailsNever, ForLists, IsShown, RunsOn, fault_line, fresh, lawful_line, refusal_line, TellsLine};
+ghost use Rattle.tracedesk.specs.Program.{AnswersAll, AnswersUpTo, Audits, FailsNever, ForLists, IsShown, RunsOn, fault_line, fresh, lawful_line, refusal_line, TellsLine};
 
 use crate::exit::{Exit, failed, refused, tell_line, unavailable};
 use crate::feed::feed;
@@ -75,7 +77,7 @@ pub fn feed_in_memory<R: Read, W: Write, E: Write>(
     ensures status { (result ≡ 0) ⊎ (result ≡ 1) ⊎ (result ≡ 3) ⊎ (result ≡ 4) }
     ensures done { result ≡ 0 → (served : Served) × (served.refused ≡ 0) × (H : History) × AnswersAll R.remaining W.contents input.old output.old output.new served (fresh greatest) H }
     ensures refused { result ≡ 1 → (served : Served) × (0 < served.refused) × (H : History) × AnswersAll R.remaining W.contents input.old output.old output.new served (fresh greatest) H }
-    ensures no_desk { result ≡ 3 → (told : OpenFault) × TellsLine E.contents errors.old errors.new (refusal_line told) }
+    ensures no_desk { result ≡ 3 → TellsLine E.contents errors.old errors.new (refusal_line Unavailable) }
     ensures untouched { result ≡ 3 → (input.new ≡ input.old) × (output.new ≡ output.old) }
     ensures failed { result ≡ 4 → (fault : ServeFault) × IsShown fault input.old input.new output.old output.new × TellsLine E.contents errors.old errors.new (fault_line fault)
         × (H : History) × AnswersUpTo R.remaining W.contents input.old output.old output.new fault (fresh greatest) H }
@@ -147,10 +149,11 @@ pub fn audit_file<T: Start, W: Write, E: Write>(
     requires error_failures { failures_of errors.old < 2 ^ 63 }
     ensures status { (result.0 ≡ 0) ⊎ (result.0 ≡ 3) ⊎ (result.0 ≡ 4) }
     ensures done { result.0 ≡ 0 → (count : ℕ) × Appends (W.contents (inner_of output.old)) (W.contents (inner_of output.new)) (lawful_line count)
-        × RunsOn T.Start None result.1 (λ G H. (H ≡ G.history) × (count ≡ length H)) }
+        × Audits T.Start result.1 count }
     ensures no_desk { result.0 ≡ 3 → (told : OpenFault) × TellsLine E.contents errors.old errors.new (refusal_line told) }
     ensures untouched { result.0 ≡ 3 → output.new ≡ output.old }
-    ensures failed { result.0 ≡ 4 → (failures_of output.new ≡ failures_of output.old + 1) × TellsLine E.contents errors.old errors.new (fault_line (WriteFault none_served)) }
+    ensures failed { result.0 ≡ 4 → (failures_of output.new ≡ failures_of output.old + 1) × TellsLine E.contents errors.old errors.new (fault_line (WriteFault none_served))
+        × (count : ℕ) × SendsFront (W.contents (inner_of output.old)) (W.contents (inner_of output.new)) (lawful_line count) × Audits T.Start result.1 count }
     ensures kept { result.0 ≡ 0 → failures_of output.new ≡ failures_of output.old }
     ensures quiet { result.0 ≡ 0 → errors.new ≡ errors.old }
 {
@@ -174,9 +177,10 @@ fn tell_lawful<W: Write, E: Write>(
     requires error_failures { failures_of errors.old < 2 ^ 63 }
     ensures status { (result ≡ 0) ⊎ (result ≡ 3) ⊎ (result ≡ 4) }
     ensures done { result ≡ 0 → Appends (W.contents (inner_of output.old)) (W.contents (inner_of output.new)) (lawful_line count) }
-    ensures no_desk { result ≡ 3 → (told : OpenFault) × TellsLine E.contents errors.old errors.new (refusal_line told) }
+    ensures no_desk { result ≡ 3 → TellsLine E.contents errors.old errors.new (refusal_line Unavailable) }
     ensures untouched { result ≡ 3 → output.new ≡ output.old }
     ensures failed { result ≡ 4 → (failures_of output.new ≡ failures_of output.old + 1) × TellsLine E.contents errors.old errors.new (fault_line (WriteFault none_served)) }
+    ensures front { result ≡ 4 → SendsFront (W.contents (inner_of output.old)) (W.contents (inner_of output.new)) (lawful_line count) }
     ensures kept { result ≡ 0 → failures_of output.new ≡ failures_of output.old }
     ensures quiet { result ≡ 0 → errors.new ≡ errors.old }
 {
@@ -197,6 +201,7 @@ pub fn send_text<W: Write, E: Write>(
     ensures status { (result ≡ 0) ⊎ (result ≡ 4) }
     ensures done { result ≡ 0 → Appends (W.contents (inner_of output.old)) (W.contents (inner_of output.new)) text.now }
     ensures failed { result ≡ 4 → (failures_of output.new ≡ failures_of output.old + 1) × TellsLine E.contents errors.old errors.new (fault_line (WriteFault none_served)) }
+    ensures front { result ≡ 4 → SendsFront (W.contents (inner_of output.old)) (W.contents (inner_of output.new)) text.now }
     ensures kept { result ≡ 0 → failures_of output.new ≡ failures_of output.old }
     ensures quiet { result ≡ 0 → errors.new ≡ errors.old }
 {

@@ -1,8 +1,7 @@
 //! How a run ends, and what is told of that on standard error.
 
-ghost use Rattle.std.specs.Prelude.{◌≡◌, ◌+◌, ◌^◌, ◌<◌, ◌++◌, ◌∷◌, [], codes, List, ℕ};
+ghost use Rattle.std.specs.Prelude.{◌≡◌, ◌⊎◌, ◌+◌, ◌^◌, ◌<◌, ◌++◌, ◌∷◌, [], codes, List, ℕ};
 ghost use Rattle.desk_types.specs.Wire.{failures_of};
-ghost use Rattle.line_schema.specs.declared.fault.OpenFault.{OpenFault};
 ghost use Rattle.line_schema.specs.declared.fault.OpenFault.TheVariants.{Unavailable};
 ghost use Rattle.tracedesk.specs.Program.{fault_line, refusal_line, Tells, TellsLine};
 
@@ -53,7 +52,7 @@ fn fault_line(fault: &ServeFault) -> &'static str
 pub fn refused<E: Write>(alloc: Global, fault: &OpenFault, errors: &mut Wire<E>) -> u8
     requires error_failures { failures_of errors.old < 2 ^ 63 }
     ensures status { result ≡ 3 }
-    ensures told { (told : OpenFault) × TellsLine E.contents errors.old errors.new (refusal_line told) }
+    ensures told { TellsLine E.contents errors.old errors.new (refusal_line fault.now) ⊎ TellsLine E.contents errors.old errors.new (refusal_line Unavailable) }
 {
     match format!(in alloc; "tracedesk: {fault}") {
         Ok(line) => {

@@ -10,7 +10,8 @@ ghost use Rattle.tracedesk.specs.declared.feed.Served.{Served};
 ghost use Rattle.tracedesk.specs.declared.feed.ServeFault.{ServeFault};
 ghost use Rattle.tracedesk.specs.declared.feed.TheConstants.{MOST_READS};
 ghost use Rattle.tracedesk.specs.CommandLine.{AsksForAudit, AsksForFeed, AsksForText, AsksForNothing};
-ghost use Rattle.tracedesk.specs.Program.{AnswersAll, AnswersUpTo, FailsNever, IsShown, RunsAsked, RunsOn, fault_line, lawful_line, refusal_line, Tells, TellsLine};
+ghost use Rattle.tracedesk.specs.Sent.{SendsFront};
+ghost use Rattle.tracedesk.specs.Program.{AnswersAll, AnswersUpTo, Audits, FailsNever, IsShown, NamesFile, RunsAsked, fault_line, lawful_line, refusal_line, Tells, TellsLine};
 
 use crate::command_line::{Asked, read_words};
 use crate::desk::{audit_file, feed_in_file, feed_in_memory, send_text};
@@ -89,21 +90,24 @@ pub fn program<T: Start, R: Read, W: Write, E: Write>(
     ensures done { result.0 ≡ 0
         → ((served : Served) × (served.refused ≡ 0) × RunsAsked T.Start (map string_bytes words.now) result.1 (AnswersAll R.remaining W.contents input.old output.old output.new served))
         ⊎ ((file : List ℕ) × AsksForAudit (map string_bytes words.now) file × (count : ℕ) × Appends (W.contents (inner_of output.old)) (W.contents (inner_of output.new)) (lawful_line count)
-        × RunsOn T.Start None result.1 (λ G H. (H ≡ G.history) × (count ≡ length H)))
+        × Audits T.Start result.1 count)
         ⊎ (AsksForText (map string_bytes words.now) × (text : List ℕ) × Appends (W.contents (inner_of output.old)) (W.contents (inner_of output.new)) text) }
     ensures refused { result.0 ≡ 1
         → (served : Served) × (0 < served.refused) × RunsAsked T.Start (map string_bytes words.now) result.1 (AnswersAll R.remaining W.contents input.old output.old output.new served) }
     ensures bad { result.0 ≡ 2 → AsksForNothing (map string_bytes words.now) × (text : List ℕ) × Tells E.contents errors.old errors.new text }
-    ensures no_desk { result.0 ≡ 3 → (told : OpenFault) × TellsLine E.contents errors.old errors.new (refusal_line told) }
+    ensures no_desk { result.0 ≡ 3 → (told : OpenFault) × ((told ≡ Unavailable) ⊎ NamesFile (map string_bytes words.now)) × TellsLine E.contents errors.old errors.new (refusal_line told) }
     ensures untouched { (result.0 ≡ 2) ⊎ (result.0 ≡ 3) → (input.new ≡ input.old) × (output.new ≡ output.old) }
     ensures failed { result.0 ≡ 4
         → (fault : ServeFault) × IsShown fault input.old input.new output.old output.new × TellsLine E.contents errors.old errors.new (fault_line fault)
         × (RunsAsked T.Start (map string_bytes words.now) result.1 (AnswersUpTo R.remaining W.contents input.old output.old output.new fault)
-        ⊎ ((file : List ℕ) × AsksForAudit (map string_bytes words.now) file) ⊎ AsksForText (map string_bytes words.now)) }
+        ⊎ ((file : List ℕ) × AsksForAudit (map string_bytes words.now) file × (count : ℕ) × SendsFront (W.contents (inner_of output.old)) (W.contents (inner_of output.new)) (lawful_line count)
+        × Audits T.Start result.1 count)
+        ⊎ (AsksForText (map string_bytes words.now) × (text : List ℕ) × SendsFront (W.contents (inner_of output.old)) (W.contents (inner_of output.new)) text)) }
     ensures end { (result.0 ≡ 0) ⊎ (result.0 ≡ 1) → (file : _) (greatest : ℕ) → AsksForFeed (map string_bytes words.now) file greatest → IsAtEnd (R.remaining (inner_of input.new)) }
     ensures kept { (result.0 ≡ 0) ⊎ (result.0 ≡ 1) → FailsNever input.old input.new output.old output.new }
     ensures few_reads { reads_of input.new ≤ reads_of input.old + MOST_READS }
     ensures unread { AsksForText (map string_bytes words.now) → input.new ≡ input.old }
+    ensures unread_by_audits { (file : List ℕ) → AsksForAudit (map string_bytes words.now) file → input.new ≡ input.old }
     ensures quiet { (result.0 ≡ 0) ⊎ (result.0 ≡ 1) → errors.new ≡ errors.old }
 {
     match read_words(rt.alloc(), words) {
@@ -127,13 +131,13 @@ pub fn program<T: Start, R: Read, W: Write, E: Write>(
 /// The exit status once the desk's file is closed. One that can't be closed is Unavailable, whatever
 /// was answered before, which is in its log.
 fn closed<T: Start>(rt: &HostRuntime, status: u8, desk: Option<FileDesk<T, PlainDesk>>) -> u8
-    requires { status ≤ 4 }
-    ensures { result ≤ 4 }
+    ensures same { desk ≡ None → result ≡ status }
+    ensures ends { (result ≡ status) ⊎ (result ≡ 3) }
 {
     match desk {
         None => status,
         Some(desk) => match close_desk(desk) {
-            Ok(()) => status,
+            Ok(_) => status,
             Err(_) => unavailable(&mut Wire::new(rt.stderr())),
         },
     }

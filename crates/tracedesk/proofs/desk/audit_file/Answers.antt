@@ -1,7 +1,16 @@
-use Rattle.std.proofs.Common.{refl, true}
+use Rattle.line_schema.specs.declared.fault.OpenFault.TheVariants.{Unavailable}
+use Rattle.tracedesk.proofs.Running.{audits}
 use Rattle.tracedesk.proofs.desk.audit_file.Goals as goal
 
 pub returns-in-Ok-clause-done : goal.returns-in-Ok-clause-done
-returns-in-Ok-clause-done g c = λ is. (c.count.result, c.tell_lawful-status.ensures.done is, λ clean alone.
-    let b = c.in-Ok.ensures.begins clean alone in
-    (b.0, b.1, b.2, b.1, b.3, (refl, c.count.ensures (record { greatest = b.0; history = b.1; own = true }) b.3)))
+returns-in-Ok-clause-done g c = λ is.
+    (c.count.result, c.tell_lawful-status.ensures.done is, audits g.T.Start c.in-Ok.store c.count.result c.in-Ok.ensures.stands c.in-Ok.ensures.begins c.count.ensures)
+
+pub returns-in-Ok-clause-failed : goal.returns-in-Ok-clause-failed
+returns-in-Ok-clause-failed g c = λ is.
+    let told = c.tell_lawful-status.ensures in
+    let fault = told.failed is in
+    (fault.0, fault.1, c.count.result, told.front is, audits g.T.Start c.in-Ok.store c.count.result c.in-Ok.ensures.stands c.in-Ok.ensures.begins c.count.ensures)
+
+pub returns-in-Ok-clause-no_desk : goal.returns-in-Ok-clause-no_desk
+returns-in-Ok-clause-no_desk g c = λ is. (Unavailable, c.tell_lawful-status.ensures.no_desk is)

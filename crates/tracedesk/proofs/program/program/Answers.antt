@@ -35,10 +35,23 @@ pub returns-in-Ok-Audit-clause-failed : goal.returns-in-Ok-Audit-clause-failed
 returns-in-Ok-Audit-clause-failed g c = λ is.
     let asks : AsksForAudit (map string_bytes c.args.words.now) (string_bytes c.in-Ok-Audit.file) = search rules in
     let fault = c.audit_file.ensures.failed is in
-    (Write none_served, (fault.0, refl), fault.1, inr (inl (string_bytes c.in-Ok-Audit.file, asks)))
+    (Write none_served, (fault.0, refl), fault.1, inr (inl (string_bytes c.in-Ok-Audit.file, asks, fault.2, fault.3, fault.4)))
 
 pub returns-in-Ok-Text-clause-failed : goal.returns-in-Ok-Text-clause-failed
 returns-in-Ok-Text-clause-failed g c = λ is.
     let asks : AsksForText (map string_bytes c.args.words.now) = search rules in
     let fault = c.send_text.ensures.failed is in
-    (Write none_served, (fault.0, refl), fault.1, inr (inr asks))
+    (Write none_served, (fault.0, refl), fault.1, inr (inr (asks, c.as_str-in-Ok-Text.result.now, c.send_text.ensures.front is)))
+
+pub returns-in-Some-clause-no_desk : goal.returns-in-Some-clause-no_desk
+returns-in-Some-clause-no_desk g c = λ is.
+    let file = string_bytes c.in-Some.file in
+    let asks : AsksForFeed (map string_bytes c.args.words.now) (Some file) c.in-Ok-Feed.greatest = search rules in
+    let told = c.feed_in_file.ensures.no_desk is in
+    (told.0, inr (file, inr (c.in-Ok-Feed.greatest, asks)), told.1)
+
+pub returns-in-Ok-Audit-clause-no_desk : goal.returns-in-Ok-Audit-clause-no_desk
+returns-in-Ok-Audit-clause-no_desk g c = λ is.
+    let asks : AsksForAudit (map string_bytes c.args.words.now) (string_bytes c.in-Ok-Audit.file) = search rules in
+    let told = c.audit_file.ensures.no_desk is in
+    (told.0, inr (string_bytes c.in-Ok-Audit.file, inl asks), told.1)

@@ -1,0 +1,33 @@
+-- What a close leaves of a desk's files.
+use Rattle.std.proofs.Common.{◌≡◌, ◌⊎◌, IsTrue, refl, sym, subst, inl, inr}
+use Rattle.sqlite_disk.specs.declared.Disk as disk
+use Rattle.sqlite_disk.specs.declared.Files.{Files}
+use Rattle.sqlite_wal.specs.Files.{outcomes}
+use Rattle.sqlite_wal.specs.Reads.{AreClean}
+use Rattle.sqlite_wal.specs.Recovery.{Image}
+use Rattle.sqlite_store.specs.declared.store.FileStore.{FileStore}
+use Rattle.sqlite.specs.Closing.{HoldsAlone, IsCopied}
+use Rattle.sqlite.specs.Files.{image_of, file_state}
+use Rattle.sqlite.specs.Held.{Held}
+use Rattle.sqlite.specs.State.{HasCleanDisk, IsLive}
+use Rattle.desk_types.specs.declared.rules.Rules.{Rules}
+use Rattle.desk_types.specs.History.{History}
+use Rattle.line_tables.specs.Rows.{Holds}
+use Rattle.line_rows.specs.Rows.{tables_of}
+use Rattle.line_schema.specs.declared.store.LineStore.{LineStore}
+use Rattle.line_schema.specs.Stands.{conn_of}
+use Rattle.desk_file.specs.Files.{Closes}
+
+alone_in : {D : Type 0} {g : disk.Ghosts D} (conn : Held (FileStore D g)) (files : Files D) (image : Image) → IsCopied conn files
+    → (image ≡ image_of g files) ⊎ outcomes g files.log files.db image → HoldsAlone image (file_state conn).committed.trees
+alone_in conn files image copied (inl seen) = subst (λ (i : Image). HoldsAlone i (file_state conn).committed.trees) (sym seen) copied.seen
+alone_in conn files image copied (inr left) = copied.left image left
+
+-- the files of the connection that the store gave back
+pub closes : {D E : Type 0} {g : disk.Ghosts D} (StandsFor : E → History → Type 0) (kept_rules : E → Rules) (desk : LineStore (FileStore D g) E) (conn : Held (FileStore D g)) (files : Files D)
+    → conn ≡ conn_of desk → IsLive (file_state conn) → (AreClean g files.log files.db → IsCopied conn files) → Closes StandsFor kept_rules desk files
+closes StandsFor kept_rules desk conn files same live copied L stands own clean image left =
+    let c = copied clean in
+    let holds = subst (λ h. HasCleanDisk (file_state h) → IsTrue L.own → IsTrue (file_state h).is_open → Holds (file_state h).committed (tables_of L.greatest L.history))
+        (sym same) stands.tables c.was_clean own c.was_open in
+    ((file_state conn).committed.trees, ((file_state conn).committed, holds, (live c.was_open).1, refl), alone_in conn files image c left)
