@@ -29,5 +29,5 @@ pub closes : {D E : Type 0} {g : disk.Ghosts D} (StandsFor : E → History → T
 closes StandsFor kept_rules desk conn files same live copied L stands own clean image left =
     let c = copied clean in
     let holds = subst (λ h. HasCleanDisk (file_state h) → IsTrue L.own → IsTrue (file_state h).is_open → Holds (file_state h).committed (tables_of L.greatest L.history))
-        (sym same) stands.tables c.was_clean own c.was_open in
+    (sym same) stands.tables c.was_clean own c.was_open in
     ((file_state conn).committed.trees, ((file_state conn).committed, holds, (live c.was_open).1, refl), alone_in conn files image c left)

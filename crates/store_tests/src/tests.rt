@@ -211,10 +211,7 @@ fn other_tables_stay(rt: HostRuntime) -> Result<(), Fail> {
 /// answer begins with.
 const FIRST_RUN: [(&str, &str); 5] = [
     ("PartDefined\tP", ""),
-    (
-        "SheetDefined\tPR\tM\t1\t1\tP\t5\tR1\tR2\tR3\tR4\tR5",
-        "",
-    ),
+    ("SheetDefined\tPR\tM\t1\t1\tP\t5\tR1\tR2\tR3\tR4\tR5", ""),
     ("ProductSelected\tM\tPR", ""),
     ("ReelReceived\tK1\tP\tL1\t1\t100\t0", ""),
     ("MaterialsLoaded\tM\t1\tK1", "\"MinutesLeft\":null,"),

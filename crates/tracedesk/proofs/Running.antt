@@ -37,6 +37,9 @@ pub audits : {T D : Type 0} {g : disk.Ghosts D} (first : start.Ghosts T) (store 
     → (HasCleanDisk (state_of over_files store) → HasLineAlone (image_at first) → (greatest : ℕ) × (H : History) × Begins (image_at first) None greatest H
     × Stands over_files plain.Stands plain.kept_rules store (record { greatest = greatest; history = H; own = true }))
     → ((L : Kept) → Stands over_files plain.Stands plain.kept_rules store L → count ≡ length L.history) → Audits first (Some store) count
-audits first store count stands begins counts = ((stands.0, stands.1, counts stands.0 stands.1), λ clean alone.
-    let b = begins clean alone in
-    (b.0, b.1, b.2, b.3.lawful clean refl, b.1, b.3, (refl, counts (record { greatest = b.0; history = b.1; own = true }) b.3)))
+audits first store count stands begins counts = (
+  (stands.0, stands.1, counts stands.0 stands.1),
+  λ clean alone.
+      let b = begins clean alone in
+      (b.0, b.1, b.2, b.3.lawful clean refl, b.1, b.3, (refl, counts (record { greatest = b.0; history = b.1; own = true }) b.3)),
+)

@@ -191,11 +191,7 @@ fn tell_lawful<W: Write, E: Write>(
 }
 
 /// Sends a text to standard output: the exit status.
-pub fn send_text<W: Write, E: Write>(
-    text: &str,
-    output: &mut Wire<W>,
-    errors: &mut Wire<E>,
-) -> u8
+pub fn send_text<W: Write, E: Write>(text: &str, output: &mut Wire<W>, errors: &mut Wire<E>) -> u8
     requires write_failures { failures_of output.old < 2 ^ 63 }
     requires error_failures { failures_of errors.old < 2 ^ 63 }
     ensures status { (result ≡ 0) ⊎ (result ≡ 4) }

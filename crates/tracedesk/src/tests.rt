@@ -139,12 +139,7 @@ fn answers_come_before_the_next_read(rt: HostRuntime) -> Result<(), Fail> {
         answered: &answered,
     };
     let mut input = Wire::new(machine);
-    let served = feed(
-        rt.alloc(),
-        &mut input,
-        &mut Wire::new(counter),
-        &mut Full,
-    )?;
+    let served = feed(rt.alloc(), &mut input, &mut Wire::new(counter), &mut Full)?;
     assert_eq!(rt; served.answered, 5);
     assert_eq!(rt; input.reads(), 5);
     Ok(())
@@ -163,12 +158,7 @@ fn reads_take_blocks(rt: HostRuntime) -> Result<(), Fail> {
         answered: &answered,
     };
     let mut input = Wire::new(text.as_slice());
-    let served = feed(
-        rt.alloc(),
-        &mut input,
-        &mut Wire::new(counter),
-        &mut Full,
-    )?;
+    let served = feed(rt.alloc(), &mut input, &mut Wire::new(counter), &mut Full)?;
     assert_eq!(rt; (served.answered, answered.get()), (1_000, 1_000));
     assert_eq!(rt; input.reads(), 4);
     Ok(())
