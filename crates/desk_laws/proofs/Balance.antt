@@ -1,27 +1,26 @@
 -- What is left of a reel: what was received, less what was placed and what was scrapped.
-use Rattle.std.proofs.Common.{◌≡◌, ℕ, ◌+◌, ◌-◌, ◌≤◌, Bool, true, false, not, Option, Some, None, List, [], ◌∷◌, refl, ap, unwrap_or, arith, filter, nat_lt, sym, ◌∙◌}
+use Rattle.std.proofs.Common.{◌≡◌, ℕ, ◌+◌, ◌-◌, ◌≤◌, Bool, true, false, Option, Some, None, [], ◌∷◌, refl, ap, unwrap_or, arith, nat_lt, sym, ◌∙◌}
 use Rattle.std.specs.Prelude.{if◌then◌else◌}
 use Rattle.std.specs.Option.{option_map_or, option_or}
 use Rattle.std.proofs.lemmas.Bool.{ltb-false}
-use Rattle.std.proofs.lemmas.List.Filters.{sum_by-filter_both}
 use Rattle.desk_types.specs.declared.command.Command.{Command}
 use Rattle.desk_types.specs.declared.command.Command.TheVariants.{ReelReceived, MaterialsInstalled, MaterialsScrapped, CountsTaken}
 use Rattle.desk_types.specs.declared.command.Entry.{Entry}
 use Rattle.desk_types.specs.declared.command.Receipt.{Receipt}
 use Rattle.desk_types.specs.declared.rules.Rules.TheVariants.{Two}
-use Rattle.desk_types.specs.declared.take.Pick.{Pick}
 use Rattle.desk_types.specs.declared.take.Purpose.TheVariants.{Rejected}
 use Rattle.desk_types.specs.Id.{Name, same}
 use Rattle.desk_types.specs.History.{History}
 use Rattle.desk_types.specs.Setup.{slot_on, receipt_by, receipt_of}
 use Rattle.desk_types.specs.Tape.{tape_of}
-use Rattle.desk_types.specs.Pieces.{picked, picks_of, told_by, left_of, all_picks, is_placed, found_by, found_of, received_of, placed_of, scrapped_of}
+use Rattle.desk_types.specs.Pieces.{picked, picks_of, told_by, left_of, all_picks, found_by, found_of, received_of, placed_of, scrapped_of}
 use Rattle.desk_types.specs.Refusals.{command_refusal}
 use Rattle.desk_types.specs.Judged.{IsJudged}
 use Rattle.desk_laws.proofs.Accepted.{next-accepted, received-once}
 use Rattle.desk_laws.proofs.Judgements.{or-none}
 use Rattle.desk_laws.proofs.Picks.{picked-append, install-within, scrap-within, and-nothing, counted}
 use Rattle.desk_laws.proofs.Tapes.{tape-distinct}
+use Rattle.desk_laws.proofs.Totals.{picked-split}
 
 -- ---- one command
 
@@ -115,12 +114,6 @@ unreceived-empty (e ∷ H) reel (next, judged) none =
 
 -- ---- totals
 
--- the picks of a list are those that were placed and the others
-placed-scrapped : (picks : List Pick) (reel : Name)
-    → picked (filter (λ (p : Pick). is_placed p.purpose) picks) reel + picked (filter (λ (p : Pick). not (is_placed p.purpose)) picks) reel ≡ picked picks reel
-placed-scrapped picks reel =
-    sum_by-filter_both (λ (p : Pick). is_placed p.purpose) (λ (p : Pick). not (is_placed p.purpose)) (λ p. refl) (λ (p : Pick). if same p.reel reel then p.quantity else 0) picks
-
 -- all that a list took of a reel
 abbrev taken_of : History → Name → ℕ
 taken_of H reel = picked (all_picks H) reel
@@ -157,5 +150,5 @@ received-taken (e ∷ H) reel (next, judged) = by (receipt_by reel e.effective e
 pub balance : (H : History) (reel : Name) → IsJudged Two H → received_of H reel ≡ placed_of H reel + scrapped_of H reel + left_of H reel
 balance H reel judged =
     let all = received-taken H reel judged in
-    let parts = placed-scrapped (all_picks H) reel in
+    let parts = picked-split (all_picks H) reel in
     omega (arith, all, parts)

@@ -4,12 +4,12 @@ use Rattle.std.proofs.Common.{◌≡◌, Bool, true, false, List, [], ◌∷◌,
 use Rattle.std.specs.Prelude.{if◌then◌else◌}
 use Rattle.std.specs.List.{list_any, AllByRecursion, IsDistinct}
 
-module _ {K : Type 0} (eq : K → K → Bool) where
-  -- a test of all of two lists
-  pub all-append : (P : K → Type 0) (xs ys : List K) → AllByRecursion P xs → AllByRecursion P ys → AllByRecursion P (xs ++ ys)
-  all-append P [] ys all rest = rest
-  all-append P (x ∷ xs) ys (first, all) rest = (first, all-append P xs ys all rest)
+-- what holds of each element of two lists holds of each of both
+pub all-append : {K : Type 0} (P : K → Type 0) (xs ys : List K) → AllByRecursion P xs → AllByRecursion P ys → AllByRecursion P (xs ++ ys)
+all-append P [] ys all rest = rest
+all-append P (x ∷ xs) ys (first, all) rest = (first, all-append P xs ys all rest)
 
+module _ {K : Type 0} (eq : K → K → Bool) where
   all-filter : (P : K → Type 0) (test : K → Bool) (xs : List K) → AllByRecursion P xs → AllByRecursion P (filter test xs)
   all-filter P test [] all = tt
   all-filter P test (x ∷ xs) (first, all) = by (test x) (all-filter P test xs all)

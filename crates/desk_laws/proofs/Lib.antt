@@ -1,4 +1,5 @@
 pub mod Accepted
+pub mod Alone
 pub mod Balance
 pub mod Counting
 pub mod Designators
@@ -7,6 +8,7 @@ pub mod Exposures
 pub mod Installs
 pub mod Joining
 pub mod Judgements
+pub mod Lives
 pub mod Lookups
 pub mod Mounted
 pub mod Mounts
@@ -20,5 +22,7 @@ pub mod RulesOne
 pub mod Spent
 pub mod Standing
 pub mod Tapes
+pub mod Totals
 pub mod Verifying
 pub mod Whole
+pub mod Working

@@ -40,7 +40,8 @@ less-none n = omega arith
 
 -- ---- places
 
-iff : (a b : Bool) → (a ≡ true → b ≡ true) → (b ≡ true → a ≡ true) → a ≡ b
+-- tests of which each holds where the other does give the same
+pub iff : (a b : Bool) → (a ≡ true → b ≡ true) → (b ≡ true → a ≡ true) → a ≡ b
 iff true b there back = sym (there refl)
 iff false true there back = back refl
 iff false false there back = refl

@@ -43,6 +43,14 @@ picked-off r n purpose reel = by (nat_lt 0 n) refl
     by true is = zero-add _
     by false is = let none = ltb-false 0 n is in empty (same r reel) (omega (arith, none))
 
+-- what holds of a pick of n pieces holds of each that is made of it, which is none where n is 0
+pub all-off : (P : Pick → Type 0) (r : Name) (n : ℕ) (purpose : Purpose) → P (record { reel = r; quantity = n; purpose = purpose }) → AllByRecursion P (pieces_off r n purpose)
+all-off P r n purpose holds = by (nat_lt 0 n)
+  where
+    by : (b : Bool) → AllByRecursion P (if◌then◌else◌ {A = List Pick} b (record { reel = r; quantity = n; purpose = purpose } ∷ []) [])
+    by true = (holds, tt)
+    by false = tt
+
 -- what a search finds passes its test
 pub find-passes : {X : Type 0} (p : X → Bool) (xs : List X) (x : X) → find p xs ≡ Some x → p x ≡ true
 find-passes p [] x is = cc
@@ -149,7 +157,7 @@ countable H seen row rows none =
         ∷ []
 
 -- a reel of a row before is in no further row
-count-absent : (H : History) (pieces : Name → ℕ) (seen : List Name) (rows : List CountRow) (reel : Name) → counts_refusal Two H seen rows ≡ None
+pub count-absent : (H : History) (pieces : Name → ℕ) (seen : List Name) (rows : List CountRow) (reel : Name) → counts_refusal Two H seen rows ≡ None
     → list_any (same reel) seen ≡ true → picked (count_picks pieces rows) reel ≡ 0
 count-absent H pieces seen [] reel none before = refl
 count-absent H pieces seen (row ∷ rows) reel none before =
@@ -177,7 +185,7 @@ pub and-nothing : (n : ℕ) → n ≡ n + 0
 and-nothing n = omega arith
 
 -- a count that is no rise of a spent reel says that it has none
-spent-none : (left counted : ℕ) → ((left == 0) && nat_lt 0 counted) ≡ false → left ≡ 0 → counted ≡ 0
+pub spent-none : (left counted : ℕ) → ((left == 0) && nat_lt 0 counted) ≡ false → left ≡ 0 → counted ≡ 0
 spent-none left counted test none = let few = ltb-false 0 counted (sym (ap (λ n. (n == 0) && nat_lt 0 counted) none) ∙ test) in omega (arith, few)
 
 -- An accepted count does so.

@@ -27,6 +27,11 @@ use Rattle.desk_laws.proofs.Tapes.{unmounted-nowhere}
 
 -- ---- splices
 
+-- a slot is as vacant as one of the same names
+pub vacant-same : (H : History) (machine slot m s : Name) → (same m machine && same s slot) ≡ true → is_vacant H m s ≡ is_vacant H machine slot
+vacant-same H machine slot m s here =
+    ap (λ x. is_vacant H x s) (same-true m machine (and_parts _ _ here).0) ∙ ap (λ x. is_vacant H machine x) (same-true s slot (and_parts _ _ here).1)
+
 -- a slot that is not vacant has a tape, to which a reel is joined
 pub joined : (H : History) (machine slot r : Name) → is_vacant H machine slot ≡ false → spliced (tape_of H machine slot) r ≡ tape_of H machine slot ++ r ∷ []
 unfolding live_on
@@ -39,9 +44,7 @@ joined H machine slot r some = by (tape_of H machine slot) some
 -- the same where the slot is given by names that are the same
 pub joined-same : (H : History) (machine slot m s r : Name) → (same m machine && same s slot) ≡ true → is_vacant H m s ≡ false
     → spliced (tape_of H machine slot) r ≡ tape_of H machine slot ++ r ∷ []
-joined-same H machine slot m s r here some =
-    joined H machine slot r (
-    sym (ap (λ x. is_vacant H x s) (same-true m machine (and_parts _ _ here).0) ∙ ap (λ x. is_vacant H machine x) (same-true s slot (and_parts _ _ here).1)) ∙ some)
+joined-same H machine slot m s r here some = joined H machine slot r (sym (vacant-same H machine slot m s here) ∙ some)
 
 -- ---- reels that were not received
 

@@ -1,5 +1,5 @@
 -- What an accepted install says of the pieces that it places.
-use Rattle.std.proofs.Common.{◌≡◌, ℕ, ◌+◌, ◌-◌, nat_lt, Bool, true, false, Option, Some, None, List, [], ◌∷◌, ◌++◌, find, filter_map, length, take, map, min, All, refl, sym, ap, ◌∙◌, subst, arith}
+use Rattle.std.proofs.Common.{◌≡◌, ℕ, ◌+◌, ◌-◌, Bool, true, false, Option, Some, None, List, [], ◌∷◌, ◌++◌, find, filter_map, length, take, map, min, All, refl, sym, ap, ◌∙◌, subst, arith}
 use Rattle.std.specs.Prelude.{if◌then◌else◌, ⊤, ◌||◌, slice_get}
 use Rattle.std.specs.Option.{option_and_then, option_map, option_map_or, option_to_list}
 use Rattle.std.specs.List.{cons_option, enumerate_from, AllByRecursion}
@@ -25,8 +25,10 @@ use Rattle.desk_types.specs.Placements.{Placement, entry_takes, takes_of, placem
 use Rattle.desk_types.proofs.Keys.{same-refl}
 use Rattle.desk_laws.specs.Verified.{next_reel, IsRightlyPlaced}
 use Rattle.desk_laws.proofs.Accepted.{next-accepted}
+use Rattle.desk_laws.proofs.Distinct.{all-append}
 use Rattle.desk_laws.proofs.Installs.{ArePlacedFor, placed-at, each-placed}
 use Rattle.desk_laws.proofs.Mounts.{has, unreceived-nowhere}
+use Rattle.desk_laws.proofs.Picks.{all-off}
 use Rattle.desk_laws.proofs.Verifying.{tape-verified}
 
 -- ---- picks in turn
@@ -87,33 +89,26 @@ install-picked H machine board all before (d ∷ ds) right =
 
 -- ---- other takes
 
--- no pick is of a piece that is placed
+-- the pick is of no piece that is placed
+abbrev pub IsUnplaced : Pick → Type 0
+IsUnplaced p = is_placed p.purpose ≡ false
+
+-- no pick is
 abbrev pub AreUnplaced : List Pick → Type 0
-AreUnplaced picks = AllByRecursion (λ (p : Pick). is_placed p.purpose ≡ false) picks
-
-unplaced-append : (xs ys : List Pick) → AreUnplaced xs → AreUnplaced ys → AreUnplaced (xs ++ ys)
-unplaced-append [] ys all rest = rest
-unplaced-append (x ∷ xs) ys (first, all) rest = (first, unplaced-append xs ys all rest)
-
-unplaced-off : (r : Name) (n : ℕ) (purpose : Purpose) → is_placed purpose ≡ false → AreUnplaced (pieces_off r n purpose)
-unplaced-off r n purpose not_placed = by (nat_lt 0 n)
-  where
-    by : (b : Bool) → AreUnplaced (if◌then◌else◌ {A = List Pick} b (record { reel = r; quantity = n; purpose = purpose } ∷ []) [])
-    by true = (not_placed, tt)
-    by false = tt
+AreUnplaced picks = AllByRecursion IsUnplaced picks
 
 -- no pick of a scrap is,
 pub unplaced-scrap : (pieces : Name → ℕ) (machine slot : Name) (reels : List Name) (n : ℕ) → AreUnplaced (scrap_picks pieces (Rejected machine slot) reels n)
 unplaced-scrap pieces machine slot [] n = tt
 unplaced-scrap pieces machine slot (r ∷ rs) n =
-    unplaced-append (pieces_off r (min n (pieces r)) (Rejected machine slot)) _ (unplaced-off r (min n (pieces r)) (Rejected machine slot) refl)
+    all-append IsUnplaced (pieces_off r (min n (pieces r)) (Rejected machine slot)) _ (all-off IsUnplaced r (min n (pieces r)) (Rejected machine slot) refl)
     (unplaced-scrap pieces machine slot rs (n - pieces r))
 
 -- and none of a count.
 pub unplaced-count : (pieces : Name → ℕ) (rows : List CountRow) → AreUnplaced (count_picks pieces rows)
 unplaced-count pieces [] = tt
 unplaced-count pieces (row ∷ rows) =
-    unplaced-append (pieces_off row.reel (pieces row.reel - row.quantity) Counted) _ (unplaced-off row.reel (pieces row.reel - row.quantity) Counted refl)
+    all-append IsUnplaced (pieces_off row.reel (pieces row.reel - row.quantity) Counted) _ (all-off IsUnplaced row.reel (pieces row.reel - row.quantity) Counted refl)
     (unplaced-count pieces rows)
 
 unplaced-picked : (H : History) (command : Command) (before ps : List Pick) → AreUnplaced ps → ArePicked H command before ps

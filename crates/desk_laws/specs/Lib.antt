@@ -1,4 +1,6 @@
 pub mod Place
+pub mod Slots
 pub mod TapeOrder
 pub mod Verified
 pub mod Whole
+pub mod Working

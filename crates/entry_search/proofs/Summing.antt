@@ -29,7 +29,7 @@ picked-filter test p ps reel = by (test p)
     by false = let none = ap (λ b. cond b p.quantity 0) (and-false (same p.reel reel)) in omega (arith, none)
 
 -- the takes of picks are as many pieces each way as the picks
-taken_for-map : (usage : Usage) (H : History) (minute : ℕ) (picks : List Pick) (reel : Name)
+pub taken_for-map : (usage : Usage) (H : History) (minute : ℕ) (picks : List Pick) (reel : Name)
     → taken_for usage (map (take_of H minute) picks) reel ≡ picked (filter (λ p. went usage p.purpose) picks) reel
 taken_for-map usage H minute [] reel = refl
 taken_for-map usage H minute (p ∷ ps) reel =

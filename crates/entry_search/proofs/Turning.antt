@@ -38,14 +38,18 @@ untold H reel none = by (receipt_of H reel) none
     by None none = refl
     by (Some receipt) none = cc
 
--- Such a reel is not free.
+-- Such a reel is not free,
+pub untold-free : (H : History) (part reel : Name) → IsJudged Two H → reel_view H reel ≡ None → if_free H part reel ≡ None
+untold-free H part reel judged none =
+    ap (λ b. if b then Some reel else None)
+    (none-left (is_allowed H part (part_of H reel)) (not (is_mounted H reel)) (not (is_unbaked H reel)) (not (is_expired H reel (now_of H))) (left_of H reel)
+    (unreceived-empty H reel judged (untold H reel none)))
+
+-- and has no turn.
 pub untold-turn : (H : History) (part reel : Name) (command : Command) → IsJudged Two H → received_by command ≡ Some reel → reel_view H reel ≡ None
     → turn_by H part command ≡ None
 untold-turn H part reel command judged is none =
-    ap (λ said. option_map (turn_of H) (option_and_then (if_free H part) said)) is
-    ∙ ap (λ b. option_map (turn_of H) (if b then Some reel else None))
-    (none-left (is_allowed H part (part_of H reel)) (not (is_mounted H reel)) (not (is_unbaked H reel)) (not (is_expired H reel (now_of H))) (left_of H reel)
-    (unreceived-empty H reel judged (untold H reel none)))
+    ap (λ said. option_map (turn_of H) (option_and_then (if_free H part) said)) is ∙ ap (option_map (turn_of H)) (untold-free H part reel judged none)
 
 -- a turn is put among turns as its reel among the reels
 insert-turn : (H : History) (reels : List Name) (reel : Name)
@@ -65,21 +69,27 @@ insert-turn H (x ∷ xs) reel = by (by_turn H reel x) (insert-turn H xs reel)
 abbrev pub free_among : History → Name → History → List Name
 free_among H part G = in_order (by_turn H) (filter (is_free H part) (reels_received G))
 
+-- One reel more: it is put among the others, where it is free.
+pub turn-put : (H : History) (part : Name) (rest : List Name) (reel : Name) (turns : List (Left × Name))
+    → turns ≡ map (turn_of H) (in_order (by_turn H) (filter (is_free H part) rest))
+    → option_map_or (insert_key by_life turns) (option_map (turn_of H) (if_free H part reel)) turns
+    ≡ map (turn_of H) (in_order (by_turn H) (filter (is_free H part) (reel ∷ rest)))
+turn-put H part rest reel turns is = by (is_free H part reel)
+  where
+    by : (b : Bool) → option_map_or (insert_key by_life turns) (option_map (turn_of H) (if b then Some reel else None)) turns
+        ≡ map (turn_of H) (in_order (by_turn H) (cond b (reel ∷ filter (is_free H part) rest) (filter (is_free H part) rest)))
+    by true = ap (λ ts. insert_key by_life ts (turn_of H reel)) is ∙ insert-turn H (in_order (by_turn H) (filter (is_free H part) rest)) reel
+    by false = is
+
 -- One entry more: the reel that it receives is put among the others, where it is free.
 pub turns-next : (H G : History) (part : Name) (e : Entry) (turns : List (Left × Name)) → turns ≡ map (turn_of H) (free_among H part G)
     → option_map_or (insert_key by_life turns) (turn_by H part e.stamped.command) turns ≡ map (turn_of H) (free_among H part (e ∷ G))
 turns-next H G part e turns is = by (received_by e.stamped.command)
   where
-    one : (reel : Name) (b : Bool) → is_free H part reel ≡ b
-        → option_map_or (insert_key by_life turns) (option_map (turn_of H) (if b then Some reel else None)) turns
-        ≡ map (turn_of H) (in_order (by_turn H) (cond b (reel ∷ filter (is_free H part) (reels_received G)) (filter (is_free H part) (reels_received G))))
-    one reel true free = ap (λ ts. insert_key by_life ts (turn_of H reel)) is ∙ insert-turn H (free_among H part G) reel
-    one reel false free = is
-
     by : (said : Option Name) → option_map_or (insert_key by_life turns) (option_map (turn_of H) (option_and_then (if_free H part) said)) turns
         ≡ map (turn_of H) (in_order (by_turn H) (filter (is_free H part) (cons_option said (reels_received G))))
     by None = is
-    by (Some reel) = one reel (is_free H part reel) refl
+    by (Some reel) = turn-put H part (reels_received G) reel turns is
 
 -- the views of turns are those of their reels
 pub views-of_turns : (H : History) (reels : List Name) → filter_map (λ (t : Left × Name). reel_view H t.1) (map (turn_of H) reels) ≡ filter_map (reel_view H) reels

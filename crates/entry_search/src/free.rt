@@ -30,7 +30,7 @@ fn received_by(command: &Command) -> Option<Id>
 }
 
 /// Whether a reel to which this is left is neither unbaked nor expired.
-fn is_usable(left: Left) -> bool
+pub fn is_usable(left: Left) -> bool
     ensures { (H : History) (reel : Name) → left ≡ life_left H reel → result ≡ (not (is_unbaked H reel) && not (is_expired H reel (now_of H))) }
 {
     match left {

@@ -20,7 +20,7 @@ use reels::Reel;
 use std::alloc::{AllocError, Global};
 
 /// How long a reel that stays out of its bag may still feed a slot.
-fn life(reel: &Reel, minute: Minute) -> Life
+pub fn life(reel: &Reel, minute: Minute) -> Life
     requires { reel.now.last ≤ minute }
     ensures { (H : History) (name : Name) → StandsFor H name reel.now → result ≡ life_of H minute name }
 {

@@ -11,7 +11,7 @@ pub mod free;
 pub mod fronts;
 pub mod mounts;
 pub mod pieces;
-mod sets;
+pub mod sets;
 pub mod setup;
 pub mod slots;
 pub mod totals;

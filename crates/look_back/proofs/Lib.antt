@@ -1,5 +1,3 @@
 pub mod ByTwo
 pub mod Installing
-pub mod Rejecting
-pub mod Spending
-pub mod Taking
+pub mod Searching

@@ -1,6 +1,3 @@
-pub mod Counting
-pub mod Feeding
-pub mod Placing
+pub mod Installs
 pub mod Plain
-pub mod Scrapping
-pub mod Words
+pub mod Searching

@@ -1,27 +1,26 @@
-//! Installs: their refusals and the pieces that they take.
+//! What is looked up for an install: the slots of designators, and those that are placed.
 
 ghost use Rattle.std.specs.Prelude.{◌≡◌, ◌||◌, Some, if◌then◌else◌, reverse, IfOk, OnOk};
 ghost use Rattle.std.specs.List.{list_any};
-ghost use Rattle.desk_types.specs.declared.command.Command.TheVariants.{MaterialsInstalled};
+ghost use Rattle.std.specs.Option.{ForSome};
 ghost use Rattle.desk_types.specs.Id.{Name, same};
 ghost use Rattle.desk_types.specs.Setup.{slot_in, slot_on};
-ghost use Rattle.desk_types.specs.Pieces.{picks_of};
 ghost use Rattle.desk_types.specs.Work.{places, is_placed_on};
-ghost use Rattle.desk_types.specs.declared.rules.Rules.TheVariants.{Two};
-ghost use Rattle.desk_types.specs.Judged.{IsJudged};
-ghost use Rattle.desk_types.specs.Refusals.{install_refusal};
-ghost use Rattle.entry_search.specs.Kept.{AreTakes};
-ghost use Rattle.look_back.specs.Placing.{IsPicked, slot_at, is_in};
+ghost use Rattle.look_back.specs.Installs.{slot_at, is_in, IsInstall};
 
-use crate::placing::place_all;
-use desk_types::{
-    Command, Designator, Designators, Entry, Id, Listing, Pick, Refusal, SheetRow, Takes,
-};
-use entry_search::floor::floor_of;
+use desk_types::{Command, Designator, Entry, Id, SheetRow};
 use entry_search::setup::sheet_on;
-use entry_search::work::is_in_work_on;
 use std::alloc::{AllocError, Global};
 use std::collections::{BTreeMap, BTreeSet};
+
+/// The slots of a machine's designators, and the designators that are placed on a board.
+#[derive(Drop)]
+pub struct Install {
+    pub machine: Id,
+    pub board: Id,
+    pub slots: BTreeMap<Designator, Id>,
+    pub placed: BTreeSet<Designator>,
+}
 
 /// The designators of a row go to its slot.
 fn note_row(slots: &mut BTreeMap<Designator, Id>, row: &SheetRow) -> Result<(), AllocError>
@@ -105,34 +104,21 @@ fn placed_on(
     Ok(placed)
 }
 
-/// The pieces that an install takes, or why it is refused.
-#[tactic(auto, unfolding(desk_types::specs::Refusals::install_refusal))]
-pub fn installed(
+/// What is looked up for the command, where it is an install.
+pub fn install_of(
     alloc: Global,
     entries: &[Entry],
-    takes: &[Takes],
-    machine: &Id,
-    board: &Id,
-    designators: &Designators,
-) -> Result<Result<Listing<Pick>, Refusal>, AllocError>
-    requires judged { IsJudged Two (reverse entries.now) }
-    requires takes { AreTakes (reverse entries.now) (reverse takes.now) }
-    ensures { IfOk result (IsPicked (install_refusal (reverse entries.now) machine.now board.now designators.now)
-        (picks_of (reverse entries.now) (MaterialsInstalled machine.now board.now designators.now))) }
+    command: &Command,
+) -> Result<Option<Install>, AllocError>
+    ensures { IfOk result (λ install. ForSome install (IsInstall (reverse entries.now))) }
 {
-    if !is_in_work_on(entries, machine, board) {
-        return Ok(Err(Refusal::NotInWork(*board)));
-    }
-    let floor = floor_of(alloc, entries, takes)?;
-    let slots = slots_on(alloc, entries, machine)?;
-    let placed = placed_on(alloc, entries, board)?;
-    Ok(place_all(
-        alloc,
-        floor,
-        &slots,
-        &placed,
-        machine,
-        board,
-        designators.as_slice(),
-    )?)
+    let Command::MaterialsInstalled { machine, board, .. } = command else {
+        return Ok(None);
+    };
+    Ok(Some(Install {
+        machine: *machine,
+        board: *board,
+        slots: slots_on(alloc, entries, machine)?,
+        placed: placed_on(alloc, entries, board)?,
+    }))
 }

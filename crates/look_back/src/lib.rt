@@ -2,17 +2,12 @@
 #![tactic(auto)]
 
 mod alternates;
-mod counts;
+#[cfg(test)]
+mod desks;
 mod installs;
-mod judging;
-mod loads;
-mod placing;
+mod parts;
 mod plain;
-mod refusals;
-mod scraps;
-mod sheets;
-mod starts;
-mod takes;
+mod searched;
 #[cfg(test)]
 mod tests;
 

@@ -9,7 +9,7 @@ ghost use Rattle.desk_types.specs.Id.{same};
 ghost use Rattle.desk_types.specs.History.{accept};
 ghost use Rattle.desk_types.specs.Desk.{IsChange};
 
-use crate::judging::judged;
+use crate::searched::search;
 use desk_types::{
     Change, Desk, Entry, Fronts, Id, JudgeFault, Minute, Mounts, ReelView, ReelViews, Rules,
     SheetRows, Stamped, Takes,
@@ -19,6 +19,7 @@ use entry_search::fronts::fronts;
 use entry_search::setup::{desk_minute, selected_on, sheet_of};
 use entry_search::slots::slots_of;
 use entry_search::views::reel_view;
+use judging::judged;
 use std::alloc::{AllocError, Global};
 use std::marker::Model;
 
@@ -132,13 +133,9 @@ impl Desk for PlainDesk {
     }
 
     fn judge(&self, stamped: &Stamped) -> Result<Change, JudgeFault> {
-        judged(
-            self.alloc,
-            self.rules,
-            self.entries.as_slice(),
-            self.takes.as_slice(),
-            stamped,
-        )
+        let entries = self.entries.as_slice();
+        let found = search(self.alloc, entries, self.takes.as_slice(), &stamped.command)?;
+        judged(self.alloc, self.rules, &found, stamped)
     }
 
     fn settle(&mut self, change: Change) -> Result<(), AllocError> {

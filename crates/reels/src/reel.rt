@@ -47,7 +47,7 @@ pub struct Reel {
 }
 
 impl Reel {
-    ghost use Rattle.std.specs.Prelude.{◌≡◌, ℕ, ◌+◌, ◌-◌, ◌≤◌, ◌<◌, ◌^◌, not, ◌&&◌, Some, None, true, false, if◌then◌else◌, ◌∷◌};
+    ghost use Rattle.std.specs.Prelude.{◌≡◌, ℕ, ◌+◌, ◌-◌, ◌≤◌, ◌<◌, ◌^◌, max, not, ◌&&◌, Some, None, true, false, if◌then◌else◌, ◌∷◌};
     ghost use Rattle.std.specs.Prelude.{IfSome};
     ghost use Rattle.desk_types.specs.declared.level.TheConstants.{GREATEST_LABEL};
     ghost use Rattle.desk_types.specs.declared.number.TheConstants.{GREATEST_QUANTITY};
@@ -123,6 +123,14 @@ impl Reel {
         self.open_since = None;
         self.baked = true;
         self.last = at;
+    }
+
+    /// The minute, or the reel's last one where that is later: a minute at which the reel may be asked.
+    pub fn not_before(&self, at: Minute) -> Minute
+        ensures last { self.now.last ≤ result }
+        ensures value { result ≡ max at self.now.last }
+    {
+        if self.last > at { self.last } else { at }
     }
 
     /// How many minutes before this one the reel was out of its bag, since its last bake, or else its

@@ -3,8 +3,8 @@
 
 use desk_answers::{Answer, Line};
 use desk_types::{Command, Id, Minute, Stamped};
+use feeder_state::StateDesk;
 use line_schema::{LineStore, OpenFault, in_memory};
-use look_back::PlainDesk;
 use sqlite::{Alter, Connection};
 use std::alloc::{AllocError, Global};
 use std::process::Abort;
@@ -98,7 +98,7 @@ struct Made<S: Alter> {
 
 /// A new store, on which as many parts are defined, and once more.
 fn make<S: Alter>(rt: &impl Abort, alloc: Global, conn: Connection<S>, parts: u32) -> Made<S> {
-    match LineStore::<S, PlainDesk>::create(alloc, conn, 1_000) {
+    match LineStore::<S, StateDesk>::create(alloc, conn, 1_000) {
         Ok(mut store) => {
             let outcome = define_twice(rt, alloc, &mut store, parts);
             let count = store.count();
@@ -126,7 +126,7 @@ fn refused(fault: OpenFault) -> Result<(), Fail> {
 
 /// The store that the tables keep, on which as many parts are defined once more.
 fn open<S: Alter>(rt: &impl Abort, alloc: Global, conn: Connection<S>, parts: u32) -> Made<S> {
-    match LineStore::<S, PlainDesk>::open(alloc, conn) {
+    match LineStore::<S, StateDesk>::open(alloc, conn) {
         Ok(mut store) => {
             let outcome = define_all(rt, alloc, &mut store, parts);
             let count = store.count();
@@ -147,7 +147,7 @@ fn open<S: Alter>(rt: &impl Abort, alloc: Global, conn: Connection<S>, parts: u3
 
 /// Why no store is made, or none where one was.
 fn why_not<S: Alter>(alloc: Global, conn: Connection<S>) -> (Option<OpenFault>, Connection<S>) {
-    match LineStore::<S, PlainDesk>::create(alloc, conn, 1_000) {
+    match LineStore::<S, StateDesk>::create(alloc, conn, 1_000) {
         Ok(store) => (None, store.into_connection()),
         Err((fault, conn)) => (Some(fault), conn),
     }
@@ -246,7 +246,7 @@ fn insist_on_all<L: Line>(rt: &impl Abort, alloc: Global, line: &mut L) -> Resul
 /// the command that meets it may be Unavailable, and sent again it has the answer that it has for good.
 #[test]
 fn refused_memory_is_made_good(rt: HostRuntime) -> Result<(), Fail> {
-    let Ok(mut store) = in_memory::<PlainDesk>(rt.alloc(), 5) else {
+    let Ok(mut store) = in_memory::<StateDesk>(rt.alloc(), 5) else {
         return Err(Fail::from(AllocError));
     };
     let outcome = insist_on_all(&rt, rt.alloc(), &mut store);

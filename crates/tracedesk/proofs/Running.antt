@@ -9,22 +9,22 @@ use Rattle.sqlite.specs.Files.{over_files}
 use Rattle.desk_types.specs.declared.rules.Rules.TheVariants.{Two}
 use Rattle.desk_types.specs.History.{History}
 use Rattle.desk_answers.specs.Ledger.{Ledger}
-use Rattle.look_back.specs.declared.plain.PlainDesk.{PlainDesk}
-use Rattle.look_back.specs.contracts.plain.PlainDeskDesk.TheImpl.{ghosts as plain}
+use Rattle.feeder_state.specs.declared.desk.StateDesk.{StateDesk}
+use Rattle.feeder_state.specs.contracts.desk.StateDeskDesk.TheImpl.{ghosts as state}
 use Rattle.line_schema.specs.declared.store.LineStore.{LineStore}
 use Rattle.line_schema.specs.Stands.{Kept, Stands, state_of}
 use Rattle.desk_file.specs.Files.{Begins, HasLineAlone}
 use Rattle.tracedesk.specs.Program.{Audits, ForLists, RunsOn}
 
 -- the store of a file stands for the list by rules Two, its tables being its own
-abbrev pub IsKept : {D : Type 0} {g : disk.Ghosts D} → LineStore (FileStore D g) PlainDesk → Ledger → Type 0
-IsKept store G = (G.rules ≡ Two) × Stands over_files plain.Stands plain.kept_rules store (record { greatest = G.greatest; history = G.history; own = true })
+abbrev pub IsKept : {D : Type 0} {g : disk.Ghosts D} → LineStore (FileStore D g) StateDesk → Ledger → Type 0
+IsKept store G = (G.rules ≡ Two) × Stands over_files state.Stands state.kept_rules store (record { greatest = G.greatest; history = G.history; own = true })
 
 -- it was opened with a list, and went on from that
-pub runs_on : {T D : Type 0} {g : disk.Ghosts D} (first : start.Ghosts T) (make : Option ℕ) (old new : LineStore (FileStore D g) PlainDesk) (Fact : Ledger → History → Type 0)
+pub runs_on : {T D : Type 0} {g : disk.Ghosts D} (first : start.Ghosts T) (make : Option ℕ) (old new : LineStore (FileStore D g) StateDesk) (Fact : Ledger → History → Type 0)
     → (HasCleanDisk (state_of over_files new) → HasCleanDisk (state_of over_files old))
     → (HasCleanDisk (state_of over_files old) → HasLineAlone (image_at first) → (greatest : ℕ) × (H : History) × Begins (image_at first) make greatest H
-    × Stands over_files plain.Stands plain.kept_rules old (record { greatest = greatest; history = H; own = true }))
+    × Stands over_files state.Stands state.kept_rules old (record { greatest = greatest; history = H; own = true }))
     → ForLists IsKept (λ store. HasCleanDisk (state_of over_files store)) old new Fact → RunsOn first make (Some new) Fact
 runs_on first make old new Fact trusts begins goes clean alone =
     let b = begins (trusts clean) alone in
@@ -32,11 +32,11 @@ runs_on first make old new Fact trusts begins goes clean alone =
     (b.0, b.1, b.2, b.3.lawful (trusts clean) refl, after.0, after.1.1, after.2)
 
 -- it was opened with a list, and counted
-pub audits : {T D : Type 0} {g : disk.Ghosts D} (first : start.Ghosts T) (store : LineStore (FileStore D g) PlainDesk) (count : ℕ)
-    → (L : Kept) × Stands over_files plain.Stands plain.kept_rules store L
+pub audits : {T D : Type 0} {g : disk.Ghosts D} (first : start.Ghosts T) (store : LineStore (FileStore D g) StateDesk) (count : ℕ)
+    → (L : Kept) × Stands over_files state.Stands state.kept_rules store L
     → (HasCleanDisk (state_of over_files store) → HasLineAlone (image_at first) → (greatest : ℕ) × (H : History) × Begins (image_at first) None greatest H
-    × Stands over_files plain.Stands plain.kept_rules store (record { greatest = greatest; history = H; own = true }))
-    → ((L : Kept) → Stands over_files plain.Stands plain.kept_rules store L → count ≡ length L.history) → Audits first (Some store) count
+    × Stands over_files state.Stands state.kept_rules store (record { greatest = greatest; history = H; own = true }))
+    → ((L : Kept) → Stands over_files state.Stands state.kept_rules store L → count ≡ length L.history) → Audits first (Some store) count
 audits first store count stands begins counts = (
   (stands.0, stands.1, counts stands.0 stands.1),
   λ clean alone.

@@ -13,8 +13,8 @@ use Rattle.desk_types.specs.History.{History}
 use Rattle.desk_types.specs.Judged.{IsLawful}
 use Rattle.desk_types.specs.Wire.{inner_of, reads_of, failures_of}
 use Rattle.desk_answers.specs.Ledger.{Ledger}
-use Rattle.look_back.specs.declared.plain.PlainDesk.{PlainDesk}
-use Rattle.look_back.specs.contracts.plain.PlainDeskDesk.TheImpl.{ghosts as plain}
+use Rattle.feeder_state.specs.declared.desk.StateDesk.{StateDesk}
+use Rattle.feeder_state.specs.contracts.desk.StateDeskDesk.TheImpl.{ghosts as state}
 use Rattle.line_schema.specs.declared.fault.OpenFault.{OpenFault}
 use Rattle.line_schema.specs.declared.store.LineStore.{LineStore}
 use Rattle.line_schema.specs.Opening.{fault_text}
@@ -51,21 +51,21 @@ abbrev pub ForLists : {S : Type 0} → (S → Ledger → Type 0) → (S → Type
 ForLists Stands Trusts old new Fact = (G : Ledger) → Stands old G → Trusts new → (H : History) × Stands new (record G { history = H }) × Fact G H
 
 -- What holds of the list with which a run on the files begins, where the disk told the truth and no other table was beside the desk's: that list is lawful, and the desk stands for a list that the fact tells.
-abbrev pub RunsOn : {T D : Type 0} {g : disk.Ghosts D} → start.Ghosts T → Option ℕ → Option (LineStore (FileStore D g) PlainDesk) → (Ledger → History → Type 0) → Type 0
+abbrev pub RunsOn : {T D : Type 0} {g : disk.Ghosts D} → start.Ghosts T → Option ℕ → Option (LineStore (FileStore D g) StateDesk) → (Ledger → History → Type 0) → Type 0
 RunsOn first make desk Fact = IsSomeAnd desk (λ d. HasCleanDisk (state_of over_files d) → HasLineAlone (image_at first)
     → (greatest : ℕ) × (H : History) × Begins (image_at first) make greatest H × IsLawful Two greatest H
-    × (H' : History) × Stands over_files plain.Stands plain.kept_rules d (record { greatest = greatest; history = H'; own = true })
+    × (H' : History) × Stands over_files state.Stands state.kept_rules d (record { greatest = greatest; history = H'; own = true })
     × Fact (record { rules = Two; greatest = greatest; history = H }) H')
 
 -- the words ask to answer lines, and that was done: on a new desk in memory, or on the one of a file
-abbrev pub RunsAsked : {T D : Type 0} {g : disk.Ghosts D} → start.Ghosts T → List (List ℕ) → Option (LineStore (FileStore D g) PlainDesk) → (Ledger → History → Type 0) → Type 0
+abbrev pub RunsAsked : {T D : Type 0} {g : disk.Ghosts D} → start.Ghosts T → List (List ℕ) → Option (LineStore (FileStore D g) StateDesk) → (Ledger → History → Type 0) → Type 0
 RunsAsked first words desk Fact =
     ((greatest : ℕ) × AsksForFeed words None greatest × (H : History) × Fact (fresh greatest) H)
     ⊎ ((file : List ℕ) × (greatest : ℕ) × AsksForFeed words (Some file) greatest × RunsOn first (Some greatest) desk Fact)
 
 -- An audit found so many commands: the desk stands for a judged list of them, whatever its disk did. Where that told the truth and no other table was beside the desk's, it is the list with which the run began.
-abbrev pub Audits : {T D : Type 0} {g : disk.Ghosts D} → start.Ghosts T → Option (LineStore (FileStore D g) PlainDesk) → ℕ → Type 0
-Audits first desk count = IsSomeAnd desk (λ d. (L : Kept) × Stands over_files plain.Stands plain.kept_rules d L × (count ≡ length L.history))
+abbrev pub Audits : {T D : Type 0} {g : disk.Ghosts D} → start.Ghosts T → Option (LineStore (FileStore D g) StateDesk) → ℕ → Type 0
+Audits first desk count = IsSomeAnd desk (λ d. (L : Kept) × Stands over_files state.Stands state.kept_rules d L × (count ≡ length L.history))
     × RunsOn first None desk (λ G H. (H ≡ G.history) × (count ≡ length H))
 
 -- the words name a file that keeps a desk

@@ -22,8 +22,8 @@ use crate::send::send;
 use desk_answers::Line;
 use desk_file::{FileDesk, open_desk};
 use desk_types::Wire;
+use feeder_state::StateDesk;
 use line_schema::in_memory;
-use look_back::PlainDesk;
 use sqlite::Start;
 use std::alloc::Global;
 use std::io::{Read, Write};
@@ -86,7 +86,7 @@ pub fn feed_in_memory<R: Read, W: Write, E: Write>(
     ensures quiet { (result ≡ 0) ⊎ (result ≡ 1) → errors.new ≡ errors.old }
     ensures few_reads { reads_of input.new ≤ reads_of input.old + MOST_READS }
 {
-    match in_memory::<PlainDesk>(alloc, greatest) {
+    match in_memory::<StateDesk>(alloc, greatest) {
         Ok(store) => {
             let mut store = store;
             let status = feed_lines(alloc, input, output, errors, &mut store);
@@ -107,7 +107,7 @@ pub fn feed_in_file<T: Start, R: Read, W: Write, E: Write>(
     input: &mut Wire<R>,
     output: &mut Wire<W>,
     errors: &mut Wire<E>,
-) -> (u8, Option<FileDesk<T, PlainDesk>>)
+) -> (u8, Option<FileDesk<T, StateDesk>>)
     requires least { 1 ≤ greatest }
     requires most { greatest ≤ MOST_ENTRIES }
     requires reads { reads_of input.old < 2 ^ 63 }
@@ -126,7 +126,7 @@ pub fn feed_in_file<T: Start, R: Read, W: Write, E: Write>(
     ensures quiet { (result.0 ≡ 0) ⊎ (result.0 ≡ 1) → errors.new ≡ errors.old }
     ensures few_reads { reads_of input.new ≤ reads_of input.old + MOST_READS }
 {
-    match open_desk::<T, PlainDesk>(rt, file, start, Some(greatest)) {
+    match open_desk::<T, StateDesk>(rt, file, start, Some(greatest)) {
         Ok(store) => {
             let mut store = store;
             let status = feed_lines(rt.alloc(), input, output, errors, &mut store);
@@ -144,7 +144,7 @@ pub fn audit_file<T: Start, W: Write, E: Write>(
     start: T,
     output: &mut Wire<W>,
     errors: &mut Wire<E>,
-) -> (u8, Option<FileDesk<T, PlainDesk>>)
+) -> (u8, Option<FileDesk<T, StateDesk>>)
     requires write_failures { failures_of output.old < 2 ^ 63 }
     requires error_failures { failures_of errors.old < 2 ^ 63 }
     ensures status { (result.0 ≡ 0) ⊎ (result.0 ≡ 3) ⊎ (result.0 ≡ 4) }
@@ -157,7 +157,7 @@ pub fn audit_file<T: Start, W: Write, E: Write>(
     ensures kept { result.0 ≡ 0 → failures_of output.new ≡ failures_of output.old }
     ensures quiet { result.0 ≡ 0 → errors.new ≡ errors.old }
 {
-    match open_desk::<T, PlainDesk>(rt, file, start, None) {
+    match open_desk::<T, StateDesk>(rt, file, start, None) {
         Ok(store) => {
             let status = tell_lawful(rt.alloc(), store.count(), output, errors);
             (status, Some(store))

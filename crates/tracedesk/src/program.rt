@@ -18,7 +18,7 @@ use crate::desk::{audit_file, feed_in_file, feed_in_memory, send_text};
 use crate::exit::{Exit, tell, tell_line, unavailable};
 use desk_file::{FileDesk, close_desk};
 use desk_types::Wire;
-use look_back::PlainDesk;
+use feeder_state::StateDesk;
 use sqlite::{Start, Unknown};
 use std::alloc::AllocError;
 use std::io;
@@ -81,7 +81,7 @@ pub fn program<T: Start, R: Read, W: Write, E: Write>(
     input: &mut Wire<R>,
     output: &mut Wire<W>,
     errors: &mut Wire<E>,
-) -> (u8, Option<FileDesk<T, PlainDesk>>)
+) -> (u8, Option<FileDesk<T, StateDesk>>)
     requires reads { reads_of input.old < 2 ^ 63 }
     requires read_failures { failures_of input.old < 2 ^ 63 }
     requires write_failures { failures_of output.old < 2 ^ 63 }
@@ -130,7 +130,7 @@ pub fn program<T: Start, R: Read, W: Write, E: Write>(
 
 /// The exit status once the desk's file is closed. One that can't be closed is Unavailable, whatever
 /// was answered before, which is in its log.
-fn closed<T: Start>(rt: &HostRuntime, status: u8, desk: Option<FileDesk<T, PlainDesk>>) -> u8
+fn closed<T: Start>(rt: &HostRuntime, status: u8, desk: Option<FileDesk<T, StateDesk>>) -> u8
     ensures same { desk ≡ None → result ≡ status }
     ensures ends { (result ≡ status) ⊎ (result ≡ 3) }
 {

@@ -8,8 +8,8 @@ use crate::program::program;
 use desk_answers::Line;
 use desk_file::close_desk;
 use desk_types::Wire;
+use feeder_state::StateDesk;
 use line_schema::in_memory;
-use look_back::PlainDesk;
 use sqlite::Unknown;
 use std::alloc::{AllocError, Global};
 use std::cell::Cell;
@@ -196,7 +196,7 @@ fn feed_thrice<L: Line>(rt: &impl Abort, alloc: Global, line: &mut L) -> Result<
 /// command is lost or doubled, and where no line met it each command has one answer for good.
 #[test]
 fn refused_memory_loses_nothing(rt: HostRuntime) -> Result<(), Fail> {
-    let Ok(mut store) = in_memory::<PlainDesk>(rt.alloc(), 3) else {
+    let Ok(mut store) = in_memory::<StateDesk>(rt.alloc(), 3) else {
         return Err(Fail::from(AllocError));
     };
     let outcome = feed_thrice(&rt, rt.alloc(), &mut store);

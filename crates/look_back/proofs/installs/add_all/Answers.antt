@@ -3,7 +3,7 @@ use Rattle.std.specs.Prelude.{◌||◌}
 use Rattle.std.specs.List.{list_any}
 use Rattle.desk_types.specs.Id.{same}
 use Rattle.desk_types.proofs.Steps.{take-next}
-use Rattle.look_back.specs.Placing.{is_in}
+use Rattle.look_back.specs.Installs.{is_in}
 use Rattle.look_back.proofs.Installing.{is_in-push}
 use Rattle.look_back.proofs.installs.add_all.Goals as goal
 

@@ -3,7 +3,7 @@ use Rattle.std.specs.List.{list_any}
 use Rattle.desk_types.specs.Id.{same}
 use Rattle.desk_types.proofs.Keys.{name-written}
 use Rattle.desk_types.proofs.Steps.{take-next}
-use Rattle.look_back.specs.Placing.{slot_at}
+use Rattle.look_back.specs.Installs.{slot_at}
 use Rattle.look_back.proofs.Installing.{slot-push}
 use Rattle.look_back.proofs.installs.note_row.Goals as goal
 

@@ -2,7 +2,7 @@ use Rattle.std.proofs.Common.{◌≡◌, Some, take}
 use Rattle.std.specs.Prelude.{if◌then◌else◌}
 use Rattle.std.specs.List.{list_any}
 use Rattle.desk_types.specs.Id.{Name, same}
-use Rattle.look_back.specs.Placing.{slot_at}
+use Rattle.look_back.specs.Installs.{slot_at}
 use Rattle.look_back.proofs.installs.note_row.Given as goal
 
 abbrev pub invariant-loop-designator : goal.invariant-loop-designator

@@ -1,7 +1,7 @@
 use Rattle.std.proofs.Common.{sym, ap, ◌∙◌}
 use Rattle.std.specs.Option.{option_or}
 use Rattle.desk_types.specs.Setup.{slot_in}
-use Rattle.look_back.specs.Placing.{slot_at}
+use Rattle.look_back.specs.Installs.{slot_at}
 use Rattle.look_back.proofs.Installing.{slot_in-last}
 use Rattle.look_back.proofs.installs.slots_in.Goals as goal
 

@@ -2,7 +2,7 @@ use Rattle.std.proofs.Common.{◌≡◌, length}
 use Rattle.std.specs.Option.{option_or}
 use Rattle.desk_types.specs.Id.{Name}
 use Rattle.desk_types.specs.Setup.{slot_in}
-use Rattle.look_back.specs.Placing.{slot_at}
+use Rattle.look_back.specs.Installs.{slot_at}
 use Rattle.look_back.proofs.installs.slots_in.Given as goal
 
 -- the rows that are left, over what is known so far, say what all rows say

@@ -1,0 +1,179 @@
+-- The live reels after one entry more; and pieces come off the live reels of a slot alone, for its spent reels give none.
+use Rattle.std.proofs.Common.{◌≡◌, ℕ, ◌-◌, min, nat_lt, Bool, true, false, Option, Some, None, List, [], ◌∷◌, ◌++◌, find, refl, sym, ap, ◌∙◌, arith}
+use Rattle.std.specs.Prelude.{if◌then◌else◌, ◌&&◌, is_none}
+use Rattle.std.specs.Option.{option_and_then, option_map, option_or, option_to_list}
+use Rattle.std.specs.List.{list_any, filter}
+use Rattle.std.proofs.lemmas.Bool.{ltb-false, ltb-true, lt-ltb, or_left, or_right}
+use Rattle.std.proofs.lemmas.List.Elements.{filter-append}
+use Rattle.desk_types.specs.declared.answer.Refusal.{Refusal}
+use Rattle.desk_types.specs.declared.command.Command.{Command}
+use Rattle.desk_types.specs.declared.command.Command.TheVariants.{MaterialsLoaded, MaterialsSpliced, MaterialsUnloaded}
+use Rattle.desk_types.specs.declared.command.Entry.{Entry}
+use Rattle.desk_types.specs.declared.command.Receipt.{Receipt}
+use Rattle.desk_types.specs.declared.rules.Rules.TheVariants.{Two}
+use Rattle.desk_types.specs.declared.take.Pick.{Pick}
+use Rattle.desk_types.specs.declared.take.Purpose.{Purpose}
+use Rattle.desk_types.specs.declared.take.Purpose.TheVariants.{Placed}
+use Rattle.desk_types.specs.Id.{Name, same}
+use Rattle.desk_types.specs.History.{History}
+use Rattle.desk_types.specs.Setup.{receipt_by}
+use Rattle.desk_types.specs.Tape.{spliced, tape_after, tape_of}
+use Rattle.desk_types.specs.Pieces.{picked, pieces_off, pick_for, install_picks, scrap_picks, left_of, live_on, first}
+use Rattle.desk_types.specs.Refusals.{designator_refusal, designators_refusal, command_refusal}
+use Rattle.desk_types.specs.Judged.{IsJudged}
+use Rattle.desk_types.proofs.Keys.{same-refl}
+use Rattle.desk_laws.proofs.Accepted.{next-accepted, mountable, received-once}
+use Rattle.desk_laws.proofs.Balance.{some-next}
+use Rattle.desk_laws.proofs.Mounts.{has, unreceived-nowhere}
+use Rattle.desk_laws.proofs.Places.{joined, vacant-same}
+
+-- ---- filters
+
+-- a filter of the reels that pass a weaker test keeps what it keeps of all
+filter-twice : (p q : Name → Bool) (reels : List Name) → ((r : Name) → has reels r ≡ true → p r ≡ true → q r ≡ true) → filter p (filter q reels) ≡ filter p reels
+filter-twice p q [] weaker = refl
+filter-twice p q (x ∷ xs) weaker =
+    by (q x) (p x) refl refl (filter-twice p q xs (λ r there. weaker r (or_right (same r x) (has xs r) there)))
+  where
+    by : (b c : Bool) → q x ≡ b → p x ≡ c → filter p (filter q xs) ≡ filter p xs
+        → filter p (if b then x ∷ filter q xs else filter q xs) ≡ if c then x ∷ filter p xs else filter p xs
+    by true c weak strong rest =
+        ap (λ t. if t then x ∷ filter p (filter q xs) else filter p (filter q xs)) strong ∙ ap (λ l. if c then x ∷ l else l) rest
+    by false true weak strong rest = let passes = weaker x (or_left (same x x) (has xs x) (same-refl x)) strong in cc
+    by false false weak strong rest = rest
+
+-- a search among those that pass a weaker test finds what it finds among all
+find-filter : (p q : Name → Bool) → ((r : Name) → p r ≡ true → q r ≡ true) → (reels : List Name) → find p (filter q reels) ≡ find p reels
+find-filter p q weaker [] = refl
+find-filter p q weaker (x ∷ xs) = by (q x) (p x) refl refl (find-filter p q weaker xs)
+  where
+    by : (b c : Bool) → q x ≡ b → p x ≡ c → find p (filter q xs) ≡ find p xs
+        → find p (if b then x ∷ filter q xs else filter q xs) ≡ if c then Some x else find p xs
+    by true c weak strong rest = ap (λ t. if t then Some x else find p (filter q xs)) strong ∙ ap (λ o. if c then Some x else o) rest
+    by false true weak strong rest = let passes = weaker x strong in cc
+    by false false weak strong rest = rest
+
+-- ---- one entry more
+
+-- a reel of a tape that has pieces left after the next entry had some before
+some-before : (H : History) (e : Entry) (machine slot reel : Name) → IsJudged Two (e ∷ H) → has (tape_of H machine slot) reel ≡ true
+    → nat_lt 0 (left_of (e ∷ H) reel) ≡ true → nat_lt 0 (left_of H reel) ≡ true
+some-before H e machine slot reel (next, judged) there = some-next H e reel (next, judged) (by (receipt_by reel e.effective e.stamped.command) refl)
+  where
+    by : (said : Option Receipt) → receipt_by reel e.effective e.stamped.command ≡ said → receipt_by reel e.effective e.stamped.command ≡ None
+    by None is = is
+    by (Some receipt) is = let nowhere = unreceived-nowhere H machine slot reel judged (received-once H e reel receipt next is) in cc
+
+-- reels of which there are some, with one joined
+spliced-some : (reels : List Name) (reel : Name) → is_none (first reels) ≡ false → spliced reels reel ≡ reels ++ reel ∷ []
+spliced-some [] reel some = cc
+spliced-some (x ∷ xs) reel some = refl
+
+-- an accepted command does to the live reels what it does to the tape, where a test keeps the same of both
+live-step : (H : History) (minute : ℕ) (machine slot : Name) (command : Command) (keeps : Name → Bool) → command_refusal Two H minute command ≡ None
+    → filter keeps (live_on H machine slot) ≡ filter keeps (tape_of H machine slot)
+    → filter keeps (tape_after machine slot command (tape_of H machine slot)) ≡ filter keeps (tape_after machine slot command (live_on H machine slot))
+unfolding command_refusal
+live-step H minute machine slot (MaterialsLoaded m s r) keeps accepted alike = by (same m machine && same s slot)
+  where
+    by : (b : Bool) → filter keeps (if b then r ∷ [] else tape_of H machine slot) ≡ filter keeps (if b then r ∷ [] else live_on H machine slot)
+    by true = refl
+    by false = sym alike
+live-step H minute machine slot (MaterialsSpliced m s r) keeps accepted alike = by (same m machine && same s slot) refl
+  where
+    by : (b : Bool) → (same m machine && same s slot) ≡ b
+        → filter keeps (if b then spliced (tape_of H machine slot) r else tape_of H machine slot) ≡ filter keeps (if b then spliced (live_on H machine slot) r else live_on H machine slot)
+    by true here =
+        let some = sym (vacant-same H machine slot m s here) ∙ (mountable H minute m s r _ accepted).of_slot in
+        ap (filter keeps) (joined H machine slot r some)
+        ∙ filter-append keeps (tape_of H machine slot) (r ∷ [])
+        ∙ ap (λ l. l ++ filter keeps (r ∷ [])) (sym alike)
+        ∙ sym (filter-append keeps (live_on H machine slot) (r ∷ []))
+        ∙ ap (filter keeps) (sym (spliced-some (live_on H machine slot) r some))
+    by false here = sym alike
+live-step H minute machine slot (MaterialsUnloaded m s) keeps accepted alike = by (same m machine && same s slot)
+  where
+    by : (b : Bool) → filter keeps (if b then [] else tape_of H machine slot) ≡ filter keeps (if b then [] else live_on H machine slot)
+    by true = refl
+    by false = sym alike
+live-step H minute machine slot _ keeps accepted alike = sym alike
+
+-- The live reels of a slot after one entry more: what the command makes of those before, without the ones that it spends.
+pub live-next : (H : History) (e : Entry) (machine slot : Name) → IsJudged Two (e ∷ H)
+    → live_on (e ∷ H) machine slot ≡ filter (λ r. nat_lt 0 (left_of (e ∷ H) r)) (tape_after machine slot e.stamped.command (live_on H machine slot))
+unfolding live_on tape_of
+live-next H e machine slot (next, judged) =
+    live-step H e.effective machine slot e.stamped.command (λ r. nat_lt 0 (left_of (e ∷ H) r)) (next-accepted H e next)
+    (filter-twice (λ r. nat_lt 0 (left_of (e ∷ H) r)) (λ r. nat_lt 0 (left_of H r)) (tape_of H machine slot) (λ r there. some-before H e machine slot r (next, judged) there))
+
+-- ---- picks
+
+-- A search for a reel with pieces left finds it among the live reels as on the tape.
+pub find-live : (H : History) (machine slot : Name) (test : Name → Bool) → ((r : Name) → test r ≡ true → nat_lt 0 (left_of H r) ≡ true)
+    → find test (live_on H machine slot) ≡ find test (tape_of H machine slot)
+unfolding live_on
+find-live H machine slot test some = find-filter test (λ r. nat_lt 0 (left_of H r)) some (tape_of H machine slot)
+
+-- what is more than some number is more than none
+more-some : (k n : ℕ) → nat_lt k n ≡ true → nat_lt 0 n ≡ true
+more-some k n more = let above = ltb-true k n more in lt-ltb 0 n (omega (arith, above))
+
+-- The pick for a designator is the same from the live lists,
+pub pick-live : (H : History) (slot_of : Name → Option Name) (machine board : Name) (before : List Pick) (d : Name)
+    → pick_for slot_of (live_on H machine) (left_of H) machine board before d ≡ pick_for slot_of (tape_of H machine) (left_of H) machine board before d
+pick-live H slot_of machine board before d =
+    ap (λ (pick_at : Name → Option Pick). option_and_then pick_at (slot_of d))
+    (λ j slot. option_map (λ reel. record { reel = reel; quantity = 1; purpose = Placed board d machine slot })
+    (find-live H machine slot (λ r. nat_lt (picked before r) (left_of H r)) (λ r. more-some (picked before r) (left_of H r)) j))
+
+-- so are the picks of an install after some before,
+pub picks-live-after : (H : History) (slot_of : Name → Option Name) (machine board : Name) (before : List Pick) (ds : List Name)
+    → install_picks slot_of (live_on H machine) (left_of H) machine board before ds ≡ install_picks slot_of (tape_of H machine) (left_of H) machine board before ds
+unfolding install_picks
+picks-live-after H slot_of machine board before [] = refl
+picks-live-after H slot_of machine board before (d ∷ ds) =
+    ap (λ (o : Option Pick). install_picks slot_of (live_on H machine) (left_of H) machine board (before ++ option_to_list o) ds) (pick-live H slot_of machine board before d)
+    ∙ picks-live-after H slot_of machine board (before ++ option_to_list (pick_for slot_of (tape_of H machine) (left_of H) machine board before d)) ds
+
+-- and all picks of an install.
+pub picks-live : (H : History) (slot_of : Name → Option Name) (machine board : Name) (ds : List Name)
+    → install_picks slot_of (live_on H machine) (left_of H) machine board [] ds ≡ install_picks slot_of (tape_of H machine) (left_of H) machine board [] ds
+picks-live H slot_of machine board ds = picks-live-after H slot_of machine board [] ds
+
+-- What is wrong with the designators of a message is the same from the live lists.
+pub designators-live : (H : History) (slot_of : Name → Option Name) (placed : Name → Bool) (machine board : Name) (before : List Pick) (seen ds : List Name)
+    → designators_refusal slot_of (live_on H machine) (left_of H) placed machine board before seen ds
+    ≡ designators_refusal slot_of (tape_of H machine) (left_of H) placed machine board before seen ds
+designators-live H slot_of placed machine board before seen [] = refl
+designators-live H slot_of placed machine board before seen (d ∷ ds) =
+    ap (λ (o : Option Pick). option_or (designator_refusal d (slot_of d) (list_any (same d) seen) (placed d) o)
+    (designators_refusal slot_of (live_on H machine) (left_of H) placed machine board (before ++ option_to_list o) (seen ++ d ∷ []) ds)) (pick-live H slot_of machine board before d)
+    ∙ ap (λ (o : Option Refusal). option_or (designator_refusal d (slot_of d) (list_any (same d) seen) (placed d)
+    (pick_for slot_of (tape_of H machine) (left_of H) machine board before d)) o)
+    (designators-live H slot_of placed machine board (before ++ option_to_list (pick_for slot_of (tape_of H machine) (left_of H) machine board before d)) (seen ++ d ∷ []) ds)
+
+-- a spent reel gives nothing of a scrap
+scrap-filter : (pieces : Name → ℕ) (purpose : Purpose) (reels : List Name) (n : ℕ)
+    → scrap_picks pieces purpose (filter (λ r. nat_lt 0 (pieces r)) reels) n ≡ scrap_picks pieces purpose reels n
+scrap-filter pieces purpose [] n = refl
+scrap-filter pieces purpose (r ∷ rs) n = by (nat_lt 0 (pieces r)) refl (scrap-filter pieces purpose rs)
+  where
+    live : List Name
+    live = filter (λ x. nat_lt 0 (pieces x)) rs
+
+    none : (k : ℕ) → k ≡ 0 → scrap_picks pieces purpose rs n ≡ pieces_off r (min n k) purpose ++ scrap_picks pieces purpose rs (n - k)
+    none k is =
+        let nothing : min n k ≡ 0 = omega (arith, is) in
+        let all : n - k ≡ n = omega (arith, is) in
+        sym (ap (λ q. pieces_off r q purpose ++ scrap_picks pieces purpose rs (n - k)) nothing ∙ ap (scrap_picks pieces purpose rs) all)
+
+    by : (b : Bool) → nat_lt 0 (pieces r) ≡ b → ((k : ℕ) → scrap_picks pieces purpose live k ≡ scrap_picks pieces purpose rs k)
+        → scrap_picks pieces purpose (if b then r ∷ live else live) n ≡ pieces_off r (min n (pieces r)) purpose ++ scrap_picks pieces purpose rs (n - pieces r)
+    by true some rest = ap (λ l. pieces_off r (min n (pieces r)) purpose ++ l) (rest (n - pieces r))
+    by false few rest = rest n ∙ none (pieces r) (let nothing = ltb-false 0 (pieces r) few in omega (arith, nothing))
+
+-- The picks of a scrap are the same from the live list.
+pub scrap-live : (H : History) (purpose : Purpose) (machine slot : Name) (n : ℕ)
+    → scrap_picks (left_of H) purpose (live_on H machine slot) n ≡ scrap_picks (left_of H) purpose (tape_of H machine slot) n
+unfolding live_on
+scrap-live H purpose machine slot n = scrap-filter (left_of H) purpose (tape_of H machine slot) n

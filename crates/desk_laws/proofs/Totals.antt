@@ -1,0 +1,36 @@
+-- What became of the pieces of a reel, one entry more.
+use Rattle.std.proofs.Common.{◌≡◌, ◌+◌, Bool, not, List, ◌∷◌, ◌++◌, refl, sym, ap, ◌∙◌}
+use Rattle.std.specs.Prelude.{if◌then◌else◌}
+use Rattle.std.specs.List.{filter}
+use Rattle.std.proofs.lemmas.List.Elements.{filter-append}
+use Rattle.std.proofs.lemmas.List.Filters.{sum_by-filter_both}
+use Rattle.desk_types.specs.declared.command.Entry.{Entry}
+use Rattle.desk_types.specs.declared.take.Pick.{Pick}
+use Rattle.desk_types.specs.Id.{Name, same}
+use Rattle.desk_types.specs.History.{History}
+use Rattle.desk_types.specs.Pieces.{picked, picks_of, all_picks, is_placed, placed_of, scrapped_of}
+use Rattle.desk_laws.proofs.Picks.{picked-append}
+
+-- The pieces of a reel that picks take are those that are placed and the others.
+pub picked-split : (picks : List Pick) (reel : Name)
+    → picked picks reel ≡ picked (filter (λ p. is_placed p.purpose) picks) reel + picked (filter (λ p. not (is_placed p.purpose)) picks) reel
+picked-split picks reel =
+    sym (sum_by-filter_both (λ (p : Pick). is_placed p.purpose) (λ (p : Pick). not (is_placed p.purpose)) (λ p. refl) (λ (p : Pick). if same p.reel reel then p.quantity else 0) picks)
+
+-- those that pass a test, of two lists of picks
+picked-filter : (test : Pick → Bool) (before after : List Pick) (reel : Name)
+    → picked (filter test (before ++ after)) reel ≡ picked (filter test before) reel + picked (filter test after) reel
+picked-filter test before after reel =
+    ap (λ picks. picked picks reel) (filter-append test before after) ∙ picked-append (filter test before) (filter test after) reel
+
+-- The next entry's placed pieces are added to those that were placed,
+pub placed-next : (H : History) (e : Entry) (reel : Name)
+    → placed_of (e ∷ H) reel ≡ placed_of H reel + picked (filter (λ p. is_placed p.purpose) (picks_of H e.stamped.command)) reel
+unfolding all_picks
+placed-next H e reel = picked-filter (λ p. is_placed p.purpose) (all_picks H) (picks_of H e.stamped.command) reel
+
+-- and its others to those that were thrown away or found missing.
+pub scrapped-next : (H : History) (e : Entry) (reel : Name)
+    → scrapped_of (e ∷ H) reel ≡ scrapped_of H reel + picked (filter (λ p. not (is_placed p.purpose)) (picks_of H e.stamped.command)) reel
+unfolding all_picks
+scrapped-next H e reel = picked-filter (λ p. not (is_placed p.purpose)) (all_picks H) (picks_of H e.stamped.command) reel

@@ -1,0 +1,14 @@
+pub mod Accepting
+pub mod Counted
+pub mod Dropping
+pub mod Flooring
+pub mod Halves
+pub mod Holding
+pub mod Looking
+pub mod Moving
+pub mod ReelSteps
+pub mod Rising
+pub mod Sets
+pub mod TapeSteps
+pub mod Telling
+pub mod Worked

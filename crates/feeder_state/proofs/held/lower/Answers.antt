@@ -1,0 +1,35 @@
+use Rattle.std.proofs.Common.{rules, ◌≡◌, None, refl, sym, arith}
+use Rattle.desk_types.proofs.Keys.{name-written}
+use Rattle.reels.specs.declared.reel.Usage.TheVariants.{Placed, Scrapped}
+use Rattle.entry_search.specs.Totals.{went}
+use Rattle.feeder_state.specs.declared.held.Held.{Held}
+use Rattle.feeder_state.specs.Held.{held_at}
+use Rattle.feeder_state.proofs.Moving.{moved-one, moved-for, moved-absent, one-way}
+use Rattle.feeder_state.proofs.held.lower.Goals as goal
+
+pub returns-in-Some : goal.returns-in-Some
+returns-in-Some c =
+    let t = c.args.take.now in
+    let x = c.in-Some.held.now in
+    let y : Held = record { reel = c.take.new.self; on_slot = x.on_slot } in
+    let h = c.get_mut.follows.holds y in
+    let way = one-way c.usage.result t.quantity in
+    moved-one t.reel (went Placed t.purpose) (went Scrapped t.purpose) t.quantity (held_at c.args.reels.now) _ x y (sym c.in-Some.ensures.value)
+    (moved-for c.usage.result t.purpose t.quantity x y c.usage.ensures (record {
+      remaining = omega (arith, c.take.ensures.remaining, way);
+      placed = c.take.ensures.placed;
+      scrapped = c.take.ensures.scrapped;
+      found = omega (arith, c.take.ensures.found);
+      received = omega (arith, c.take.ensures.received);
+      last = c.take.ensures.life.last;
+      on_slot = refl;
+      stands = c.take.ensures.stands;
+    }))
+    (name-written _ _ t.reel _ (λ o. o) ((h.3 (search rules)).0))
+
+pub returns-in_default : goal.returns-in_default
+returns-in_default c =
+    let t = c.args.take.now in
+    let none : held_at c.args.reels.now t.reel ≡ None = search rules in
+    let same_map = c.get_mut.follows.holds-at-none in
+    rw same_map (moved-absent t.reel (went Placed t.purpose) (went Scrapped t.purpose) t.quantity (held_at c.args.reels.now) none)

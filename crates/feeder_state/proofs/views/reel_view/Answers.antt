@@ -1,0 +1,6 @@
+use Rattle.std.proofs.Common.{sym, ◌∙◌}
+use Rattle.entry_search.proofs.Viewing.{no-reel}
+use Rattle.feeder_state.proofs.views.reel_view.Goals as goal
+
+pub returns-in-None : goal.returns-in-None
+returns-in-None c = λ H told. sym (no-reel H c.args.name.now (sym told.is_minute ∙ c.in-None.is))

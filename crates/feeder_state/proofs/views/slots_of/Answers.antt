@@ -1,0 +1,6 @@
+use Rattle.std.proofs.Common.{sym, ◌∙◌}
+use Rattle.entry_search.proofs.Listing.{no-mounts}
+use Rattle.feeder_state.proofs.views.slots_of.Goals as goal
+
+pub returns-in_default : goal.returns-in_default
+returns-in_default c = λ H told has. sym (no-mounts H c.args.machine.now (sym told.is_minute ∙ c.in_default.is))

@@ -1,0 +1,11 @@
+pub mod Floor
+pub mod Handling
+pub mod Held
+pub mod Noted
+pub mod Setup
+pub mod Sheet
+pub mod Spending
+pub mod State
+pub mod Taking
+pub mod Told
+pub mod Work

@@ -1,0 +1,16 @@
+-- The lists for which a state stands.
+use Rattle.std.specs.Prelude.{◌≡◌}
+use Rattle.desk_types.specs.History.{History, desk_minute}
+use Rattle.desk_types.specs.Judged.{IsJudged}
+use Rattle.feeder_state.specs.declared.desk.StateDesk.{StateDesk}
+use Rattle.feeder_state.specs.Floor.{IsFloor}
+use Rattle.feeder_state.specs.Setup.{IsSetup}
+use Rattle.feeder_state.specs.Work.{IsWork}
+
+-- The list is one that a desk of these rules can come to have, and the minute, the setup, the floor and the work are as it left them.
+pub record IsState (H : History) (desk : StateDesk) : Type 0 where
+  pub judged : IsJudged desk.rules H
+  pub minute : desk.minute ≡ desk_minute H
+  pub setup : IsSetup H desk.setup
+  pub floor : IsFloor H desk.floor
+  pub work : IsWork H desk.work

@@ -1,0 +1,245 @@
+//! The desk that keeps the current state.
+
+ghost use Rattle.std.specs.Prelude.{◌≡◌, ◌∷◌, [], OnOk};
+ghost use Rattle.desk_types.specs.declared.rules.Rules.TheVariants.{Two};
+ghost use Rattle.desk_types.specs.History.{History, accept};
+ghost use Rattle.desk_types.specs.declared.command.Command.TheVariants.{WorkStarted};
+ghost use Rattle.desk_types.specs.Id.{Name};
+ghost use Rattle.desk_types.specs.Setup.{selected_on};
+ghost use Rattle.desk_types.specs.Desk.{HasRoom, IsChange};
+ghost use Rattle.feeder_state.specs.State.{IsState};
+
+use crate::floor::Floor;
+use crate::free::free_reels;
+use crate::setup::Setup;
+use crate::views::{reel_view, slots_of};
+use crate::work::Work;
+use desk_types::{
+    Change, Command, Designator, Desk, Fronts, Id, JudgeFault, Minute, Mounts, ReelView, ReelViews,
+    Rules, SheetRow, SheetRows, Stamped,
+};
+use judging::fronts::fronts;
+use judging::{Facts, judged};
+use reels::Reel;
+use setup_sheets::{Alternates, Parts};
+use std::alloc::{AllocError, Global};
+
+/// A desk that keeps what is so now, in maps, and no list of commands: it answers a command in a time
+/// that does not grow with the number of commands before it. It stands for each list that leaves
+/// things as it keeps them.
+#[derive(Drop)]
+pub struct StateDesk {
+    alloc: Global,
+    rules: Rules,
+    minute: Option<Minute>,
+    setup: Setup,
+    floor: Floor,
+    work: Work,
+}
+
+impl StateDesk {
+    /// A desk of rules Two that has accepted nothing. Takes no memory.
+    pub fn new(alloc: Global) -> StateDesk
+        ensures stands { IsState [] result }
+        ensures rules { result.rules ≡ Two }
+    {
+        StateDesk::with_rules(alloc, Rules::Two)
+    }
+
+    /// A desk of these rules that has accepted nothing. Takes no memory.
+    pub fn with_rules(alloc: Global, rules: Rules) -> StateDesk
+        ensures stands { IsState [] result }
+        ensures rules { result.rules ≡ rules }
+    {
+        StateDesk {
+            alloc,
+            rules,
+            minute: None,
+            setup: Setup::new(alloc),
+            floor: Floor::new(alloc),
+            work: Work::new(alloc),
+        }
+    }
+
+    /// What is selected on the machine of a start.
+    fn selected_at_start(&self, command: &Command) -> Option<Id>
+        ensures { (H : History) → IsState H self.now → (machine board : Name) → command.now ≡ WorkStarted machine board → result ≡ selected_on H machine }
+    {
+        match command {
+            Command::WorkStarted { machine, .. } => self.setup.selected_on(machine),
+            _ => None,
+        }
+    }
+
+    /// Accepts what was judged. After an `Err` nothing is known of the desk: drop it.
+    fn accept(&mut self, change: Change) -> Result<(), AllocError>
+        requires room { HasRoom (λ desk H. IsState H desk) self.old 1 }
+        requires judged { (H : History) → IsState H self.old → IsChange self.old.rules H change.stamped change }
+        ensures stands { (H : History) → IsState H self.old → OnOk result (IsState (accept H change.stamped) self.new) }
+        ensures rules { OnOk result (self.new.rules ≡ self.old.rules) }
+    {
+        change.stamped.ranges_hold();
+        let _ = change.minute.get();
+        let command = &change.stamped.command;
+        let selected = self.selected_at_start(command);
+        self.minute = Some(change.minute);
+        self.floor.note(self.alloc, command, change.minute, change.takes.as_slice())?;
+        self.work.note(self.alloc, selected, command)?;
+        self.setup.note(self.alloc, change.stamped.command)?;
+        Ok(())
+    }
+}
+
+#[tactic(auto, using(crate::proofs::Accepting::of_state))]
+impl Facts for StateDesk {
+    ghost use Rattle.entry_search.specs.Floor.{tape_at};
+    ghost use Rattle.feeder_state.specs.State.{IsState};
+
+    ghost Stands = { λ desk H. IsState H desk };
+
+    ghost reels_on = { λ desk machine slot. tape_at desk.floor.tapes machine slot };
+
+    fn is_judged(&self) {
+        let _ = &self.rules;
+    }
+
+    fn tells_live(&self) {
+        let _ = &self.rules;
+    }
+
+    fn minute(&self) -> Option<Minute> {
+        self.minute
+    }
+
+    fn parts(&self) -> &Parts {
+        self.setup.parts()
+    }
+
+    fn alternates(&self) -> &Alternates {
+        self.setup.alternates()
+    }
+
+    fn selected_on(&self, machine: &Id) -> Option<Id> {
+        self.setup.selected_on(machine)
+    }
+
+    fn sheet_of(&self, product: &Id, machine: &Id) -> Option<&SheetRows> {
+        self.setup.sheet_of(product, machine)
+    }
+
+    fn row_on(&self, machine: &Id, slot: &Id) -> Option<&SheetRow> {
+        self.setup.row_on(machine, slot)
+    }
+
+    fn slot_on(&self, machine: &Id, designator: &Designator) -> Option<Id> {
+        self.setup.slot_on(machine, designator)
+    }
+
+    fn reel(&self, reel: &Id) -> Option<Reel> {
+        self.floor.reel(reel)
+    }
+
+    fn left(&self, reel: &Id) -> u64 {
+        self.floor.left(reel)
+    }
+
+    fn is_mounted(&self, reel: &Id) -> bool {
+        self.floor.is_mounted(reel)
+    }
+
+    fn reel_count(&self, machine: &Id, slot: &Id) -> usize {
+        self.floor.reel_count(machine, slot)
+    }
+
+    fn reel_at(&self, machine: &Id, slot: &Id, index: usize) -> Option<Id> {
+        self.floor.reel_at(machine, slot, index)
+    }
+
+    fn in_work_on(&self, machine: &Id) -> Option<Id> {
+        self.work.in_work_on(machine)
+    }
+
+    fn is_in_work(&self, board: &Id) -> bool {
+        self.work.is_in_work(board)
+    }
+
+    fn product_of(&self, board: &Id) -> Option<Id> {
+        self.work.product_of(board)
+    }
+
+    fn is_placed_on(&self, board: &Id, designator: &Designator) -> bool {
+        self.work.is_placed_on(board, designator)
+    }
+}
+
+#[tactic(auto, using(crate::proofs::Accepting::of_state))]
+impl Desk for StateDesk {
+    ghost use Rattle.feeder_state.specs.State.{IsState};
+
+    ghost Stands = { λ desk H. IsState H desk };
+
+    ghost kept_rules = { λ desk. desk.rules };
+
+    fn fresh(alloc: Global, rules: Rules) -> StateDesk {
+        StateDesk::with_rules(alloc, rules)
+    }
+
+    fn rules(&self) -> Rules {
+        self.rules
+    }
+
+    fn is_judged(&self) {
+        let _ = &self.rules;
+    }
+
+    fn judge(&self, stamped: &Stamped) -> Result<Change, JudgeFault> {
+        judged(self.alloc, self.rules, self, stamped)
+    }
+
+    fn settle(&mut self, change: Change) -> Result<(), AllocError> {
+        self.accept(change)
+    }
+
+    fn minute(&self) -> Option<Minute> {
+        self.minute
+    }
+
+    fn selected(&self, machine: &Id) -> Option<Id> {
+        self.setup.selected_on(machine)
+    }
+
+    fn sheet_of(&self, product: &Id, machine: &Id) -> Result<Option<SheetRows>, AllocError> {
+        match self.setup.sheet_of(product, machine) {
+            Some(rows) => Ok(Some(rows.clone()?)),
+            None => Ok(None),
+        }
+    }
+
+    fn fronts(&self, machine: &Id) -> Result<Fronts, AllocError> {
+        fronts(self.alloc, self, machine)
+    }
+
+    fn reel(&self, reel: &Id) -> Option<ReelView> {
+        reel_view(&self.floor, self.minute, reel)
+    }
+
+    fn slots_of(&self, machine: &Id) -> Result<Option<Mounts>, AllocError> {
+        slots_of(
+            self.alloc,
+            &self.floor,
+            self.minute,
+            self.setup.has_sheet(machine),
+            machine,
+        )
+    }
+
+    fn free_reels(&self, part: &Id) -> Result<ReelViews, AllocError> {
+        free_reels(
+            self.alloc,
+            &self.floor,
+            self.minute,
+            self.setup.alternates(),
+            part,
+        )
+    }
+}

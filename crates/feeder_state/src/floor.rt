@@ -1,0 +1,157 @@
+//! The shop floor as the accepted commands left it.
+
+ghost use Rattle.std.specs.Prelude.{◌≡◌, ℕ, ◌∷◌, ◌++◌, [], OnOk};
+ghost use Rattle.std.specs.Option.{option_map_or, option_to_list};
+ghost use Rattle.std.specs.List.{IsDistinct};
+ghost use Rattle.std.specs.BTreeSet.{insert_key};
+ghost use Rattle.desk_types.specs.declared.command.Entry.{Entry};
+ghost use Rattle.desk_types.specs.Id.{Name, same, by_name};
+ghost use Rattle.desk_types.specs.History.{History};
+ghost use Rattle.desk_types.specs.Pieces.{live_on};
+ghost use Rattle.desk_types.specs.View.{slot_by};
+ghost use Rattle.desk_types.specs.Free.{received_by};
+ghost use Rattle.entry_search.specs.Floor.{tape_at};
+ghost use Rattle.feeder_state.specs.Held.{AreHeld};
+ghost use Rattle.feeder_state.specs.Floor.{IsFloor, slots_at};
+ghost use Rattle.feeder_state.specs.Noted.{IsNoted, HasPlace, may_take};
+
+use crate::held::{Held, handle};
+use crate::noting::{receive, take_pieces, unload};
+use crate::slots::{Slots, put_slot};
+use crate::tapes::drop_all_spent;
+use desk_types::{Command, Id, Minute, Take};
+use entry_search::floor::{Tape, note_tape};
+use std::alloc::{AllocError, Global};
+use std::collections::BTreeMap;
+
+/// The shop floor: reels by name and in the order of their receipt, the live reels of each machine's
+/// slot, and of each machine the slots that were ever loaded.
+#[derive(Drop)]
+pub struct Floor {
+    pub reels: BTreeMap<Id, Held>,
+    pub received: Vec<Id>,
+    pub tapes: BTreeMap<(Id, Id), Tape>,
+    pub loaded: BTreeMap<Id, Slots>,
+}
+
+impl Floor {
+    /// The floor where nothing is accepted. Takes no memory.
+    pub fn new(alloc: Global) -> Floor
+        ensures { IsFloor [] result }
+    {
+        Floor {
+            reels: BTreeMap::new(alloc),
+            received: Vec::new(alloc),
+            tapes: BTreeMap::new(alloc),
+            loaded: BTreeMap::new(alloc),
+        }
+    }
+
+    /// Takes in what an accepted command does at this minute, with the pieces that it takes. After an
+    /// `Err` nothing is known of the floor.
+    pub fn note(
+        &mut self,
+        alloc: Global,
+        command: &Command,
+        at: Minute,
+        takes: &[Take],
+    ) -> Result<(), AllocError>
+        requires { (H : History) × (e : Entry) × IsNoted H e command.now at takes.now × IsFloor H self.old × HasPlace H }
+        ensures { (H : History) (e : Entry) → IsNoted H e command.now at takes.now → IsFloor H self.old → OnOk result (IsFloor (e ∷ H) self.new) }
+    {
+        note_reels(&mut self.reels, &self.tapes, command, at, takes)?;
+        note_tapes(alloc, &self.reels, &mut self.tapes, command, takes)?;
+        note_received(&mut self.received, command)?;
+        note_slots(alloc, &mut self.loaded, command)?;
+        Ok(())
+    }
+}
+
+/// Whether the command may take pieces.
+fn may_take(command: &Command) -> bool
+    ensures { result ≡ may_take command.now }
+{
+    match command {
+        Command::MaterialsInstalled { .. } => true,
+        Command::MaterialsScrapped { .. } => true,
+        Command::CountsTaken { .. } => true,
+        _ => false,
+    }
+}
+
+/// Does to the reels what an accepted command does.
+fn note_reels(
+    reels: &mut BTreeMap<Id, Held>,
+    tapes: &BTreeMap<(Id, Id), Tape>,
+    command: &Command,
+    at: Minute,
+    takes: &[Take],
+) -> Result<(), AllocError>
+    requires { (H : History) × (e : Entry) × IsNoted H e command.now at takes.now × AreHeld H reels.old × HasPlace H }
+    ensures { (H : History) (e : Entry) → IsNoted H e command.now at takes.now → ((m s : Name) → tape_at tapes.now m s ≡ live_on H m s) → AreHeld H reels.old
+        → OnOk result (AreHeld (e ∷ H) reels.new) }
+{
+    match command {
+        Command::ReelReceived {
+            reel,
+            part,
+            lot,
+            moisture,
+            quantity,
+        } => receive(reels, *reel, *part, *lot, *moisture, *quantity, at)?,
+        Command::ReelOpened { reel } => handle(reels, reel, command, at),
+        Command::ReelSealed { reel } => handle(reels, reel, command, at),
+        Command::ReelBaked { reel } => handle(reels, reel, command, at),
+        Command::MaterialsLoaded { reel, .. } => handle(reels, reel, command, at),
+        Command::MaterialsSpliced { reel, .. } => handle(reels, reel, command, at),
+        Command::MaterialsUnloaded { machine, slot } => unload(reels, tapes, machine, slot),
+        Command::MaterialsInstalled { .. } => take_pieces(reels, command, takes),
+        Command::MaterialsScrapped { .. } => take_pieces(reels, command, takes),
+        Command::CountsTaken { .. } => take_pieces(reels, command, takes),
+        _ => {}
+    }
+    Ok(())
+}
+
+/// Does to the live reels of the slots what an accepted command does, which has been done to the reels.
+fn note_tapes(
+    alloc: Global,
+    reels: &BTreeMap<Id, Held>,
+    tapes: &mut BTreeMap<(Id, Id), Tape>,
+    command: &Command,
+    takes: &[Take],
+) -> Result<(), AllocError>
+    requires { (m s : Name) → IsDistinct same (tape_at tapes.old m s) }
+    ensures { (H : History) (e : Entry) (at : ℕ) → IsNoted H e command.now at takes.now → AreHeld (e ∷ H) reels.now → ((m s : Name) → tape_at tapes.old m s ≡ live_on H m s)
+        → (m s : Name) → OnOk result (tape_at tapes.new m s ≡ live_on (e ∷ H) m s) }
+{
+    if may_take(command) {
+        drop_all_spent(reels, tapes, takes);
+        return Ok(());
+    }
+    Ok(note_tape(alloc, tapes, command)?)
+}
+
+/// Puts the reel that a command receives to the others.
+fn note_received(received: &mut Vec<Id>, command: &Command) -> Result<(), AllocError>
+    ensures { OnOk result (received.new.items ≡ received.old.items ++ option_to_list (received_by command.now)) }
+{
+    if let Command::ReelReceived { reel, .. } = command {
+        received.push(*reel)?;
+    }
+    Ok(())
+}
+
+/// Puts the slot that a command loads to its machine.
+fn note_slots(
+    alloc: Global,
+    loaded: &mut BTreeMap<Id, Slots>,
+    command: &Command,
+) -> Result<(), AllocError>
+    ensures { (m : Name) → OnOk result (slots_at loaded.new m ≡ option_map_or (insert_key by_name (slots_at loaded.old m)) (slot_by m command.now) (slots_at loaded.old m)) }
+{
+    if let Command::MaterialsLoaded { machine, slot, .. } = command {
+        put_slot(alloc, loaded, *machine, *slot)?;
+    }
+    Ok(())
+}

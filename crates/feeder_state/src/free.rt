@@ -1,0 +1,119 @@
+//! The reels that could be loaded for a part.
+
+ghost use Rattle.std.specs.Prelude.{◌≡◌, Some, map, IfOk};
+ghost use Rattle.std.specs.List.{filter, filter_map};
+ghost use Rattle.std.specs.Option.{option_map};
+ghost use Rattle.desk_types.specs.Id.{Name};
+ghost use Rattle.desk_types.specs.History.{History, now_of};
+ghost use Rattle.desk_types.specs.View.{life_left, reel_view};
+ghost use Rattle.desk_types.specs.Free.{reels_received, is_free, by_turn, in_order, free_reels};
+ghost use Rattle.setup_sheets.specs.Alternates.{AreAlternates};
+ghost use Rattle.entry_search.specs.Turns.{turn_of, if_free};
+ghost use Rattle.feeder_state.specs.Held.{IsHeld};
+ghost use Rattle.feeder_state.specs.Told.{IsTold};
+
+use crate::floor::Floor;
+use crate::held::Held;
+use crate::views::{is_live, reel_view_at};
+use desk_types::{Id, Left, Listing, Minute, ReelView, ReelViews};
+use entry_search::free::is_usable;
+use entry_search::sets::{insert_if, push_if};
+use entry_search::views::life_left;
+use setup_sheets::{Alternates, allowed};
+use std::alloc::{AllocError, Global};
+use std::collections::BTreeSet;
+
+/// Whether a reel to which this is left could be loaded where a sheet says the part.
+fn is_free(alternates: &Alternates, part: &Id, held: &Held, left: Left) -> bool
+    ensures { (H : History) (name : Name) → AreAlternates H alternates.now → IsHeld H name held.now → left ≡ life_left H name → result ≡ is_free H part.now name }
+{
+    allowed(alternates, part, &held.reel.part)
+        && !is_live(held)
+        && held.reel.remaining > 0
+        && is_usable(left)
+}
+
+/// The turn of a received reel, where it is free for the part.
+fn turn_of_held(
+    held: &Held,
+    minute: Minute,
+    alternates: &Alternates,
+    part: &Id,
+    name: &Id,
+) -> Option<(Left, Id)>
+    ensures { (H : History) → IsHeld H name.now held.now → now_of H ≡ minute → AreAlternates H alternates.now
+        → result ≡ option_map (turn_of H) (if_free H part.now name.now) }
+{
+    let left = life_left(&held.reel, held.reel.not_before(minute));
+    if !is_free(alternates, part, held, left) {
+        return None;
+    }
+    Some((left, *name))
+}
+
+/// The turn of the reel, where it is free for the part.
+fn turn_of(
+    floor: &Floor,
+    minute: Minute,
+    alternates: &Alternates,
+    part: &Id,
+    name: &Id,
+) -> Option<(Left, Id)>
+    ensures { (H : History) → IsTold H floor.now (Some minute) → AreAlternates H alternates.now → result ≡ option_map (turn_of H) (if_free H part.now name.now) }
+{
+    let held = floor.reels.get(name)?;
+    turn_of_held(held, minute, alternates, part, name)
+}
+
+/// The turns of the free reels.
+fn turns(
+    alloc: Global,
+    floor: &Floor,
+    minute: Minute,
+    alternates: &Alternates,
+    part: &Id,
+) -> Result<BTreeSet<(Left, Id)>, AllocError>
+    ensures { (H : History) → IsTold H floor.now (Some minute) → AreAlternates H alternates.now
+        → IfOk result (λ turns. turns.keys ≡ map (turn_of H) (in_order (by_turn H) (filter (is_free H part.now) (reels_received H)))) }
+{
+    let mut turns = BTreeSet::new(alloc);
+    for name in &floor.received {
+        insert_if(&mut turns, turn_of(floor, minute, alternates, part, name))?;
+    }
+    Ok(turns)
+}
+
+/// Tells the reels of turns in their order.
+fn views_of(
+    alloc: Global,
+    floor: &Floor,
+    minute: Minute,
+    turns: &BTreeSet<(Left, Id)>,
+) -> Result<Vec<ReelView>, AllocError>
+    ensures { (H : History) → IsTold H floor.now (Some minute) → IfOk result (λ views. views.items ≡ filter_map (λ turn. reel_view H turn.1) turns.now.keys) }
+{
+    let mut views = Vec::new(alloc);
+    for turn in turns {
+        push_if(&mut views, reel_view_at(floor, minute, &turn.1))?;
+    }
+    Ok(views)
+}
+
+/// The reels that could be loaded for the part at the desk minute, in the order in which they are
+/// used.
+pub fn free_reels(
+    alloc: Global,
+    floor: &Floor,
+    minute: Option<Minute>,
+    alternates: &Alternates,
+    part: &Id,
+) -> Result<ReelViews, AllocError>
+    ensures { (H : History) → IsTold H floor.now minute → AreAlternates H alternates.now → IfOk result (λ reels. reels ≡ free_reels H part.now) }
+{
+    let Some(minute) = minute else {
+        return Ok(Listing::new(Vec::new(alloc)));
+    };
+    let turns = turns(alloc, floor, minute, alternates, part)?;
+    let views = views_of(alloc, floor, minute, &turns)?;
+    Ok(Listing::new(views))
+}

@@ -1,0 +1,16 @@
+//! Maps by names.
+
+ghost use Rattle.std.specs.Prelude.{◌≡◌, Some, if◌then◌else◌, OnOk};
+ghost use Rattle.std.specs.BTreeMap as tree;
+ghost use Rattle.desk_types.specs.Id.{Name, same, by_name};
+
+use desk_types::Id;
+use std::alloc::AllocError;
+use std::collections::BTreeMap;
+
+/// Puts a value to a name, and gives what was there.
+pub fn put<V: Drop>(map: &mut BTreeMap<Id, V>, name: Id, value: V) -> Result<Option<V>, AllocError>
+    ensures { (n : Name) → OnOk result (tree.get by_name map.new n ≡ (if same name n then Some value else tree.get by_name map.old n)) }
+{
+    Ok(map.insert(name, value)?)
+}

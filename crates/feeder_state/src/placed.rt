@@ -1,0 +1,62 @@
+//! The designators that are placed on one board.
+
+ghost use Rattle.std.specs.Prelude.{◌≡◌, ◌||◌, [], OnOk, OnErr};
+ghost use Rattle.std.specs.List.{list_any};
+ghost use Rattle.desk_types.specs.Id.{Name, same};
+
+use desk_types::Designator;
+use std::alloc::{AllocError, Global};
+use std::marker::Model;
+
+/// The designators of one board, in one sorted piece of memory with no room to spare: they stay for
+/// ever, 17 bytes each. Contracts see it as its names.
+#[derive(Drop)]
+pub struct Placed {
+    names: Vec<Designator>,
+}
+
+impl Model for Placed {
+    ghost use Rattle.std.specs.Prelude.{List};
+    ghost use Rattle.std.specs.List.Sorted.{IsSorted};
+    ghost use Rattle.desk_types.specs.Id.{Name, by_name};
+
+    ghost Value = { List Name };
+
+    ghost view = { λ a. a.names.items };
+
+    ghost invariant = { λ a. IsSorted by_name a.names.items };
+}
+
+impl Placed {
+    /// No designators. Takes no memory.
+    pub fn new(alloc: Global) -> Placed
+        ensures { result ≡ [] }
+    {
+        Placed {
+            names: Vec::new(alloc),
+        }
+    }
+
+    /// Whether the designator is placed: a search by halves. Takes no memory.
+    pub fn has(&self, designator: &Designator) -> bool
+        ensures { result ≡ list_any (same designator.now) self.now }
+    {
+        self.names.binary_search(designator).is_ok()
+    }
+
+    /// Puts designators in: all are copied into a new piece of memory of their size and sorted. The
+    /// old ones are in order already, so the sort goes over them once. Without memory it is as
+    /// before.
+    pub fn add_all(&mut self, designators: &[Designator]) -> Result<(), AllocError>
+        ensures ok { (d : Name) → OnOk result (list_any (same d) self.new ≡ (list_any (same d) designators.now || list_any (same d) self.old)) }
+        ensures err { OnErr result (self.new ≡ self.old) }
+    {
+        let alloc = *self.names.allocator();
+        let mut names = Vec::with_capacity(alloc, self.names.len() + designators.len())?;
+        names.extend_from_slice(self.names.as_slice())?;
+        names.extend_from_slice(designators)?;
+        names.sort()?;
+        self.names = names;
+        Ok(())
+    }
+}

@@ -1,0 +1,158 @@
+//! What the desk tells of reels and of the slots of machines.
+
+ghost use Rattle.std.specs.Prelude.{◌≡◌, ◌++◌, true, is_some, Some, map, All, IfOk, OnOk};
+ghost use Rattle.std.specs.List.{flat_map, enumerate_from};
+ghost use Rattle.desk_types.specs.History.{History, now_of};
+ghost use Rattle.desk_types.specs.View.{has_sheet as is_on_sheet, reel_view, mount_of, slot_mounts, mounts_on};
+ghost use Rattle.feeder_state.specs.Held.{held_at, is_live, IsHeld, AreHeld};
+ghost use Rattle.feeder_state.specs.Told.{IsTold};
+
+use crate::floor::Floor;
+use crate::held::Held;
+use crate::slots::Slots;
+use desk_types::{Id, Listing, Minute, Mount, Mounts, ReelView};
+use entry_search::floor::Tape;
+use entry_search::views::life_left;
+use std::alloc::{AllocError, Global};
+use std::collections::BTreeMap;
+
+/// Whether the reel is on a slot and has pieces left.
+pub fn is_live(held: &Held) -> bool
+    ensures { result ≡ is_live held.now }
+{
+    held.on_slot && held.reel.remaining > 0
+}
+
+/// The received reel of this name, at the desk minute.
+fn view_of(held: &Held, minute: Minute, name: &Id) -> ReelView
+    ensures { (H : History) → IsHeld H name.now held.now → now_of H ≡ minute → reel_view H name.now ≡ Some result }
+{
+    let reel = &held.reel;
+    ReelView {
+        reel: *name,
+        part: reel.part,
+        lot: reel.lot,
+        level: reel.level,
+        label: reel.label,
+        received: reel.received,
+        found: reel.found,
+        placed: reel.placed,
+        scrapped: reel.scrapped,
+        remaining: reel.remaining,
+        left: life_left(reel, reel.not_before(minute)),
+        mounted: is_live(held),
+        is_open: reel.open_since.is_some(),
+        used: reel.used,
+        open_since: reel.open_since,
+        baked: reel.baked,
+    }
+}
+
+/// The reel at this desk minute, or none where it was not received.
+pub fn reel_view_at(floor: &Floor, minute: Minute, name: &Id) -> Option<ReelView>
+    ensures { (H : History) → IsTold H floor.now (Some minute) → result ≡ reel_view H name.now }
+{
+    let held = floor.reels.get(name)?;
+    Some(view_of(held, minute, name))
+}
+
+/// The reel at the desk minute, or none where it was not received. Takes no memory.
+pub fn reel_view(floor: &Floor, minute: Option<Minute>, name: &Id) -> Option<ReelView>
+    ensures { (H : History) → IsTold H floor.now minute → result ≡ reel_view H name.now }
+{
+    match minute {
+        Some(minute) => reel_view_at(floor, minute, name),
+        None => None,
+    }
+}
+
+/// A received reel in its position on a slot.
+fn mount_of(held: &Held, minute: Minute, slot: &Id, position: u64, name: &Id) -> Mount
+    ensures { (H : History) → IsHeld H name.now held.now → now_of H ≡ minute → result ≡ mount_of H slot.now (position, name.now) }
+{
+    Mount {
+        slot: *slot,
+        position,
+        reel: *name,
+        part: held.reel.part,
+        lot: held.reel.lot,
+        remaining: held.reel.remaining,
+        left: life_left(&held.reel, held.reel.not_before(minute)),
+    }
+}
+
+/// Tells the reels of a tape, the front first, each of which is held.
+fn put_tape(
+    mounts: &mut Vec<Mount>,
+    reels: &BTreeMap<Id, Held>,
+    minute: Minute,
+    slot: &Id,
+    tape: &Tape,
+) -> Result<(), AllocError>
+    ensures { (H : History) → AreHeld H reels.now → now_of H ≡ minute → All (λ name. is_some (held_at reels.now name) ≡ true) tape.now
+        → OnOk result (mounts.new.items ≡ mounts.old.items ++ map (mount_of H slot.now) (enumerate_from 1 tape.now)) }
+{
+    for index in 0..tape.reels.len() {
+        let name = &tape.reels[index];
+        if let Some(held) = reels.get(name) {
+            mounts.push(mount_of(held, minute, slot, index as u64 + 1, name))?;
+        }
+    }
+    Ok(())
+}
+
+/// Tells the live reels of a slot, the front first.
+fn put_slot(
+    mounts: &mut Vec<Mount>,
+    floor: &Floor,
+    minute: Minute,
+    machine: &Id,
+    slot: &Id,
+) -> Result<(), AllocError>
+    ensures { (H : History) → IsTold H floor.now (Some minute) → OnOk result (mounts.new.items ≡ mounts.old.items ++ slot_mounts H machine.now slot.now) }
+{
+    if let Some(tape) = floor.tapes.get(&(*machine, *slot)) {
+        put_tape(mounts, &floor.reels, minute, slot, tape)?;
+    }
+    Ok(())
+}
+
+/// Tells the live reels of slots of a machine, slot after slot.
+fn put_slots(
+    mounts: &mut Vec<Mount>,
+    floor: &Floor,
+    minute: Minute,
+    machine: &Id,
+    slots: &Slots,
+) -> Result<(), AllocError>
+    ensures { (H : History) → IsTold H floor.now (Some minute) → OnOk result (mounts.new.items ≡ mounts.old.items ++ flat_map (slot_mounts H machine.now) slots.now) }
+{
+    for slot in &slots.names {
+        put_slot(mounts, floor, minute, machine, slot)?;
+    }
+    Ok(())
+}
+
+/// The live reels of the machine's slots, by slot and then by position, or none where no sheet names
+/// the machine. The given `has_sheet` tells whether one does.
+pub fn slots_of(
+    alloc: Global,
+    floor: &Floor,
+    minute: Option<Minute>,
+    has_sheet: bool,
+    machine: &Id,
+) -> Result<Option<Mounts>, AllocError>
+    ensures { (H : History) → IsTold H floor.now minute → has_sheet ≡ is_on_sheet H machine.now → IfOk result (λ mounts. mounts ≡ mounts_on H machine.now) }
+{
+    if !has_sheet {
+        return Ok(None);
+    }
+    let Some(minute) = minute else {
+        return Ok(None);
+    };
+    let mut mounts = Vec::new(alloc);
+    if let Some(slots) = floor.loaded.get(machine) {
+        put_slots(&mut mounts, floor, minute, machine, slots)?;
+    }
+    Ok(Some(Listing::new(mounts)))
+}

@@ -1,0 +1,4 @@
+pub mod Reels
+pub mod Rejecting
+pub mod Spending
+pub mod Taking

@@ -1,0 +1,144 @@
+-- The reels of a slot, looked through one after the other; spent ones may stand among them.
+use Rattle.std.proofs.Common.{◌≡◌, ℕ, ◌+◌, ◌-◌, ◌<◌, ◌≤◌, min, nat_lt, Bool, true, false, cond, Some, None, List, [], ◌∷◌, ◌++◌, length, drop, get_or, ◌⊎◌, inl, inr, refl, sym, ap, ◌∙◌, arith}
+use Rattle.std.specs.Prelude.{slice_get}
+use Rattle.std.specs.List.{find, filter, sum_by}
+use Rattle.std.proofs.lemmas.Bool.{ltb-false}
+use Rattle.std.proofs.lemmas.List.{drop_all}
+use Rattle.std.proofs.lemmas.List.Sums.{sum_by-cons}
+use Rattle.std.proofs.lemmas.Option.{slice_get_cases, slice_get_within, get_or_from_slice_get}
+use Rattle.desk_types.specs.declared.take.Purpose.{Purpose}
+use Rattle.desk_types.specs.Id.{Name}
+use Rattle.desk_types.specs.History.{History}
+use Rattle.desk_types.specs.Tape.{tape_of}
+use Rattle.desk_types.specs.Pieces.{left_of, live_on, pieces_off, scrap_picks, first, front_of}
+use Rattle.desk_types.proofs.Steps.{drop-next}
+
+-- ---- one place further
+
+-- what is left from a place on begins with the element of this place
+pub drop-at : {X : Type 0} (xs : List X) (i : ℕ) (x : X) → slice_get xs i ≡ Some x → drop i xs ≡ x ∷ drop (i + 1) xs
+drop-at xs i x is = drop-next xs i x (slice_get_within xs i x is) (sym (get_or_from_slice_get xs i x x is))
+
+-- each place inside has an element
+pub no-gap : {X : Type 0} (xs : List X) (i n : ℕ) → n ≡ length xs → i < n → slice_get xs i ≡ None → ⊥
+no-gap {X} xs i n is inside none = by (slice_get_cases xs i).1
+  where
+    by : (((x : X) × (i < length xs) × (slice_get xs i ≡ Some x) × (get_or xs i x ≡ x)) ⊎ ((length xs ≤ i) × (slice_get xs i ≡ None))) → ⊥
+    by (inl (x, within, some, got)) = let both : Some x ≡ None = sym some ∙ none in cc
+    by (inr (past, gone)) = omega (arith, is, inside, past)
+
+module _ {X : Type 0} (test : X → Bool) (xs : List X) (i : ℕ) where
+  -- a search goes past an element that fails the test
+  pub find-past : (x : X) → slice_get xs i ≡ Some x → test x ≡ false → find test (drop (i + 1) xs) ≡ find test (drop i xs)
+  find-past x is fails = sym (ap (find test) (drop-at xs i x is) ∙ ap (λ b. cond b (Some x) (find test (drop (i + 1) xs))) fails)
+
+  -- and ends at one that passes it
+  pub find-here : (x : X) → slice_get xs i ≡ Some x → test x ≡ true → find test (drop i xs) ≡ Some x
+  find-here x is passes = ap (find test) (drop-at xs i x is) ∙ ap (λ b. cond b (Some x) (find test (drop (i + 1) xs))) passes
+
+  -- nothing is found past the end
+  pub find-end : length xs ≤ i → find test (drop i xs) ≡ None
+  find-end past = ap (find test) (drop_all i xs past)
+
+-- ---- live reels
+
+-- a reel with no pieces left fails the test for them
+pub spent : (pieces told : ℕ) → told ≡ pieces → told ≤ 0 → nat_lt 0 pieces ≡ false
+spent pieces told is none = let zero : pieces ≡ 0 = omega (arith, is, none) in ap (nat_lt 0) zero
+
+-- the first of those that pass a test
+first-filter : (p : Name → Bool) (xs : List Name) → first (filter p xs) ≡ find p xs
+first-filter p [] = refl
+first-filter p (x ∷ xs) = by (p x) (first-filter p xs)
+  where
+    by : (b : Bool) → first (filter p xs) ≡ find p xs → first (cond b (x ∷ filter p xs) (filter p xs)) ≡ cond b (Some x) (find p xs)
+    by true rest = refl
+    by false rest = rest
+
+-- a search whose test holds only of elements that are kept finds the same among those
+find-kept : (keep test : Name → Bool) (xs : List Name) → ((x : Name) → test x ≡ true → keep x ≡ true) → find test (filter keep xs) ≡ find test xs
+find-kept keep test [] only = refl
+find-kept keep test (x ∷ xs) only = by (keep x) refl (test x) refl (find-kept keep test xs only)
+  where
+    by : (k : Bool) → keep x ≡ k → (t : Bool) → test x ≡ t → find test (filter keep xs) ≡ find test xs
+        → find test (cond k (x ∷ filter keep xs) (filter keep xs)) ≡ cond t (Some x) (find test xs)
+    by true kept t is rest = ap (λ b. cond b (Some x) (find test (filter keep xs))) is ∙ ap (λ o. cond t (Some x) o) rest
+    by false lost true is rest = let kept = only x is in cc
+    by false lost false is rest = rest
+
+-- a spent reel adds no pick
+off-none : (reel : Name) (n : ℕ) (purpose : Purpose) → n ≡ 0 → pieces_off reel n purpose ≡ []
+off-none reel n purpose none = ap (λ m. pieces_off reel m purpose) none
+
+min-none : (n m : ℕ) → m ≡ 0 → min n m ≡ 0
+min-none n m none = omega (arith, none)
+
+less-none : (n m : ℕ) → m ≡ 0 → n - m ≡ n
+less-none n m none = omega (arith, none)
+
+-- the picks off live reels are those off all
+scrap-kept : (pieces : Name → ℕ) (purpose : Purpose) (reels : List Name) (n : ℕ) → scrap_picks pieces purpose (filter (λ r. nat_lt 0 (pieces r)) reels) n ≡ scrap_picks pieces purpose reels n
+scrap-kept pieces purpose [] n = refl
+scrap-kept pieces purpose (r ∷ rs) n = by (nat_lt 0 (pieces r)) refl (scrap-kept pieces purpose rs)
+  where
+    by : (b : Bool) → nat_lt 0 (pieces r) ≡ b → ((m : ℕ) → scrap_picks pieces purpose (filter (λ x. nat_lt 0 (pieces x)) rs) m ≡ scrap_picks pieces purpose rs m)
+        → scrap_picks pieces purpose (cond b (r ∷ filter (λ x. nat_lt 0 (pieces x)) rs) (filter (λ x. nat_lt 0 (pieces x)) rs)) n ≡ scrap_picks pieces purpose (r ∷ rs) n
+    by true some rest = ap (λ ps. pieces_off r (min n (pieces r)) purpose ++ ps) (rest (n - pieces r))
+    by false few rest =
+        let less = ltb-false 0 (pieces r) few in
+        let none : pieces r ≡ 0 = omega (arith, less) in
+        rest n
+        ∙ ap (scrap_picks pieces purpose rs) (sym (less-none n (pieces r) none))
+        ∙ ap (λ ps. ps ++ scrap_picks pieces purpose rs (n - pieces r)) (sym (off-none r (min n (pieces r)) purpose (min-none n (pieces r) none)))
+
+-- nothing is picked where nothing is wanting
+pub scrap-none : (pieces : Name → ℕ) (purpose : Purpose) (reels : List Name) → scrap_picks pieces purpose reels 0 ≡ []
+scrap-none pieces purpose [] = refl
+scrap-none pieces purpose (r ∷ rs) =
+    ap (λ ps. ps ++ scrap_picks pieces purpose rs (0 - pieces r)) (off-none r (min 0 (pieces r)) purpose (omega arith))
+    ∙ ap (scrap_picks pieces purpose rs) (none-less (pieces r))
+    ∙ scrap-none pieces purpose rs
+  where
+    none-less : (n : ℕ) → 0 - n ≡ 0
+    none-less n = omega arith
+
+-- spent reels add nothing
+sum-kept : (pieces : Name → ℕ) (reels : List Name) → sum_by pieces (filter (λ r. nat_lt 0 (pieces r)) reels) ≡ sum_by pieces reels
+sum-kept pieces [] = refl
+sum-kept pieces (r ∷ rs) = by (nat_lt 0 (pieces r)) refl (sum-kept pieces rs)
+  where
+    by : (b : Bool) → nat_lt 0 (pieces r) ≡ b → sum_by pieces (filter (λ x. nat_lt 0 (pieces x)) rs) ≡ sum_by pieces rs
+        → sum_by pieces (cond b (r ∷ filter (λ x. nat_lt 0 (pieces x)) rs) (filter (λ x. nat_lt 0 (pieces x)) rs)) ≡ sum_by pieces (r ∷ rs)
+    by true is rest = sum_by-cons pieces r (filter (λ x. nat_lt 0 (pieces x)) rs) ∙ ap (λ n. pieces r + n) rest ∙ sym (sum_by-cons pieces r rs)
+    by false is rest = let none = ltb-false 0 (pieces r) is in rest ∙ sym (sum_by-cons pieces r rs ∙ omega (arith, none))
+
+module _ (H : History) (machine slot : Name) (reels : List Name) (live : filter (λ reel. nat_lt 0 (left_of H reel)) reels ≡ live_on H machine slot) where
+  -- the first of the reels with pieces left is the front
+  first-front : find (λ reel. nat_lt 0 (left_of H reel)) reels ≡ front_of H machine slot
+  first-front = sym (first-filter (λ reel. nat_lt 0 (left_of H reel)) reels) ∙ ap first live
+
+  -- where the reels before a place are spent, the reel in this place is the front if it has pieces left
+  pub front-here : (i : ℕ) (reel : Name) → slice_get reels i ≡ Some reel → nat_lt 0 (left_of H reel) ≡ true
+      → find (λ r. nat_lt 0 (left_of H r)) (drop i reels) ≡ find (λ r. nat_lt 0 (left_of H r)) reels → Some reel ≡ front_of H machine slot
+  front-here i reel is some past = sym (find-here (λ r. nat_lt 0 (left_of H r)) reels i reel is some) ∙ past ∙ first-front
+
+  -- and there is no front where this is the end
+  pub front-none : (i : ℕ) → length reels ≤ i
+      → find (λ r. nat_lt 0 (left_of H r)) (drop i reels) ≡ find (λ r. nat_lt 0 (left_of H r)) reels → None ≡ front_of H machine slot
+  front-none i end past = sym (find-end (λ r. nat_lt 0 (left_of H r)) reels i end) ∙ past ∙ first-front
+
+  -- a search whose test holds only of live reels finds among the reels what it finds on the tape
+  pub find-live : (test : Name → Bool) → ((reel : Name) → test reel ≡ true → nat_lt 0 (left_of H reel) ≡ true) → find test reels ≡ find test (tape_of H machine slot)
+  unfolding live_on
+  find-live test only =
+      sym (find-kept (λ reel. nat_lt 0 (left_of H reel)) test reels only) ∙ ap (find test) live ∙ find-kept (λ reel. nat_lt 0 (left_of H reel)) test (tape_of H machine slot) only
+
+  -- the picks off the reels are those off the tape
+  pub scrap-live : (purpose : Purpose) (n : ℕ) → scrap_picks (left_of H) purpose reels n ≡ scrap_picks (left_of H) purpose (tape_of H machine slot) n
+  unfolding live_on
+  scrap-live purpose n =
+      sym (scrap-kept (left_of H) purpose reels n) ∙ ap (λ rs. scrap_picks (left_of H) purpose rs n) live ∙ scrap-kept (left_of H) purpose (tape_of H machine slot) n
+
+  -- the reels have as many pieces as the live ones
+  pub sum-live : sum_by (left_of H) (live_on H machine slot) ≡ sum_by (left_of H) reels
+  sum-live = ap (sum_by (left_of H)) (sym live) ∙ sum-kept (left_of H) reels

@@ -1,0 +1,21 @@
+use Rattle.std.proofs.Common.{◌-◌, ◌^◌, min, subst, sym, ap, ◌∙◌}
+use Rattle.desk_types.specs.declared.answer.Detail.TheVariants.{Taken}
+use Rattle.desk_types.specs.Command.{IsCommand, IsCountRow, IsListOf}
+use Rattle.desk_types.specs.Outcome.{detail_of, pieces_of}
+use Rattle.desk_types.specs.Pieces.{picks_of}
+use Rattle.judging.proofs.Taking.{scrap-fits, count-fits}
+use Rattle.judging.proofs.judging.detail.Goals as goal
+
+pub returns-in-MaterialsScrapped : goal.returns-in-MaterialsScrapped
+returns-in-MaterialsScrapped g c = λ H stands are.
+    let a = c.in-MaterialsScrapped in
+    let range = subst IsCommand a.is c.ranges_hold.ensures in
+    ap Taken (c.pieces_of.ensures ∙ ap (λ ps. min (pieces_of ps) (2 ^ 64 - 1)) (are ∙ ap (picks_of H) a.is) ∙ scrap-fits H a.machine a.slot a.quantity range.2.1)
+    ∙ sym (ap (detail_of H c.args.minute) a.is)
+
+pub returns-in-CountsTaken : goal.returns-in-CountsTaken
+returns-in-CountsTaken g c = λ H stands are.
+    let a = c.in-CountsTaken in
+    let range : IsListOf IsCountRow a.counts = subst IsCommand a.is c.ranges_hold.ensures in
+    ap Taken (c.pieces_of-in-CountsTaken.ensures ∙ ap (λ ps. min (pieces_of ps) (2 ^ 64 - 1)) (are ∙ ap (picks_of H) a.is) ∙ count-fits H a.counts (c.is_judged.ensures H stands) range.count.1)
+    ∙ sym (ap (detail_of H c.args.minute) a.is)

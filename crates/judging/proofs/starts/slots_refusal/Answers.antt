@@ -1,0 +1,17 @@
+use Rattle.std.proofs.Common.{◌≡◌, Some, [], map, unwrap_or, sym, ap, ◌∙◌}
+use Rattle.std.specs.Option.{option_copied}
+use Rattle.desk_types.specs.declared.front.Front.{Front}
+use Rattle.desk_types.specs.History.{now_of}
+use Rattle.desk_types.specs.Setup.{sheet_on}
+use Rattle.desk_types.specs.Front.{front_at}
+use Rattle.setup_sheets.proofs.Starting.{fronts-slots}
+use Rattle.judging.proofs.starts.slots_refusal.Goals as goal
+
+pub verify-requires : goal.verify-requires
+verify-requires g c =
+    let H = c.requires.0.0 in
+    let stands = c.requires.0.1 in
+    let machine = c.args.machine.now in
+    let sheet : sheet_on H machine ≡ Some c.in-Some.rows.now = sym (c.sheet_on.ensures H stands) ∙ ap option_copied c.in-Some.is in
+    ap (map (λ (front : Front). front.slot)) (c.in_ok-fronts.ensures H stands ∙ ap (λ rows. map (front_at H (now_of H) machine) (unwrap_or rows [])) sheet)
+    ∙ fronts-slots H (now_of H) machine c.in-Some.rows.now

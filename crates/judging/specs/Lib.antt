@@ -1,0 +1,6 @@
+pub mod Counting
+pub mod Facts
+pub mod Feeding
+pub mod Placing
+pub mod Scrapping
+pub mod Words

@@ -1,0 +1,76 @@
+//! Counts: their refusals and the pieces that they take.
+
+ghost use Rattle.std.specs.Prelude.{◌≡◌, List, [], IfOk};
+ghost use Rattle.desk_types.specs.Id.{Name};
+ghost use Rattle.desk_types.specs.History.{History};
+ghost use Rattle.desk_types.specs.Pieces.{left_of, count_picks};
+ghost use Rattle.desk_types.specs.Refusals.{is_above, counts_refusal};
+ghost use Rattle.setup_sheets.specs.Names.{HasSeen};
+ghost use Rattle.judging.specs.Placing.{IsPicked};
+ghost use Rattle.judging.specs.Counting.{IsCounted};
+
+use crate::facts::Facts;
+use crate::scraps::put_off;
+use desk_types::{CountRow, Id, Listing, Pick, Purpose, Refusal, Rules};
+use std::alloc::{AllocError, Global};
+use std::collections::BTreeSet;
+
+/// Whether a count is too high for a reel with so many pieces left.
+fn is_above(rules: Rules, left: u64, counted: u64) -> bool
+    ensures { result ≡ is_above rules left counted }
+{
+    match rules {
+        Rules::One => left < counted,
+        Rules::Two => left == 0 && counted > 0,
+    }
+}
+
+/// How many pieces a counted reel has above its count, or what is wrong with the row.
+fn missing<F: Facts>(
+    rules: Rules,
+    facts: &F,
+    seen: &mut BTreeSet<Id>,
+    row: &CountRow,
+) -> Result<Result<u64, Refusal>, AllocError>
+    ensures { (H : History) (before : List Name) → F.Stands facts.now H → HasSeen seen.old before
+        → IfOk result (λ counted. IsCounted rules H before row.now counted seen.new) }
+{
+    let reel = row.reel;
+    let Some(_) = facts.reel(&reel) else {
+        return Ok(Err(Refusal::UnknownReel(reel)));
+    };
+    if !seen.insert(reel)? {
+        return Ok(Err(Refusal::ReelTwice(reel)));
+    }
+    if facts.is_mounted(&reel) {
+        return Ok(Err(Refusal::ReelMounted(reel)));
+    }
+    let left = facts.left(&reel);
+    let counted = row.quantity.get();
+    if is_above(rules, left, counted) {
+        return Ok(Err(Refusal::CountAbove(reel)));
+    }
+    Ok(Ok(left.saturating_sub(counted)))
+}
+
+/// What each counted reel has above its count, or what is wrong with the first faulty row. Pieces that a
+/// count finds are no picks: what is left is what was counted.
+pub fn counted<F: Facts>(
+    alloc: Global,
+    rules: Rules,
+    facts: &F,
+    rows: &[CountRow],
+) -> Result<Result<Listing<Pick>, Refusal>, AllocError>
+    ensures { (H : History) → F.Stands facts.now H
+        → IfOk result (IsPicked (counts_refusal rules H [] rows.now) (count_picks (left_of H) rows.now)) }
+{
+    let mut seen = BTreeSet::new(alloc);
+    let mut picks = Vec::new(alloc);
+    for row in rows {
+        match missing(rules, facts, &mut seen, row)? {
+            Ok(pieces) => put_off(&mut picks, row.reel, pieces, Purpose::Counted)?,
+            Err(refusal) => return Ok(Err(refusal)),
+        }
+    }
+    Ok(Ok(Listing::new(picks)))
+}

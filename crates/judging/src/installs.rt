@@ -1,0 +1,32 @@
+//! Installs: their refusals and the pieces that they take.
+
+ghost use Rattle.std.specs.Prelude.{◌≡◌, IfOk};
+ghost use Rattle.desk_types.specs.declared.command.Command.TheVariants.{MaterialsInstalled};
+ghost use Rattle.desk_types.specs.History.{History};
+ghost use Rattle.desk_types.specs.Pieces.{picks_of};
+ghost use Rattle.desk_types.specs.Refusals.{install_refusal};
+ghost use Rattle.judging.specs.Placing.{IsPicked};
+
+use crate::facts::Facts;
+use crate::placing::place_all;
+use crate::setup::is_in_work_on;
+use desk_types::{Designators, Id, Listing, Pick, Refusal};
+use std::alloc::{AllocError, Global};
+
+/// The pieces that an install takes, or why it is refused.
+#[tactic(auto, unfolding(desk_types::specs::Refusals::install_refusal))]
+pub fn installed<F: Facts>(
+    alloc: Global,
+    facts: &F,
+    machine: &Id,
+    board: &Id,
+    designators: &Designators,
+) -> Result<Result<Listing<Pick>, Refusal>, AllocError>
+    ensures { (H : History) → F.Stands facts.now H → IfOk result (IsPicked (install_refusal H machine.now board.now designators.now)
+        (picks_of H (MaterialsInstalled machine.now board.now designators.now))) }
+{
+    if !is_in_work_on(facts, machine, board) {
+        return Ok(Err(Refusal::NotInWork(*board)));
+    }
+    Ok(place_all(alloc, facts, machine, board, designators.as_slice())?)
+}

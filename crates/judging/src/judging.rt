@@ -1,0 +1,210 @@
+//! What a command would do, were it sent now.
+
+ghost use Rattle.std.specs.Prelude.{◌≡◌, IfOk};
+ghost use Rattle.desk_types.specs.declared.rules.Rules.{Rules as Ruling};
+ghost use Rattle.desk_types.specs.History.{History, effective_minute};
+ghost use Rattle.desk_types.specs.Refusals.{command_refusal, is_too_far_ahead};
+ghost use Rattle.desk_types.specs.Outcome.{detail_of, takes_by};
+ghost use Rattle.desk_types.specs.Pieces.{picks_of};
+ghost use Rattle.desk_types.specs.FloorLife.{minutes_left};
+ghost use Rattle.desk_types.specs.Desk.{IsJudgement};
+ghost use Rattle.judging.specs.Facts.{IsBy};
+ghost use Rattle.judging.specs.Placing.{IsPicked};
+ghost use Rattle.judging.specs.Words.{TakesNone};
+
+use crate::counts::counted;
+use crate::facts::Facts;
+use crate::installs::installed;
+use crate::loads::{load_refusal, splice_refusal};
+use crate::refusals::{
+    alternate_refusal, closing_refusal, completion_refusal, opening_refusal, part_refusal,
+    receipt_refusal, selection_refusal, unload_refusal,
+};
+use crate::scraps::scrapped;
+use crate::sheets::definition_refusal;
+use crate::starts::start_refusal;
+use crate::takes::{pieces_of, reels_of, takes_for};
+use desk_types::{
+    Change, Command, Detail, FURTHEST_AHEAD, Id, JudgeFault, Listing, Minute, Pick, Refusal, Rules,
+    Stamped, Takes,
+};
+use std::alloc::{AllocError, Global};
+
+/// Why a command is refused that takes no pieces and takes effect at the minute. By either rules it is
+/// refused for the same.
+#[tactic(auto, unfolding(desk_types::specs::Refusals::command_refusal))]
+fn command_refusal<F: Facts>(
+    alloc: Global,
+    facts: &F,
+    minute: Minute,
+    command: &Command,
+) -> Result<Option<Refusal>, AllocError>
+    requires known { TakesNone command.now }
+    requires by { IsBy F.Stands facts.now minute }
+    ensures { (rules : Ruling) (H : History) → F.Stands facts.now H → IfOk result (λ refusal. refusal ≡ command_refusal rules H minute command.now) }
+{
+    Ok(match command {
+        Command::PartDefined { part } => part_refusal(facts, part),
+        Command::AlternateAllowed { part, alternate } => alternate_refusal(facts, part, alternate),
+        Command::SheetDefined { machine, rows, .. } => definition_refusal(
+            alloc, facts, machine, rows,
+        )?,
+        Command::ProductSelected { machine, product } => selection_refusal(facts, machine, product),
+        Command::ReelReceived { reel, part, .. } => receipt_refusal(facts, reel, part),
+        Command::ReelOpened { reel } => opening_refusal(facts, reel),
+        Command::ReelSealed { reel } => closing_refusal(facts, reel),
+        Command::ReelBaked { reel } => closing_refusal(facts, reel),
+        Command::MaterialsLoaded {
+            machine,
+            slot,
+            reel,
+        } => load_refusal(facts, minute, machine, slot, reel),
+        Command::MaterialsSpliced {
+            machine,
+            slot,
+            reel,
+        } => splice_refusal(facts, minute, machine, slot, reel),
+        Command::MaterialsUnloaded { machine, slot } => unload_refusal(facts, machine, slot),
+        Command::WorkStarted { machine, board } => {
+            start_refusal(alloc, facts, minute, machine, board)?
+        }
+        Command::WorkCompleted { machine, board } => completion_refusal(facts, machine, board),
+        Command::ClockSet => None,
+        _ => unreachable!(),
+    })
+}
+
+/// The pieces that a command takes, or why it is refused by the rules.
+#[tactic(auto, unfolding(desk_types::specs::Refusals::command_refusal))]
+fn picked<F: Facts>(
+    alloc: Global,
+    rules: Rules,
+    facts: &F,
+    minute: Minute,
+    command: &Command,
+) -> Result<Result<Listing<Pick>, Refusal>, AllocError>
+    requires { IsBy F.Stands facts.now minute }
+    ensures { (H : History) → F.Stands facts.now H → IfOk result (IsPicked (command_refusal rules H minute command.now) (picks_of H command.now)) }
+{
+    match command {
+        Command::MaterialsInstalled {
+            machine,
+            board,
+            designators,
+        } => Ok(installed(alloc, facts, machine, board, designators)?),
+        Command::MaterialsScrapped {
+            machine,
+            slot,
+            quantity,
+        } => Ok(scrapped(alloc, facts, machine, slot, *quantity)?),
+        Command::CountsTaken { counts } => Ok(counted(alloc, rules, facts, counts.as_slice())?),
+        _ => match command_refusal(alloc, facts, minute, command)? {
+            Some(refusal) => Ok(Err(refusal)),
+            None => Ok(Ok(Listing::new(Vec::new(alloc)))),
+        },
+    }
+}
+
+/// What the answer to a command tells that is accepted and takes these pieces.
+fn detail<F: Facts>(
+    alloc: Global,
+    facts: &F,
+    minute: Minute,
+    command: &Command,
+    picks: &[Pick],
+) -> Result<Detail, AllocError>
+    requires { IsBy F.Stands facts.now minute }
+    ensures { (H : History) → F.Stands facts.now H → picks.now ≡ picks_of H command.now
+        → IfOk result (λ detail. detail ≡ detail_of H minute command.now) }
+{
+    facts.is_judged();
+    command.ranges_hold();
+    match command {
+        Command::MaterialsLoaded { reel, .. } => Ok(Detail::MinutesLeft(minutes_left(
+            facts, minute, reel,
+        ))),
+        Command::MaterialsSpliced { reel, .. } => Ok(Detail::MinutesLeft(minutes_left(
+            facts, minute, reel,
+        ))),
+        Command::MaterialsInstalled { .. } => Ok(Detail::Reels(reels_of(alloc, picks)?)),
+        Command::MaterialsScrapped { .. } => Ok(Detail::Taken(pieces_of(picks))),
+        Command::CountsTaken { .. } => Ok(Detail::Taken(pieces_of(picks))),
+        _ => Ok(Detail::Plain),
+    }
+}
+
+/// The takes of the pieces of a command.
+fn taken<F: Facts>(
+    alloc: Global,
+    facts: &F,
+    minute: Minute,
+    command: &Command,
+    picks: &[Pick],
+) -> Result<Takes, AllocError>
+    requires { IsBy F.Stands facts.now minute }
+    ensures { (H : History) → F.Stands facts.now H → picks.now ≡ picks_of H command.now
+        → IfOk result (λ taken. taken ≡ takes_by H minute command.now) }
+{
+    facts.is_judged();
+    Ok(takes_for(alloc, facts, minute, picks)?)
+}
+
+/// The floor life left to the reel, or none where it has no limit.
+fn minutes_left<F: Facts>(facts: &F, minute: Minute, reel: &Id) -> Option<u64>
+    requires { IsBy F.Stands facts.now minute }
+    ensures { (H : History) → F.Stands facts.now H → result ≡ minutes_left H reel.now minute }
+{
+    let found = facts.reel(reel)?;
+    found.minutes_left(minute)
+}
+
+/// Whether the own minute of a message is more than two weeks above the desk minute.
+fn is_too_far_ahead<F: Facts>(facts: &F, stamped: &Stamped) -> bool
+    ensures { (H : History) → F.Stands facts.now H → result ≡ is_too_far_ahead H stamped.now }
+{
+    match facts.minute() {
+        Some(desk) if stamped.command != Command::ClockSet => {
+            stamped.minute.get() > desk.get() + FURTHEST_AHEAD
+        }
+        _ => false,
+    }
+}
+
+/// When a command of this own minute takes effect.
+fn effective_minute<F: Facts>(facts: &F, own: Minute) -> Minute
+    ensures { (H : History) → F.Stands facts.now H → result ≡ effective_minute H own }
+{
+    match facts.minute() {
+        Some(desk) if desk > own => desk,
+        _ => own,
+    }
+}
+
+/// What a command would do by the rules, were it sent now.
+#[tactic(auto, unfolding(desk_types::specs::Refusals::refusal_of))]
+pub fn judged<F: Facts>(
+    alloc: Global,
+    rules: Rules,
+    facts: &F,
+    stamped: &Stamped,
+) -> Result<Change, JudgeFault>
+    requires stands { (H : History) × F.Stands facts.now H }
+    ensures { (H : History) → F.Stands facts.now H → IsJudgement rules H stamped.now result }
+{
+    if is_too_far_ahead(facts, stamped) {
+        return Err(JudgeFault::Refused(Refusal::TooFarAhead));
+    }
+    let minute = effective_minute(facts, stamped.minute);
+    let command = &stamped.command;
+    let picks = match picked(alloc, rules, facts, minute, command)? {
+        Ok(picks) => picks,
+        Err(refusal) => return Err(JudgeFault::Refused(refusal)),
+    };
+    let picks = picks.as_slice();
+    Ok(Change {
+        stamped: stamped.clone()?,
+        minute,
+        detail: detail(alloc, facts, minute, command, picks)?,
+        takes: taken(alloc, facts, minute, command, picks)?,
+    })
+}

@@ -1,0 +1,178 @@
+//! The pieces that an install takes: one for each designator, off the front of its slot's reels.
+
+ghost use Rattle.std.specs.Prelude.{◌≡◌, ◌-◌, Bool, nat_lt, List, [], drop, if◌then◌else◌, IfSome, IfOk, OnOk};
+ghost use Rattle.std.specs.List.{find};
+ghost use Rattle.std.specs.Option.{option_map, option_map_or};
+ghost use Rattle.desk_types.specs.declared.take.Pick.{Pick as Picking};
+ghost use Rattle.desk_types.specs.Id.{Name, same};
+ghost use Rattle.desk_types.specs.History.{History};
+ghost use Rattle.desk_types.specs.Setup.{slot_on};
+ghost use Rattle.desk_types.specs.Tape.{tape_of};
+ghost use Rattle.desk_types.specs.Pieces.{left_of, install_picks};
+ghost use Rattle.desk_types.specs.Refusals.{designators_refusal};
+ghost use Rattle.desk_types.specs.Work.{is_placed_on};
+ghost use Rattle.setup_sheets.specs.Names.{HasSeen};
+ghost use Rattle.judging.specs.declared.placing.Found.{Found as Finding};
+ghost use Rattle.judging.specs.Placing.{IsPicked, IsPlacing, IsFeeding, HasPieces, pieces_in, first_at};
+
+use crate::facts::Facts;
+use desk_types::{Designator, Id, Listing, Pick, Purpose, Refusal};
+use std::alloc::{AllocError, Global};
+use std::collections::{BTreeMap, BTreeSet};
+
+/// What a message has taken so far: the pieces left of each reel that it took from, and, for each slot
+/// that it took from, how many reels at the slot's beginning are spent. Of others the facts tell.
+#[derive(Drop)]
+struct Feeding {
+    stock: BTreeMap<Id, u64>,
+    firsts: BTreeMap<Id, usize>,
+}
+
+/// The pieces left of the reel.
+fn pieces_in<F: Facts>(facts: &F, stock: &BTreeMap<Id, u64>, reel: &Id) -> u64
+    ensures { (H : History) → F.Stands facts.now H → result ≡ pieces_in (left_of H) stock.now reel.now }
+{
+    match stock.get(reel) {
+        Some(pieces) => *pieces,
+        None => facts.left(reel),
+    }
+}
+
+/// How many reels at the slot's beginning are known to be spent.
+fn first_at(firsts: &BTreeMap<Id, usize>, slot: &Id) -> usize
+    ensures { result ≡ first_at firsts.now slot.now }
+{
+    match firsts.get(slot) {
+        Some(first) => *first,
+        None => 0,
+    }
+}
+
+/// A reel, and its place among the reels of its slot, from 0.
+#[derive(Clone, Copy, Debug, PartialEq, Eq)]
+struct Found {
+    place: usize,
+    reel: Id,
+}
+
+/// The first reel of the slot with pieces left, from this place on.
+fn next_reel<F: Facts>(
+    facts: &F,
+    stock: &BTreeMap<Id, u64>,
+    machine: &Id,
+    slot: &Id,
+    first: usize,
+) -> Option<Found>
+    ensures reel { (H : History) → F.Stands facts.now H → option_map (λ (found : Finding). found.reel) result
+        ≡ find (λ reel. nat_lt 0 (pieces_in (left_of H) stock.now reel)) (drop first (F.reels_on facts.now machine.now slot.now)) }
+    ensures place { (H : History) (test : Name → Bool) → F.Stands facts.now H → HasPieces (left_of H) stock.now test
+        → IfSome result (λ found. find test (drop found.place (F.reels_on facts.now machine.now slot.now)) ≡ find test (drop first (F.reels_on facts.now machine.now slot.now))) }
+{
+    for place in first..facts.reel_count(machine, slot) {
+        if let Some(reel) = facts.reel_at(machine, slot, place) {
+            if pieces_in(facts, stock, &reel) > 0 {
+                return Some(Found { place, reel });
+            }
+        }
+    }
+    None
+}
+
+/// One piece off the front of a slot's reels, where there is one.
+fn take_piece<F: Facts>(
+    facts: &F,
+    feeding: &mut Feeding,
+    machine: &Id,
+    slot: &Id,
+) -> Result<Option<Id>, AllocError>
+    ensures reel { (H : History) → F.Stands facts.now H → IfOk result (λ reel. reel ≡ find (λ r. nat_lt 0 (pieces_in (left_of H) feeding.old.stock r))
+        (drop (first_at feeding.old.firsts slot.now) (F.reels_on facts.now machine.now slot.now))) }
+    ensures stock { (H : History) (r : Name) → F.Stands facts.now H → IfOk result (λ reel. pieces_in (left_of H) feeding.new.stock r
+        ≡ pieces_in (left_of H) feeding.old.stock r - option_map_or (λ taken. if same taken r then 1 else 0) reel 0) }
+    ensures firsts { (H : History) (s : Name) (test : Name → Bool) → F.Stands facts.now H → HasPieces (left_of H) feeding.old.stock test
+        → OnOk result (find test (drop (first_at feeding.new.firsts s) (F.reels_on facts.now machine.now s))
+        ≡ find test (drop (first_at feeding.old.firsts s) (F.reels_on facts.now machine.now s))) }
+{
+    let first = first_at(&feeding.firsts, slot);
+    let Some(found) = next_reel(facts, &feeding.stock, machine, slot, first) else {
+        return Ok(None);
+    };
+    let left = pieces_in(facts, &feeding.stock, &found.reel);
+    feeding.stock.insert(found.reel, left.saturating_sub(1))?;
+    feeding.firsts.insert(*slot, found.place)?;
+    Ok(Some(found.reel))
+}
+
+/// A piece off a reel on a slot.
+#[derive(Clone, Copy, Debug, PartialEq, Eq)]
+struct Piece {
+    slot: Id,
+    reel: Id,
+}
+
+/// One piece for a designator, after those before it in the message.
+fn place<F: Facts>(
+    facts: &F,
+    feeding: &mut Feeding,
+    seen: &mut BTreeSet<Designator>,
+    machine: &Id,
+    board: &Id,
+    designator: &Designator,
+) -> Result<Result<Piece, Refusal>, AllocError>
+    ensures { (H : History) (picks : List Picking) (before : List Name) → F.Stands facts.now H
+        → IsFeeding (tape_of H machine.now) (left_of H) (F.reels_on facts.now machine.now) picks feeding.old → HasSeen seen.old before
+        → IfOk result (λ placing. IsPlacing (slot_on H machine.now) (tape_of H machine.now) (left_of H) (is_placed_on H board.now)
+        (F.reels_on facts.now machine.now) machine.now board.now picks before designator.now placing feeding.new seen.new) }
+{
+    let name = Id::from(*designator);
+    let Some(slot) = facts.slot_on(machine, designator) else {
+        return Ok(Err(Refusal::DesignatorNotOnSheet(name)));
+    };
+    if !seen.insert(*designator)? {
+        return Ok(Err(Refusal::DesignatorTwice(name)));
+    }
+    if facts.is_placed_on(board, designator) {
+        return Ok(Err(Refusal::AlreadyPlaced(name)));
+    }
+    let Some(reel) = take_piece(facts, feeding, machine, &slot)? else {
+        return Ok(Err(Refusal::ReelShort(name)));
+    };
+    Ok(Ok(Piece { slot, reel }))
+}
+
+/// One piece for each designator in order. What is wrong with the first faulty one is told.
+pub fn place_all<F: Facts>(
+    alloc: Global,
+    facts: &F,
+    machine: &Id,
+    board: &Id,
+    designators: &[Designator],
+) -> Result<Result<Listing<Pick>, Refusal>, AllocError>
+    ensures { (H : History) → F.Stands facts.now H
+        → IfOk result (IsPicked (designators_refusal (slot_on H machine.now) (tape_of H machine.now) (left_of H) (is_placed_on H board.now) machine.now board.now [] [] designators.now)
+        (install_picks (slot_on H machine.now) (tape_of H machine.now) (left_of H) machine.now board.now [] designators.now)) }
+{
+    facts.tells_live();
+    let mut feeding = Feeding {
+        stock: BTreeMap::new(alloc),
+        firsts: BTreeMap::new(alloc),
+    };
+    let mut seen = BTreeSet::new(alloc);
+    let mut picks = Vec::new(alloc);
+    for designator in designators {
+        match place(facts, &mut feeding, &mut seen, machine, board, designator)? {
+            Ok(piece) => picks.push(Pick {
+                reel: piece.reel,
+                quantity: 1,
+                purpose: Purpose::Placed {
+                    board: *board,
+                    designator: *designator,
+                    machine: *machine,
+                    slot: piece.slot,
+                },
+            })?,
+            Err(refusal) => return Ok(Err(refusal)),
+        }
+    }
+    Ok(Ok(Listing::new(picks)))
+}

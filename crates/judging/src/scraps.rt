@@ -1,0 +1,93 @@
+//! Scraps: their refusals and the pieces that they take.
+
+ghost use Rattle.std.specs.Prelude.{◌≡◌, ◌++◌, IfOk, OnOk};
+ghost use Rattle.desk_types.specs.declared.command.Command.TheVariants.{MaterialsScrapped};
+ghost use Rattle.desk_types.specs.declared.take.Purpose.TheVariants.{Rejected};
+ghost use Rattle.desk_types.specs.History.{History};
+ghost use Rattle.desk_types.specs.Pieces.{left_of, pieces_off, picks_of};
+ghost use Rattle.desk_types.specs.Refusals.{scrap_refusal};
+ghost use Rattle.judging.specs.Placing.{IsPicked};
+ghost use Rattle.judging.specs.Scrapping.{IsScrapped};
+
+use crate::facts::Facts;
+use crate::refusals::is_vacant;
+use desk_types::{Id, Listing, Pick, Purpose, Quantity, Refusal};
+use std::alloc::{AllocError, Global};
+
+/// Puts a pick of so many pieces to the others, where there are any.
+pub fn put_off(
+    picks: &mut Vec<Pick>,
+    reel: Id,
+    pieces: u64,
+    purpose: Purpose,
+) -> Result<(), AllocError>
+    ensures { OnOk result (picks.new.items ≡ picks.old.items ++ pieces_off reel pieces purpose) }
+{
+    if pieces > 0 {
+        picks.push(Pick {
+            reel,
+            quantity: pieces,
+            purpose,
+        })?;
+    }
+    Ok(())
+}
+
+/// Pieces off the reels of a slot, and how many are wanting.
+#[derive(Drop)]
+struct Scrapping {
+    picks: Vec<Pick>,
+    wanting: u64,
+}
+
+/// Pieces off the reels of a slot, reel after reel, until no more are wanting.
+fn scrap<F: Facts>(
+    alloc: Global,
+    facts: &F,
+    machine: &Id,
+    slot: &Id,
+    quantity: u64,
+) -> Result<Scrapping, AllocError>
+    ensures { (H : History) → F.Stands facts.now H
+        → IfOk result (IsScrapped (left_of H) (Rejected machine.now slot.now) (F.reels_on facts.now machine.now slot.now) quantity) }
+{
+    let mut picks = Vec::new(alloc);
+    let mut wanting = quantity;
+    for index in 0..facts.reel_count(machine, slot) {
+        if wanting == 0 {
+            return Ok(Scrapping { picks, wanting });
+        }
+        if let Some(reel) = facts.reel_at(machine, slot, index) {
+            let left = facts.left(&reel);
+            let purpose = Purpose::Rejected {
+                machine: *machine,
+                slot: *slot,
+            };
+            put_off(&mut picks, reel, wanting.min(left), purpose)?;
+            wanting = wanting.saturating_sub(left);
+        }
+    }
+    Ok(Scrapping { picks, wanting })
+}
+
+/// The pieces that a scrap takes, or why it is refused.
+pub fn scrapped<F: Facts>(
+    alloc: Global,
+    facts: &F,
+    machine: &Id,
+    slot: &Id,
+    quantity: Quantity,
+) -> Result<Result<Listing<Pick>, Refusal>, AllocError>
+    ensures { (H : History) → F.Stands facts.now H → IfOk result (IsPicked (scrap_refusal H machine.now slot.now quantity)
+        (picks_of H (MaterialsScrapped machine.now slot.now quantity))) }
+{
+    facts.tells_live();
+    if is_vacant(facts, machine, slot) {
+        return Ok(Err(Refusal::SlotEmpty(*slot)));
+    }
+    let scrapping = scrap(alloc, facts, machine, slot, quantity.get())?;
+    if scrapping.wanting > 0 {
+        return Ok(Err(Refusal::ReelShort(*slot)));
+    }
+    Ok(Ok(Listing::new(scrapping.picks)))
+}

@@ -1,0 +1,82 @@
+//! What a command takes, and what its answer tells, by its picks.
+
+ghost use Rattle.std.specs.Prelude.{◌≡◌, ◌≤◌, ◌^◌, ◌-◌, min, map, IfOk, OnOk, ◌∷◌, ◌++◌, []};
+ghost use Rattle.std.specs.List.{AllByRecursion};
+ghost use Rattle.desk_types.specs.declared.take.Pick.{Pick as Picking};
+ghost use Rattle.desk_types.specs.History.{History};
+ghost use Rattle.desk_types.specs.Outcome.{take_of, reels_of, pieces_of};
+ghost use Rattle.reels.specs.Reel.{StandsFor};
+ghost use Rattle.entry_search.specs.Floor.{IsKnownReel};
+ghost use Rattle.judging.specs.Facts.{IsBy};
+
+use crate::facts::Facts;
+use desk_types::{Id, IdList, Listing, Minute, Pick, Purpose, Take, Takes};
+use entry_search::totals::is_placed;
+use reels::Reel;
+use std::alloc::{AllocError, Global};
+
+/// Puts a pick, with its reel's part and lot, to the takes.
+fn put_take(
+    takes: &mut Vec<Take>,
+    reel: &Reel,
+    minute: Minute,
+    pick: &Pick,
+) -> Result<(), AllocError>
+    requires { reel.now.last ≤ minute }
+    ensures { (H : History) → StandsFor H pick.now.reel reel.now → OnOk result (takes.new.items ≡ takes.old.items ++ take_of H minute pick.now ∷ []) }
+{
+    let purpose: Purpose = pick.purpose;
+    let overdue = is_placed(&purpose) && reel.is_expired(minute);
+    takes.push(Take {
+        reel: pick.reel,
+        part: reel.part,
+        lot: reel.lot,
+        quantity: pick.quantity,
+        purpose,
+        overdue,
+    })?;
+    Ok(())
+}
+
+/// The takes of picks of received reels, in their order.
+pub fn takes_for<F: Facts>(
+    alloc: Global,
+    facts: &F,
+    minute: Minute,
+    picks: &[Pick],
+) -> Result<Takes, AllocError>
+    requires { IsBy F.Stands facts.now minute }
+    ensures { (H : History) → F.Stands facts.now H → AllByRecursion (λ (p : Picking). IsKnownReel H p.reel) picks.now
+        → IfOk result (λ takes. takes ≡ map (take_of H minute) picks.now) }
+{
+    let mut takes = Vec::new(alloc);
+    for pick in picks {
+        let Some(reel) = facts.reel(&pick.reel) else {
+            continue;
+        };
+        put_take(&mut takes, &reel, minute, pick)?;
+    }
+    Ok(Listing::new(takes))
+}
+
+/// The reels of picks, in their order.
+pub fn reels_of(alloc: Global, picks: &[Pick]) -> Result<IdList, AllocError>
+    ensures { IfOk result (λ reels. reels ≡ reels_of picks.now) }
+{
+    let mut reels = Vec::new(alloc);
+    for pick in picks {
+        reels.push(pick.reel)?;
+    }
+    Ok(Listing::new(reels))
+}
+
+/// The pieces of picks together, or the greatest `u64` where they are more.
+pub fn pieces_of(picks: &[Pick]) -> u64
+    ensures { result ≡ min (pieces_of picks.now) (2 ^ 64 - 1) }
+{
+    let mut pieces = 0u64;
+    for pick in picks {
+        pieces = pieces.saturating_add(pick.quantity);
+    }
+    pieces
+}

@@ -1,6 +1,0 @@
-use Rattle.std.proofs.Common.{◌≡◌, ◌-◌, ◌^◌, min, take}
-use Rattle.desk_types.specs.Outcome.{pieces_of}
-use Rattle.look_back.proofs.takes.pieces_of.Given as goal
-
-abbrev pub invariant-loop-pick : goal.invariant-loop-pick
-invariant-loop-pick l = l.pieces ≡ min (pieces_of (take l.pick-index l.picks)) (2 ^ 64 - 1)
