@@ -21,7 +21,7 @@ use Rattle.desk_laws.proofs.Picks.{IsCountable, countable}
 -- ---- mounted reels
 
 -- a mounted reel is in no row
-unmounted-rows : (H : History) (seen : List Name) (rows : List CountRow) (reel : Name) → counts_refusal Two H seen rows ≡ None → is_mounted H reel ≡ true
+pub unmounted-rows : (H : History) (seen : List Name) (rows : List CountRow) (reel : Name) → counts_refusal Two H seen rows ≡ None → is_mounted H reel ≡ true
     → find (λ (row : CountRow). same row.reel reel) rows ≡ None
 unmounted-rows H seen [] reel none mounted = refl
 unmounted-rows H seen (row ∷ rows) reel none mounted =

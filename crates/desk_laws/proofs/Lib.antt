@@ -18,6 +18,7 @@ pub mod Picks
 pub mod Places
 pub mod Placing
 pub mod Prefixes
+pub mod Ranges
 pub mod RulesOne
 pub mod Spent
 pub mod Standing

@@ -132,8 +132,8 @@ receipt_of-by (e ∷ H) reel minute receipt (first, all) is = by (receipt_by ree
         omega (arith, same-one, told-is, first)
     by None says is before = before is
 
--- exposure begins by the minute by which all entries took effect
-starts-by : (H : History) (reel : Name) (minute : ℕ) → AreBy H minute → exposure_starts H reel ≤ minute
+-- Exposure begins by the minute by which all entries took effect.
+pub starts-by : (H : History) (reel : Name) (minute : ℕ) → AreBy H minute → exposure_starts H reel ≤ minute
 starts-by H reel minute all = by (last_bake H reel) refl
   where
     at : (receipt : Option Receipt) → receipt_of H reel ≡ receipt → unwrap_or (option_map (λ (r : Receipt). r.effective) receipt) 0 ≤ minute

@@ -17,8 +17,8 @@ pub picked-split : (picks : List Pick) (reel : Name)
 picked-split picks reel =
     sym (sum_by-filter_both (λ (p : Pick). is_placed p.purpose) (λ (p : Pick). not (is_placed p.purpose)) (λ p. refl) (λ (p : Pick). if same p.reel reel then p.quantity else 0) picks)
 
--- those that pass a test, of two lists of picks
-picked-filter : (test : Pick → Bool) (before after : List Pick) (reel : Name)
+-- The pieces that pass a test, of two lists of picks.
+pub picked-filter : (test : Pick → Bool) (before after : List Pick) (reel : Name)
     → picked (filter test (before ++ after)) reel ≡ picked (filter test before) reel + picked (filter test after) reel
 picked-filter test before after reel =
     ap (λ picks. picked picks reel) (filter-append test before after) ∙ picked-append (filter test before) (filter test after) reel

@@ -19,7 +19,7 @@ ghost use Rattle.entry_search.specs.Floor.{IsFloor, AreReelsBy, pieces_at, tape_
 use self::mount_map::note_mount;
 use self::reel_map::{note_reel, reel_in};
 use self::stock::note_stock;
-pub use self::stock::{lower, pieces};
+pub use self::stock::pieces;
 pub use self::tape_map::{Tape, note_tape};
 use desk_types::{Entry, Id, Take, Takes};
 use reels::Reel;

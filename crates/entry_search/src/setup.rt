@@ -1,9 +1,9 @@
-//! Parts, alternates, sheets, selections and receipts, looked up in the entries, oldest first.
+//! The desk minute, alternates, sheets, selections and receipts, looked up in the entries, oldest first.
 
 ghost use Rattle.std.specs.Prelude.{◌≡◌, reverse};
 ghost use Rattle.std.specs.Option.{option_copied};
-ghost use Rattle.desk_types.specs.History.{desk_minute, effective_minute};
-ghost use Rattle.desk_types.specs.Setup.{defines, is_part, allows, is_alternate, is_allowed, sheet_by, sheet_of, selection_by, selected_on, sheet_on, row_on, receipt_by, receipt_of};
+ghost use Rattle.desk_types.specs.History.{desk_minute};
+ghost use Rattle.desk_types.specs.Setup.{allows, is_alternate, is_allowed, sheet_by, sheet_of, selection_by, selected_on, sheet_on, row_on, receipt_by, receipt_of};
 
 use desk_types::{Command, Entry, Id, Minute, Receipt, SheetRow, SheetRows};
 use setup_sheets::row_of;
@@ -22,35 +22,6 @@ pub fn desk_minute(entries: &[Entry]) -> Option<Minute>
     desk
 }
 
-/// When a command of this own minute takes effect.
-pub fn effective_minute(entries: &[Entry], own: Minute) -> Minute
-    ensures { result ≡ effective_minute (reverse entries.now) own }
-{
-    match desk_minute(entries) {
-        Some(desk) if desk > own => desk,
-        _ => own,
-    }
-}
-
-fn defines(part: &Id, command: &Command) -> bool
-    ensures { result ≡ defines part.now command.now }
-{
-    match command {
-        Command::PartDefined { part: defined } => *defined == *part,
-        _ => false,
-    }
-}
-
-/// Whether the part was defined.
-pub fn is_part(entries: &[Entry], part: &Id) -> bool
-    ensures { result ≡ is_part (reverse entries.now) part.now }
-{
-    entries
-        .iter()
-        .rev()
-        .any(|entry| defines(part, &entry.stamped.command))
-}
-
 fn allows(part: &Id, alternate: &Id, command: &Command) -> bool
     ensures { result ≡ allows part.now alternate.now command.now }
 {
@@ -64,7 +35,7 @@ fn allows(part: &Id, alternate: &Id, command: &Command) -> bool
 }
 
 /// Whether the alternate was named for the part.
-pub fn is_alternate(entries: &[Entry], part: &Id, alternate: &Id) -> bool
+fn is_alternate(entries: &[Entry], part: &Id, alternate: &Id) -> bool
     ensures { result ≡ is_alternate (reverse entries.now) part.now alternate.now }
 {
     entries

@@ -36,7 +36,7 @@ use Rattle.reels.proofs.Standing.{StandsFor-untouched}
 use Rattle.entry_search.specs.Kept.{taken}
 use Rattle.entry_search.specs.Totals.{taken_for}
 use Rattle.entry_search.proofs.Leaving.{taken-map}
-use Rattle.entry_search.proofs.Ranges.{received-range}
+use Rattle.desk_laws.proofs.Ranges.{received-range}
 use Rattle.entry_search.proofs.Summing.{taken_for-map}
 use Rattle.feeder_state.specs.declared.held.Held.{Held}
 use Rattle.feeder_state.specs.Held.{left_in, is_live, IsHeld, IsHeldOf}

@@ -3,7 +3,6 @@ pub mod Handling
 pub mod Held
 pub mod Noted
 pub mod Setup
-pub mod Sheet
 pub mod Spending
 pub mod State
 pub mod Taking

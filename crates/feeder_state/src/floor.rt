@@ -1,37 +1,29 @@
 //! The shop floor as the accepted commands left it.
 
-ghost use Rattle.std.specs.Prelude.{◌≡◌, ℕ, ◌∷◌, ◌++◌, [], OnOk};
-ghost use Rattle.std.specs.Option.{option_map_or, option_to_list};
+ghost use Rattle.std.specs.Prelude.{◌≡◌, ℕ, ◌∷◌, [], OnOk};
 ghost use Rattle.std.specs.List.{IsDistinct};
-ghost use Rattle.std.specs.BTreeSet.{insert_key};
 ghost use Rattle.desk_types.specs.declared.command.Entry.{Entry};
-ghost use Rattle.desk_types.specs.Id.{Name, same, by_name};
+ghost use Rattle.desk_types.specs.Id.{Name, same};
 ghost use Rattle.desk_types.specs.History.{History};
 ghost use Rattle.desk_types.specs.Pieces.{live_on};
-ghost use Rattle.desk_types.specs.View.{slot_by};
-ghost use Rattle.desk_types.specs.Free.{received_by};
 ghost use Rattle.entry_search.specs.Floor.{tape_at};
 ghost use Rattle.feeder_state.specs.Held.{AreHeld};
-ghost use Rattle.feeder_state.specs.Floor.{IsFloor, slots_at};
+ghost use Rattle.feeder_state.specs.Floor.{IsFloor};
 ghost use Rattle.feeder_state.specs.Noted.{IsNoted, HasPlace, may_take};
 
 use crate::held::{Held, handle};
 use crate::noting::{receive, take_pieces, unload};
-use crate::slots::{Slots, put_slot};
 use crate::tapes::drop_all_spent;
 use desk_types::{Command, Id, Minute, Take};
 use entry_search::floor::{Tape, note_tape};
 use std::alloc::{AllocError, Global};
 use std::collections::BTreeMap;
 
-/// The shop floor: reels by name and in the order of their receipt, the live reels of each machine's
-/// slot, and of each machine the slots that were ever loaded.
+/// The shop floor: reels by name, and the live reels of each machine's slot.
 #[derive(Drop)]
 pub struct Floor {
     pub reels: BTreeMap<Id, Held>,
-    pub received: Vec<Id>,
     pub tapes: BTreeMap<(Id, Id), Tape>,
-    pub loaded: BTreeMap<Id, Slots>,
 }
 
 impl Floor {
@@ -41,9 +33,7 @@ impl Floor {
     {
         Floor {
             reels: BTreeMap::new(alloc),
-            received: Vec::new(alloc),
             tapes: BTreeMap::new(alloc),
-            loaded: BTreeMap::new(alloc),
         }
     }
 
@@ -61,8 +51,6 @@ impl Floor {
     {
         note_reels(&mut self.reels, &self.tapes, command, at, takes)?;
         note_tapes(alloc, &self.reels, &mut self.tapes, command, takes)?;
-        note_received(&mut self.received, command)?;
-        note_slots(alloc, &mut self.loaded, command)?;
         Ok(())
     }
 }
@@ -130,28 +118,4 @@ fn note_tapes(
         return Ok(());
     }
     Ok(note_tape(alloc, tapes, command)?)
-}
-
-/// Puts the reel that a command receives to the others.
-fn note_received(received: &mut Vec<Id>, command: &Command) -> Result<(), AllocError>
-    ensures { OnOk result (received.new.items ≡ received.old.items ++ option_to_list (received_by command.now)) }
-{
-    if let Command::ReelReceived { reel, .. } = command {
-        received.push(*reel)?;
-    }
-    Ok(())
-}
-
-/// Puts the slot that a command loads to its machine.
-fn note_slots(
-    alloc: Global,
-    loaded: &mut BTreeMap<Id, Slots>,
-    command: &Command,
-) -> Result<(), AllocError>
-    ensures { (m : Name) → OnOk result (slots_at loaded.new m ≡ option_map_or (insert_key by_name (slots_at loaded.old m)) (slot_by m command.now) (slots_at loaded.old m)) }
-{
-    if let Command::MaterialsLoaded { machine, slot, .. } = command {
-        put_slot(alloc, loaded, *machine, *slot)?;
-    }
-    Ok(())
 }

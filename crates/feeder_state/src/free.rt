@@ -34,7 +34,7 @@ fn is_free(alternates: &Alternates, part: &Id, held: &Held, left: Left) -> bool
 }
 
 /// The turn of a received reel, where it is free for the part.
-fn turn_of_held(
+fn turn_of(
     held: &Held,
     minute: Minute,
     alternates: &Alternates,
@@ -51,21 +51,7 @@ fn turn_of_held(
     Some((left, *name))
 }
 
-/// The turn of the reel, where it is free for the part.
-fn turn_of(
-    floor: &Floor,
-    minute: Minute,
-    alternates: &Alternates,
-    part: &Id,
-    name: &Id,
-) -> Option<(Left, Id)>
-    ensures { (H : History) → IsTold H floor.now (Some minute) → AreAlternates H alternates.now → result ≡ option_map (turn_of H) (if_free H part.now name.now) }
-{
-    let held = floor.reels.get(name)?;
-    turn_of_held(held, minute, alternates, part, name)
-}
-
-/// The turns of the free reels.
+/// The turns of the free reels. The set orders them, whichever reel is looked at first.
 fn turns(
     alloc: Global,
     floor: &Floor,
@@ -77,8 +63,8 @@ fn turns(
         → IfOk result (λ turns. turns.keys ≡ map (turn_of H) (in_order (by_turn H) (filter (is_free H part.now) (reels_received H)))) }
 {
     let mut turns = BTreeSet::new(alloc);
-    for name in &floor.received {
-        insert_if(&mut turns, turn_of(floor, minute, alternates, part, name))?;
+    for (name, held) in &floor.reels {
+        insert_if(&mut turns, turn_of(held, minute, alternates, part, name))?;
     }
     Ok(turns)
 }

@@ -9,9 +9,8 @@ mod held;
 mod maps;
 mod noting;
 mod placed;
+mod same_state;
 mod setup;
-mod sheets;
-mod slots;
 mod tapes;
 #[cfg(test)]
 mod tests;
@@ -19,7 +18,4 @@ mod views;
 mod work;
 
 pub use desk::StateDesk;
-pub use floor::Floor;
-pub use held::Held;
-pub use setup::Setup;
-pub use work::Work;
+pub use same_state::same_state_same_replies;

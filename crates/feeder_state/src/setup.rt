@@ -11,9 +11,8 @@ ghost use Rattle.setup_sheets.specs.Names.{is_among};
 ghost use Rattle.setup_sheets.specs.Alternates.{is_pair_among, AreAlternates};
 ghost use Rattle.feeder_state.specs.Setup.{IsSetup, sheet_at, selected_at, is_sheeted};
 
-use crate::sheets::Sheet;
 use desk_types::{Command, Designator, Id, SheetRow, SheetRows};
-use setup_sheets::{Alternates, Parts};
+use setup_sheets::{Alternates, Parts, Sheet};
 use std::alloc::{AllocError, Global};
 use std::collections::{BTreeMap, BTreeSet};
 
@@ -95,7 +94,7 @@ impl Setup {
     }
 
     /// The sheet of the selected product on the machine.
-    pub fn sheet_on(&self, machine: &Id) -> Option<&Sheet>
+    fn sheet_on(&self, machine: &Id) -> Option<&Sheet>
         ensures { (H : History) → IsSetup H self.now → option_copied result ≡ sheet_on H machine.now }
     {
         let product = self.selected_on(machine)?;

@@ -81,7 +81,8 @@ fn a_board_keeps_its_product_and_what_is_placed(rt: HostRuntime) -> Result<(), F
         Some(product),
         &Command::WorkStarted { machine, board },
     )?;
-    assert!(rt; work.is_in_work(&board) && work.is_in_work_on(&machine, &board));
+    assert!(rt; work.is_in_work(&board));
+    assert_eq!(rt; work.in_work_on(&machine), Some(board));
     let designators = pair(alloc, designator(b"R2")?, designator(b"R1")?)?;
     work.note(
         alloc,

@@ -3,13 +3,12 @@
 ghost use Rattle.std.specs.Prelude.{◌≡◌, ◌++◌, true, is_some, Some, map, All, IfOk, OnOk};
 ghost use Rattle.std.specs.List.{flat_map, enumerate_from};
 ghost use Rattle.desk_types.specs.History.{History, now_of};
-ghost use Rattle.desk_types.specs.View.{has_sheet as is_on_sheet, reel_view, mount_of, slot_mounts, mounts_on};
+ghost use Rattle.desk_types.specs.View.{has_sheet as is_on_sheet, reel_view, mount_of, slot_mounts, loaded_slots, mounts_on};
 ghost use Rattle.feeder_state.specs.Held.{held_at, is_live, IsHeld, AreHeld};
 ghost use Rattle.feeder_state.specs.Told.{IsTold};
 
 use crate::floor::Floor;
 use crate::held::Held;
-use crate::slots::Slots;
 use desk_types::{Id, Listing, Minute, Mount, Mounts, ReelView};
 use entry_search::floor::Tape;
 use entry_search::views::life_left;
@@ -101,34 +100,20 @@ fn put_tape(
     Ok(())
 }
 
-/// Tells the live reels of a slot, the front first.
-fn put_slot(
-    mounts: &mut Vec<Mount>,
-    floor: &Floor,
-    minute: Minute,
-    machine: &Id,
-    slot: &Id,
-) -> Result<(), AllocError>
-    ensures { (H : History) → IsTold H floor.now (Some minute) → OnOk result (mounts.new.items ≡ mounts.old.items ++ slot_mounts H machine.now slot.now) }
-{
-    if let Some(tape) = floor.tapes.get(&(*machine, *slot)) {
-        put_tape(mounts, &floor.reels, minute, slot, tape)?;
-    }
-    Ok(())
-}
-
-/// Tells the live reels of slots of a machine, slot after slot.
+/// Tells the live reels of the machine's slots, slot after slot. It goes over the slots of all
+/// machines.
 fn put_slots(
     mounts: &mut Vec<Mount>,
     floor: &Floor,
     minute: Minute,
     machine: &Id,
-    slots: &Slots,
 ) -> Result<(), AllocError>
-    ensures { (H : History) → IsTold H floor.now (Some minute) → OnOk result (mounts.new.items ≡ mounts.old.items ++ flat_map (slot_mounts H machine.now) slots.now) }
+    ensures { (H : History) → IsTold H floor.now (Some minute) → OnOk result (mounts.new.items ≡ mounts.old.items ++ flat_map (slot_mounts H machine.now) (loaded_slots H machine.now)) }
 {
-    for slot in &slots.names {
-        put_slot(mounts, floor, minute, machine, slot)?;
+    for (key, tape) in &floor.tapes {
+        if key.0 == *machine {
+            put_tape(mounts, &floor.reels, minute, &key.1, tape)?;
+        }
     }
     Ok(())
 }
@@ -151,8 +136,6 @@ pub fn slots_of(
         return Ok(None);
     };
     let mut mounts = Vec::new(alloc);
-    if let Some(slots) = floor.loaded.get(machine) {
-        put_slots(&mut mounts, floor, minute, machine, slots)?;
-    }
+    put_slots(&mut mounts, floor, minute, machine)?;
     Ok(Some(Listing::new(mounts)))
 }

@@ -10,7 +10,7 @@ ghost use Rattle.desk_types.specs.Id.{Name, same};
 ghost use Rattle.desk_types.specs.History.{History};
 ghost use Rattle.desk_types.specs.Judged.{IsJudged};
 ghost use Rattle.desk_types.specs.Setup.{selected_on};
-ghost use Rattle.desk_types.specs.Work.{work_by, in_work_on, is_in_work_on, is_in_work, product_of, places, is_placed_on};
+ghost use Rattle.desk_types.specs.Work.{work_by, in_work_on, is_in_work, product_of, places, is_placed_on};
 ghost use Rattle.desk_laws.specs.Working.{in_work_after};
 ghost use Rattle.feeder_state.specs.Work.{IsWork, running_at, is_busy, product_at, product_by, is_placed_at};
 
@@ -68,16 +68,6 @@ impl Work {
         match self.running.get(machine) {
             Some(board) => Some(*board),
             None => None,
-        }
-    }
-
-    /// Whether the board is the one in work on the machine.
-    pub fn is_in_work_on(&self, machine: &Id, board: &Id) -> bool
-        ensures { (H : History) → IsWork H self.now → result ≡ is_in_work_on H machine.now board.now }
-    {
-        match self.in_work_on(machine) {
-            Some(other) => *board == other,
-            None => false,
         }
     }
 

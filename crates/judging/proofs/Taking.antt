@@ -24,7 +24,7 @@ use Rattle.desk_types.specs.Judged.{IsJudged}
 use Rattle.desk_laws.proofs.Balance.{unreceived-empty}
 use Rattle.desk_laws.proofs.Picks.{find-passes}
 use Rattle.entry_search.specs.Floor.{IsKnownReel}
-use Rattle.entry_search.proofs.Ranges.{left-range}
+use Rattle.desk_laws.proofs.Ranges.{left-range}
 
 -- ---- whose they are
 

@@ -1,10 +1,9 @@
 //! A store in memory.
 
 ghost use Rattle.std.specs.Prelude.{◌≤◌, [], true, IfOk};
-ghost use Rattle.sqlite.specs.State.{HasCleanDisk};
 ghost use Rattle.sqlite.specs.Steps.{over_memory};
 ghost use Rattle.desk_types.specs.declared.desk.TheConstants.{MOST_ENTRIES};
-ghost use Rattle.line_schema.specs.Stands.{Stands, state_of};
+ghost use Rattle.line_schema.specs.Stands.{Stands};
 
 use crate::store::LineStore;
 use crate::unavailable::Unavailable;

@@ -1,61 +1,46 @@
-//! What is looked up for an install: the slots of designators, and those that are placed.
+//! What is looked up for an install: the sheet of its machine, and the designators that are placed.
 
-ghost use Rattle.std.specs.Prelude.{◌≡◌, ◌||◌, Some, if◌then◌else◌, reverse, IfOk, OnOk};
+ghost use Rattle.std.specs.Prelude.{◌≡◌, ◌||◌, reverse, IfOk, OnOk};
 ghost use Rattle.std.specs.List.{list_any};
 ghost use Rattle.std.specs.Option.{ForSome};
 ghost use Rattle.desk_types.specs.Id.{Name, same};
-ghost use Rattle.desk_types.specs.Setup.{slot_in, slot_on};
+ghost use Rattle.desk_types.specs.History.{History};
+ghost use Rattle.desk_types.specs.Setup.{sheet_on, slot_on};
 ghost use Rattle.desk_types.specs.Work.{places, is_placed_on};
-ghost use Rattle.look_back.specs.Installs.{slot_at, is_in, IsInstall};
+ghost use Rattle.look_back.specs.Installs.{is_in, IsInstall};
 
-use desk_types::{Command, Designator, Entry, Id, SheetRow};
+use desk_types::{Command, Designator, Entry, Id};
 use entry_search::setup::sheet_on;
+use setup_sheets::Sheet;
 use std::alloc::{AllocError, Global};
-use std::collections::{BTreeMap, BTreeSet};
+use std::collections::BTreeSet;
 
-/// The slots of a machine's designators, and the designators that are placed on a board.
+/// The sheet of the selected product on a machine, and the designators that are placed on a board.
 #[derive(Drop)]
 pub struct Install {
     pub machine: Id,
     pub board: Id,
-    pub slots: BTreeMap<Designator, Id>,
+    pub sheet: Option<Sheet>,
     pub placed: BTreeSet<Designator>,
 }
 
-/// The designators of a row go to its slot.
-fn note_row(slots: &mut BTreeMap<Designator, Id>, row: &SheetRow) -> Result<(), AllocError>
-    ensures { (d : Name) → OnOk result (slot_at slots.new d ≡ (if list_any (same d) row.now.designators then Some row.now.slot else slot_at slots.old d)) }
-{
-    for designator in row.designators.as_slice() {
-        slots.insert(*designator, row.slot)?;
+impl Install {
+    /// The slot for the designator in that sheet.
+    pub fn slot(&self, designator: &Designator) -> Option<Id>
+        ensures { (H : History) → IsInstall H self.now → result ≡ slot_on H self.now.machine designator.now }
+    {
+        let sheet = self.sheet.as_ref()?;
+        sheet.slot(designator)
     }
-    Ok(())
 }
 
-/// The slot of each designator of a sheet; the first row that has it counts.
-fn slots_in(alloc: Global, rows: &[SheetRow]) -> Result<BTreeMap<Designator, Id>, AllocError>
-    ensures { (d : Name) → IfOk result (λ slots. slot_at slots d ≡ slot_in rows.now d) }
-{
-    let mut slots = BTreeMap::new(alloc);
-    let mut rest = rows;
-    while let Some((row, before)) = rest.split_last() {
-        note_row(&mut slots, row)?;
-        rest = before;
-    }
-    Ok(slots)
-}
-
-/// The slot of each designator in the sheet of the selected product.
-fn slots_on(
-    alloc: Global,
-    entries: &[Entry],
-    machine: &Id,
-) -> Result<BTreeMap<Designator, Id>, AllocError>
-    ensures { (d : Name) → IfOk result (λ slots. slot_at slots d ≡ slot_on (reverse entries.now) machine.now d) }
+/// The sheet of the selected product, with its look-ups.
+fn look_up(alloc: Global, entries: &[Entry], machine: &Id) -> Result<Option<Sheet>, AllocError>
+    ensures { IfOk result (λ sheet. sheet ≡ sheet_on (reverse entries.now) machine.now) }
 {
     match sheet_on(entries, machine) {
-        Some(rows) => Ok(slots_in(alloc, rows.as_slice())?),
-        None => Ok(BTreeMap::new(alloc)),
+        Some(rows) => Ok(Some(Sheet::new(alloc, rows.clone()?)?)),
+        None => Ok(None),
     }
 }
 
@@ -118,7 +103,7 @@ pub fn install_of(
     Ok(Some(Install {
         machine: *machine,
         board: *board,
-        slots: slots_on(alloc, entries, machine)?,
+        sheet: look_up(alloc, entries, machine)?,
         placed: placed_on(alloc, entries, board)?,
     }))
 }

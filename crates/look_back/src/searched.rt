@@ -8,7 +8,6 @@ ghost use Rattle.desk_types.specs.Setup.{slot_on};
 ghost use Rattle.desk_types.specs.Work.{places, is_placed_on};
 ghost use Rattle.desk_types.specs.Judged.{IsJudged};
 ghost use Rattle.entry_search.specs.Kept.{AreTakes};
-ghost use Rattle.look_back.specs.Installs.{slot_at};
 ghost use Rattle.look_back.specs.Searching.{IsSearched};
 
 use crate::alternates::alternates_of;
@@ -22,7 +21,6 @@ use judging::Facts;
 use reels::Reel;
 use setup_sheets::{Alternates, Parts, slot_of};
 use std::alloc::{AllocError, Global};
-use std::collections::BTreeMap;
 
 /// The entries, and what is made of them in one pass: the shop floor, the parts and the alternates, and
 /// what is looked up for an install.
@@ -53,16 +51,6 @@ pub fn search<'a>(
         alternates: alternates_of(alloc, entries)?,
         install: install_of(alloc, entries, command)?,
     })
-}
-
-/// The slot of a designator.
-fn slot_for(slots: &BTreeMap<Designator, Id>, designator: &Designator) -> Option<Id>
-    ensures { result ≡ slot_at slots.now designator.now }
-{
-    match slots.get(designator) {
-        Some(slot) => Some(*slot),
-        None => None,
-    }
 }
 
 /// The slot for the designator in the sheet of the selected product.
@@ -143,7 +131,7 @@ impl<'a> Facts for Searched<'a> {
 
     fn slot_on(&self, machine: &Id, designator: &Designator) -> Option<Id> {
         match &self.install {
-            Some(install) if install.machine == *machine => slot_for(&install.slots, designator),
+            Some(install) if install.machine == *machine => install.slot(designator),
             _ => slot_on(self.entries, machine, designator),
         }
     }

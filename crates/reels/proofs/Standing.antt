@@ -175,7 +175,7 @@ StandsFor-bake H e name old new stands command same pieces baked at none sealed 
     starts : exposure_starts (e ∷ H) name ≡ e.effective
     starts = rw (command, same-refl name)
 
-last_bake-untouched : (H : History) (name : Name) → IsUntouched H name → last_bake H name ≡ None
+pub last_bake-untouched : (H : History) (name : Name) → IsUntouched H name → last_bake H name ≡ None
 last_bake-untouched [] name untouched = refl
 last_bake-untouched (e ∷ H) name (none, rest) =
     last_bake-quiet H e name (IsQuiet-untouched name e.effective e.stamped.command none) ∙ last_bake-untouched H name rest

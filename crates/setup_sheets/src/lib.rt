@@ -3,6 +3,7 @@
 #![tactic(auto)]
 
 mod alternates;
+mod look_ups;
 mod parts;
 mod rows;
 mod sheet;
@@ -11,6 +12,7 @@ mod tests;
 mod verification;
 
 pub use alternates::{Alternates, allowed};
+pub use look_ups::Sheet;
 pub use parts::Parts;
 pub use rows::{row_of, slot_of};
 pub use sheet::{SheetFault, check_sheet};

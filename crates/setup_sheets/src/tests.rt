@@ -50,6 +50,10 @@ fn a_sheet_is_checked_and_searched(rt: HostRuntime) -> Result<(), Fail> {
     let designator = Designator::read(b"R1").ok_or("no designator")?;
     assert_eq!(rt; slot_of(&rows, &designator), Some(slot));
     assert!(rt; row_of(&rows, &slot).is_some());
+    let sheet = Sheet::new(alloc, rows)?;
+    assert_eq!(rt; sheet.slot(&designator), Some(slot));
+    assert!(rt; sheet.row(&slot).is_some());
+    assert_eq!(rt; sheet.rows().as_slice().len(), 1);
     Ok(())
 }
 

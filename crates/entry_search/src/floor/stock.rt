@@ -21,7 +21,7 @@ pub fn pieces(stock: &BTreeMap<Id, u64>, reel: &Id) -> u64
 }
 
 /// Takes pieces off a reel.
-pub fn lower(stock: &mut BTreeMap<Id, u64>, reel: &Id, n: u64)
+fn lower(stock: &mut BTreeMap<Id, u64>, reel: &Id, n: u64)
     ensures { (r : Name) → pieces_at stock.new r ≡ pieces_at stock.old r - (if same reel.now r then n else 0) }
 {
     if let Some(left) = stock.get_mut(reel) {

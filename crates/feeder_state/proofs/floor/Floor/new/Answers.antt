@@ -1,4 +1,4 @@
-use Rattle.std.proofs.Common.{[], unwrap_or, reverse, subst, sym, refl, ap, ◌∙◌}
+use Rattle.std.proofs.Common.{[], unwrap_or, subst, sym, refl, ap, ◌∙◌}
 use Rattle.std.specs.BTreeMap.{is_at}
 use Rattle.std.specs.Map.{lookup}
 use Rattle.desk_types.specs.Id.{by_name}
@@ -10,7 +10,5 @@ use Rattle.feeder_state.proofs.floor.Floor.new.Goals as goal
 pub returns : goal.returns
 returns c = record {
   reels = λ name. subst (IsHeldOf [] name) (sym (ap (lookup (is_at (by_name name))) c.new.ensures.empty)) refl;
-  received = ap reverse c.new-2.ensures.items;
-  tapes = λ machine slot. ap (λ entries. unwrap_or (lookup (is_at (by_pair (machine, slot))) entries) []) c.new-3.ensures.empty ∙ live_on-none machine slot;
-  loaded = λ machine. ap (λ entries. unwrap_or (lookup (is_at (by_name machine)) entries) []) c.new-4.ensures.empty;
+  tapes = λ machine slot. ap (λ entries. unwrap_or (lookup (is_at (by_pair (machine, slot))) entries) []) c.new-2.ensures.empty ∙ live_on-none machine slot;
 }

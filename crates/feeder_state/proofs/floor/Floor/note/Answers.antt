@@ -2,7 +2,6 @@ use Rattle.std.proofs.Common.{sym, subst}
 use Rattle.std.specs.List.{IsDistinct}
 use Rattle.desk_types.specs.Id.{same}
 use Rattle.desk_laws.proofs.Tapes.{live-distinct}
-use Rattle.feeder_state.proofs.Flooring.{received-next, slots-next}
 use Rattle.feeder_state.proofs.floor.Floor.note.Goals as goal
 
 pub note_tapes-requires : goal.note_tapes-requires
@@ -11,9 +10,4 @@ note_tapes-requires c = λ m s. let known = c.requires in subst (IsDistinct same
 pub returns : goal.returns
 returns c = λ H e noted floor.
     let held = c.in_ok-note_reels.ensures H e noted floor.tapes floor.reels in
-    record {
-      reels = held;
-      received = received-next H e c.args.command.now c.args.self.now.received.items _ noted.command_is floor.received c.in_ok-note_received.ensures;
-      tapes = c.in_ok-note_tapes.ensures H e c.args.at noted held floor.tapes;
-      loaded = λ m. slots-next H e c.args.command.now m _ _ noted.command_is (floor.loaded m) (c.in_ok-note_slots.ensures m);
-    }
+    record { reels = held; tapes = c.in_ok-note_tapes.ensures H e c.args.at noted held floor.tapes }

@@ -8,4 +8,4 @@ returns-in-Some c = λ H found.
     let install = c.in-Some.install in
     let d = c.args.designator.now in
     let machine = same-true install.machine c.args.machine.now (sym c.eq.ensures ∙ c.if-eq.true) in
-    c.slot_for.ensures ∙ (found.install install c.in-Some.is).slots d ∙ ap (λ m. slot_on H m d) machine
+    c.slot.ensures H (found.install install c.in-Some.is) ∙ ap (λ m. slot_on H m d) machine

@@ -1,0 +1,161 @@
+-- Names in an order, each once: which names they are says which list it is.
+use Rattle.std.proofs.Common.{◌≡◌, Bool, true, false, cond, List, [], ◌∷◌, refl, sym, ap, subst, ◌∙◌}
+use Rattle.std.specs.Prelude.{◌&&◌, ◌||◌}
+use Rattle.std.specs.BTreeSet.{insert_key}
+use Rattle.std.specs.Cmp.{IsTotalOrder, tied_itself}
+use Rattle.std.specs.List.{filter, flat_map, AllByRecursion}
+use Rattle.std.specs.List.Sorted.{IsStrictlySortedBy}
+use Rattle.std.specs.Ordering.{is_gt, ordering_reverse, match_ordering}
+use Rattle.std.specs.declared.cmp.Ordering.{Ordering}
+use Rattle.std.specs.declared.cmp.Ordering.TheVariants.{Less, Equal, Greater}
+use Rattle.std.proofs.lemmas.Bool.{or_left}
+use Rattle.std.proofs.lemmas.List.Kept.{IsStrictlySortedBy-filter}
+use Rattle.std.proofs.lemmas.Map.Lookups.{CmpEqualImpliesEq}
+use Rattle.desk_types.specs.Id.{Name, same}
+use Rattle.desk_types.specs.Free.{in_order}
+use Rattle.desk_types.proofs.Keys.{same-refl, same-true}
+use Rattle.desk_laws.proofs.Mounts.{has, has-filter}
+
+-- ---- what holds of all names
+
+all-at : (P : Name → Type 0) (names : List Name) (r : Name) → AllByRecursion P names → has names r ≡ true → P r
+all-at P [] r all there = cc
+all-at P (x ∷ xs) r (first, all) there = by (same r x) refl there (all-at P xs r all)
+  where
+    by : (b : Bool) → same r x ≡ b → (b || has xs r) ≡ true → (has xs r ≡ true → P r) → P r
+    by true here there rest = subst P (sym (same-true r x here)) first
+    by false away there rest = rest there
+
+all-map : (P Q : Name → Type 0) → ((r : Name) → P r → Q r) → (names : List Name) → AllByRecursion P names → AllByRecursion Q names
+all-map P Q step [] all = tt
+all-map P Q step (x ∷ xs) (first, all) = (step x first, all-map P Q step xs all)
+
+swap-or : (a b c : Bool) → (a || (b || c)) ≡ (b || (a || c))
+swap-or true true c = refl
+swap-or true false c = refl
+swap-or false b c = refl
+
+twice-or : (a b : Bool) → (a || (a || b)) ≡ (a || b)
+twice-or true b = refl
+twice-or false b = refl
+
+-- what is neither before nor behind is the same
+level : (a b : Ordering) → a ≡ ordering_reverse b → is_gt a ≡ false → is_gt b ≡ false → a ≡ Equal
+level Less Less turned up down = cc
+level Less Equal turned up down = cc
+level Less Greater turned up down = cc
+level Equal b turned up down = refl
+level Greater b turned up down = cc
+
+module _ (R : Name → Name → Ordering) (o : IsTotalOrder R) (exact : CmpEqualImpliesEq R) where
+  -- the first of some names is behind none of them
+  first-least : (x y : Name) (ys : List Name) → AllByRecursion (λ z. R y z ≡ Less) ys → has (y ∷ ys) x ≡ true → is_gt (R y x) ≡ false
+  first-least x y ys before there = by (same x y) refl there
+    where
+      by : (b : Bool) → same x y ≡ b → (b || has ys x) ≡ true → is_gt (R y x) ≡ false
+      by true here there = ap (λ z. is_gt (R y z)) (same-true x y here) ∙ ap is_gt (tied_itself o y)
+      by false away there = ap is_gt (all-at (λ z. R y z ≡ Less) ys x before there)
+
+  -- and stands there once
+  not-again : (x : Name) (xs : List Name) → AllByRecursion (λ z. R x z ≡ Less) xs → has xs x ≡ false
+  not-again x xs before = by (has xs x) refl
+    where
+      by : (b : Bool) → has xs x ≡ b → has xs x ≡ false
+      by true there = let itself = tied_itself o x in let less = all-at (λ z. R x z ≡ Less) xs x before there in cc
+      by false away = away
+
+  -- Lists in the order with the same names are one.
+  pub ordered-same : (xs ys : List Name) → IsStrictlySortedBy R xs → IsStrictlySortedBy R ys → ((r : Name) → has xs r ≡ has ys r) → xs ≡ ys
+  unfolding IsStrictlySortedBy
+  ordered-same [] [] up up' agree = refl
+  ordered-same [] (y ∷ ys) up up' agree = let at = agree y in let here = or_left (same y y) (has ys y) (same-refl y) in cc
+  ordered-same (x ∷ xs) [] up up' agree = let at = agree x in let here = or_left (same x x) (has xs x) (same-refl x) in cc
+  ordered-same (x ∷ xs) (y ∷ ys) (first, up) (first', up') agree = ap (λ l. x ∷ l) (ordered-same xs ys up up' tails) ∙ ap (λ z. z ∷ ys) heads
+    where
+      heads : x ≡ y
+      heads =
+          exact x y (level (R x y) (R y x) (o.antisymm x y)
+          (first-least y x xs first (agree y ∙ or_left (same y y) (has ys y) (same-refl y)))
+          (first-least x y ys first' (sym (agree x) ∙ or_left (same x x) (has xs x) (same-refl x))))
+
+      tails : (r : Name) → has xs r ≡ has ys r
+      tails r = by (same r x) refl
+        where
+          by : (b : Bool) → same r x ≡ b → has xs r ≡ has ys r
+          by true here =
+              ap (has xs) (same-true r x here) ∙ not-again x xs first
+              ∙ sym (ap (has ys) (same-true r x here ∙ heads) ∙ not-again y ys first')
+          by false away = sym (ap (λ b. b || has xs r) away) ∙ agree r ∙ ap (λ b. b || has ys r) (ap (same r) (sym heads) ∙ away)
+
+  -- ---- names put in order
+
+  has-put : (names : List Name) (x r : Name) → has (insert_key R names x) r ≡ (same r x || has names r)
+  has-put [] x r = refl
+  has-put (y ∷ ys) x r = by (R x y) refl (has-put ys x r)
+    where
+      by : (order : Ordering) → R x y ≡ order → has (insert_key R ys x) r ≡ (same r x || has ys r)
+          → has (match_ordering order (x ∷ y ∷ ys) (y ∷ ys) (y ∷ insert_key R ys x)) r ≡ (same r x || (same r y || has ys r))
+      by Less is rest = refl
+      by Equal is rest = sym (twice-or (same r y) (has ys r)) ∙ ap (λ z. same r z || (same r y || has ys r)) (sym (exact x y is))
+      by Greater is rest = ap (λ b. same r y || b) rest ∙ swap-or (same r y) (same r x) (has ys r)
+
+  all-put : (P : Name → Type 0) (names : List Name) (x : Name) → AllByRecursion P names → P x → AllByRecursion P (insert_key R names x)
+  all-put P [] x all one = (one, tt)
+  all-put P (y ∷ ys) x (first, all) one = by (R x y) (all-put P ys x all one)
+    where
+      by : (order : Ordering) → AllByRecursion P (insert_key R ys x) → AllByRecursion P (match_ordering order (x ∷ y ∷ ys) (y ∷ ys) (y ∷ insert_key R ys x))
+      by Less rest = (one, (first, all))
+      by Equal rest = (first, all)
+      by Greater rest = (first, rest)
+
+  ordered-put : (names : List Name) (x : Name) → IsStrictlySortedBy R names → IsStrictlySortedBy R (insert_key R names x)
+  unfolding IsStrictlySortedBy
+  ordered-put [] x up = (tt, tt)
+  ordered-put (y ∷ ys) x (first, up) = by (R x y) refl (ordered-put ys x up)
+    where
+      by : (order : Ordering) → R x y ≡ order → IsStrictlySortedBy R (insert_key R ys x)
+          → IsStrictlySortedBy R (match_ordering order (x ∷ y ∷ ys) (y ∷ ys) (y ∷ insert_key R ys x))
+      by Less is rest = ((is, all-map (λ z. R y z ≡ Less) (λ z. R x z ≡ Less) (λ z less. o.trans x y z is less) ys first), (first, up))
+      by Equal is rest = (first, up)
+      by Greater is rest = (all-put (λ z. R y z ≡ Less) ys x first (o.antisymm y x ∙ ap ordering_reverse is), rest)
+
+  pub in_order-ordered : (names : List Name) → IsStrictlySortedBy R (in_order R names)
+  unfolding IsStrictlySortedBy
+  in_order-ordered [] = tt
+  in_order-ordered (x ∷ xs) = ordered-put (in_order R xs) x (in_order-ordered xs)
+
+  pub has-in_order : (names : List Name) (r : Name) → has (in_order R names) r ≡ has names r
+  has-in_order [] r = refl
+  has-in_order (x ∷ xs) r = has-put (in_order R xs) x r ∙ ap (λ b. same r x || b) (has-in_order xs r)
+
+  -- Put in order, names are the same list in whichever order they stood before.
+  pub in_order-same : (xs ys : List Name) → ((r : Name) → has xs r ≡ has ys r) → in_order R xs ≡ in_order R ys
+  in_order-same xs ys agree =
+      ordered-same (in_order R xs) (in_order R ys) (in_order-ordered xs) (in_order-ordered ys)
+      (λ r. has-in_order xs r ∙ agree r ∙ sym (has-in_order ys r))
+
+  -- ---- what is told of names in order
+
+  -- names of which nothing is told add nothing
+  told-some : {X : Type 0} (tell : Name → List X) (some : Name → Bool) → ((r : Name) → some r ≡ false → tell r ≡ []) → (names : List Name)
+      → flat_map tell names ≡ flat_map tell (filter (λ r. some r) names)
+  told-some tell some none [] = refl
+  told-some tell some none (x ∷ xs) = by (some x) refl (told-some tell some none xs)
+    where
+      by : (b : Bool) → some x ≡ b → flat_map tell xs ≡ flat_map tell (filter (λ r. some r) xs)
+          → flat_map tell (x ∷ xs) ≡ flat_map tell (cond b (x ∷ filter (λ r. some r) xs) (filter (λ r. some r) xs))
+      by true is rest = rw rest refl
+      by false is rest = rw (none x is) rest
+
+  -- The same is told of lists in the order with the same names of which something is told.
+  pub told-same : {X : Type 0} (tell : Name → List X) (some : Name → Bool) → ((r : Name) → some r ≡ false → tell r ≡ []) → (xs ys : List Name)
+      → IsStrictlySortedBy R xs → IsStrictlySortedBy R ys → ((r : Name) → some r ≡ true → has xs r ≡ has ys r) → flat_map tell xs ≡ flat_map tell ys
+  told-same tell some none xs ys up up' agree =
+      told-some tell some none xs
+      ∙ ap (flat_map tell) (ordered-same (filter (λ r. some r) xs) (filter (λ r. some r) ys) (IsStrictlySortedBy-filter R some xs up) (IsStrictlySortedBy-filter R some ys up')
+      (λ r. has-filter some xs r ∙ both (some r) (has xs r) (has ys r) (agree r) ∙ sym (has-filter some ys r)))
+      ∙ sym (told-some tell some none ys)
+    where
+      both : (s a b : Bool) → (s ≡ true → a ≡ b) → (s && a) ≡ (s && b)
+      both true a b is = is refl
+      both false a b is = refl

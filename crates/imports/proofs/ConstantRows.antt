@@ -1,0 +1,54 @@
+-- The numbers of the rules, computed.
+use Rattle.std.specs.Prelude.{◌≡◌, Some, None, [], ◌∷◌, codes, refl}
+use Rattle.imports.specs.declared.file.TheConstants.{LONGEST_FILE}
+use Rattle.imports.specs.declared.records.TheConstants.{MOST_RECORDS}
+use Rattle.imports.specs.declared.rows.TheConstants.{FIRST_ROW, LAST_ROW}
+use Rattle.imports.specs.File.{quantity_of, designators_of}
+
+-- bytes of a file, and its records: the header, 5,000 rows, and one more
+pub files_have_their_lengths : (LONGEST_FILE ≡ 1048576) × (MOST_RECORDS ≡ 5002)
+files_have_their_lengths = (refl, refl)
+
+-- lines
+pub rows_have_their_lines : (FIRST_ROW ≡ 2) × (LAST_ROW ≡ 5001)
+rows_have_their_lines = (refl, refl)
+
+-- ---- quantities at their limits
+
+pub greatest_quantity : quantity_of (codes "10000000") ≡ Some 10000000
+unfolding quantity_of
+greatest_quantity = refl
+
+pub quantity_above : quantity_of (codes "10000001") ≡ None
+unfolding quantity_of
+quantity_above = refl
+
+pub eight_digits : quantity_of (codes "00000005") ≡ Some 5
+unfolding quantity_of
+eight_digits = refl
+
+pub nine_digits : quantity_of (codes "000000005") ≡ None
+unfolding quantity_of
+nine_digits = refl
+
+pub no_digit : quantity_of [] ≡ None
+unfolding quantity_of
+no_digit = refl
+
+-- ---- designators
+
+pub one_space : designators_of (codes "R1 R2") ≡ Some (codes "R1" ∷ codes "R2" ∷ [])
+unfolding designators_of
+one_space = refl
+
+pub two_spaces : designators_of (codes "R1  R2") ≡ None
+unfolding designators_of
+two_spaces = refl
+
+pub space_at_the_end : designators_of (codes "R1 ") ≡ None
+unfolding designators_of
+space_at_the_end = refl
+
+pub no_designator : designators_of [] ≡ None
+unfolding designators_of
+no_designator = refl

@@ -1,0 +1,68 @@
+-- Rows that are read one after the other.
+use Rattle.std.proofs.Common.{◌≡◌, refl, sym, ap, ◌∙◌, ℕ, suc, ◌+◌, ◌<◌, List, [], ◌∷◌, ◌++◌, length, map, take, drop, get_or, take-append-drop, append_assoc, Result, Ok, Err, arith}
+use Rattle.std.proofs.lemmas.List.{take_more, map-append, length-map, length-take-le}
+use Rattle.imports.specs.declared.fault.ImportFault.{ImportFault}
+use Rattle.imports.specs.Fault.{◌>>=◌}
+use Rattle.imports.specs.File.{Record, row_at, each}
+
+-- a row before the others
+first_of_each : {X : Type 0} → Result X ImportFault → Result (List X) ImportFault → Result (List X) ImportFault
+first_of_each first rest = do
+  x ← first
+  xs ← rest
+  Ok (x ∷ xs)
+
+-- what is read of two lists, one after the other
+both : {X : Type 0} → Result (List X) ImportFault → Result (List X) ImportFault → Result (List X) ImportFault
+both first second = do
+  xs ← first
+  ys ← second
+  Ok (xs ++ ys)
+
+both-nothing : {X : Type 0} (r : Result (List X) ImportFault) → r ≡ both (Ok []) r
+unfolding both
+both-nothing (Ok ys) = refl
+both-nothing (Err fault) = refl
+
+both-first : {X : Type 0} (first : Result X ImportFault) (rest later : Result (List X) ImportFault)
+    → first_of_each first (both rest later) ≡ both (first_of_each first rest) later
+unfolding both first_of_each
+both-first (Err fault) rest later = refl
+both-first (Ok x) (Err fault) later = refl
+both-first (Ok x) (Ok xs) (Err fault) = refl
+both-first (Ok x) (Ok xs) (Ok ys) = refl
+
+-- the lines go on where the first list ends
+each-append : {X : Type 0} (reading : ℕ → Record → Result X ImportFault) (line : ℕ) (rs ss : List Record)
+    → each reading line (rs ++ ss) ≡ both (each reading line rs) (each reading (line + length rs) ss)
+unfolding first_of_each
+each-append reading line [] ss =
+    let next : line ≡ line + length {A = Record} [] = omega arith in
+    both-nothing (each reading line ss) ∙ ap (λ n. both (Ok []) (each reading n ss)) next
+each-append reading line (r ∷ rs) ss =
+    let next : suc line + length rs ≡ line + length (r ∷ rs) = omega arith in
+    ap (first_of_each (row_at reading line r)) (each-append reading (suc line) rs ss ∙ ap (λ n. both (each reading (suc line) rs) (each reading n ss)) next)
+    ∙ both-first (row_at reading line r) (each reading (suc line) rs) _
+
+-- so many records before one at a place
+before : {R : Type 0} (view : R → Record) (rs : List R) (i : ℕ) → i < length rs → length (map view (take i rs)) ≡ i
+before view rs i inside = length-map (take i rs) view ∙ length-take-le i rs (omega arith)
+
+-- one more row
+pub each-more : {R X : Type 0} (view : R → Record) (reading : ℕ → Record → Result X ImportFault) (line : ℕ) (rs : List R) (i : ℕ) (r : R) (xs : List X) (x : X)
+    → i < length rs → r ≡ get_or rs i r → each reading line (map view (take i rs)) ≡ Ok xs → row_at reading (line + i) (view r) ≡ Ok x
+    → each reading line (map view (take (i + 1) rs)) ≡ Ok (xs ++ x ∷ [])
+unfolding both
+each-more view reading line rs i r xs x inside here rows row =
+    rw (take_more rs i r inside, sym here, map-append view (take i rs) (r ∷ []), each-append reading line (map view (take i rs)) (view r ∷ []), rows, before view rs i inside, row) refl
+
+-- the first row at fault
+pub each-fault : {R X : Type 0} (view : R → Record) (reading : ℕ → Record → Result X ImportFault) (line : ℕ) (rs : List R) (i : ℕ) (r : R) (xs : List X) (fault : ImportFault)
+    → i < length rs → r ≡ get_or rs i r → each reading line (map view (take i rs)) ≡ Ok xs → row_at reading (line + i) (view r) ≡ Err fault
+    → each reading line (map view rs) ≡ Err fault
+unfolding both
+each-fault view reading line rs i r xs fault inside here rows row =
+    let whole : rs ≡ take i rs ++ r ∷ drop (i + 1) rs =
+    sym (take-append-drop (i + 1) rs) ∙ ap (λ front. front ++ drop (i + 1) rs) (take_more rs i r inside ∙ ap (λ x. take i rs ++ x ∷ []) (sym here)) ∙ append_assoc (take i rs) (r ∷ []) (drop (i + 1) rs) in
+    let parts = ap (map view) whole ∙ map-append view (take i rs) (r ∷ drop (i + 1) rs) in
+    ap (each reading line) parts ∙ rw (each-append reading line (map view (take i rs)) (view r ∷ map view (drop (i + 1) rs)), rows, before view rs i inside, row) refl

@@ -1,0 +1,7 @@
+use Rattle.std.proofs.Common.{ap, ◌∙◌}
+use Rattle.cfx_profile.specs.Forms.{designator_of}
+use Rattle.cfx_profile.proofs.Names.{designator_of-read}
+use Rattle.imports.proofs.fields.designator_of.Goals as goal
+
+pub returns : goal.returns
+returns c = designator_of-read _ _ c.read.ensures ∙ ap designator_of c.as_bytes.ensures.value

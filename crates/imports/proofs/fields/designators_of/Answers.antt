@@ -1,0 +1,65 @@
+use Rattle.std.proofs.Common.{rules, arith, ◌≡◌, ◌∙◌, sym, refl, ap, ℕ, ◌≤◌, List, [], ◌∷◌, ◌++◌, length, true, false, if◌then◌else◌, Option, Some, None, SomeIff}
+use Rattle.std.specs.Prelude.{nat_le, ◌==◌}
+use Rattle.std.specs.List.{list_all}
+use Rattle.std.proofs.lemmas.Bool.Decides.{nat_tests}
+use Rattle.std.proofs.lemmas.List.{map-append}
+use Rattle.std.proofs.lemmas.List.Folds.{list_all-append, list_all_at}
+use Rattle.std.proofs.lemmas.List.Splits.{length-slice_split}
+use Rattle.std.proofs.lemmas.Iterator.Consumers.{YieldsList-turn, YieldsList-end}
+use Rattle.std.proofs.lemmas.Iterator.Splits.{YieldsList-from_str_split}
+use Rattle.desk_types.specs.declared.list.TheConstants.{LONGEST_LIST}
+use Rattle.desk_types.specs.Bounds.{IsListLength}
+use Rattle.desk_types.specs.Id.{Name}
+use Rattle.cfx_profile.specs.Forms.{is_designator, designator_of}
+use Rattle.imports.specs.File.{words_of, designators_of}
+use Rattle.imports.proofs.fields.designators_of.Goals as goal
+
+is-from_read : (text d : Name) → designator_of text ≡ Some d → (is_designator text ≡ true) × (d ≡ text)
+unfolding designator_of
+is-from_read text d =
+    elim (is_designator text) as (λ b. (if b then Some text else None) ≡ Some d → (b ≡ true) × (d ≡ text))
+    [ true ↦ λ is. (refl, cc) | false ↦ λ is. cc ]
+
+not-from_read : (text : Name) → designator_of text ≡ None → is_designator text ≡ false
+unfolding designator_of
+not-from_read text =
+    elim (is_designator text) as (λ b. (if b then Some text else None) ≡ None → b ≡ false)
+    [ true ↦ λ is. cc | false ↦ λ is. refl ]
+
+-- all words of a text as a list of 1 to 5,000
+list_of : (read : Option (List Name)) (text : List ℕ) (found : List Name)
+    → found ≡ words_of text → list_all is_designator found ≡ true → SomeIff read (IsListLength (length found)) found → read ≡ designators_of text
+unfolding designators_of
+list_of (Some xs) text found words all is = let fits = is.0.1 in let same = is.1 in grind (arith, nat_tests)
+list_of None text found words all none =
+    let count = length-slice_split (λ byte. byte == 0x20) text in
+    let some : 1 ≤ length found = omega (arith, ap length words, count) in
+    elim (nat_le (length found) LONGEST_LIST) as (λ b. nat_le (length found) LONGEST_LIST ≡ b → None ≡ designators_of text)
+    [ true ↦ λ fits. absurd (none (some, grind (arith, nat_tests))) | false ↦ λ long. rw (sym words, all, long) refl ] refl
+
+pub loop-word-preserved : goal.loop-word-preserved
+loop-word-preserved c =
+    let word = c.in-Some.word in
+    let read : designator_of word.now ≡ Some c.in-Some-designator_of.designator = search rules in
+    let is = is-from_read _ _ read in
+    let found = c.loop-word.found.items in
+    let pushed : c.push.new.self.items ≡ found ++ c.in-Some-designator_of.designator ∷ [] = search rules in
+    let before = c.loop-word.invariant in
+    record {
+      words = rw (map-append (λ word. word.now) c.loop-word.yielded (word ∷ []), pushed, before.words, is.1) refl;
+      designators = rw (pushed, list_all-append is_designator found (c.in-Some-designator_of.designator ∷ []), before.designators, is.1, is.0) refl;
+    }
+
+pub returns-in-None-designator_of : goal.returns-in-None-designator_of
+unfolding designators_of
+returns-in-None-designator_of c =
+    let words = words_of c.args.text.now in
+    let turn = YieldsList-turn (YieldsList-from_str_split 32 c.args.text.now (omega arith) (cc) (cc) (cc)) c.loop-word.yielded _ c.loop-word.yielded_by _ _ c.in-Some.word c.in-Some.is c.next.ensures.steps in
+    let read : designator_of c.in-Some.word.now ≡ None = search rules in
+    let one = list_all_at is_designator words (length c.loop-word.yielded) c.in-Some.word.now turn.0 (ap is_designator (sym turn.1) ∙ not-from_read _ read) in
+    rw one refl
+
+pub returns : goal.returns
+returns c =
+    let all = YieldsList-end (YieldsList-from_str_split 32 c.args.text.now (omega arith) (cc) (cc) (cc)) c.loop-word.yielded _ c.loop-word.yielded_by _ _ c.in-None.is c.next.ensures.steps in
+    list_of c.new.result c.args.text.now c.loop-word.found.items (c.loop-word.invariant.words ∙ all.0) c.loop-word.invariant.designators c.new.ensures

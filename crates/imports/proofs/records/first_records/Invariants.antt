@@ -1,0 +1,13 @@
+use Rattle.std.proofs.Common.{◌≡◌, ◌<◌, ℕ, List, Some, map, length}
+use Rattle.csv.specs.Reading.{Reached, Ready, default_config, source_of, strip_bom}
+use Rattle.csv.specs.Records.{fields_of}
+use Rattle.csv.specs.declared.parser.State.TheVariants as st
+use Rattle.csv.specs.declared.reader.Trim.TheVariants as trim
+use Rattle.imports.specs.declared.records.TheConstants.{MOST_RECORDS}
+use Rattle.imports.proofs.records.first_records.Given as goal
+
+-- the records so far took the bytes to what the reader has left
+abbrev pub invariant-loop-row : goal.invariant-loop-row
+invariant-loop-row l = (length l.records.items < MOST_RECORDS) × (l.row-iterator.rdr.trim ≡ trim.None) × Ready l.row-iterator.rdr × (0 < l.row-iterator.left) × (l.row-iterator.rdr.config ≡ default_config)
+    × (left : List ℕ) × (source_of (λ s. Some s.now) l.row-iterator.rdr ≡ Some left)
+    × Reached default_config st.StartRecord (strip_bom l.fn.bytes) (map fields_of l.records.items) l.row-iterator.rdr.state left

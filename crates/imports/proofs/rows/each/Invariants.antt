@@ -1,0 +1,15 @@
+use Rattle.std.proofs.Common.{◌≡◌, ◌≤◌, ◌+◌, map, take, length, Ok}
+use Rattle.csv.specs.Records.{fields_of}
+use Rattle.desk_types.specs.declared.list.TheConstants.{LONGEST_LIST}
+use Rattle.imports.specs.declared.rows.TheConstants.{FIRST_ROW}
+use Rattle.imports.specs.File.{each}
+use Rattle.imports.proofs.rows.each.Given as goal
+
+-- the records so far are these rows, and the next one stands at this line
+abbrev pub invariant-loop-record : goal.invariant-loop-record
+invariant-loop-record g l = record {
+  said : each g.T.Row.said FIRST_ROW (map fields_of (take l.record-index l.records)) ≡ Ok l.rows.items;
+  line : l.line ≡ FIRST_ROW + l.record-index;
+  count : length l.rows.items ≡ l.record-index;
+  bound : length l.rows.items ≤ LONGEST_LIST;
+}

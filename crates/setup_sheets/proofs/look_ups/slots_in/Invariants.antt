@@ -1,0 +1,13 @@
+use Rattle.std.proofs.Common.{◌≡◌, length}
+use Rattle.std.specs.Option.{option_or}
+use Rattle.desk_types.specs.Id.{Name}
+use Rattle.desk_types.specs.Setup.{slot_in}
+use Rattle.setup_sheets.specs.LookUps.{slot_at}
+use Rattle.setup_sheets.proofs.look_ups.slots_in.Given as goal
+
+-- the rows that are left, over what is known so far, say what all rows say
+abbrev pub invariant-loop-row : goal.invariant-loop-row
+invariant-loop-row l = (d : Name) → option_or (slot_in l.rest d) (slot_at l.slots d) ≡ slot_in l.rows d
+
+abbrev pub decreases-loop-row : goal.decreases-loop-row
+decreases-loop-row l = length l.rest

@@ -1,0 +1,108 @@
+//! A sheet with its look-ups.
+
+ghost use Rattle.std.specs.Prelude.{◌≡◌, Some, if◌then◌else◌, IfOk, OnOk};
+ghost use Rattle.std.specs.Option.{option_copied};
+ghost use Rattle.std.specs.List.{list_any};
+ghost use Rattle.desk_types.specs.Id.{Name, same};
+ghost use Rattle.desk_types.specs.Setup.{row_in, slot_in};
+ghost use Rattle.setup_sheets.specs.LookUps.{slot_at, row_at};
+
+use desk_types::{Designator, Id, SheetRow, SheetRows};
+use std::alloc::{AllocError, Global};
+use std::collections::BTreeMap;
+use std::marker::Model;
+
+/// The rows of a sheet, with the place of each slot's row and the slot of each designator, so that
+/// either is found without a walk over the rows. Contracts see it as its rows in sheet order.
+#[derive(Drop)]
+pub struct Sheet {
+    rows: SheetRows,
+    places: BTreeMap<Id, usize>,
+    slots: BTreeMap<Designator, Id>,
+}
+
+impl Model for Sheet {
+    ghost use Rattle.std.specs.Prelude.{List};
+    ghost use Rattle.desk_types.specs.declared.sheet.SheetRow.{SheetRow};
+    ghost use Rattle.setup_sheets.specs.LookUps.{AreLookUps};
+
+    ghost Value = { List SheetRow };
+
+    ghost view = { λ a. a.rows };
+
+    ghost invariant = { λ a. AreLookUps a.rows a.places a.slots };
+}
+
+impl Sheet {
+    /// The sheet of these rows. Fails only where memory is refused.
+    pub fn new(alloc: Global, rows: SheetRows) -> Result<Sheet, AllocError>
+        ensures { IfOk result (λ sheet. sheet ≡ rows) }
+    {
+        let places = places_in(alloc, rows.as_slice())?;
+        let slots = slots_in(alloc, rows.as_slice())?;
+        Ok(Sheet {
+            rows,
+            places,
+            slots,
+        })
+    }
+
+    /// The rows in sheet order.
+    pub fn rows(&self) -> &SheetRows
+        ensures { result.now ≡ self.now }
+    {
+        &self.rows
+    }
+
+    /// The first row for the slot. Takes no memory.
+    pub fn row(&self, slot: &Id) -> Option<&SheetRow>
+        ensures { option_copied result ≡ row_in self.now slot.now }
+    {
+        let place = self.places.get(slot)?;
+        self.rows.as_slice().get(*place)
+    }
+
+    /// The slot of the first row that has the designator. Takes no memory.
+    pub fn slot(&self, designator: &Designator) -> Option<Id>
+        ensures { result ≡ slot_in self.now designator.now }
+    {
+        match self.slots.get(designator) {
+            Some(slot) => Some(*slot),
+            None => None,
+        }
+    }
+}
+
+/// The place of the first row of each slot.
+fn places_in(alloc: Global, rows: &[SheetRow]) -> Result<BTreeMap<Id, usize>, AllocError>
+    ensures { (s : Name) → IfOk result (λ places. row_at rows.now places s ≡ row_in rows.now s) }
+{
+    let mut places = BTreeMap::new(alloc);
+    for i in (0..rows.len()).rev() {
+        places.insert(rows[i].slot, i)?;
+    }
+    Ok(places)
+}
+
+/// The designators of a row go to its slot.
+fn note_row(slots: &mut BTreeMap<Designator, Id>, row: &SheetRow) -> Result<(), AllocError>
+    ensures { (d : Name) → OnOk result (slot_at slots.new d ≡ (if list_any (same d) row.now.designators then Some row.now.slot else slot_at slots.old d)) }
+{
+    for designator in row.designators.as_slice() {
+        slots.insert(*designator, row.slot)?;
+    }
+    Ok(())
+}
+
+/// The slot of each designator of a sheet; the first row that has it counts.
+fn slots_in(alloc: Global, rows: &[SheetRow]) -> Result<BTreeMap<Designator, Id>, AllocError>
+    ensures { (d : Name) → IfOk result (λ slots. slot_at slots d ≡ slot_in rows.now d) }
+{
+    let mut slots = BTreeMap::new(alloc);
+    let mut rest = rows;
+    while let Some((row, before)) = rest.split_last() {
+        note_row(&mut slots, row)?;
+        rest = before;
+    }
+    Ok(slots)
+}

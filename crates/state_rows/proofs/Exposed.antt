@@ -1,0 +1,119 @@
+-- Exposure by the minute since which a reel is out.
+use Rattle.std.proofs.Common.{◌≡◌, ℕ, ◌+◌, ◌-◌, ◌<◌, ◌≤◌, Bool, true, false, Option, Some, None, [], ◌∷◌, refl, sym, ap, ◌∙◌, subst, unwrap_or, arith}
+use Rattle.std.specs.Prelude.{nat_le}
+use Rattle.std.specs.Option.{option_or}
+use Rattle.std.proofs.lemmas.Bool.{leb-true, leb-false}
+use Rattle.desk_types.specs.declared.command.Entry.{Entry}
+use Rattle.desk_types.specs.declared.rules.Rules.TheVariants.{Two}
+use Rattle.desk_types.specs.Id.{Name}
+use Rattle.desk_types.specs.History.{History, now_of}
+use Rattle.desk_types.specs.FloorLife.{open_by, is_out_at, exposure_starts, exposure_of, since_after, out_since}
+use Rattle.desk_types.specs.Judged.{IsNext, IsJudged}
+use Rattle.desk_types.proofs.Exposure.{is_out-before, is_out-after, is_out-untouched}
+use Rattle.desk_types.proofs.Minutes.{count-split, count-one}
+use Rattle.desk_types.proofs.ReelCommands.{IsQuiet-open, IsQuiet-untouched, exposure_starts-quiet}
+use Rattle.desk_laws.proofs.Judgements.{AreBy, by-later, by-desk_minute}
+use Rattle.desk_laws.proofs.Openings.{starts-by}
+
+-- ---- the desk minute
+
+-- The desk minute after the entry is its own,
+pub now-next : (H : History) (e : Entry) → IsNext Two H e → now_of (e ∷ H) ≡ e.effective
+now-next H e next = let is = next.effective in omega (arith, is)
+
+-- and the one before it is no later.
+pub now-before : (H : History) (e : Entry) → IsNext Two H e → now_of H ≤ e.effective
+now-before H e next = let is = next.effective in omega (arith, is)
+
+-- ---- in its bag
+
+-- what is opened has a minute
+or-not-none : {P : Type 0} (since : Option ℕ) (minute : ℕ) → option_or since (Some minute) ≡ None → P
+or-not-none None minute none = cc
+or-not-none (Some s) minute none = cc
+
+-- from the last entry on, a reel in its bag is in it
+in-at : (H : History) (reel : Name) (minute : ℕ) → AreBy H minute → out_since H reel ≡ None → is_out_at H reel minute ≡ false
+unfolding is_out_at
+in-at [] reel minute all in_bag = refl
+in-at (e ∷ H) reel minute (first, all) in_bag = by (open_by reel e.stamped.command) refl in_bag (in-at H reel minute all)
+  where
+    by : (said : Option Bool) → open_by reel e.stamped.command ≡ said → since_after said e.effective (out_since H reel) ≡ None
+        → (out_since H reel ≡ None → is_out_at H reel minute ≡ false) → is_out_at (e ∷ H) reel minute ≡ false
+    by (Some true) is none before = or-not-none (out_since H reel) e.effective none
+    by (Some false) is none before = is_out-after H e reel false minute is first
+    by None is none before = is_out-untouched H e reel minute is ∙ before none
+
+-- The exposure of a reel in its bag stands still from the desk minute on.
+pub exposure-in_bag : (H : History) (reel : Name) (minute : ℕ) → out_since H reel ≡ None → now_of H ≤ minute
+    → exposure_of H reel minute ≡ exposure_of H reel (now_of H)
+unfolding exposure_of
+exposure-in_bag H reel minute in_bag le =
+    let all = by-desk_minute H in
+    let parts = count-split (is_out_at H reel) (exposure_starts H reel) (now_of H) minute (starts-by H reel (now_of H) all) le in
+    let rest = count-one (is_out_at H reel) false (now_of H) minute (λ t low high. in-at H reel t (by-later H (now_of H) t low all) in_bag) in
+    omega (arith, parts, rest)
+
+-- ---- out of its bag
+
+-- from the minute since which it is out, a reel is out
+out-from : (H : History) (reel : Name) (since t : ℕ) → out_since H reel ≡ Some since → since ≤ t → is_out_at H reel t ≡ true
+out-from [] reel since t out le = cc
+out-from (e ∷ H) reel since t out le = by (open_by reel e.stamped.command) refl out (λ is. out-from H reel since t is le)
+  where
+    opened : (before : Option ℕ) → out_since H reel ≡ before → option_or before (Some e.effective) ≡ Some since → t < e.effective
+        → (out_since H reel ≡ Some since → is_out_at H reel t ≡ true) → is_out_at (e ∷ H) reel t ≡ true
+    opened None none is lt before = let one = ap (λ o. unwrap_or o 0) is in absurd (omega (arith, one, lt, le))
+    opened (Some s) some is lt before = is_out-before H e reel t lt ∙ before (some ∙ is)
+
+    at : (b : Bool) → nat_le e.effective t ≡ b → open_by reel e.stamped.command ≡ Some true → option_or (out_since H reel) (Some e.effective) ≡ Some since
+        → (out_since H reel ≡ Some since → is_out_at H reel t ≡ true) → is_out_at (e ∷ H) reel t ≡ true
+    at true come says is before = is_out-after H e reel true t says (leb-true _ _ come)
+    at false not_yet says is before = opened (out_since H reel) refl is (leb-false _ _ not_yet) before
+
+    by : (said : Option Bool) → open_by reel e.stamped.command ≡ said → since_after said e.effective (out_since H reel) ≡ Some since
+        → (out_since H reel ≡ Some since → is_out_at H reel t ≡ true) → is_out_at (e ∷ H) reel t ≡ true
+    by (Some true) says is before = at (nat_le e.effective t) refl says is before
+    by (Some false) says is before = cc
+    by None says is before = is_out-untouched H e reel t says ∙ before is
+
+-- a reel is out since no later than the last entry
+pub since-by : (H : History) (reel : Name) (since minute : ℕ) → AreBy H minute → out_since H reel ≡ Some since → since ≤ minute
+since-by [] reel since minute all out = cc
+since-by (e ∷ H) reel since minute (first, all) out = by (open_by reel e.stamped.command) out (since-by H reel since minute all)
+  where
+    opened : (before : Option ℕ) → out_since H reel ≡ before → option_or before (Some e.effective) ≡ Some since → (out_since H reel ≡ Some since → since ≤ minute) → since ≤ minute
+    opened None none is before = let one = ap (λ o. unwrap_or o 0) is in omega (arith, one, first)
+    opened (Some s) some is before = before (some ∙ is)
+
+    by : (said : Option Bool) → since_after said e.effective (out_since H reel) ≡ Some since → (out_since H reel ≡ Some since → since ≤ minute) → since ≤ minute
+    by (Some true) is before = opened (out_since H reel) refl is before
+    by (Some false) is before = cc
+    by None is before = before is
+
+-- exposure begins no later than the minute since which the reel is out
+starts-since : (H : History) (reel : Name) (since : ℕ) → IsJudged Two H → out_since H reel ≡ Some since → exposure_starts H reel ≤ since
+starts-since [] reel since judged out = cc
+starts-since (e ∷ H) reel since (next, judged) out = by (open_by reel e.stamped.command) refl out (starts-since H reel since judged)
+  where
+    opened : (before : Option ℕ) → out_since H reel ≡ before → option_or before (Some e.effective) ≡ Some since
+        → (out_since H reel ≡ Some since → exposure_starts H reel ≤ since) → exposure_starts H reel ≤ since
+    opened None none is before = let one = ap (λ o. unwrap_or o 0) is in let begun = starts-by H reel e.effective (by-later H (now_of H) e.effective (now-before H e next) (by-desk_minute H)) in omega (arith, one, begun)
+    opened (Some s) some is before = before (some ∙ is)
+
+    by : (said : Option Bool) → open_by reel e.stamped.command ≡ said → since_after said e.effective (out_since H reel) ≡ Some since
+        → (out_since H reel ≡ Some since → exposure_starts H reel ≤ since) → exposure_starts (e ∷ H) reel ≤ since
+    by (Some true) says is before =
+        subst (λ n. n ≤ since) (sym (exposure_starts-quiet H e reel (IsQuiet-open reel e.effective e.stamped.command says))) (opened (out_since H reel) refl is before)
+    by (Some false) says is before = cc
+    by None says is before =
+        subst (λ n. n ≤ since) (sym (exposure_starts-quiet H e reel (IsQuiet-untouched reel e.effective e.stamped.command says))) (before is)
+
+-- The exposure of a reel that is out goes on minute by minute from when it came out.
+pub exposure-out : (H : History) (reel : Name) (since minute : ℕ) → IsJudged Two H → out_since H reel ≡ Some since → since ≤ minute
+    → exposure_of H reel minute ≡ exposure_of H reel since + (minute - since)
+unfolding exposure_of
+exposure-out H reel since minute judged out le =
+    let parts = count-split (is_out_at H reel) (exposure_starts H reel) since minute (starts-since H reel since judged out) le in
+    let rest = count-one (is_out_at H reel) true since minute (λ t low high. out-from H reel since t out low) in
+    omega (arith, parts, rest)

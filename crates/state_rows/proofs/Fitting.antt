@@ -1,0 +1,89 @@
+-- Sums of rows stay in their ranges.
+use Rattle.std.proofs.Common.{◌≡◌, ℕ, ◌+◌, ◌-◌, ◌≤◌, ◌<◌, ◌^◌, Option, Some, None, ◌∷◌, length, refl, sym, subst, arith}
+use Rattle.std.specs.Option.{option_map, option_map_or}
+use Rattle.desk_types.specs.declared.command.Entry.{Entry}
+use Rattle.desk_types.specs.declared.command.Receipt.{Receipt}
+use Rattle.desk_types.specs.declared.command.Stamped.{Stamped}
+use Rattle.desk_types.specs.declared.desk.TheConstants.{MOST_ENTRIES}
+use Rattle.desk_types.specs.declared.number.TheConstants.{GREATEST_QUANTITY}
+use Rattle.desk_types.specs.declared.rules.Rules.{Rules}
+use Rattle.desk_types.specs.declared.rules.Rules.TheVariants.{Two}
+use Rattle.desk_types.specs.declared.view.ReelView.{ReelView}
+use Rattle.desk_types.specs.Command.{IsStamped}
+use Rattle.desk_types.specs.Id.{Name}
+use Rattle.desk_types.specs.Number.{IsMinute, IsCountedQuantity}
+use Rattle.desk_types.specs.Pieces.{picks_of, received_of}
+use Rattle.desk_types.specs.Refusals.{refusal_of}
+use Rattle.desk_types.specs.History.{History, now_of, effective_minute, entry_of}
+use Rattle.desk_types.specs.Setup.{receipt_of}
+use Rattle.desk_types.specs.FloorLife.{out_since}
+use Rattle.desk_types.specs.View.{view_of, used_of, reel_view}
+use Rattle.desk_types.specs.Judged.{IsNext, IsJudged}
+use Rattle.desk_types.proofs.BothRules.{accepted-by-two}
+use Rattle.desk_laws.proofs.Balance.{balance}
+use Rattle.desk_laws.proofs.Exposures.{exposure-within}
+use Rattle.desk_laws.proofs.Ranges.{received-range}
+use Rattle.desk_laws.proofs.Totals.{placed-next, scrapped-next}
+use Rattle.state_rows.specs.declared.row.ReelRow.{ReelRow}
+use Rattle.state_rows.specs.Tables.{columns_of, reel_row}
+use Rattle.state_rows.specs.EditsOf.{ArePiecesFitting, CountFits}
+use Rattle.state_rows.proofs.ReelRows.{used-then}
+
+-- ---- exposure
+
+-- What is kept of the exposure at a seal is no more than the minute.
+pub kept-fits : (H : History) (reel : Name) (minute : ℕ) (row : ReelRow) → IsJudged Two H → now_of H ≤ minute → reel_row H reel ≡ Some row
+    → row.used + option_map_or (λ from. minute - from) row.open_since 0 ≤ minute
+kept-fits H reel minute row judged le is = by (receipt_of H reel) is
+  where
+    whole : used_of H reel + option_map_or (λ from. minute - from) (out_since H reel) 0 ≤ minute
+    whole = let all = used-then H reel minute (out_since H reel) judged refl le in let few = exposure-within H reel minute in omega (arith, all, few)
+
+    by : (said : Option Receipt) → option_map columns_of (option_map (view_of H reel) said) ≡ Some row → row.used + option_map_or (λ from. minute - from) row.open_since 0 ≤ minute
+    by None is = cc
+    by (Some receipt) is = subst (λ o. option_map_or (λ (r : ReelRow). r.used + option_map_or (λ from. minute - from) r.open_since 0) o 0 ≤ minute) is whole
+
+-- ---- pieces
+
+-- all pieces of a reel, and as many more as a count may tell, fit
+received-fits : (H : History) (reel : Name) → IsJudged Two H → length H ≤ MOST_ENTRIES → received_of H reel + GREATEST_QUANTITY < 2 ^ 64
+received-fits H reel judged few = let range = received-range H reel judged in omega (arith, range, few)
+
+-- The sums of the next entry's pieces fit.
+pub pieces-fit : (H : History) (e : Entry) → IsJudged Two (e ∷ H) → length H + 1 ≤ MOST_ENTRIES → ArePiecesFitting H (picks_of H e.stamped.command)
+pieces-fit H e judged few = λ r.
+    let all = balance (e ∷ H) r judged in
+    let fits = received-fits (e ∷ H) r judged (omega (arith, few)) in
+    let placed = placed-next H e r in
+    let scrapped = scrapped-next H e r in
+    (omega (arith, all, fits, placed), omega (arith, all, fits, scrapped))
+
+-- The sums of a count of a reel fit.
+pub count-fits : (H : History) (reel : Name) (n : ℕ) (view : ReelView) → IsJudged Two H → length H ≤ MOST_ENTRIES → IsCountedQuantity n → reel_view H reel ≡ Some view
+    → CountFits n view
+count-fits H reel n view judged few range is = by (receipt_of H reel) is
+  where
+    all : received_of H reel + GREATEST_QUANTITY < 2 ^ 64
+    all = received-fits H reel judged few
+
+    by : (said : Option Receipt) → option_map (view_of H reel) said ≡ Some view → CountFits n view
+    by None is = cc
+    by (Some receipt) is =
+        let parts = balance H reel judged in
+        let one : view ≡ view_of H reel receipt = cc in
+        subst (CountFits n) (sym one) (record {
+          received = omega (arith, all, range);
+          scrapped = omega (arith, all, parts, range);
+          found = omega (arith, all, range);
+        })
+
+-- ---- entries
+
+-- A command that is accepted, by either rules, makes the next entry.
+pub entry-next : (rules : Rules) (H : History) (s : Stamped) → IsStamped s → IsMinute (effective_minute H s.minute) → refusal_of rules H s ≡ None → IsNext Two H (entry_of H s)
+entry-next rules H s range minute accepted = record {
+  in_range = record { stamped = range; effective = minute };
+  number = refl;
+  effective = refl;
+  accepted = accepted-by-two rules H s accepted;
+}

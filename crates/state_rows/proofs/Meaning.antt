@@ -1,0 +1,121 @@
+-- What the rows of mounted reels mean: a row says exactly that its reel is live on its slot.
+use Rattle.std.proofs.Common.{◌≡◌, ℕ, Bool, true, false, Option, Some, None, [], ◌∷◌, refl, sym, ap, ◌∙◌}
+use Rattle.std.specs.Prelude.{if◌then◌else◌, ◌&&◌, is_some}
+use Rattle.std.specs.Option.{option_or, option_map_or}
+use Rattle.std.proofs.lemmas.Bool.{and_parts, and_from}
+use Rattle.desk_types.specs.declared.command.Command.{Command}
+use Rattle.desk_types.specs.declared.command.Command.TheVariants.{MaterialsLoaded, MaterialsSpliced, MaterialsUnloaded}
+use Rattle.desk_types.specs.declared.rules.Rules.TheVariants.{Two}
+use Rattle.desk_types.specs.Id.{Name, same}
+use Rattle.desk_types.specs.History.{History}
+use Rattle.desk_types.specs.Pieces.{live_on, is_mounted}
+use Rattle.desk_types.specs.Judged.{IsJudged}
+use Rattle.desk_types.proofs.Keys.{same-refl, same-true}
+use Rattle.desk_laws.specs.Place.{is_at, place_after, place_of}
+use Rattle.desk_laws.proofs.Mounted.{mounted-is}
+use Rattle.desk_laws.proofs.Mounts.{has, has-live_on, live-mounted}
+use Rattle.desk_laws.proofs.Places.{placed, live-placed}
+use Rattle.state_rows.specs.declared.row.MountRow.{MountRow}
+use Rattle.state_rows.specs.Tables.{put_by, last_put, mount_row}
+use Rattle.state_rows.proofs.MountRows.{some_left}
+
+-- ---- mounts
+
+-- the last load or splice of the reel put it onto this slot
+record IsPutAt (last : Option MountRow) (reel : Name) (slot : Name × Name) : Type 0 where
+  row : MountRow
+  is : last ≡ Some row
+  reel_is : row.reel ≡ reel
+  machine_is : row.machine ≡ slot.0
+  slot_is : row.slot ≡ slot.1
+
+put-step : (reel : Name) (number : ℕ) (command : Command) (place : Option (Name × Name)) (last : Option MountRow) (q : Name × Name)
+    → (place ≡ Some q → IsPutAt last reel q) → place_after reel command place ≡ Some q → IsPutAt (option_or (put_by reel number command) last) reel q
+put-step reel number (MaterialsLoaded m s r) place last q before is = by (same r reel) is
+  where
+    row : MountRow
+    row = record { since = number; machine = m; slot = s; reel = reel }
+
+    stays : (b : Bool) → (if b then None else place) ≡ Some q → place ≡ Some q
+    stays true is = cc
+    stays false is = is
+
+    by : (b : Bool) → (if b then Some (m, s) else (if is_at m s place then None else place)) ≡ Some q → IsPutAt (option_or (if◌then◌else◌ {A = Option MountRow} b (Some row) None) last) reel q
+    by true is = record {
+      row = row;
+      is = refl;
+      reel_is = refl;
+      machine_is = ap (λ o. option_map_or (λ (x : Name × Name). x.0) o []) is;
+      slot_is = ap (λ o. option_map_or (λ (x : Name × Name). x.1) o []) is;
+    }
+    by false is = before (stays (is_at m s place) is)
+put-step reel number (MaterialsSpliced m s r) place last q before is = by (same r reel) is
+  where
+    row : MountRow
+    row = record { since = number; machine = m; slot = s; reel = reel }
+
+    by : (b : Bool) → (if b then Some (m, s) else place) ≡ Some q → IsPutAt (option_or (if◌then◌else◌ {A = Option MountRow} b (Some row) None) last) reel q
+    by true is = record {
+      row = row;
+      is = refl;
+      reel_is = refl;
+      machine_is = ap (λ o. option_map_or (λ (x : Name × Name). x.0) o []) is;
+      slot_is = ap (λ o. option_map_or (λ (x : Name × Name). x.1) o []) is;
+    }
+    by false is = before is
+put-step reel number (MaterialsUnloaded m s) place last q before is = before (stays (is_at m s place) is)
+  where
+    stays : (b : Bool) → (if b then None else place) ≡ Some q → place ≡ Some q
+    stays true is = cc
+    stays false is = is
+put-step reel number _ place last q before is = before is
+
+put-there : (H : History) (reel : Name) (q : Name × Name) → place_of H reel ≡ Some q → IsPutAt (last_put H reel) reel q
+unfolding place_of
+put-there [] reel q is = cc
+put-there (e ∷ H) reel q is = put-step reel e.number e.stamped.command (place_of H reel) (last_put H reel) q (put-there H reel q) is
+
+-- A row of `mount` is of a reel that is live on its slot.
+pub mount-live : (H : History) (reel : Name) (row : MountRow) → IsJudged Two H → mount_row H reel ≡ Some row → has (live_on H row.machine row.slot) reel ≡ true
+mount-live H reel row judged is = by (is_mounted H reel) refl is
+  where
+    at : (place : Option (Name × Name)) → place_of H reel ≡ place → (is_some place && some_left H reel) ≡ true → last_put H reel ≡ Some row → has (live_on H row.machine row.slot) reel ≡ true
+    at None here some last = cc
+    at (Some q) here some last =
+        let put = put-there H reel q here in
+        let one : put.row ≡ row = ap (λ o. option_map_or (λ (x : MountRow). x) o row) (sym put.is ∙ last) in
+        has-live_on H row.machine row.slot reel
+        ∙ and_from _ _ some (
+        placed H row.machine row.slot reel judged some
+        ∙ ap (is_at row.machine row.slot) here
+        ∙ and_from _ _ (ap (λ x. same x row.machine) (sym put.machine_is ∙ ap (λ (x : MountRow). x.machine) one) ∙ same-refl row.machine)
+        (ap (λ x. same x row.slot) (sym put.slot_is ∙ ap (λ (x : MountRow). x.slot) one) ∙ same-refl row.slot))
+
+    by : (b : Bool) → is_mounted H reel ≡ b → (if b then last_put H reel else None) ≡ Some row → has (live_on H row.machine row.slot) reel ≡ true
+    by true mounted is = at (place_of H reel) refl (sym (mounted-is H reel judged) ∙ mounted) is
+    by false off is = cc
+
+-- a row of this reel on this slot
+pub record IsMountOf (row : Option MountRow) (machine slot reel : Name) : Type 0 where
+  pub mount : MountRow
+  pub is : row ≡ Some mount
+  pub reel_is : mount.reel ≡ reel
+  pub machine_is : mount.machine ≡ machine
+  pub slot_is : mount.slot ≡ slot
+
+-- A reel that is live on a slot has a row of `mount` with it.
+pub live-mount : (H : History) (machine slot reel : Name) → IsJudged Two H → has (live_on H machine slot) reel ≡ true → IsMountOf (mount_row H reel) machine slot reel
+live-mount H machine slot reel judged live = at (place_of H reel) refl (live-placed H machine slot reel judged live)
+  where
+    at : (place : Option (Name × Name)) → place_of H reel ≡ place → is_at machine slot place ≡ true → IsMountOf (mount_row H reel) machine slot reel
+    at None here there = cc
+    at (Some q) here there =
+        let put = put-there H reel q here in
+        let both = and_parts (same q.0 machine) (same q.1 slot) there in
+        record {
+          mount = put.row;
+          is = ap (λ b. if b then last_put H reel else None) (live-mounted H machine slot reel live) ∙ put.is;
+          reel_is = put.reel_is;
+          machine_is = put.machine_is ∙ same-true q.0 machine both.0;
+          slot_is = put.slot_is ∙ same-true q.1 slot both.1;
+        }

@@ -1,0 +1,111 @@
+-- The row of a mounted reel after one entry more.
+use Rattle.std.proofs.Common.{◌≡◌, ℕ, ◌-◌, nat_lt, Bool, true, false, not, Option, Some, None, ◌∷◌, refl, sym, ap, ◌∙◌, unwrap_or, arith}
+use Rattle.std.specs.Prelude.{if◌then◌else◌, ◌&&◌, ◌==◌, is_some}
+use Rattle.std.specs.Option.{option_or}
+use Rattle.desk_types.specs.declared.command.Command.{Command}
+use Rattle.desk_types.specs.declared.command.Command.TheVariants.{ReelReceived, MaterialsLoaded, MaterialsSpliced, MaterialsUnloaded, MaterialsInstalled, MaterialsScrapped, CountsTaken}
+use Rattle.desk_types.specs.declared.command.Entry.{Entry}
+use Rattle.desk_types.specs.declared.command.Receipt.{Receipt}
+use Rattle.desk_types.specs.declared.rules.Rules.TheVariants.{Two}
+use Rattle.desk_types.specs.Id.{Name, same}
+use Rattle.desk_types.specs.History.{History}
+use Rattle.desk_types.specs.Setup.{receipt_of}
+use Rattle.desk_types.specs.Pieces.{picked, told_by, picks_of, left_of, live_on, is_mounted}
+use Rattle.desk_types.specs.Refusals.{command_refusal}
+use Rattle.desk_types.specs.Judged.{IsJudged}
+use Rattle.desk_types.proofs.Keys.{same-true}
+use Rattle.desk_laws.specs.Place.{mounted_after}
+use Rattle.desk_laws.proofs.Accepted.{next-accepted, mountable, received-by}
+use Rattle.desk_laws.proofs.Judgements.{untouched}
+use Rattle.desk_laws.proofs.Mounts.{has}
+use Rattle.desk_laws.proofs.Mounted.{mounted-is, mounted-next}
+use Rattle.desk_laws.proofs.Places.{untouched-unplaced}
+use Rattle.desk_laws.proofs.Tapes.{not-zero}
+use Rattle.state_rows.specs.declared.row.MountRow.{MountRow}
+use Rattle.state_rows.specs.Tables.{put_by, last_put, mount_row}
+use Rattle.state_rows.specs.After.{mount_after}
+
+-- whether the reel has pieces left
+abbrev pub some_left : History → Name → Bool
+some_left H reel = nat_lt 0 (left_of H reel)
+
+-- what is left of the reel after the command
+abbrev pub left_after : History → Command → Name → ℕ
+left_after H command reel = unwrap_or (told_by reel command) (left_of H reel - picked (picks_of H command) reel)
+
+-- taking nothing leaves all
+less-none : (n : ℕ) → n - 0 ≡ n
+less-none n = omega arith
+
+-- A reel that was not received is not mounted.
+pub unreceived-unmounted : (H : History) (reel : Name) → IsJudged Two H → receipt_of H reel ≡ None → is_mounted H reel ≡ false
+unreceived-unmounted H reel judged none =
+    mounted-is H reel judged ∙ ap (λ p. is_some p && some_left H reel) (untouched-unplaced H reel (untouched H reel judged none))
+
+-- a reel that is loaded or spliced has pieces left after that too
+some-after : (H : History) (r reel : Name) → same r reel ≡ true → (left_of H r == 0) ≡ false → nat_lt 0 (left_of H reel - 0) ≡ true
+some-after H r reel here some =
+    ap (nat_lt 0) (less-none (left_of H reel)) ∙ ap (λ x. nat_lt 0 (left_of H x)) (sym (same-true r reel here)) ∙ not-zero (left_of H r) some
+
+-- a mounted reel that has none left is on no slot
+spent : (b some : Bool) (o : Option MountRow) → (if (b && some) then o else None) ≡ (if some then (if b then o else None) else None)
+spent true true o = refl
+spent true false o = refl
+spent false true o = refl
+spent false false o = refl
+
+-- after an accepted command
+step : (H : History) (minute number : ℕ) (reel : Name) (command : Command) → IsJudged Two H → command_refusal Two H minute command ≡ None
+    → (if mounted_after (nat_lt 0 (left_after H command reel)) (λ m s. has (live_on H m s) reel) reel command (is_mounted H reel)
+    then option_or (put_by reel number command) (last_put H reel) else None)
+    ≡ mount_after (nat_lt 0 (left_after H command reel)) (λ m s. has (live_on H m s) reel) reel number command (mount_row H reel)
+unfolding command_refusal
+step H minute number reel (ReelReceived r part lot moisture quantity) judged accepted = by (same r reel) refl
+  where
+    receipt : Receipt
+    receipt = record { part = part; lot = lot; moisture = moisture; quantity = quantity; effective = minute }
+
+    by : (b : Bool) → same r reel ≡ b → (if (if b then false else is_mounted H reel) then last_put H reel else None) ≡ mount_row H reel
+    by true here =
+        let none = received-by H minute reel (ReelReceived r part lot moisture quantity) receipt accepted (ap (λ b. if b then Some receipt else None) here) in
+        sym (ap (λ b. if b then last_put H reel else None) (unreceived-unmounted H reel judged none))
+    by false here = refl
+step H minute number reel (MaterialsLoaded m s r) judged accepted = by (same r reel) refl
+  where
+    row : MountRow
+    row = record { since = number; machine = m; slot = s; reel = reel }
+
+    by : (b : Bool) → same r reel ≡ b
+        → (if (if b then nat_lt 0 (left_of H reel - 0) else is_mounted H reel) then option_or (if◌then◌else◌ {A = Option MountRow} b (Some row) None) (last_put H reel) else None)
+        ≡ (if b then Some row else mount_row H reel)
+    by true here = ap (λ c. if c then Some row else None) (some-after H r reel here (mountable H minute m s r _ accepted).some)
+    by false here = refl
+step H minute number reel (MaterialsSpliced m s r) judged accepted = by (same r reel) refl
+  where
+    row : MountRow
+    row = record { since = number; machine = m; slot = s; reel = reel }
+
+    by : (b : Bool) → same r reel ≡ b
+        → (if (if b then nat_lt 0 (left_of H reel - 0) else is_mounted H reel) then option_or (if◌then◌else◌ {A = Option MountRow} b (Some row) None) (last_put H reel) else None)
+        ≡ (if b then Some row else mount_row H reel)
+    by true here = ap (λ c. if c then Some row else None) (some-after H r reel here (mountable H minute m s r _ accepted).some)
+    by false here = refl
+step H minute number reel (MaterialsUnloaded m s) judged accepted = off (is_mounted H reel) (has (live_on H m s) reel)
+  where
+    off : (b live : Bool) → (if (b && not live) then last_put H reel else None) ≡ (if live then None else (if b then last_put H reel else None))
+    off true true = refl
+    off true false = refl
+    off false true = refl
+    off false false = refl
+step H minute number reel (MaterialsInstalled m board ds) judged accepted = spent (is_mounted H reel) _ (last_put H reel)
+step H minute number reel (MaterialsScrapped m s n) judged accepted = spent (is_mounted H reel) _ (last_put H reel)
+step H minute number reel (CountsTaken counts) judged accepted = spent (is_mounted H reel) _ (last_put H reel)
+step H minute number reel _ judged accepted = refl
+
+-- The row of a mounted reel after one entry more, from its row before.
+pub mount_row-next : (H : History) (e : Entry) (reel : Name) → IsJudged Two (e ∷ H)
+    → mount_row (e ∷ H) reel ≡ mount_after (some_left (e ∷ H) reel) (λ m s. has (live_on H m s) reel) reel e.number e.stamped.command (mount_row H reel)
+unfolding left_of
+mount_row-next H e reel (next, judged) =
+    ap (λ b. if b then last_put (e ∷ H) reel else None) (mounted-next H e reel (next, judged))
+    ∙ step H e.effective e.number reel e.stamped.command judged (next-accepted H e next)

@@ -1,0 +1,7 @@
+use Rattle.std.proofs.Common.{◌≡◌, take}
+use Rattle.state_rows.specs.Edits.{with_edits}
+use Rattle.state_rows.specs.Kept.{tables_in, but_placements}
+use Rattle.state_rows.proofs.set.RowSet.apply_but_placements.Given as goal
+
+abbrev pub invariant-loop-edit : goal.invariant-loop-edit
+invariant-loop-edit l = tables_in l.self ≡ but_placements (with_edits (take l.edit-index l.edits) (tables_in l.initial.self)) (tables_in l.initial.self)

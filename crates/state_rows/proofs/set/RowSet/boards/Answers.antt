@@ -1,0 +1,8 @@
+use Rattle.std.proofs.Common.{ap}
+use Rattle.desk_types.specs.Id.{by_name}
+use Rattle.state_rows.specs.Kept.{tables_in}
+use Rattle.state_rows.proofs.Keeping.{lists}
+use Rattle.state_rows.proofs.set.RowSet.boards.Goals as goal
+
+pub returns : goal.returns
+returns c = lists by_name _ _ _ c.iter.ensures.rest c.iter.ensures.ordered (λ r. ap (λ kept. (tables_in kept).boards r) c.self.view_is)

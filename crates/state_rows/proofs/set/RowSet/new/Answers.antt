@@ -1,0 +1,16 @@
+use Rattle.std.proofs.Common.{[], sym, ap, ◌∙◌}
+use Rattle.state_rows.specs.Tables.{tables_of}
+use Rattle.desk_types.specs.Id.{by_name}
+use Rattle.desk_types.specs.Pair.{by_pair}
+use Rattle.state_rows.specs.Kept.{row_at, has_key, by_sheet_place, by_piece}
+use Rattle.state_rows.proofs.Editing.{same-tables}
+use Rattle.state_rows.proofs.Keeping.{no-placements, none-found}
+use Rattle.state_rows.proofs.set.RowSet.new.Goals as goal
+
+pub returns : goal.returns
+returns c =
+    same-tables _ (tables_of []) (λ p. ap (λ ks. has_key by_name ks p) c.new.ensures.empty) (λ p q. ap (λ ks. has_key by_pair ks (p, q)) c.new-2.ensures.empty)
+    (λ p m k. ap (λ es. row_at by_sheet_place es (p, m, k)) c.new-3.ensures.empty) (λ m. ap (λ es. row_at by_name es m) c.new-4.ensures.empty)
+    (λ r. ap (λ es. row_at by_name es r) c.new-5.ensures.empty) (λ r. ap (λ es. row_at by_name es r) c.new-6.ensures)
+    (λ b. ap (λ es. row_at by_name es b) c.new-7.ensures.empty) (λ n k. ap (λ es. row_at by_piece es (n, k)) c.new-8.ensures.empty ∙ sym (no-placements n k))
+    (λ r. ap (λ es. row_at by_name es r) c.new-9.ensures.empty ∙ sym (none-found r))

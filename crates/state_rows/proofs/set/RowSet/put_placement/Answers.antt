@@ -1,0 +1,6 @@
+use Rattle.state_rows.specs.contracts.set.RowSet.{the_view}
+use Rattle.state_rows.proofs.Keeping.{placement-put}
+use Rattle.state_rows.proofs.set.RowSet.put_placement.Goals as goal
+
+pub returns : goal.returns
+returns c = placement-put (the_view c.self.inside) c.args.self.now c.self.view_is c.insert.new.self.entries c.args.row.now c.in_ok-insert.ensures.updates.0

@@ -1,0 +1,7 @@
+use Rattle.std.proofs.Common.{ap}
+use Rattle.state_rows.specs.Kept.{tables_in, by_sheet_place}
+use Rattle.state_rows.proofs.Keeping.{lists}
+use Rattle.state_rows.proofs.set.RowSet.sheets.Goals as goal
+
+pub returns : goal.returns
+returns c = lists by_sheet_place _ _ _ c.iter.ensures.rest c.iter.ensures.ordered (λ k. ap (λ kept. (tables_in kept).sheets k.0 k.1 k.2) c.self.view_is)

@@ -1,0 +1,21 @@
+use Rattle.std.specs.BTreeMap.{get}
+use Rattle.desk_types.specs.Id.{by_name}
+use Rattle.state_rows.proofs.Taken.{next-fits, gather-next}
+use Rattle.state_rows.proofs.takes.gather.Goals as goal
+
+pub note-requires : goal.note-requires
+note-requires g c =
+    let fits = c.requires.fits in
+    record {
+      fits = (
+        fits.0,
+        fits.1,
+        next-fits fits.0 c.args.takes.now c.loop-take.take-index c.take-item.result (get by_name c.loop-take.rows) c.loop-take-test.true c.take-item.is fits.2
+            (c.loop-take.invariant fits.0 fits.1),
+      );
+    }
+
+pub loop-take-preserved : goal.loop-take-preserved
+loop-take-preserved g c = λ H stands r.
+    gather-next H c.args.takes.now c.loop-take.take-index c.take-item.result (get by_name c.loop-take.rows) (get by_name c.note.new.rows) c.loop-take-test.true c.take-item.is
+    (c.loop-take.invariant H stands) (c.in_ok-note.ensures H stands) r

@@ -1,0 +1,9 @@
+use Rattle.std.proofs.Common.{◌≡◌, ◌++◌}
+use Rattle.std.specs.List.{flat_map}
+use Rattle.std.specs.BTreeMap.{values}
+use Rattle.state_rows.specs.EditsOf.{take_spent}
+use Rattle.state_rows.proofs.takes.take_off.Given as goal
+
+abbrev pub invariant-loop-row : goal.invariant-loop-row
+invariant-loop-row l =
+    l.edits.items ++ flat_map take_spent l.row-iterator ≡ l.initial.edits.items ++ flat_map take_spent (values l.rows)

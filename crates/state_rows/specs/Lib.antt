@@ -1,0 +1,5 @@
+pub mod Tables
+pub mod Edits
+pub mod After
+pub mod EditsOf
+pub mod Kept

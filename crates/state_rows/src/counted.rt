@@ -1,0 +1,87 @@
+//! Rows of reels that are counted.
+
+ghost use Rattle.std.specs.Prelude.{◌≡◌, ◌++◌, ◌≤◌, IfOk, OnOk, Some};
+ghost use Rattle.std.specs.List.{flat_map};
+ghost use Rattle.desk_types.specs.declared.rules.Rules.TheVariants.{Two};
+ghost use Rattle.desk_types.specs.History.{History};
+ghost use Rattle.desk_types.specs.Judged.{IsJudged};
+ghost use Rattle.desk_types.specs.Desk.{HasRoom};
+ghost use Rattle.state_rows.specs.Tables.{columns_of};
+ghost use Rattle.state_rows.specs.EditsOf.{counted_row, counted_edits, count_edits, CountFits};
+
+use crate::edit::RowEdit;
+use crate::reels::columns;
+use crate::row::ReelRow;
+use desk_types::{CountRow, Desk, ReelView};
+use std::alloc::{AllocError, Global};
+
+/// The reel's row with so many pieces counted.
+fn counted(view: &ReelView, pieces: u64) -> ReelRow
+    requires { CountFits pieces view.now }
+    ensures { result ≡ counted_row pieces (columns_of view.now) }
+{
+    let row = columns(view);
+    let received = row
+        .received
+        .saturating_add(pieces.saturating_sub(row.remaining));
+    let scrapped = row
+        .scrapped
+        .saturating_add(row.remaining.saturating_sub(pieces));
+    ReelRow {
+        received,
+        scrapped,
+        remaining: pieces,
+        ..row
+    }
+}
+
+/// The edits of a reel on which so many pieces were counted.
+fn note(edits: &mut Vec<RowEdit>, view: &ReelView, pieces: u64) -> Result<(), AllocError>
+    requires { CountFits pieces view.now }
+    ensures { OnOk result (edits.new.items ≡ edits.old.items ++ counted_edits pieces (Some view.now)) }
+{
+    edits.push(RowEdit::PutReel(counted(view, pieces)))?;
+    if view.remaining < pieces {
+        edits.push(RowEdit::PutFound {
+            reel: view.reel,
+            pieces: view
+                .found
+                .saturating_add(pieces.saturating_sub(view.remaining)),
+        })?;
+        return Ok(());
+    }
+    Ok(())
+}
+
+/// The edits of one row of a count.
+fn count_row<D: Desk>(edits: &mut Vec<RowEdit>, desk: &D, row: &CountRow) -> Result<(), AllocError>
+    requires room { HasRoom D.Stands desk.now 1 }
+    requires judged { (H : History) → D.Stands desk.now H → IsJudged Two H }
+    ensures { (H : History) → D.Stands desk.now H → OnOk result (edits.new.items ≡ edits.old.items ++ count_edits H row.now) }
+{
+    let pieces = row.quantity.get();
+    match desk.reel(&row.reel) {
+        Some(view) => {
+            note(edits, &view, pieces)?;
+            Ok(())
+        }
+        None => Ok(()),
+    }
+}
+
+/// The edits of a count.
+pub fn count<D: Desk>(
+    alloc: Global,
+    desk: &D,
+    rows: &[CountRow],
+) -> Result<Vec<RowEdit>, AllocError>
+    requires room { HasRoom D.Stands desk.now 1 }
+    requires judged { (H : History) → D.Stands desk.now H → IsJudged Two H }
+    ensures { (H : History) → D.Stands desk.now H → IfOk result (λ edits. edits.items ≡ flat_map (count_edits H) rows.now) }
+{
+    let mut edits = Vec::new(alloc);
+    for row in rows {
+        count_row(&mut edits, desk, row)?;
+    }
+    Ok(edits)
+}

@@ -1,0 +1,140 @@
+//! The edits of an accepted command.
+
+ghost use Rattle.std.specs.Prelude.{◌≡◌, ◌+◌, ◌≤◌, IfOk, length, map, ◌∷◌, []};
+ghost use Rattle.desk_types.specs.declared.rules.Rules.TheVariants.{Two};
+ghost use Rattle.desk_types.specs.History.{History, now_of, accept};
+ghost use Rattle.desk_types.specs.Judged.{IsJudged};
+ghost use Rattle.desk_types.specs.Desk.{HasRoom, IsChange};
+ghost use Rattle.state_rows.specs.Tables.{tables_of};
+ghost use Rattle.state_rows.specs.Edits.{with_edits, AreNew};
+ghost use Rattle.state_rows.specs.EditsOf.{pick_of, AreEditsOf, AreOrdered, ArePiecesFitting};
+
+use crate::counted::count;
+use crate::edit::{RowEdit, RowEdits};
+use crate::reels::{bake, mount, open, received, seal};
+use crate::row::MountRow;
+use crate::sheets::define;
+use crate::slot_rows::{board, unload};
+use crate::takes::take;
+use desk_types::{Change, Command, Desk, Listing, Minute, Take};
+use std::alloc::{AllocError, Global};
+
+/// One edit.
+fn one(alloc: Global, edit: RowEdit) -> Result<Vec<RowEdit>, AllocError>
+    ensures { IfOk result (λ edits. edits.items ≡ edit ∷ []) }
+{
+    let mut edits = Vec::new(alloc);
+    edits.push(edit)?;
+    Ok(edits)
+}
+
+/// The edits of a command that takes effect at the minute, with this number and these takes.
+fn edits_of<D: Desk>(
+    alloc: Global,
+    desk: &D,
+    command: &Command,
+    number: u64,
+    minute: Minute,
+    takes: &[Take],
+) -> Result<Vec<RowEdit>, AllocError>
+    requires room { HasRoom D.Stands desk.now 1 }
+    requires judged { (H : History) → D.Stands desk.now H → IsJudged Two H }
+    requires not_before { (H : History) → D.Stands desk.now H → now_of H ≤ minute }
+    requires fits { (H : History) × D.Stands desk.now H × ArePiecesFitting H (map pick_of takes.now) }
+    ensures edits { (H : History) → D.Stands desk.now H → IfOk result (λ edits. AreEditsOf H number minute takes.now command.now edits.items) }
+    ensures order { IfOk result (λ edits. AreOrdered number takes.now command.now edits.items) }
+{
+    match command {
+        Command::PartDefined { part } => one(alloc, RowEdit::PutPart { part: *part }),
+        Command::AlternateAllowed { part, alternate } => one(
+            alloc,
+            RowEdit::PutAlternate {
+                part: *part,
+                alternate: *alternate,
+            },
+        ),
+        Command::SheetDefined {
+            product,
+            machine,
+            rows,
+        } => define(alloc, desk, product, machine, rows.as_slice()),
+        Command::ProductSelected { machine, product } => one(
+            alloc,
+            RowEdit::PutSelected {
+                machine: *machine,
+                product: *product,
+            },
+        ),
+        Command::ReelReceived {
+            reel,
+            part,
+            lot,
+            moisture,
+            quantity,
+        } => one(
+            alloc,
+            RowEdit::PutReel(received(*reel, *part, *lot, *moisture, *quantity)),
+        ),
+        Command::ReelOpened { reel } => open(alloc, desk, reel, minute),
+        Command::ReelSealed { reel } => seal(alloc, desk, reel, minute),
+        Command::ReelBaked { reel } => bake(alloc, desk, reel),
+        Command::MaterialsLoaded {
+            machine,
+            slot,
+            reel,
+        }
+        | Command::MaterialsSpliced {
+            machine,
+            slot,
+            reel,
+        } => mount(
+            alloc,
+            desk,
+            MountRow {
+                since: number,
+                machine: *machine,
+                slot: *slot,
+                reel: *reel,
+            },
+            minute,
+        ),
+        Command::MaterialsUnloaded { machine, slot } => unload(alloc, desk, machine, slot),
+        Command::WorkStarted { machine, board: at } => {
+            board(alloc, desk, machine, at, Some(*machine))
+        }
+        Command::WorkCompleted { machine, board: at } => board(alloc, desk, machine, at, None),
+        Command::MaterialsInstalled { .. } | Command::MaterialsScrapped { .. } => {
+            take(alloc, desk, number, takes)
+        }
+        Command::CountsTaken { counts } => count(alloc, desk, counts.as_slice()),
+        Command::ClockSet => Ok(Vec::new(alloc)),
+    }
+}
+
+/// The edits that lead the state tables to those with the change, which is accepted with this number.
+/// Rows are taken out before others are put in. A placement, a mount or a row of a sheet is only put
+/// where there is none.
+pub fn rows_of<D: Desk>(
+    alloc: Global,
+    desk: &D,
+    change: &Change,
+    number: u64,
+) -> Result<RowEdits, AllocError>
+    requires room { HasRoom D.Stands desk.now 1 }
+    requires judged { (H : History) → D.Stands desk.now H → IsChange (D.kept_rules desk.now) H change.now.stamped change.now }
+    ensures lead { (H : History) → D.Stands desk.now H → number ≡ length H + 1 → IfOk result (λ edits. with_edits edits (tables_of H) ≡ tables_of (accept H change.now.stamped)) }
+    ensures new { (H : History) → D.Stands desk.now H → number ≡ length H + 1 → IfOk result (λ edits. AreNew edits (tables_of H)) }
+{
+    desk.is_judged();
+    change.stamped.ranges_hold();
+    let _ = change.minute.get();
+    let edits = edits_of(
+        alloc,
+        desk,
+        &change.stamped.command,
+        number,
+        change.minute,
+        change.takes(),
+    )?;
+    Ok(Listing::new(edits))
+}

@@ -1,0 +1,288 @@
+//! Sets of rows.
+
+ghost use Rattle.std.specs.Prelude.{◌≡◌, [], Some, OnOk, if◌then◌else◌, IfOk};
+ghost use Rattle.std.specs.BTreeMap.{get, is_at};
+ghost use Rattle.desk_types.specs.Id.{by_name};
+ghost use Rattle.desk_types.specs.Pair.{by_pair};
+ghost use Rattle.state_rows.specs.Tables.{tables_of};
+ghost use Rattle.state_rows.specs.Edits.{with_edit, with_edits};
+ghost use Rattle.state_rows.specs.Kept.{tables_in, is_placement, but_placements, Lists, ListsKeys, ListsMounts, by_sheet_place, by_piece};
+ghost use Rattle.state_rows.specs.declared.edit.RowEdit.TheVariants.{TakeSheetRow, TakeMount, PutPart, PutAlternate, PutSheetRow, PutSelected, PutReel, PutMount, PutBoard, PutPlacement, PutFound};
+
+use crate::edit::{RowEdit, RowEdits};
+use crate::mounts::Mounts;
+use crate::row::{BoardRow, MountRow, PlacementRow, ReelRow};
+use desk_types::{Id, Minute, SheetRow};
+use std::alloc::{AllocError, Global};
+use std::collections::{BTreeMap, BTreeSet, btree_map, btree_set};
+use std::marker::Model;
+
+/// The rows of the state tables.
+#[derive(Drop)]
+pub struct RowSet {
+    parts: BTreeSet<Id>,
+    alternates: BTreeSet<(Id, Id)>,
+    sheets: BTreeMap<(Id, Id, u64), SheetRow>,
+    selected: BTreeMap<Id, Id>,
+    reels: BTreeMap<Id, ReelRow>,
+    mounts: Mounts,
+    boards: BTreeMap<Id, BoardRow>,
+    placements: BTreeMap<(u64, u64), PlacementRow>,
+    found: BTreeMap<Id, u64>,
+}
+
+impl Model for RowSet {
+    ghost use Rattle.state_rows.specs.Kept.{KeptRows};
+
+    ghost Value = { KeptRows };
+
+    ghost view = { λ a. record {
+      parts = a.parts.keys;
+      alternates = a.alternates.keys;
+      sheets = a.sheets.entries;
+      selected = a.selected.entries;
+      reels = a.reels.entries;
+      mounts = a.mounts;
+      boards = a.boards.entries;
+      placements = a.placements.entries;
+      found = a.found.entries;
+    } };
+}
+
+impl RowSet {
+    /// No rows. Takes no memory.
+    pub fn new(alloc: Global) -> RowSet
+        ensures { tables_in result ≡ tables_of [] }
+    {
+        RowSet {
+            parts: BTreeSet::new(alloc),
+            alternates: BTreeSet::new(alloc),
+            sheets: BTreeMap::new(alloc),
+            selected: BTreeMap::new(alloc),
+            reels: BTreeMap::new(alloc),
+            mounts: Mounts::new(alloc),
+            boards: BTreeMap::new(alloc),
+            placements: BTreeMap::new(alloc),
+            found: BTreeMap::new(alloc),
+        }
+    }
+
+    /// Makes edits, one after the other. After an `Err` nothing is known of the set.
+    pub fn apply(&mut self, edits: &[RowEdit]) -> Result<(), AllocError>
+        ensures { OnOk result (tables_in self.new ≡ with_edits edits.now (tables_in self.old)) }
+    {
+        for edit in edits {
+            self.make(edit)?;
+        }
+        Ok(())
+    }
+
+    /// Makes the edits of all tables but `placement`, whose rows are as before. After an `Err`
+    /// nothing is known of the set.
+    pub fn apply_but_placements(&mut self, edits: &[RowEdit]) -> Result<(), AllocError>
+        ensures { OnOk result (tables_in self.new ≡ but_placements (with_edits edits.now (tables_in self.old)) (tables_in self.old)) }
+    {
+        for edit in edits {
+            self.make_but_placement(edit)?;
+        }
+        Ok(())
+    }
+
+    /// Makes one edit, where it is not of `placement`.
+    fn make_but_placement(&mut self, edit: &RowEdit) -> Result<(), AllocError>
+        ensures { OnOk result (tables_in self.new ≡ but_placements (with_edit edit.now (tables_in self.old)) (tables_in self.old)) }
+    {
+        if is_placement(edit) {
+            return Ok(());
+        }
+        self.make(edit)?;
+        Ok(())
+    }
+
+    /// Makes one edit.
+    fn make(&mut self, edit: &RowEdit) -> Result<(), AllocError>
+        ensures { OnOk result (tables_in self.new ≡ with_edit edit.now (tables_in self.old)) }
+    {
+        match edit {
+            RowEdit::TakeSheetRow {
+                product,
+                machine,
+                place,
+            } => {
+                self.take_sheet_row(*product, *machine, *place);
+                Ok(())
+            }
+            RowEdit::TakeMount { reel } => {
+                self.take_mount(reel);
+                Ok(())
+            }
+            RowEdit::PutPart { part } => self.put_part(*part),
+            RowEdit::PutAlternate { part, alternate } => self.put_alternate(*part, *alternate),
+            RowEdit::PutSheetRow {
+                product,
+                machine,
+                place,
+                row,
+            } => self.put_sheet_row(*product, *machine, *place, row),
+            RowEdit::PutSelected { machine, product } => self.put_selected(*machine, *product),
+            RowEdit::PutReel(row) => self.put_reel(row, row.open_since),
+            RowEdit::PutMount(row) => self.put_mount(row),
+            RowEdit::PutBoard(row) => self.put_board(row),
+            RowEdit::PutPlacement(row) => self.put_placement(row),
+            RowEdit::PutFound { reel, pieces } => self.put_found(*reel, *pieces),
+        }
+    }
+
+    fn take_sheet_row(&mut self, product: Id, machine: Id, place: u64)
+        ensures { tables_in self.new ≡ with_edit (TakeSheetRow product machine place) (tables_in self.old) }
+    {
+        self.sheets.remove(&(product, machine, place));
+    }
+
+    fn take_mount(&mut self, reel: &Id)
+        ensures { tables_in self.new ≡ with_edit (TakeMount reel.now) (tables_in self.old) }
+    {
+        self.mounts.take(reel);
+    }
+
+    fn put_part(&mut self, part: Id) -> Result<(), AllocError>
+        ensures { OnOk result (tables_in self.new ≡ with_edit (PutPart part) (tables_in self.old)) }
+    {
+        self.parts.insert(part)?;
+        Ok(())
+    }
+
+    fn put_alternate(&mut self, part: Id, alternate: Id) -> Result<(), AllocError>
+        ensures { OnOk result (tables_in self.new ≡ with_edit (PutAlternate part alternate) (tables_in self.old)) }
+    {
+        self.alternates.insert((part, alternate))?;
+        Ok(())
+    }
+
+    fn put_sheet_row(
+        &mut self,
+        product: Id,
+        machine: Id,
+        place: u64,
+        row: &SheetRow,
+    ) -> Result<(), AllocError>
+        ensures { OnOk result (tables_in self.new ≡ with_edit (PutSheetRow product machine place row.now) (tables_in self.old)) }
+    {
+        let copy = row.clone()?;
+        self.sheets.insert((product, machine, place), copy)?;
+        Ok(())
+    }
+
+    fn put_selected(&mut self, machine: Id, product: Id) -> Result<(), AllocError>
+        ensures { OnOk result (tables_in self.new ≡ with_edit (PutSelected machine product) (tables_in self.old)) }
+    {
+        self.selected.insert(machine, product)?;
+        Ok(())
+    }
+
+    /// The minute is the row's: with it in the signature the borrow checker knows its type.
+    fn put_reel(&mut self, row: &ReelRow, _since: Option<Minute>) -> Result<(), AllocError>
+        ensures { OnOk result (tables_in self.new ≡ with_edit (PutReel row.now) (tables_in self.old)) }
+    {
+        self.reels.insert(row.reel, *row)?;
+        Ok(())
+    }
+
+    fn put_mount(&mut self, row: &MountRow) -> Result<(), AllocError>
+        ensures { OnOk result (tables_in self.new ≡ with_edit (PutMount row.now) (tables_in self.old)) }
+    {
+        self.mounts.put(row)?;
+        Ok(())
+    }
+
+    fn put_board(&mut self, row: &BoardRow) -> Result<(), AllocError>
+        ensures { OnOk result (tables_in self.new ≡ with_edit (PutBoard row.now) (tables_in self.old)) }
+    {
+        self.boards.insert(row.board, *row)?;
+        Ok(())
+    }
+
+    fn put_placement(&mut self, row: &PlacementRow) -> Result<(), AllocError>
+        ensures { OnOk result (tables_in self.new ≡ with_edit (PutPlacement row.now) (tables_in self.old)) }
+    {
+        self.placements.insert((row.number, row.place), *row)?;
+        Ok(())
+    }
+
+    fn put_found(&mut self, reel: Id, pieces: u64) -> Result<(), AllocError>
+        ensures { OnOk result (tables_in self.new ≡ with_edit (PutFound reel pieces) (tables_in self.old)) }
+    {
+        self.found.insert(reel, pieces)?;
+        Ok(())
+    }
+
+    /// The parts. Takes no memory, as each of these.
+    pub fn parts(&self) -> btree_set::Iter<'_, Id>
+        ensures { ListsKeys by_name result (tables_in self.now).parts }
+    {
+        self.parts.iter()
+    }
+
+    /// Parts, each with one that may stand in its place.
+    pub fn alternates(&self) -> btree_set::Iter<'_, (Id, Id)>
+        ensures { ListsKeys by_pair result (λ k. (tables_in self.now).alternates k.0 k.1) }
+    {
+        self.alternates.iter()
+    }
+
+    /// The rows of sheets, each with its product, its machine and its place from 1.
+    pub fn sheets(&self) -> btree_map::Iter<'_, (Id, Id, u64), SheetRow>
+        ensures { Lists by_sheet_place result (λ k. (tables_in self.now).sheets k.0 k.1 k.2) }
+    {
+        self.sheets.iter()
+    }
+
+    /// Machines, each with its selected product.
+    pub fn selected(&self) -> btree_map::Iter<'_, Id, Id>
+        ensures { Lists by_name result (tables_in self.now).selected }
+    {
+        self.selected.iter()
+    }
+
+    /// The rows of reels.
+    pub fn reels(&self) -> btree_map::Iter<'_, Id, ReelRow>
+        ensures { Lists by_name result (tables_in self.now).reels }
+    {
+        self.reels.iter()
+    }
+
+    /// The rows of mounted reels in the order of their numbers, each with its number and its reel.
+    pub fn mounts(&self) -> btree_map::Iter<'_, (u64, Id), MountRow>
+        ensures { ListsMounts result (tables_in self.now).mounts }
+    {
+        self.mounts.iter()
+    }
+
+    /// The rows of boards.
+    pub fn boards(&self) -> btree_map::Iter<'_, Id, BoardRow>
+        ensures { Lists by_name result (tables_in self.now).boards }
+    {
+        self.boards.iter()
+    }
+
+    /// The rows of placed pieces, each with its number and its place.
+    pub fn placements(&self) -> btree_map::Iter<'_, (u64, u64), PlacementRow>
+        ensures { Lists by_piece result (λ k. (tables_in self.now).placements k.0 k.1) }
+    {
+        self.placements.iter()
+    }
+
+    /// Reels, each with the pieces that counts found on it.
+    pub fn found(&self) -> btree_map::Iter<'_, Id, u64>
+        ensures { Lists by_name result (tables_in self.now).found }
+    {
+        self.found.iter()
+    }
+}
+
+/// Whether the edit is of `placement`.
+fn is_placement(edit: &RowEdit) -> bool
+    ensures { result ≡ is_placement edit.now }
+{
+    matches!(edit, RowEdit::PutPlacement(_))
+}

@@ -1,0 +1,179 @@
+//! Pieces that a command takes.
+
+ghost use Rattle.std.specs.Prelude.{◌≡◌, ◌++◌, Some, IfOk, OnOk, map, if◌then◌else◌};
+ghost use Rattle.std.specs.List.{flat_map};
+ghost use Rattle.std.specs.List.Sorted.{IsStrictlySortedBy};
+ghost use Rattle.std.specs.Option.{option_map, option_or, option_to_list};
+ghost use Rattle.std.specs.BTreeMap.{get, keys, values};
+ghost use Rattle.desk_types.specs.Id.{Name, same, by_name};
+ghost use Rattle.desk_types.specs.History.{History};
+ghost use Rattle.desk_types.specs.Pieces.{is_placed};
+ghost use Rattle.state_rows.specs.declared.row.ReelRow.{ReelRow};
+ghost use Rattle.state_rows.specs.declared.row.PlacementRow.{PlacementRow};
+ghost use Rattle.state_rows.specs.declared.edit.RowEdit.TheVariants.{PutReel, PutPlacement};
+ghost use Rattle.state_rows.specs.Tables.{Tables, reel_row};
+ghost use Rattle.state_rows.specs.Edits.{with_edits};
+ghost use Rattle.state_rows.specs.After.{placed_row};
+ghost use Rattle.state_rows.specs.EditsOf.{pick_of, less_by, LessFits, ArePiecesFitting, gathered, after_rows, after_placing, take_spent, place_rows, ArePlacedLast};
+
+use crate::edit::RowEdit;
+use crate::reels::row;
+use crate::row::{PlacementRow, ReelRow};
+use desk_types::{Desk, Id, Purpose, Take};
+use std::alloc::{AllocError, Global};
+use std::collections::BTreeMap;
+
+/// Whether a piece was placed, and not thrown away.
+fn is_placed(purpose: &Purpose) -> bool
+    ensures { result ≡ is_placed purpose.now }
+{
+    matches!(purpose, Purpose::Placed { .. })
+}
+
+/// Takes a take's pieces off a row.
+fn lessen(row: &mut ReelRow, take: &Take)
+    requires { LessFits (pick_of take.now) row.old }
+    ensures { row.new ≡ less_by (pick_of take.now) row.old }
+{
+    row.remaining = row.remaining.saturating_sub(take.quantity);
+    if is_placed(&take.purpose) {
+        row.placed = row.placed.saturating_add(take.quantity);
+    } else {
+        row.scrapped = row.scrapped.saturating_add(take.quantity);
+    }
+}
+
+/// Takes a take's pieces off the row of its reel: that among the rows, or else the desk's.
+fn note<D: Desk>(rows: &mut BTreeMap<Id, ReelRow>, desk: &D, take: &Take) -> Result<(), AllocError>
+    requires fits { (H : History) × D.Stands desk.now H
+        × ((row : ReelRow) → option_or (get by_name rows.old take.now.reel) (reel_row H take.now.reel) ≡ Some row → LessFits (pick_of take.now) row) }
+    ensures { (H : History) → D.Stands desk.now H → (r : Name) → OnOk result (get by_name rows.new r
+        ≡ (if same take.now.reel r then option_map (less_by (pick_of take.now)) (option_or (get by_name rows.old r) (reel_row H r)) else get by_name rows.old r)) }
+{
+    if let Some(row) = rows.get_mut(&take.reel) {
+        lessen(row, take);
+        return Ok(());
+    }
+    if let Some(mut row) = row(desk, &take.reel) {
+        lessen(&mut row, take);
+        rows.insert(take.reel, row)?;
+        return Ok(());
+    }
+    Ok(())
+}
+
+/// The rows of the reels off which pieces come.
+fn gather<D: Desk>(
+    alloc: Global,
+    desk: &D,
+    takes: &[Take],
+) -> Result<BTreeMap<Id, ReelRow>, AllocError>
+    requires fits { (H : History) × D.Stands desk.now H × ArePiecesFitting H (map pick_of takes.now) }
+    ensures { (H : History) → D.Stands desk.now H → IfOk result (λ rows. (r : Name) → get by_name rows r ≡ gathered (reel_row H) (map pick_of takes.now) r) }
+{
+    let mut rows = BTreeMap::new(alloc);
+    for take in takes {
+        note(&mut rows, desk, take)?;
+    }
+    Ok(rows)
+}
+
+/// Reels with nothing left are taken off their slots.
+fn take_off(edits: &mut Vec<RowEdit>, rows: &BTreeMap<Id, ReelRow>) -> Result<(), AllocError>
+    ensures { OnOk result (edits.new.items ≡ edits.old.items ++ flat_map take_spent (values rows.now)) }
+{
+    for row in rows.values() {
+        take_if(edits, row)?;
+    }
+    Ok(())
+}
+
+/// A reel with nothing left is taken off its slot.
+fn take_if(edits: &mut Vec<RowEdit>, row: &ReelRow) -> Result<(), AllocError>
+    ensures { OnOk result (edits.new.items ≡ edits.old.items ++ take_spent row.now) }
+{
+    if row.remaining == 0 {
+        edits.push(RowEdit::TakeMount { reel: row.reel })?;
+        return Ok(());
+    }
+    Ok(())
+}
+
+/// The rows are put in the place of those before.
+fn put_all(edits: &mut Vec<RowEdit>, rows: &BTreeMap<Id, ReelRow>) -> Result<(), AllocError>
+    ensures put { OnOk result (edits.new.items ≡ edits.old.items ++ map (λ row. PutReel row) (values rows.now)) }
+    ensures ordered { IsStrictlySortedBy by_name (keys rows.now) }
+{
+    for row in rows.values() {
+        edits.push(RowEdit::PutReel(*row))?;
+    }
+    Ok(())
+}
+
+/// The row of a placed piece.
+fn placed_row(number: u64, place: u64, take: &Take) -> Option<PlacementRow>
+    ensures { result ≡ placed_row number place take.now }
+{
+    match &take.purpose {
+        Purpose::Placed {
+            board,
+            designator,
+            machine,
+            slot,
+        } => Some(PlacementRow {
+            number,
+            place,
+            board: *board,
+            designator: *designator,
+            machine: *machine,
+            slot: *slot,
+            reel: take.reel,
+            overdue: take.overdue,
+        }),
+        _ => None,
+    }
+}
+
+/// The row, where there is one, is put in.
+fn place_if(edits: &mut Vec<RowEdit>, row: Option<PlacementRow>) -> Result<(), AllocError>
+    ensures { OnOk result (edits.new.items ≡ edits.old.items ++ option_to_list (option_map (λ (r : PlacementRow). PutPlacement r) row)) }
+{
+    match row {
+        Some(row) => {
+            edits.push(RowEdit::PutPlacement(row))?;
+            Ok(())
+        }
+        None => Ok(()),
+    }
+}
+
+/// The rows of the placed pieces, in places from 1.
+fn place_all(edits: &mut Vec<RowEdit>, number: u64, takes: &[Take]) -> Result<(), AllocError>
+    ensures { OnOk result (edits.new.items ≡ edits.old.items ++ place_rows number 1 takes.now) }
+{
+    for index in 0..takes.len() {
+        place_if(edits, placed_row(number, index as u64 + 1, &takes[index]))?;
+    }
+    Ok(())
+}
+
+/// The edits of takes.
+pub fn take<D: Desk>(
+    alloc: Global,
+    desk: &D,
+    number: u64,
+    takes: &[Take],
+) -> Result<Vec<RowEdit>, AllocError>
+    requires fits { (H : History) × D.Stands desk.now H × ArePiecesFitting H (map pick_of takes.now) }
+    ensures edits { (H : History) → D.Stands desk.now H
+        → IfOk result (λ edits. (t : Tables) → with_edits edits.items t ≡ after_placing number takes.now (after_rows (gathered (reel_row H) (map pick_of takes.now)) t)) }
+    ensures order { IfOk result (λ edits. ArePlacedLast number takes.now edits.items) }
+{
+    let rows = gather(alloc, desk, takes)?;
+    let pieces_and_reels = takes.len().saturating_add(rows.len().saturating_mul(2));
+    let mut edits = Vec::with_capacity(alloc, pieces_and_reels)?;
+    take_off(&mut edits, &rows)?;
+    put_all(&mut edits, &rows)?;
+    place_all(&mut edits, number, takes)?;
+    Ok(edits)
+}
