@@ -5,9 +5,9 @@ use Rattle.serde_json.specs.Find.{get, as_array}
 use Rattle.serde_json.specs.View.{items_of}
 use Rattle.cfx_profile.specs.declared.fault.MessageFault.{MessageFault}
 use Rattle.cfx_profile.specs.declared.member.Member.{Member}
-use Rattle.cfx_profile.specs.Fault.{◌>>=◌}
 use Rattle.cfx_profile.specs.Lists.{items_list, some_items, items_in, each}
 use Rattle.cfx_profile.specs.Member.{member_text}
+use Rattle.cfx_profile.proofs.Readings.{first_of_each, both, both-nothing, both-first}
 
 -- the items of an array that was made of a list are that list
 pub items_list-of : (ds : List Data) → items_list (items_of ds) ≡ ds
@@ -20,33 +20,7 @@ pub items_in-of : (m : Member) (body : Data) (ds : List Data)
 unfolding items_in
 items_in-of m body ds is = rw (is, items_list-of ds) refl
 
--- an item before the others
-first_of_each : {X : Type 0} → Result X MessageFault → Result (List X) MessageFault → Result (List X) MessageFault
-first_of_each first rest = do
-  x ← first
-  xs ← rest
-  Ok (x ∷ xs)
-
--- what is read of two lists, one after the other
-both : {X : Type 0} → Result (List X) MessageFault → Result (List X) MessageFault → Result (List X) MessageFault
-both first second = do
-  xs ← first
-  ys ← second
-  Ok (xs ++ ys)
-
-both-nothing : {X : Type 0} (r : Result (List X) MessageFault) → r ≡ both (Ok []) r
-unfolding both
-both-nothing (Ok ys) = refl
-both-nothing (Err fault) = refl
-
-both-first : {X : Type 0} (first : Result X MessageFault) (rest later : Result (List X) MessageFault)
-    → first_of_each first (both rest later) ≡ both (first_of_each first rest) later
-unfolding both first_of_each
-both-first (Err fault) rest later = refl
-both-first (Ok x) (Err fault) later = refl
-both-first (Ok x) (Ok xs) (Err fault) = refl
-both-first (Ok x) (Ok xs) (Ok ys) = refl
-
+-- what is read goes on where the first list ends
 each-append : {X : Type 0} (reading : Data → Result X MessageFault) (ds es : List Data)
     → each reading (ds ++ es) ≡ both (each reading ds) (each reading es)
 unfolding first_of_each

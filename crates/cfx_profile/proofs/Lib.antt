@@ -2,4 +2,5 @@ pub mod ConstantRows
 pub mod Faults
 pub mod Items
 pub mod Names
+pub mod Readings
 pub mod Skips

@@ -5,11 +5,15 @@ use Rattle.cfx_profile.specs.declared.fault.MessageFault.TheVariants.{NoMemory}
 
 infixl 10 ◌>>=◌
 -- the first fault, or else what follows from the value
-abbrev pub ◌>>=◌ : {X Y : Type 0} → Result X MessageFault → (X → Result Y MessageFault) → Result Y MessageFault
+abbrev pub ◌>>=◌ : {X Y F : Type 0} → Result X F → (X → Result Y F) → Result Y F
 Ok x >>= rest = rest x
 Err fault >>= rest = Err fault
 
--- the answer is what is said; want of memory may stand in its place
+-- the answer is what is said; the fault that tells want of memory may stand in its place
+abbrev pub IsSaidBut : {X F : Type 0} → F → Result X F → Result X F → Type 0
+IsSaidBut want said (Ok x) = said ≡ Ok x
+IsSaidBut want said (Err fault) = fault ≢ want → said ≡ Err fault
+
+-- the same of what a message says
 abbrev pub IsSaid : {X : Type 0} → Result X MessageFault → Result X MessageFault → Type 0
-IsSaid said (Ok x) = said ≡ Ok x
-IsSaid said (Err fault) = fault ≢ NoMemory → said ≡ Err fault
+IsSaid said answer = IsSaidBut NoMemory said answer

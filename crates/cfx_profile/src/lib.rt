@@ -14,8 +14,6 @@ mod member;
 mod message;
 mod minute;
 mod skipped;
-#[cfg(test)]
-mod tests;
 mod word;
 
 pub use answer::{ignored_text, unavailable_text};

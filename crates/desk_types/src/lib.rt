@@ -21,8 +21,6 @@ mod rules;
 mod sheet;
 mod stored;
 mod take;
-#[cfg(test)]
-mod tests;
 mod view;
 mod wire;
 

@@ -1,5 +1,5 @@
 -- A change that is accepted.
-use Rattle.std.proofs.Common.{◌≡◌, nat_lt, Some, refl, sym, ap, ◌∙◌, arith}
+use Rattle.std.proofs.Common.{◌≡◌, nat_lt, Some, None, [], ◌∷◌, refl, sym, ap, ◌∙◌, arith}
 use Rattle.std.specs.Prelude.{max}
 use Rattle.desk_types.specs.declared.change.Change.{Change}
 use Rattle.desk_types.specs.declared.command.Stamped.{Stamped}
@@ -52,6 +52,11 @@ accepted-minute rules H s change is =
     let at = change-minute rules H s change is in
     let greatest : change.minute ≡ max (effective_minute H s.minute) (now_of H) = omega (arith, at) in
     ap Some greatest
+
+-- where there is no desk minute, nothing is accepted
+pub none-accepted : (H : History) → desk_minute H ≡ None → [] ≡ H
+none-accepted [] none = refl
+none-accepted (e ∷ H) none = cc
 
 -- ---- what a state tells
 

@@ -2,6 +2,7 @@ pub mod Floor
 pub mod Handling
 pub mod Held
 pub mod Noted
+pub mod Restored
 pub mod Setup
 pub mod Spending
 pub mod State

@@ -2,6 +2,7 @@
 use Rattle.std.specs.Prelude.{◌≡◌}
 use Rattle.desk_types.specs.History.{History, desk_minute}
 use Rattle.desk_types.specs.Judged.{IsJudged}
+use Rattle.desk_types.specs.declared.rules.Rules.{Rules}
 use Rattle.feeder_state.specs.declared.desk.StateDesk.{StateDesk}
 use Rattle.feeder_state.specs.Floor.{IsFloor}
 use Rattle.feeder_state.specs.Setup.{IsSetup}
@@ -14,3 +15,7 @@ pub record IsState (H : History) (desk : StateDesk) : Type 0 where
   pub setup : IsSetup H desk.setup
   pub floor : IsFloor H desk.floor
   pub work : IsWork H desk.work
+
+-- the rules that the desk keeps
+abbrev pub rules_of : StateDesk → Rules
+rules_of desk = desk.rules

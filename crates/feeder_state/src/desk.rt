@@ -1,19 +1,20 @@
 //! The desk that keeps the current state.
 
-ghost use Rattle.std.specs.Prelude.{◌≡◌, ◌∷◌, [], OnOk};
+ghost use Rattle.std.specs.Prelude.{◌≡◌, ◌∷◌, [], IfOk, OnOk};
 ghost use Rattle.desk_types.specs.declared.rules.Rules.TheVariants.{Two};
-ghost use Rattle.desk_types.specs.History.{History, accept};
+ghost use Rattle.desk_types.specs.History.{History, accept, desk_minute};
 ghost use Rattle.desk_types.specs.declared.command.Command.TheVariants.{WorkStarted};
 ghost use Rattle.desk_types.specs.Id.{Name};
 ghost use Rattle.desk_types.specs.Setup.{selected_on};
 ghost use Rattle.desk_types.specs.Desk.{HasRoom, IsChange};
-ghost use Rattle.feeder_state.specs.State.{IsState};
+ghost use Rattle.feeder_state.specs.Restored.{AreRowsOf};
+ghost use Rattle.feeder_state.specs.State.{IsState, rules_of};
 
-use crate::floor::Floor;
+use crate::floor::{Floor, floor_of};
 use crate::free::free_reels;
-use crate::setup::Setup;
+use crate::setup::{Setup, setup_of};
 use crate::views::{reel_view, slots_of};
-use crate::work::Work;
+use crate::work::{Work, work_of};
 use desk_types::{
     Change, Command, Designator, Desk, Fronts, Id, JudgeFault, Minute, Mounts, ReelView, ReelViews,
     Rules, SheetRow, SheetRows, Stamped,
@@ -21,12 +22,13 @@ use desk_types::{
 use judging::fronts::fronts;
 use judging::{Facts, judged};
 use reels::Reel;
-use setup_sheets::{Alternates, Parts};
+use setup_sheets::{Alternates, Parts, Sheet};
+use state_rows::RowSet;
 use std::alloc::{AllocError, Global};
 
-/// A desk that keeps what is so now, in maps, and no list of commands: it answers a command in a time
-/// that does not grow with the number of commands before it. It stands for each list that leaves
-/// things as it keeps them.
+/// A desk that keeps what is so now, in maps, and no list of commands: it looks names up, and searches
+/// through no commands. It stands for each list, judged by its rules, that leaves things as it keeps
+/// them.
 #[derive(Drop)]
 pub struct StateDesk {
     alloc: Global,
@@ -41,7 +43,7 @@ impl StateDesk {
     /// A desk of rules Two that has accepted nothing. Takes no memory.
     pub fn new(alloc: Global) -> StateDesk
         ensures stands { IsState [] result }
-        ensures rules { result.rules ≡ Two }
+        ensures rules { rules_of result ≡ Two }
     {
         StateDesk::with_rules(alloc, Rules::Two)
     }
@@ -49,7 +51,7 @@ impl StateDesk {
     /// A desk of these rules that has accepted nothing. Takes no memory.
     pub fn with_rules(alloc: Global, rules: Rules) -> StateDesk
         ensures stands { IsState [] result }
-        ensures rules { result.rules ≡ rules }
+        ensures rules { rules_of result ≡ rules }
     {
         StateDesk {
             alloc,
@@ -59,6 +61,33 @@ impl StateDesk {
             floor: Floor::new(alloc),
             work: Work::new(alloc),
         }
+    }
+
+    /// A desk of rules Two that is made of rows and the desk minute, for each list whose tables the
+    /// rows are.
+    pub fn restore(
+        alloc: Global,
+        rows: &RowSet,
+        minute: Option<Minute>,
+    ) -> Result<StateDesk, AllocError>
+        requires { (H : History) × AreRowsOf H rows.now × (minute ≡ desk_minute H) }
+        ensures stands { (H : History) → AreRowsOf H rows.now → minute ≡ desk_minute H → IfOk result (IsState H) }
+        ensures rules { IfOk result (λ desk. rules_of desk ≡ Two) }
+    {
+        let Some(now) = minute else {
+            return Ok(StateDesk::new(alloc));
+        };
+        let setup = setup_of(alloc, rows)?;
+        let floor = floor_of(alloc, rows, now)?;
+        let work = work_of(alloc, rows)?;
+        Ok(StateDesk {
+            alloc,
+            rules: Rules::Two,
+            minute,
+            setup,
+            floor,
+            work,
+        })
     }
 
     /// What is selected on the machine of a start.
@@ -125,6 +154,10 @@ impl Facts for StateDesk {
 
     fn sheet_of(&self, product: &Id, machine: &Id) -> Option<&SheetRows> {
         self.setup.sheet_of(product, machine)
+    }
+
+    fn look_ups_on(&self, machine: &Id) -> Option<&Sheet> {
+        self.setup.sheet_on(machine)
     }
 
     fn row_on(&self, machine: &Id, slot: &Id) -> Option<&SheetRow> {

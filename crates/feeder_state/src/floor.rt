@@ -1,5 +1,7 @@
 //! The shop floor as the accepted commands left it.
 
+mod rows;
+
 ghost use Rattle.std.specs.Prelude.{◌≡◌, ℕ, ◌∷◌, [], OnOk};
 ghost use Rattle.std.specs.List.{IsDistinct};
 ghost use Rattle.desk_types.specs.declared.command.Entry.{Entry};
@@ -11,6 +13,7 @@ ghost use Rattle.feeder_state.specs.Held.{AreHeld};
 ghost use Rattle.feeder_state.specs.Floor.{IsFloor};
 ghost use Rattle.feeder_state.specs.Noted.{IsNoted, HasPlace, may_take};
 
+pub use self::rows::floor_of;
 use crate::held::{Held, handle};
 use crate::noting::{receive, take_pieces, unload};
 use crate::tapes::drop_all_spent;

@@ -5,6 +5,7 @@ mod desk;
 mod floor;
 mod floor_facts;
 mod free;
+mod groups;
 mod held;
 mod maps;
 mod noting;

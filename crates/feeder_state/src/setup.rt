@@ -1,5 +1,7 @@
 //! The setup: parts, alternates, sheets, and what each machine makes.
 
+mod rows;
+
 ghost use Rattle.std.specs.Prelude.{◌≡◌, ◌||◌, ◌&&◌, Some, if◌then◌else◌, [], ◌∷◌, OnOk};
 ghost use Rattle.std.specs.Option.{option_copied, option_or};
 ghost use Rattle.desk_types.specs.declared.command.Entry.{Entry as Accepted};
@@ -11,6 +13,7 @@ ghost use Rattle.setup_sheets.specs.Names.{is_among};
 ghost use Rattle.setup_sheets.specs.Alternates.{is_pair_among, AreAlternates};
 ghost use Rattle.feeder_state.specs.Setup.{IsSetup, sheet_at, selected_at, is_sheeted};
 
+pub use self::rows::setup_of;
 use desk_types::{Command, Designator, Id, SheetRow, SheetRows};
 use setup_sheets::{Alternates, Parts, Sheet};
 use std::alloc::{AllocError, Global};
@@ -94,7 +97,7 @@ impl Setup {
     }
 
     /// The sheet of the selected product on the machine.
-    fn sheet_on(&self, machine: &Id) -> Option<&Sheet>
+    pub fn sheet_on(&self, machine: &Id) -> Option<&Sheet>
         ensures { (H : History) → IsSetup H self.now → option_copied result ≡ sheet_on H machine.now }
     {
         let product = self.selected_on(machine)?;

@@ -1,5 +1,7 @@
 //! Boards in work, what they are, and what is placed on them.
 
+mod rows;
+
 ghost use Rattle.std.specs.Prelude.{◌≡◌, ◌||◌, ◌&&◌, [], ◌∷◌, unwrap_or, OnOk};
 ghost use Rattle.std.specs.List.{list_any};
 ghost use Rattle.std.specs.Option.{option_or};
@@ -14,6 +16,7 @@ ghost use Rattle.desk_types.specs.Work.{work_by, in_work_on, is_in_work, product
 ghost use Rattle.desk_laws.specs.Working.{in_work_after};
 ghost use Rattle.feeder_state.specs.Work.{IsWork, running_at, is_busy, product_at, product_by, is_placed_at};
 
+pub use self::rows::work_of;
 use crate::placed::Placed;
 use desk_types::{Command, Designator, Id};
 use std::alloc::{AllocError, Global};

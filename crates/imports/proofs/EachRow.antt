@@ -1,36 +1,9 @@
 -- Rows that are read one after the other.
 use Rattle.std.proofs.Common.{◌≡◌, refl, sym, ap, ◌∙◌, ℕ, suc, ◌+◌, ◌<◌, List, [], ◌∷◌, ◌++◌, length, map, take, drop, get_or, take-append-drop, append_assoc, Result, Ok, Err, arith}
 use Rattle.std.proofs.lemmas.List.{take_more, map-append, length-map, length-take-le}
+use Rattle.cfx_profile.proofs.Readings.{first_of_each, both, both-nothing, both-first}
 use Rattle.imports.specs.declared.fault.ImportFault.{ImportFault}
-use Rattle.imports.specs.Fault.{◌>>=◌}
 use Rattle.imports.specs.File.{Record, row_at, each}
-
--- a row before the others
-first_of_each : {X : Type 0} → Result X ImportFault → Result (List X) ImportFault → Result (List X) ImportFault
-first_of_each first rest = do
-  x ← first
-  xs ← rest
-  Ok (x ∷ xs)
-
--- what is read of two lists, one after the other
-both : {X : Type 0} → Result (List X) ImportFault → Result (List X) ImportFault → Result (List X) ImportFault
-both first second = do
-  xs ← first
-  ys ← second
-  Ok (xs ++ ys)
-
-both-nothing : {X : Type 0} (r : Result (List X) ImportFault) → r ≡ both (Ok []) r
-unfolding both
-both-nothing (Ok ys) = refl
-both-nothing (Err fault) = refl
-
-both-first : {X : Type 0} (first : Result X ImportFault) (rest later : Result (List X) ImportFault)
-    → first_of_each first (both rest later) ≡ both (first_of_each first rest) later
-unfolding both first_of_each
-both-first (Err fault) rest later = refl
-both-first (Ok x) (Err fault) later = refl
-both-first (Ok x) (Ok xs) (Err fault) = refl
-both-first (Ok x) (Ok xs) (Ok ys) = refl
 
 -- the lines go on where the first list ends
 each-append : {X : Type 0} (reading : ℕ → Record → Result X ImportFault) (line : ℕ) (rs ss : List Record)

@@ -7,6 +7,7 @@ use Rattle.std.specs.Str.Parse.{digits_value}
 use Rattle.csv.specs.Reading.{records_from, default_config, strip_bom}
 use Rattle.csv.specs.Records.{field_at}
 use Rattle.csv.specs.declared.parser.State.TheVariants as st
+use Rattle.cfx_profile.specs.Fault.{◌>>=◌}
 use Rattle.cfx_profile.specs.Forms.{is_designator, id_of}
 use Rattle.desk_types.specs.Id.{Name, same}
 use Rattle.desk_types.specs.declared.command.Command.{Command}
@@ -21,7 +22,6 @@ use Rattle.imports.specs.declared.fields.TheConstants.{MOST_DIGITS}
 use Rattle.imports.specs.declared.file.TheConstants.{LONGEST_FILE}
 use Rattle.imports.specs.declared.records.TheConstants.{MOST_RECORDS}
 use Rattle.imports.specs.declared.rows.TheConstants.{FIRST_ROW, LAST_ROW}
-use Rattle.imports.specs.Fault.{◌>>=◌}
 
 -- ---- records
 

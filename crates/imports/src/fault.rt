@@ -13,7 +13,7 @@ pub enum ImportFault {
     BadRow(u64),
     /// The field at this line and column is not of its form.
     BadField(u64, u64),
-    /// The file is longer than 1,048,576 bytes, or has more than 5,000 records after the header.
+    /// The file is longer than 1,048,576 bytes, or has 5,000 rows after the header and one record more.
     OverLimit,
     /// Memory was refused. This may come in the place of any other answer.
     NoMemory,

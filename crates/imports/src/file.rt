@@ -15,8 +15,8 @@ pub const LONGEST_FILE: usize = 1_048_576;
 /// The sheet of a product on a machine that a setup file says.
 ///
 /// The header is `slot,part,designators`; designators have one space between neighbours. The text is
-/// CSV as RFC 4180 has it and as `csv` reads it: blank lines are no records, a line feed alone ends one
-/// too, and a byte order mark at the start is dropped.
+/// CSV as RFC 4180 has it and as `csv` reads it: blank lines are no records, a carriage
+/// return or a line feed alone ends one too, and a byte order mark at the start is dropped.
 #[tactic(auto, unfolding(crate::specs::File::setup_said))]
 pub fn read_setup(
     alloc: Global,

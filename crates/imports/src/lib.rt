@@ -11,8 +11,6 @@ mod file;
 mod law;
 mod records;
 mod rows;
-#[cfg(test)]
-mod tests;
 
 pub use fault::ImportFault;
 pub use file::{LONGEST_FILE, read_counts, read_setup};

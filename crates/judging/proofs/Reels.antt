@@ -40,6 +40,14 @@ module _ {X : Type 0} (test : X → Bool) (xs : List X) (i : ℕ) where
   pub find-end : length xs ≤ i → find test (drop i xs) ≡ None
   find-end past = ap (find test) (drop_all i xs past)
 
+  -- nor where there is no element
+  pub find-gap : slice_get xs i ≡ None → find test (drop i xs) ≡ None
+  find-gap none = by (slice_get_cases xs i).1
+    where
+      by : (((x : X) × (i < length xs) × (slice_get xs i ≡ Some x) × (get_or xs i x ≡ x)) ⊎ ((length xs ≤ i) × (slice_get xs i ≡ None))) → find test (drop i xs) ≡ None
+      by (inl (x, within, some, got)) = let both : Some x ≡ None = sym some ∙ none in cc
+      by (inr (past, gone)) = find-end past
+
 -- ---- live reels
 
 -- a reel with no pieces left fails the test for them

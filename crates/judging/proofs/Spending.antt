@@ -1,5 +1,6 @@
 -- Pieces that go off the fronts of slots, one after the other.
 use Rattle.std.proofs.Common.{◌≡◌, ℕ, ◌+◌, ◌-◌, ◌<◌, Bool, true, false, cond, nat_lt, Option, Some, None, List, [], ◌∷◌, ◌++◌, take, drop, get_or, length, unwrap_or, refl, sym, ap, subst, ◌∙◌, arith}
+use Rattle.std.specs.Prelude.{IfSome, slice_get, nat_eq}
 use Rattle.std.specs.Option.{option_or, option_to_list}
 use Rattle.std.specs.List.{find, filter, list_any}
 use Rattle.std.specs.BTreeMap as tree
@@ -11,14 +12,14 @@ use Rattle.desk_types.specs.History.{History}
 use Rattle.desk_types.specs.Tape.{tape_of}
 use Rattle.desk_types.specs.Pieces.{left_of, live_on, picked, pick_for, install_picks}
 use Rattle.desk_types.specs.Refusals.{designator_refusal, designators_refusal}
-use Rattle.desk_types.proofs.Keys.{same-true, name-written}
+use Rattle.desk_types.proofs.Keys.{same-refl, same-true, name-written}
 use Rattle.desk_types.proofs.Steps.{take-next, drop-next}
 use Rattle.desk_laws.proofs.Picks.{picked-append}
-use Rattle.std.proofs.lemmas.Bool.{lt-ltb, ltb-true, ltb-false}
+use Rattle.std.proofs.lemmas.Bool.{lt-ltb, ltb-true, ltb-false, eqb-true}
 use Rattle.judging.specs.declared.placing.Feeding.{Feeding}
 use Rattle.judging.specs.declared.placing.Piece.{Piece}
-use Rattle.judging.specs.Placing.{HasPieces, IsFeeding, pieces_in, first_at, pick_of}
-use Rattle.judging.proofs.Reels.{find-live}
+use Rattle.judging.specs.Placing.{HasPieces, HasMore, IsFeeding, pieces_in, first_at, pick_of}
+use Rattle.judging.proofs.Reels.{find-live, find-past}
 
 -- ---- one designator more
 
@@ -92,18 +93,43 @@ picked-one p reel = by (same p.reel reel)
 more-has : (stock stock' : Name → ℕ) (n : Name → ℕ) → ((r : Name) → stock' r ≡ stock r - n r) → (r : Name) → nat_lt 0 (stock' r) ≡ true → nat_lt 0 (stock r) ≡ true
 more-has stock stock' n less r has = lt-ltb 0 (stock r) (let some = ltb-true 0 (stock' r) has in omega (arith, some, less r))
 
+-- a test that holds only of reels with pieces once one is taken holds only of reels with pieces
+pub more-holds : (pieces : Name → ℕ) (stock : BTreeMap Name ℕ) (taken : Name) (test : Name → Bool) → HasMore pieces stock taken test → HasPieces pieces stock test
+more-holds pieces stock taken test more = λ r holds.
+    more-has (pieces_in pieces stock) (λ q. pieces_in pieces stock q - cond (same taken q) 1 0) (λ q. cond (same taken q) 1 0) (λ q. refl) r (more r holds)
+
+-- it finds the same behind a reel whose last piece is taken as from there
+pub rest-finds : (pieces : Name → ℕ) (stock : BTreeMap Name ℕ) (reels : List Name) (test : Name → Bool) (i told rest : ℕ) (reel : Name)
+    → slice_get reels i ≡ Some reel → told ≡ pieces_in pieces stock reel → rest ≡ cond (nat_eq told 1) (i + 1) i → HasMore pieces stock reel test
+    → find test (drop rest reels) ≡ find test (drop i reels)
+rest-finds pieces stock reels test i told rest reel is left from more = ap (λ n. find test (drop n reels)) from ∙ by (nat_eq told 1) refl
+  where
+    by : (b : Bool) → nat_eq told 1 ≡ b → find test (drop (cond b (i + 1) i) reels) ≡ find test (drop i reels)
+    by true one =
+        let last = eqb-true told 1 one in
+        let none : pieces_in pieces stock reel - 1 ≡ 0 = omega (arith, left, last) in
+        let spent : nat_lt 0 (pieces_in pieces stock reel - cond (same reel reel) 1 0) ≡ false =
+        ap (λ b. nat_lt 0 (pieces_in pieces stock reel - cond b 1 0)) (same-refl reel) ∙ ap (nat_lt 0) none in
+        find-past test reels i reel is (spent-fails (test reel) _ (more reel) spent)
+    by false more_left = refl
+
+-- what holds of a value holds of it in an Option
+pub some-map : {T : Type 0} (P Q : T → Type 0) (o : Option T) → ((x : T) → P x → Q x) → IfSome o P → IfSome o Q
+some-map P Q None follows holds = holds
+some-map P Q (Some x) follows holds = follows x holds
+
 -- what is known after one more pick
 pub feeding-next : (tape : Name → List Name) (pieces : Name → ℕ) (reels : Name → List Name) (picks : List Pick) (old new : Feeding) (p : Pick)
     → IsFeeding tape pieces reels picks old
     → ((r : Name) → pieces_in pieces new.stock r ≡ pieces_in pieces old.stock r - cond (same p.reel r) p.quantity 0)
-    → ((slot : Name) (test : Name → Bool) → HasPieces pieces old.stock test
+    → ((slot : Name) (test : Name → Bool) → HasPieces pieces new.stock test
     → find test (drop (first_at new.firsts slot) (reels slot)) ≡ find test (drop (first_at old.firsts slot) (reels slot)))
     → IsFeeding tape pieces reels (picks ++ p ∷ []) new
 feeding-next tape pieces reels picks old new p is less kept = record {
   stock = λ r. omega (arith, less r, is.stock r, picked-append picks (p ∷ []) r, picked-one p r);
   firsts = λ slot test has.
       let had : HasPieces pieces old.stock test = λ r holds. more-has (pieces_in pieces old.stock) (pieces_in pieces new.stock) (λ q. cond (same p.reel q) p.quantity 0) less r (has r holds) in
-      kept slot test had ∙ is.firsts slot test had;
+      kept slot test has ∙ is.firsts slot test had;
 }
 
 less-none : (n : ℕ) → n ≡ n - 0
@@ -137,14 +163,18 @@ stock-lowered pieces old new reel less was after r =
     by true one = was ∙ ap (λ q. pieces_in pieces old q - 1) (same-true reel r one)
     by false away = less-none (pieces_in pieces old r)
 
+-- a place is written to one slot
+pub first-written : (old new : BTreeMap Name ℕ) (slot : Name) (place : ℕ)
+    → ((q : Name) → tree.get by_name new q ≡ cond (is_at (by_name slot) q) (Some place) (tree.get by_name old q))
+    → (s : Name) → first_at new s ≡ cond (same slot s) place (first_at old s)
+first-written old new slot place after s = name-written (tree.get by_name old) (tree.get by_name new) slot (Some place) (λ o. unwrap_or o 0) after s
+
 -- a place further in one slot, on which a test finds the same from there
 pub firsts-moved : (old new : BTreeMap Name ℕ) (slot : Name) (place : ℕ) (reels : Name → List Name) (test : Name → Bool)
-    → ((q : Name) → tree.get by_name new q ≡ cond (is_at (by_name slot) q) (Some place) (tree.get by_name old q))
+    → ((s : Name) → first_at new s ≡ cond (same slot s) place (first_at old s))
     → find test (drop place (reels slot)) ≡ find test (drop (first_at old slot) (reels slot))
     → (s : Name) → find test (drop (first_at new s) (reels s)) ≡ find test (drop (first_at old s) (reels s))
-firsts-moved old new slot place reels test after is s =
-    ap (λ n. find test (drop n (reels s))) (name-written (tree.get by_name old) (tree.get by_name new) slot (Some place) (λ o. unwrap_or o 0) after s)
-    ∙ by (same slot s) refl
+firsts-moved old new slot place reels test after is s = ap (λ n. find test (drop n (reels s))) (after s) ∙ by (same slot s) refl
   where
     by : (b : Bool) → same slot s ≡ b → find test (drop (cond b place (first_at old s)) (reels s)) ≡ find test (drop (first_at old s) (reels s))
     by true one = subst (λ x. find test (drop place (reels x)) ≡ find test (drop (first_at old x) (reels x))) (same-true slot s one) is

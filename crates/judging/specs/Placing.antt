@@ -1,5 +1,5 @@
 -- What an install looks at as it goes through its designators, and what an install, a scrap or a count comes to.
-use Rattle.std.specs.Prelude.{◌≡◌, ℕ, ◌-◌, nat_lt, Bool, true, Option, Some, None, Result, Ok, Err, List, [], ◌∷◌, ◌++◌, drop, unwrap_or}
+use Rattle.std.specs.Prelude.{◌≡◌, ℕ, ◌-◌, nat_lt, Bool, true, Option, Some, None, Result, Ok, Err, List, [], ◌∷◌, ◌++◌, drop, unwrap_or, if◌then◌else◌}
 use Rattle.std.specs.List.{find, list_any}
 use Rattle.std.specs.BTreeMap as tree
 use Rattle.std.specs.BTreeMap.{BTreeMap}
@@ -30,6 +30,10 @@ first_at firsts slot = unwrap_or (tree.get by_name firsts slot) 0
 -- the test holds only of reels with pieces left
 abbrev pub HasPieces : (Name → ℕ) → BTreeMap Name ℕ → (Name → Bool) → Type 0
 HasPieces pieces stock test = (reel : Name) → test reel ≡ true → nat_lt 0 (pieces_in pieces stock reel) ≡ true
+
+-- the test holds only of reels with pieces left, once one is taken off this reel
+abbrev pub HasMore : (Name → ℕ) → BTreeMap Name ℕ → Name → (Name → Bool) → Type 0
+HasMore pieces stock taken test = (reel : Name) → test reel ≡ true → nat_lt 0 (pieces_in pieces stock reel - (if same taken reel then 1 else 0)) ≡ true
 
 -- What is known after picks from the tapes of a machine, of reels with these pieces: what the picks left, and of each slot's reels, which
 -- may lack spent ones of its tape or have others, how many at their beginning are spent.

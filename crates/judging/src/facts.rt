@@ -2,7 +2,7 @@
 
 use desk_types::{Designator, Id, Minute, SheetRow, SheetRows};
 use reels::Reel;
-use setup_sheets::{Alternates, Parts};
+use setup_sheets::{Alternates, Parts, Sheet};
 
 /// What is known of the accepted commands, by whatever means: a list that is searched, or maps that
 /// hold the current state. No call takes memory.
@@ -10,13 +10,13 @@ use setup_sheets::{Alternates, Parts};
 /// `Stands` says for which lists the facts are true, each a judged one. There may be several: each
 /// answer is that of each of them.
 pub trait Facts {
-    ghost use Rattle.std.specs.Prelude.{◌≡◌, nat_lt, List, length, slice_get};
+    ghost use Rattle.std.specs.Prelude.{◌≡◌, nat_lt, IsSome, List, length, slice_get};
     ghost use Rattle.std.specs.List.{filter};
     ghost use Rattle.std.specs.Option.{option_copied};
     ghost use Rattle.desk_types.specs.declared.rules.Rules.TheVariants.{Two};
     ghost use Rattle.desk_types.specs.Id.{Name};
     ghost use Rattle.desk_types.specs.History.{History, desk_minute};
-    ghost use Rattle.desk_types.specs.Setup.{is_part, selected_on, sheet_of, row_on, slot_on};
+    ghost use Rattle.desk_types.specs.Setup.{is_part, selected_on, sheet_of, sheet_on, row_on, slot_on};
     ghost use Rattle.desk_types.specs.Pieces.{left_of, live_on, is_mounted};
     ghost use Rattle.desk_types.specs.Work.{in_work_on, is_in_work, product_of, is_placed_on};
     ghost use Rattle.desk_types.specs.Judged.{IsJudged};
@@ -59,6 +59,15 @@ pub trait Facts {
     fn sheet_of(&self, product: &Id, machine: &Id) -> Option<&SheetRows>
         ensures { (H : History) → Stands self.now H → option_copied result ≡ sheet_of H product.now machine.now };
 
+    /// The sheet of the selected product with its look-ups, where the facts keep them: one who looks up
+    /// many designators takes it once. None tells nothing.
+    fn look_ups_on(&self, machine: &Id) -> Option<&Sheet>
+        ensures { (H : History) → Stands self.now H → IsSome result → option_copied result ≡ sheet_on H machine.now }
+    {
+        let _ = machine;
+        None
+    }
+
     /// The row for the slot in the sheet of the selected product.
     fn row_on(&self, machine: &Id, slot: &Id) -> Option<&SheetRow>
         ensures { (H : History) → Stands self.now H → option_copied result ≡ row_on H machine.now slot.now };
@@ -80,7 +89,7 @@ pub trait Facts {
     fn is_mounted(&self, reel: &Id) -> bool
         ensures { (H : History) → Stands self.now H → result ≡ is_mounted H reel.now };
 
-    /// How many reels the slot has, spent ones too.
+    /// How many reels `reels_on` tells of the slot.
     fn reel_count(&self, machine: &Id, slot: &Id) -> usize
         ensures { result ≡ length (reels_on self.now machine.now slot.now) };
 

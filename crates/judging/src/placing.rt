@@ -1,22 +1,23 @@
 //! The pieces that an install takes: one for each designator, off the front of its slot's reels.
 
-ghost use Rattle.std.specs.Prelude.{◌≡◌, ◌-◌, Bool, nat_lt, List, [], drop, if◌then◌else◌, IfSome, IfOk, OnOk};
+ghost use Rattle.std.specs.Prelude.{◌≡◌, ◌+◌, ◌-◌, ◌^◌, ◌<◌, ◌==◌, Bool, nat_lt, List, [], drop, if◌then◌else◌, IsSome, IfSome, IfOk, OnOk};
 ghost use Rattle.std.specs.List.{find};
-ghost use Rattle.std.specs.Option.{option_map, option_map_or};
+ghost use Rattle.std.specs.Option.{option_map, option_map_or, option_copied};
 ghost use Rattle.desk_types.specs.declared.take.Pick.{Pick as Picking};
 ghost use Rattle.desk_types.specs.Id.{Name, same};
 ghost use Rattle.desk_types.specs.History.{History};
-ghost use Rattle.desk_types.specs.Setup.{slot_on};
+ghost use Rattle.desk_types.specs.Setup.{sheet_on, slot_on};
 ghost use Rattle.desk_types.specs.Tape.{tape_of};
 ghost use Rattle.desk_types.specs.Pieces.{left_of, install_picks};
 ghost use Rattle.desk_types.specs.Refusals.{designators_refusal};
 ghost use Rattle.desk_types.specs.Work.{is_placed_on};
 ghost use Rattle.setup_sheets.specs.Names.{HasSeen};
 ghost use Rattle.judging.specs.declared.placing.Found.{Found as Finding};
-ghost use Rattle.judging.specs.Placing.{IsPicked, IsPlacing, IsFeeding, HasPieces, pieces_in, first_at};
+ghost use Rattle.judging.specs.Placing.{IsPicked, IsPlacing, IsFeeding, HasPieces, HasMore, pieces_in, first_at};
 
 use crate::facts::Facts;
 use desk_types::{Designator, Id, Listing, Pick, Purpose, Refusal};
+use setup_sheets::Sheet;
 use std::alloc::{AllocError, Global};
 use std::collections::{BTreeMap, BTreeSet};
 
@@ -48,14 +49,73 @@ fn first_at(firsts: &BTreeMap<Id, usize>, slot: &Id) -> usize
     }
 }
 
-/// A reel, and its place among the reels of its slot, from 0.
-#[derive(Clone, Copy, Debug, PartialEq, Eq)]
-struct Found {
+/// So many reels at the slot's beginning are spent from now on; `first` is how many were known to be.
+fn note_first(
+    firsts: &mut BTreeMap<Id, usize>,
+    slot: &Id,
+    first: usize,
     place: usize,
-    reel: Id,
+) -> Result<(), AllocError>
+    requires { first ≡ first_at firsts.old slot.now }
+    ensures { (s : Name) → OnOk result (first_at firsts.new s ≡ (if same slot.now s then place else first_at firsts.old s)) }
+{
+    if place == first {
+        return Ok(());
+    }
+    firsts.insert(*slot, place)?;
+    Ok(())
 }
 
-/// The first reel of the slot with pieces left, from this place on.
+/// A reel with pieces left, those pieces, and how many reels at its slot's beginning are known to be
+/// spent once a piece is taken off it.
+#[derive(Clone, Copy, Debug, PartialEq, Eq)]
+struct Found {
+    reel: Id,
+    pieces: u64,
+    rest: usize,
+}
+
+/// How many reels at a slot's beginning are spent once a piece is taken off the reel in this place, which
+/// has so many and is the first with any.
+fn rest_from(place: usize, pieces: u64) -> usize
+    requires { place + 1 < 2 ^ 64 }
+    ensures { result ≡ (if pieces == 1 then place + 1 else place) }
+{
+    if pieces == 1 { place + 1 } else { place }
+}
+
+/// The first reel of the slot with pieces left behind this place.
+fn later_reel<F: Facts>(
+    facts: &F,
+    stock: &BTreeMap<Id, u64>,
+    machine: &Id,
+    slot: &Id,
+    place: usize,
+) -> Option<Found>
+    ensures reel { (H : History) → F.Stands facts.now H → option_map (λ (found : Finding). found.reel) result
+        ≡ find (λ reel. nat_lt 0 (pieces_in (left_of H) stock.now reel)) (drop (place + 1) (F.reels_on facts.now machine.now slot.now)) }
+    ensures rest { (H : History) (test : Name → Bool) → F.Stands facts.now H → IfSome result (λ found. HasMore (left_of H) stock.now found.reel test
+        → find test (drop found.rest (F.reels_on facts.now machine.now slot.now)) ≡ find test (drop (place + 1) (F.reels_on facts.now machine.now slot.now))) }
+    ensures pieces { (H : History) → F.Stands facts.now H → IfSome result (λ found. found.pieces ≡ pieces_in (left_of H) stock.now found.reel) }
+{
+    let count = facts.reel_count(machine, slot);
+    if place >= count {
+        return None;
+    }
+    for later in place + 1..count {
+        if let Some(reel) = facts.reel_at(machine, slot, later) {
+            let pieces = pieces_in(facts, stock, &reel);
+            if pieces > 0 {
+                let rest = rest_from(later, pieces);
+                return Some(Found { reel, pieces, rest });
+            }
+        }
+    }
+    None
+}
+
+/// The first reel of the slot with pieces left, from this place on. Mostly it stands in this place, so
+/// the reels are counted only where that one is spent.
 fn next_reel<F: Facts>(
     facts: &F,
     stock: &BTreeMap<Id, u64>,
@@ -65,17 +125,17 @@ fn next_reel<F: Facts>(
 ) -> Option<Found>
     ensures reel { (H : History) → F.Stands facts.now H → option_map (λ (found : Finding). found.reel) result
         ≡ find (λ reel. nat_lt 0 (pieces_in (left_of H) stock.now reel)) (drop first (F.reels_on facts.now machine.now slot.now)) }
-    ensures place { (H : History) (test : Name → Bool) → F.Stands facts.now H → HasPieces (left_of H) stock.now test
-        → IfSome result (λ found. find test (drop found.place (F.reels_on facts.now machine.now slot.now)) ≡ find test (drop first (F.reels_on facts.now machine.now slot.now))) }
+    ensures rest { (H : History) (test : Name → Bool) → F.Stands facts.now H → IfSome result (λ found. HasMore (left_of H) stock.now found.reel test
+        → find test (drop found.rest (F.reels_on facts.now machine.now slot.now)) ≡ find test (drop first (F.reels_on facts.now machine.now slot.now))) }
+    ensures pieces { (H : History) → F.Stands facts.now H → IfSome result (λ found. found.pieces ≡ pieces_in (left_of H) stock.now found.reel) }
 {
-    for place in first..facts.reel_count(machine, slot) {
-        if let Some(reel) = facts.reel_at(machine, slot, place) {
-            if pieces_in(facts, stock, &reel) > 0 {
-                return Some(Found { place, reel });
-            }
-        }
+    let reel = facts.reel_at(machine, slot, first)?;
+    let pieces = pieces_in(facts, stock, &reel);
+    if pieces > 0 {
+        let rest = first;
+        return Some(Found { reel, pieces, rest });
     }
-    None
+    later_reel(facts, stock, machine, slot, first)
 }
 
 /// One piece off the front of a slot's reels, where there is one.
@@ -89,18 +149,35 @@ fn take_piece<F: Facts>(
         (drop (first_at feeding.old.firsts slot.now) (F.reels_on facts.now machine.now slot.now))) }
     ensures stock { (H : History) (r : Name) → F.Stands facts.now H → IfOk result (λ reel. pieces_in (left_of H) feeding.new.stock r
         ≡ pieces_in (left_of H) feeding.old.stock r - option_map_or (λ taken. if same taken r then 1 else 0) reel 0) }
-    ensures firsts { (H : History) (s : Name) (test : Name → Bool) → F.Stands facts.now H → HasPieces (left_of H) feeding.old.stock test
-        → OnOk result (find test (drop (first_at feeding.new.firsts s) (F.reels_on facts.now machine.now s))
+    ensures firsts { (H : History) (s : Name) (test : Name → Bool) → F.Stands facts.now H → OnOk result (HasPieces (left_of H) feeding.new.stock test
+        → find test (drop (first_at feeding.new.firsts s) (F.reels_on facts.now machine.now s))
         ≡ find test (drop (first_at feeding.old.firsts s) (F.reels_on facts.now machine.now s))) }
 {
     let first = first_at(&feeding.firsts, slot);
     let Some(found) = next_reel(facts, &feeding.stock, machine, slot, first) else {
         return Ok(None);
     };
-    let left = pieces_in(facts, &feeding.stock, &found.reel);
-    feeding.stock.insert(found.reel, left.saturating_sub(1))?;
-    feeding.firsts.insert(*slot, found.place)?;
+    feeding
+        .stock
+        .insert(found.reel, found.pieces.saturating_sub(1))?;
+    note_first(&mut feeding.firsts, slot, first, found.rest)?;
     Ok(Some(found.reel))
+}
+
+/// The slot for the designator, by the look-ups of the selected product's sheet where there are some.
+fn slot_for<F: Facts>(
+    facts: &F,
+    sheet: Option<&Sheet>,
+    machine: &Id,
+    designator: &Designator,
+) -> Option<Id>
+    requires { (H : History) → F.Stands facts.now H → IsSome sheet → option_copied sheet ≡ sheet_on H machine.now }
+    ensures { (H : History) → F.Stands facts.now H → result ≡ slot_on H machine.now designator.now }
+{
+    match sheet {
+        Some(sheet) => sheet.slot(designator),
+        None => facts.slot_on(machine, designator),
+    }
 }
 
 /// A piece off a reel on a slot.
@@ -113,19 +190,21 @@ struct Piece {
 /// One piece for a designator, after those before it in the message.
 fn place<F: Facts>(
     facts: &F,
+    sheet: Option<&Sheet>,
     feeding: &mut Feeding,
     seen: &mut BTreeSet<Designator>,
     machine: &Id,
     board: &Id,
     designator: &Designator,
 ) -> Result<Result<Piece, Refusal>, AllocError>
+    requires { (H : History) → F.Stands facts.now H → IsSome sheet → option_copied sheet ≡ sheet_on H machine.now }
     ensures { (H : History) (picks : List Picking) (before : List Name) → F.Stands facts.now H
         → IsFeeding (tape_of H machine.now) (left_of H) (F.reels_on facts.now machine.now) picks feeding.old → HasSeen seen.old before
         → IfOk result (λ placing. IsPlacing (slot_on H machine.now) (tape_of H machine.now) (left_of H) (is_placed_on H board.now)
         (F.reels_on facts.now machine.now) machine.now board.now picks before designator.now placing feeding.new seen.new) }
 {
     let name = Id::from(*designator);
-    let Some(slot) = facts.slot_on(machine, designator) else {
+    let Some(slot) = slot_for(facts, sheet, machine, designator) else {
         return Ok(Err(Refusal::DesignatorNotOnSheet(name)));
     };
     if !seen.insert(*designator)? {
@@ -153,14 +232,23 @@ pub fn place_all<F: Facts>(
         (install_picks (slot_on H machine.now) (tape_of H machine.now) (left_of H) machine.now board.now [] designators.now)) }
 {
     facts.tells_live();
+    let sheet = facts.look_ups_on(machine);
     let mut feeding = Feeding {
         stock: BTreeMap::new(alloc),
         firsts: BTreeMap::new(alloc),
     };
     let mut seen = BTreeSet::new(alloc);
-    let mut picks = Vec::new(alloc);
+    let mut picks = Vec::with_capacity(alloc, designators.len())?;
     for designator in designators {
-        match place(facts, &mut feeding, &mut seen, machine, board, designator)? {
+        match place(
+            facts,
+            sheet,
+            &mut feeding,
+            &mut seen,
+            machine,
+            board,
+            designator,
+        )? {
             Ok(piece) => picks.push(Pick {
                 reel: piece.reel,
                 quantity: 1,

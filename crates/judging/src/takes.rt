@@ -49,7 +49,7 @@ pub fn takes_for<F: Facts>(
     ensures { (H : History) → F.Stands facts.now H → AllByRecursion (λ (p : Picking). IsKnownReel H p.reel) picks.now
         → IfOk result (λ takes. takes ≡ map (take_of H minute) picks.now) }
 {
-    let mut takes = Vec::new(alloc);
+    let mut takes = Vec::with_capacity(alloc, picks.len())?;
     for pick in picks {
         let Some(reel) = facts.reel(&pick.reel) else {
             continue;
@@ -63,7 +63,7 @@ pub fn takes_for<F: Facts>(
 pub fn reels_of(alloc: Global, picks: &[Pick]) -> Result<IdList, AllocError>
     ensures { IfOk result (λ reels. reels ≡ reels_of picks.now) }
 {
-    let mut reels = Vec::new(alloc);
+    let mut reels = Vec::with_capacity(alloc, picks.len())?;
     for pick in picks {
         reels.push(pick.reel)?;
     }

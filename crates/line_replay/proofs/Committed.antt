@@ -12,9 +12,11 @@ use Rattle.line_tables.specs.Line.{line_schema}
 use Rattle.line_tables.specs.Rows.{Holds, accepted_in}
 use Rattle.line_tables.specs.Calls.{Reads, has_number}
 use Rattle.line_tables.proofs.Keeps.{keeps_then}
+use Rattle.line_audit.specs.Audit.{ArePlaced}
 use Rattle.line_rows.specs.Rows.{rows_of, tables_of}
 use Rattle.line_replay.specs.declared.fault.ReplayFault.{ReplayFault}
 use Rattle.line_replay.specs.declared.fault.ReplayFault.TheVariants.{NotLawful, Unavailable}
+use Rattle.line_replay.specs.declared.beside.Beside.{Beside}
 use Rattle.line_replay.specs.Listed.{AreAt, StopsAt}
 use Rattle.line_replay.specs.Replay.{IsReplayed, IsFaultOf, IsNumbered, IsStuck, IsTaken, IsEnd, IsStop}
 use Rattle.line_replay.proofs.Reading.{reads_two, reads_back}
@@ -36,8 +38,8 @@ pub fault_before : (rules : Rules) (greatest : ℕ) (old mid : State) (f : Repla
 fault_before rules greatest old mid f kept numbered (inl is) = subst (IsFaultOf rules greatest old) (sym is) tt
 fault_before rules greatest old mid f kept numbered (inr stop) = subst (IsFaultOf rules greatest old) (sym stop.1) (stops_before rules greatest old mid stop.0 kept numbered stop.2)
 
-module _ {D : Type 0} (F : D → History → Type 0) (rules : Rules) (greatest : ℕ) (first mid last : State) (desk : D) (n : ℕ) (H : History) (Before After : Type 0)
-    (early : After → Before) (kept : After → KeepsCommit first mid) (kept_on : After → KeepsCommit mid last) (low : n ≤ greatest) (taken : IsTaken F rules Before mid.committed desk n H)
+module _ {D : Type 0} (F : D → History → Type 0) (rules : Rules) (greatest : ℕ) (first mid last : State) (desk : D) (beside : Beside) (n : ℕ) (H : History) (Before After : Type 0)
+    (early : After → Before) (kept : After → KeepsCommit first mid) (kept_on : After → KeepsCommit mid last) (low : n ≤ greatest) (taken : IsTaken F rules Before mid.committed desk beside n H)
     (are : Bool) (counted : After → Reads last (λ db. are ≡ (n == length (accepted_in db)))) where
   same : After → mid.committed ≡ first.committed
   same clean = (kept clean).committed ((kept_on clean).was_open (counted clean).was_open)
@@ -51,7 +53,7 @@ module _ {D : Type 0} (F : D → History → Type 0) (rules : Rules) (greatest :
   within : length H ≤ greatest
   within = omega (arith, low, taken.counted)
 
-  pub replayed : are ≡ true → IsReplayed F rules greatest After first desk n H
+  pub replayed : are ≡ true → IsReplayed F rules greatest After first desk beside n H
   replayed is = record {
     stands = taken.stands;
     judged = taken.judged;
@@ -62,6 +64,15 @@ module _ {D : Type 0} (F : D → History → Type 0) (rules : Rules) (greatest :
           was_open = r.was_open;
           are = λ schema. are_rows rules greatest (accepted_in first.committed) H taken.judged (here clean schema) within (sym (eqb-true n _ (sym (r.are schema) ∙ is)) ∙ sym taken.counted);
         };
+    others = record {
+      rows = taken.others.rows;
+      pieces = taken.others.pieces;
+      listed = taken.others.listed;
+      named = taken.others.named;
+      counted = taken.others.counted;
+      told = λ clean schema.
+          subst (λ (db : Database). ArePlaced db beside.placed.all taken.others.pieces) (same clean) (taken.others.told (early clean) (ap (λ (db : Database). db.schema) (same clean) ∙ schema));
+    };
   }
 
   -- the rows are more than were taken
@@ -81,10 +92,10 @@ module _ {D : Type 0} (F : D → History → Type 0) (rules : Rules) (greatest :
       }
 
 -- the list that was read again is the one whose tables these are
-pub same_list : {D : Type 0} (F : D → History → Type 0) (rules : Rules) (greatest : ℕ) (Clean : Type 0) (old : State) (desk : D) (count : ℕ) (H G : History)
-    → ((A B : History) → IsJudged rules A → IsJudged rules B → IsPermutation (rows_of A) (rows_of B) → A ≡ B) → IsReplayed F rules greatest Clean old desk count H → IsJudged rules G
+pub same_list : {D : Type 0} (F : D → History → Type 0) (rules : Rules) (greatest : ℕ) (Clean : Type 0) (old : State) (desk : D) (beside : Beside) (count : ℕ) (H G : History)
+    → ((A B : History) → IsJudged rules A → IsJudged rules B → IsPermutation (rows_of A) (rows_of B) → A ≡ B) → IsReplayed F rules greatest Clean old desk beside count H → IsJudged rules G
     → (IsTrue old.is_open → Holds old.committed (tables_of greatest G)) → Clean → H ≡ G
-same_list F rules greatest Clean old desk count H G tell all judged holds clean =
+same_list F rules greatest Clean old desk beside count H G tell all judged holds clean =
     let r = all.rows clean in
     let tables = holds r.was_open in
     tell H G all.judged judged (IsPermutation-trans _ _ _ (IsPermutation-sym _ _ (r.are tables.schema).same) tables.accepted)

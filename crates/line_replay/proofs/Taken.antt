@@ -1,25 +1,45 @@
 -- One row more is taken.
-use Rattle.std.proofs.Common.{◌+◌, ℕ, true, ◌∷◌, arith}
+use Rattle.std.proofs.Common.{◌≡◌, ◌∙◌, ◌+◌, ℕ, true, false, Option, Some, [], ◌∷◌, length, filter, ap, arith}
+use Rattle.std.specs.List.{list_any}
+use Rattle.sqlite_value.specs.Order.{Row}
 use Rattle.sqlite.specs.Effect.{Database}
 use Rattle.sqlite.specs.State.{State, KeepsCommit}
 use Rattle.desk_types.specs.declared.rules.Rules.{Rules}
 use Rattle.desk_types.specs.History.{History}
-use Rattle.line_tables.specs.Calls.{Reads}
+use Rattle.desk_types.specs.declared.command.Entry.{Entry}
+use Rattle.line_tables.specs.Rows.{accepted_in}
+use Rattle.line_tables.specs.Calls.{Reads, has_number, is_before, only}
+use Rattle.line_rows.specs.Rows.{entry_row}
+use Rattle.line_replay.specs.Listed.{IsAt}
+use Rattle.line_replay.specs.declared.beside.Beside.{Beside}
 use Rattle.line_replay.specs.Replay.{Goes, IsTaken}
-use Rattle.line_replay.proofs.Reading.{reads_back}
+use Rattle.line_replay.proofs.Adding.{beside_more}
+use Rattle.line_replay.proofs.Reading.{reads_back, reads_two}
 
 module _ {D : Type 0} (F : D → History → Type 0) (rules : Rules) (old mid : State) (Before After : Type 0) (early : After → Before) (kept : Before → KeepsCommit old mid)
-    (desk new : D) (count : ℕ) (H : History) (taken : IsTaken F rules Before old.committed desk count H) where
+    (desk new : D) (before after : Beside) (count : ℕ) (H : History) (taken : IsTaken F rules Before old.committed desk before count H) where
   at_first : (P : Database → Type 0) → After → Reads mid P → Reads old P
   at_first P clean r = reads_back old mid P (kept (early clean)) r
 
-  pub taken_more : Goes F rules After mid H new true → (G : History) × IsTaken F rules After old.committed new (count + 1) G
+  pub taken_more : Goes F rules After mid H before new after true → (G : History) × IsTaken F rules After old.committed new after (count + 1) G
   taken_more went = (
-    went.0 ∷ H,
+    went.entry ∷ H,
     record {
-      stands = went.1;
-      judged = (went.2, taken.judged);
+      stands = went.stands;
+      judged = (went.next, taken.judged);
       counted = omega (arith, taken.counted);
-      rows = λ clean schema. ((at_first _ clean (went.3 clean)).are schema, taken.rows (early clean) schema);
+      rows = λ clean schema. ((at_first _ clean (went.row clean)).are schema, taken.rows (early clean) schema);
+      others = beside_more Before After old mid went.edits before after H went.entry early (λ clean. kept (early clean)) taken.others went.lead went.adds;
     },
   )
+
+-- a row of the next number is that of an entry
+pub row_taken : (old first : State) (o : Option Row) (row : Row) (H : History) (e : Entry) (number : ℕ) → KeepsCommit old first → o ≡ Some row → length H + 1 ≡ number → row ≡ entry_row H e
+    → Reads old (λ db. filter (has_number number) (accepted_in db) ≡ only o) → Reads first (λ db. list_any (is_before e.stamped.uid number) (accepted_in db) ≡ false) → Reads old (λ db. IsAt (accepted_in db) H e)
+row_taken old first o row H e number kept is numbered same found none =
+    reads_two old (λ db. filter (has_number number) (accepted_in db) ≡ only o) (λ db. list_any (is_before e.stamped.uid number) (accepted_in db) ≡ false) (λ db. IsAt (accepted_in db) H e)
+    (λ db found none. record {
+      row = ap (λ n. filter (has_number n) (accepted_in db)) numbered ∙ found ∙ ap only is ∙ ap (λ (r : Row). r ∷ []) same;
+      first = ap (λ n. list_any (is_before e.stamped.uid n) (accepted_in db)) numbered ∙ none;
+    })
+    found (reads_back old first _ kept none)

@@ -10,6 +10,7 @@ ghost use Rattle.line_tables.specs.Rows.{Holds};
 ghost use Rattle.line_rows.specs.Rows.{tables_of};
 ghost use Rattle.line_replay.specs.Replay.{IsReplayed, IsFaultOf};
 
+use crate::beside::Beside;
 use crate::fault::ReplayFault;
 use crate::taking::{are_all, least_is_one, take_rows};
 use desk_types::{Desk, Rules};
@@ -17,10 +18,11 @@ use line_rows::rows_tell_lists_apart;
 use sqlite::{Alter, Connection};
 use std::alloc::Global;
 
-/// A desk, and how many entries its list has.
+/// A desk, how many entries its list has, and the rows of the other tables.
 pub struct Replayed<D: Desk + Drop> {
     pub desk: D,
     pub count: u32,
+    pub beside: Beside,
 }
 
 /// Judges each row of `accepted` once more, by number, with a fresh desk of these rules. Numbers go
@@ -33,7 +35,7 @@ pub fn replay<S: Alter, D: Desk + Drop>(
     greatest: u32,
 ) -> Result<Replayed<D>, ReplayFault>
     requires bound { greatest ≤ MOST_ENTRIES }
-    ensures list { IfOk result (λ r. (H : History) × IsReplayed D.Stands rules greatest (HasCleanDisk (state S.Store conn.new)) (state S.Store conn.old) r.desk r.count H) }
+    ensures list { IfOk result (λ r. (H : History) × IsReplayed D.Stands rules greatest (HasCleanDisk (state S.Store conn.new)) (state S.Store conn.old) r.desk r.beside r.count H) }
     ensures rules { IfOk result (λ r. D.kept_rules r.desk ≡ rules) }
     ensures fault { HasCleanDisk (state S.Store conn.new) → IfErr result (IsFaultOf rules greatest (state S.Store conn.old)) }
     ensures kept { HasCleanDisk (state S.Store conn.new) → KeepsCommit (state S.Store conn.old) (state S.Store conn.new) }
@@ -42,12 +44,17 @@ pub fn replay<S: Alter, D: Desk + Drop>(
 {
     least_is_one(conn)?;
     let mut desk = D::fresh(alloc, rules);
-    let count = take_rows(alloc, conn, &mut desk, greatest)?;
+    let mut beside = Beside::new(alloc);
+    let count = take_rows(alloc, conn, &mut desk, &mut beside, greatest)?;
     let all = are_all(conn, count)?;
     if !all {
         return Err(ReplayFault::NotLawful(count + 1));
     }
-    Ok(Replayed { desk, count })
+    Ok(Replayed {
+        desk,
+        count,
+        beside,
+    })
 }
 
 /// The desk made again from the tables of a list that was judged by these rules, as after a refused
@@ -60,7 +67,7 @@ pub fn rebuild<S: Alter, D: Desk + Drop>(
     greatest: u32,
 ) -> Option<Replayed<D>>
     requires bound { greatest ≤ MOST_ENTRIES }
-    ensures list { IfSome result (λ r. (H : History) × IsReplayed D.Stands rules greatest (HasCleanDisk (state S.Store conn.new)) (state S.Store conn.old) r.desk r.count H) }
+    ensures list { IfSome result (λ r. (H : History) × IsReplayed D.Stands rules greatest (HasCleanDisk (state S.Store conn.new)) (state S.Store conn.old) r.desk r.beside r.count H) }
     ensures same { (G : History) → IsJudged rules G → (IsTrue (state S.Store conn.old).is_open → Holds (state S.Store conn.old).committed (tables_of greatest G)) → HasCleanDisk (state S.Store conn.new) → IfSome result (λ r. D.Stands r.desk G × (r.count ≡ length G)) }
     ensures rules { IfSome result (λ r. D.kept_rules r.desk ≡ rules) }
     ensures kept { HasCleanDisk (state S.Store conn.new) → KeepsCommit (state S.Store conn.old) (state S.Store conn.new) }

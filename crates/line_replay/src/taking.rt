@@ -1,8 +1,9 @@
 //! The rows, taken one after the other by their numbers.
 
-ghost use Rattle.std.specs.Prelude.{◌≡◌, ◌==◌, ◌+◌, ◌≤◌, ◌⊎◌, ℕ, true, false, IfOk, IfErr, OnOk, [], ◌∷◌, length};
+ghost use Rattle.std.specs.Prelude.{◌≡◌, ◌==◌, ◌+◌, ◌≤◌, ◌⊎◌, ⊤, ℕ, true, false, IfOk, IfErr, OnOk, [], ◌∷◌, length};
 ghost use Rattle.std.specs.List.{list_any};
 ghost use Rattle.sqlite.specs.State.{HasCleanDisk, Survives, KeepsCommit};
+ghost use Rattle.sqlite.specs.Effect.{Database};
 ghost use Rattle.sqlite.specs.Held.{state};
 ghost use Rattle.desk_types.specs.declared.command.Entry.{Entry};
 ghost use Rattle.desk_types.specs.declared.desk.TheConstants.{MOST_ENTRIES};
@@ -13,13 +14,16 @@ ghost use Rattle.line_tables.specs.Rows.{accepted_in};
 ghost use Rattle.line_tables.specs.Calls.{Reads, is_before};
 ghost use Rattle.line_rows.specs.Judging.{GoesOn};
 ghost use Rattle.line_replay.specs.declared.fault.ReplayFault.TheVariants.{NotLawful, Unavailable};
-ghost use Rattle.line_replay.specs.Replay.{IsFaultOf, IsNumbered, IsStuck, Goes, IsTaken, IsEnd, IsStop};
+ghost use Rattle.line_replay.specs.Beside.{IsBeside};
+ghost use Rattle.line_replay.specs.Replay.{IsFaultOf, IsNumbered, IsStuck, Accepts, Goes, IsTaken, IsEnd, IsStop};
 
+use crate::beside::Beside;
 use crate::fault::ReplayFault;
 use desk_types::Desk;
-use line_rows::{RowFault, accept_row};
+use line_rows::{RowFault, Taken, accept_row};
 use line_tables::{count, is_repeat, least_number, row_at};
 use sqlite::{Alter, Connection, Row};
+use state_rows::RowEdits;
 use std::alloc::Global;
 
 /// Asks that the least number is 1, where there is a row.
@@ -49,16 +53,19 @@ pub fn are_all<S: Alter>(conn: &mut Connection<S>, taken: u32) -> Result<bool, R
     Ok(count(conn)? == u64::from(taken))
 }
 
-/// Takes row after row, up to the greatest number, into a desk of an empty list. Answers how many.
+/// Takes row after row, up to the greatest number, into a desk of an empty list, with the rows that
+/// the other tables should have. Answers how many.
 pub fn take_rows<S: Alter, D: Desk>(
     alloc: Global,
     conn: &mut Connection<S>,
     desk: &mut D,
+    beside: &mut Beside,
     greatest: u32,
 ) -> Result<u32, ReplayFault>
     requires fresh { D.Stands desk.old [] }
+    requires none { (db : Database) → IsBeside ⊤ db beside.old [] }
     requires bound { greatest ≤ MOST_ENTRIES }
-    ensures taken { IfOk result (λ n. (H : History) × (n ≤ greatest) × IsTaken D.Stands (D.kept_rules desk.old) (HasCleanDisk (state S.Store conn.new)) (state S.Store conn.old).committed desk.new n H) }
+    ensures taken { IfOk result (λ n. (H : History) × (n ≤ greatest) × IsTaken D.Stands (D.kept_rules desk.old) (HasCleanDisk (state S.Store conn.new)) (state S.Store conn.old).committed desk.new beside.new n H) }
     ensures ends { HasCleanDisk (state S.Store conn.new) → IfOk result (IsEnd greatest (state S.Store conn.old)) }
     ensures err { HasCleanDisk (state S.Store conn.new) → IfErr result (λ f. (f ≡ Unavailable) ⊎ ((n : ℕ) × (f ≡ NotLawful n) × IsStop (D.kept_rules desk.old) greatest (state S.Store conn.old) n)) }
     ensures rules { OnOk result (D.kept_rules desk.new ≡ D.kept_rules desk.old) }
@@ -67,7 +74,7 @@ pub fn take_rows<S: Alter, D: Desk>(
     ensures survives { Survives (state S.Store conn.old) (state S.Store conn.new) (λ _. ⊥) }
 {
     for number in 0..greatest {
-        let taken = take_row(alloc, conn, desk, number + 1)?;
+        let taken = take_row(alloc, conn, desk, beside, number + 1)?;
         if !taken {
             return Ok(number);
         }
@@ -80,10 +87,11 @@ fn take_row<S: Alter, D: Desk>(
     alloc: Global,
     conn: &mut Connection<S>,
     desk: &mut D,
+    beside: &mut Beside,
     number: u32,
 ) -> Result<bool, ReplayFault>
     requires room { HasRoom D.Stands desk.old 1 }
-    ensures ok { (H : History) → D.Stands desk.old H → length H + 1 ≡ number → IfOk result (Goes D.Stands (D.kept_rules desk.old) (HasCleanDisk (state S.Store conn.new)) (state S.Store conn.old) H desk.new) }
+    ensures ok { (H : History) → D.Stands desk.old H → length H + 1 ≡ number → IfOk result (Goes D.Stands (D.kept_rules desk.old) (HasCleanDisk (state S.Store conn.new)) (state S.Store conn.old) H beside.old desk.new beside.new) }
     ensures err { (H : History) → D.Stands desk.old H → length H + 1 ≡ number → HasCleanDisk (state S.Store conn.new) → IfErr result (λ f. (f ≡ Unavailable) ⊎ ((f ≡ NotLawful number) × Reads (state S.Store conn.old) (λ db. IsStuck (D.kept_rules desk.old) H (accepted_in db)))) }
     ensures rules { OnOk result (D.kept_rules desk.new ≡ D.kept_rules desk.old) }
     ensures kept { HasCleanDisk (state S.Store conn.new) → KeepsCommit (state S.Store conn.old) (state S.Store conn.new) }
@@ -93,23 +101,24 @@ fn take_row<S: Alter, D: Desk>(
     let found = row_at(conn, number)?;
     match found {
         Some(row) => {
-            accept_first(alloc, conn, desk, number, &row)?;
+            let edits = accept_first(alloc, conn, desk, number, &row)?;
+            beside.add(alloc, conn, u64::from(number), edits.as_slice())?;
             Ok(true)
         }
         None => Ok(false),
     }
 }
 
-/// Accepts the command of the row, where no row of a lower number has its UniqueID.
+/// Accepts the command of the row, where no row of a lower number has its UniqueID. Answers its edits.
 fn accept_first<S: Alter, D: Desk>(
     alloc: Global,
     conn: &mut Connection<S>,
     desk: &mut D,
     number: u32,
     row: &Row,
-) -> Result<(), ReplayFault>
+) -> Result<RowEdits, ReplayFault>
     requires room { HasRoom D.Stands desk.old 1 }
-    ensures ok { (H : History) → D.Stands desk.old H → length H + 1 ≡ number → OnOk result ((e : Entry) × D.Stands desk.new (e ∷ H) × GoesOn (D.kept_rules desk.old) H row.now e × (HasCleanDisk (state S.Store conn.new) → Reads (state S.Store conn.old) (λ db. list_any (is_before e.stamped.uid number) (accepted_in db) ≡ false))) }
+    ensures ok { (H : History) → D.Stands desk.old H → length H + 1 ≡ number → IfOk result (Accepts D.Stands (D.kept_rules desk.old) (HasCleanDisk (state S.Store conn.new)) (state S.Store conn.old) number row.now H desk.new) }
     ensures err { (H : History) → D.Stands desk.old H → length H + 1 ≡ number → HasCleanDisk (state S.Store conn.new) → IfErr result (λ f. (f ≡ Unavailable) ⊎ ((f ≡ NotLawful number) × ((e : Entry) → GoesOn (D.kept_rules desk.old) H row.now e → Reads (state S.Store conn.old) (λ db. list_any (is_before e.stamped.uid number) (accepted_in db) ≡ true)))) }
     ensures rules { OnOk result (D.kept_rules desk.new ≡ D.kept_rules desk.old) }
     ensures kept { HasCleanDisk (state S.Store conn.new) → KeepsCommit (state S.Store conn.old) (state S.Store conn.new) }
@@ -117,12 +126,12 @@ fn accept_first<S: Alter, D: Desk>(
     ensures survives { Survives (state S.Store conn.old) (state S.Store conn.new) (λ _. ⊥) }
 {
     match accept_row(alloc, desk, u64::from(number), row) {
-        Ok(uid) => {
+        Ok(Taken { uid, edits }) => {
             let repeated = is_repeat(conn, uid.as_str(), number)?;
             if repeated {
                 return Err(ReplayFault::NotLawful(number));
             }
-            Ok(())
+            Ok(edits)
         }
         Err(RowFault::NotLawful) => Err(ReplayFault::NotLawful(number)),
         Err(RowFault::NoMemory) => Err(ReplayFault::Unavailable),

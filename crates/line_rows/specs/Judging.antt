@@ -1,5 +1,5 @@
 -- What a row says, and when a list goes on with it.
-use Rattle.std.specs.Prelude.{◌≡◌, pos, length}
+use Rattle.std.specs.Prelude.{◌≡◌, ◌∷◌, List, pos, length}
 use Rattle.sqlite.specs.declared.types.Value.TheVariants.{Int, Text}
 use Rattle.sqlite_value.specs.Order.{Row, column}
 use Rattle.desk_types.specs.declared.command.Entry.{Entry}
@@ -8,6 +8,9 @@ use Rattle.desk_types.specs.declared.rules.Rules.{Rules}
 use Rattle.desk_types.specs.History.{History}
 use Rattle.desk_types.specs.Judged.{IsNext}
 use Rattle.desk_types.specs.StoredText.{stored_text}
+use Rattle.state_rows.specs.declared.edit.RowEdit.{RowEdit}
+use Rattle.state_rows.specs.Tables.{tables_of as state_of}
+use Rattle.state_rows.specs.Edits.{with_edits, AreNew}
 use Rattle.line_rows.specs.Rows.{entry_row}
 
 -- the row has seven columns, and keeps this message
@@ -22,3 +25,8 @@ pub record IsMessageOf (row : Row) (s : Stamped) : Type 0 where
 pub record GoesOn (rules : Rules) (H : History) (row : Row) (e : Entry) : Type 0 where
   pub next : IsNext rules H e
   pub same : row ≡ entry_row H e
+
+-- the edits make of the state tables of H those of H with the entry, and put nothing new where there is a row
+pub record Lead (edits : List RowEdit) (H : History) (e : Entry) : Type 0 where
+  pub lead : with_edits edits (state_of H) ≡ state_of (e ∷ H)
+  pub new : AreNew edits (state_of H)

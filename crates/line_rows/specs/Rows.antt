@@ -8,6 +8,7 @@ use Rattle.desk_types.specs.History.{History}
 use Rattle.desk_types.specs.StoredText.{stored_text}
 use Rattle.desk_answers.specs.Commands.{first_text}
 use Rattle.line_tables.specs.Rows.{Tables}
+use Rattle.state_rows.specs.Tables.{tables_of as state_of}
 
 -- the columns of a message: its number, the message with its command's stored text, the minute at which it takes effect, and the text of its answer
 abbrev pub columns : ℕ → Stamped → ℕ → List ℕ → Row
@@ -24,4 +25,4 @@ rows_of (e ∷ G) = entry_row G e ∷ rows_of G
 
 -- the tables of a list whose numbers go up to the greatest
 abbrev pub tables_of : ℕ → History → Tables
-tables_of greatest H = record { greatest = greatest; accepted = rows_of H }
+tables_of greatest H = record { greatest = greatest; accepted = rows_of H; state = state_of H }

@@ -5,26 +5,33 @@ ghost use Rattle.desk_types.specs.declared.command.Entry.{Entry};
 ghost use Rattle.desk_types.specs.Desk.{HasRoom};
 ghost use Rattle.desk_types.specs.History.{History};
 ghost use Rattle.line_rows.specs.declared.fault.RowFault.TheVariants.{NotLawful, NoMemory};
-ghost use Rattle.line_rows.specs.Judging.{GoesOn};
+ghost use Rattle.line_rows.specs.Judging.{GoesOn, Lead};
 
 use crate::fault::RowFault;
 use crate::reading::{says, stamped_of};
 use desk_answers::accepted_text;
 use desk_types::{Desk, Id, JudgeFault, texts_tell_commands_apart};
 use sqlite::Row;
+use state_rows::{RowEdits, rows_of};
 use std::alloc::Global;
 
+/// The UniqueID of an accepted command, and its edits of the state tables.
+pub struct Taken {
+    pub uid: Id,
+    pub edits: RowEdits,
+}
+
 /// Accepts the command of the row once more, where it has this number and the row is just what
-/// accepting it gives, and answers its UniqueID. UniqueIDs are the caller's to compare, and so is
+/// accepting it gives, and answers its UniqueID and its edits. UniqueIDs are the caller's to compare, and so is
 /// the greatest number. After an `Err` nothing is known of the desk: drop it.
 pub fn accept_row<D: Desk>(
     alloc: Global,
     desk: &mut D,
     number: u64,
     row: &Row,
-) -> Result<Id, RowFault>
+) -> Result<Taken, RowFault>
     requires room { HasRoom D.Stands desk.old 1 }
-    ensures ok { (H : History) → D.Stands desk.old H → length H + 1 ≡ number → IfOk result (λ uid. (e : Entry) × (e.stamped.uid ≡ uid) × D.Stands desk.new (e ∷ H) × GoesOn (D.kept_rules desk.old) H row.now e) }
+    ensures ok { (H : History) → D.Stands desk.old H → length H + 1 ≡ number → IfOk result (λ it. (e : Entry) × (e.stamped.uid ≡ it.uid) × D.Stands desk.new (e ∷ H) × GoesOn (D.kept_rules desk.old) H row.now e × Lead it.edits H e) }
     ensures err { (H : History) → D.Stands desk.old H → length H + 1 ≡ number → IfErr result (λ f. (f ≡ NoMemory) ⊎ ((f ≡ NotLawful) × ((e : Entry) → GoesOn (D.kept_rules desk.old) H row.now e → ⊥))) }
     ensures rules { OnOk result (D.kept_rules desk.new ≡ D.kept_rules desk.old) }
 {
@@ -41,8 +48,9 @@ pub fn accept_row<D: Desk>(
             if !says(row, number, minute, &text) {
                 return Err(RowFault::NotLawful);
             }
+            let edits = rows_of(alloc, &*desk, &change, number)?;
             desk.settle(change)?;
-            Ok(uid)
+            Ok(Taken { uid, edits })
         }
         Err(JudgeFault::Refused(_)) => Err(RowFault::NotLawful),
         Err(JudgeFault::NoMemory) => Err(RowFault::NoMemory),

@@ -9,7 +9,7 @@ mod reading;
 mod repeated;
 
 pub use fault::{NoRow, RowFault};
-pub use judging::accept_row;
+pub use judging::{Taken, accept_row};
 pub use kept::{row_of, rows_tell_lists_apart};
 pub use reading::stamped_of;
 pub use repeated::answer_under;

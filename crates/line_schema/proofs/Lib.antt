@@ -3,3 +3,4 @@ pub mod Standing
 pub mod Leaving
 pub mod Putting
 pub mod Reading
+pub mod Telling

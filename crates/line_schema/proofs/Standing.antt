@@ -25,7 +25,7 @@ use Rattle.desk_answers.specs.declared.answer.Answer.{Answer}
 use Rattle.desk_answers.specs.Commands.{earlier_answer}
 use Rattle.desk_answers.proofs.FirstTime.{first-uid}
 use Rattle.line_tables.specs.declared.edit.Edit.{Edit}
-use Rattle.line_tables.specs.Rows.{Tables, Holds, HoldsAt, edited}
+use Rattle.line_tables.specs.Rows.{Tables, Holds, HoldsAt, AreNew, edited}
 use Rattle.line_tables.specs.Calls.{Edits, LeavesEdited}
 use Rattle.line_rows.specs.Rows.{tables_of}
 use Rattle.line_rows.proofs.Judgements.{next_is, stamped_is}
@@ -38,6 +38,10 @@ pub judged_for : {D : Type 0} (F : D → History → Type 0) (K : D → Rules) (
     → IsSomeAnd o (λ d. (G : History) → F d G → IsChange (K d) G change.stamped change) → IfSome o (λ d. F d H × (K d ≡ Two)) → IsChange Two H change.stamped change
 judged_for F K None H change h desk = absurd h
 judged_for F K (Some d) H change h desk = subst (λ (r : Rules). IsChange r H change.stamped change) desk.1 (h H desk.0)
+
+-- the desk that is there stands for the list
+pub stood_for : {D : Type 0} (F : D → History → Type 0) (K : D → Rules) (o : Option D) (d : D) (H : History) → o ≡ Some d → IfSome o (λ d. F d H × (K d ≡ Two)) → F d H
+stood_for {D} F K o d H is desk = (subst (λ (o : Option D). IfSome o (λ d. F d H × (K d ≡ Two))) is desk).0
 
 -- no UniqueID comes twice where there is none
 pub none_yet : IsDistinct same []
@@ -109,11 +113,11 @@ module _ {S D : Type 0} (g : Ghosts S) (F : D → History → Type 0) (K : D →
   pub stands_on : (old new : LineStore S D) (L : Kept) (change : Change) (edits : List Edit) → Stands g F K old L → old.count < old.greatest
       → IsChange Two L.history change.stamped change → IsStamped change.stamped → IsMinute change.minute
       → new.count ≡ old.count + 1 → new.greatest ≡ old.greatest → new.conn.in_transaction ≡ false → IfSome new.desk (λ d. F d (accept L.history change.stamped) × (K d ≡ Two))
-      → edited edits (tables_of L.greatest L.history) ≡ tables_of L.greatest (accept L.history change.stamped)
+      → edited edits (tables_of L.greatest L.history) ≡ tables_of L.greatest (accept L.history change.stamped) → AreNew edits (tables_of L.greatest L.history)
       → (HasCleanDisk (state g new.conn) → HasCleanDisk (state g old.conn)) → (HasCleanDisk (state g new.conn) → Edits edits (state g old.conn).committed (state g new.conn).committed)
       → (HasCleanDisk (state g new.conn) → IsTrue (state g old.conn).is_open) → (HasCleanDisk (state g new.conn) → IsTrue L.own → earlier_answer L.history change.stamped ≡ None)
       → Stands g F K new (accepting L change.stamped)
-  stands_on old new L change edits s room is stamped minute count greatest mode desk after early done was_open first = record {
+  stands_on old new L change edits s room is stamped minute count greatest mode desk after fresh early done was_open first = record {
     greatest = greatest ∙ s.greatest;
     bound = s.bound;
     count = omega (arith, count, s.count);
@@ -123,7 +127,7 @@ module _ {S D : Type 0} (g : Ghosts S) (F : D → History → Type 0) (K : D →
     mode = mode;
     lawful = λ clean own. lawful_on L.greatest L.history change.stamped (s.lawful (early clean) own) judged (first clean own) (omega (arith, room, s.count, s.greatest));
     tables = λ clean own is_open.
-        subst (Holds (state g new.conn).committed) after (done clean (tables_of L.greatest L.history) (s.tables (early clean) own (was_open clean)));
+        subst (Holds (state g new.conn).committed) after (done clean (tables_of L.greatest L.history) (s.tables (early clean) own (was_open clean)) fresh);
   }
     where
       judged : IsJudged Two (accept L.history change.stamped)
@@ -140,9 +144,9 @@ module _ {S D : Type 0} (g : Ghosts S) (F : D → History → Type 0) (K : D →
   accepted_as (Err e) new L s change is ok = ok
 
 -- what a crash may leave of edits, where the tables were those of the list
-module _ (old : State) (tables after : Tables) (edits : List Edit) (is : edited edits tables ≡ after) (holds : HasCleanDisk old → IsTrue old.is_open → Holds old.committed tables) where
+module _ (old : State) (tables after : Tables) (edits : List Edit) (is : edited edits tables ≡ after) (new : AreNew edits tables) (holds : HasCleanDisk old → IsTrue old.is_open → Holds old.committed tables) where
   pub left_on : HasCleanDisk old → (trees : Trees) → LeavesEdited edits old trees → HoldsAt after trees
-  left_on clean trees left = subst (λ t. HoldsAt t trees) is (left.holds tables (holds clean left.was_open))
+  left_on clean trees left = subst (λ t. HoldsAt t trees) is (left.holds tables (holds clean left.was_open) new)
 
-  pub survives_on : (new : State) → Survives old new (LeavesEdited edits old) → Survives old new (HoldsAt after)
-  survives_on new h = survives_weaker old new _ _ (λ clean trees left. left_on (omega (arith, h.clean, clean)) trees left) h
+  pub survives_on : (next : State) → Survives old next (LeavesEdited edits old) → Survives old next (HoldsAt after)
+  survives_on next h = survives_weaker old next _ _ (λ clean trees left. left_on (omega (arith, h.clean, clean)) trees left) h

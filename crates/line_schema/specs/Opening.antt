@@ -1,5 +1,5 @@
 -- What is read when a store is opened, and what a fault says of what is committed.
-use Rattle.std.specs.Prelude.{◌≡◌, ◌≢◌, ◌⊎◌, ◌≤◌, ⊤, ℕ, ℤ, pos, true, false, length, List, [], ◌∷◌, ◌++◌, codes, decimal}
+use Rattle.std.specs.Prelude.{◌≡◌, ◌≢◌, ◌⊎◌, ◌≤◌, ⊤, ℕ, ℤ, pos, Some, None, true, false, length, List, [], ◌∷◌, ◌++◌, codes, decimal}
 use Rattle.std.specs.Fmt.{signed_decimal}
 use Rattle.std.specs.List.{list_any}
 use Rattle.sqlite.specs.declared.types.Value.TheVariants.{Int}
@@ -10,15 +10,21 @@ use Rattle.desk_types.specs.declared.rules.Rules.{Rules}
 use Rattle.desk_types.specs.declared.rules.Rules.TheVariants.{Two}
 use Rattle.desk_types.specs.History.{History}
 use Rattle.desk_types.specs.Judged.{IsJudged}
-use Rattle.line_tables.specs.Names.{is_version, is_accepted}
+use Rattle.state_rows.specs.Tables.{tables_of as state_of}
+use Rattle.line_tables.specs.Names.{is_version, is_accepted, has_state}
 use Rattle.line_tables.specs.Rows.{version_in, accepted_in}
+use Rattle.line_tables.specs.StateRows.{HoldsState}
+use Rattle.line_tables.specs.Rowids.{AreAllApart}
 use Rattle.line_tables.specs.Calls.{Reads}
+use Rattle.line_audit.specs.Audit.{IsFirstWrong}
+use Rattle.line_audit.specs.TableNames.{name_of}
 use Rattle.line_replay.specs.declared.fault.ReplayFault.{ReplayFault}
 use Rattle.line_replay.specs.declared.fault.ReplayFault.TheVariants as replay
 use Rattle.line_replay.specs.Listed.{StopsAt, AreRowsOf}
 use Rattle.line_schema.specs.declared.fault.OpenFault.{OpenFault}
-use Rattle.line_schema.specs.declared.fault.OpenFault.TheVariants.{NotADesk, OtherVersion, NotLawful, NotBlank, Unavailable}
+use Rattle.line_schema.specs.declared.fault.OpenFault.TheVariants.{NotADesk, OtherVersion, NotLawful, TableDiffers, NotBlank, Unavailable}
 use Rattle.line_schema.specs.declared.opening.Opened.{Opened}
+use Rattle.line_audit.specs.declared.table.StateTable.{StateTable}
 
 -- a fault of reading the list again, as a fault of opening
 abbrev pub told_as : ReplayFault → OpenFault
@@ -39,29 +45,54 @@ pub record IsVersion (db : Database) (number : ℤ) (greatest : ℕ) : Type 0 wh
 
 -- the tables are there, with their columns, by name
 abbrev pub IsNamed : State → Type 0
-IsNamed old = (list_any is_version old.now.schema.tables ≡ true) × (list_any is_accepted old.now.schema.tables ≡ true)
+IsNamed old = (list_any is_version old.now.schema.tables ≡ true) × (list_any is_accepted old.now.schema.tables ≡ true) × (has_state old.now.schema.tables ≡ true)
 
 -- a table or a column of it is missing, or `version` has no such row
 abbrev pub IsNoDesk : State → Type 0
-IsNoDesk old = (list_any is_version old.now.schema.tables ≡ false) ⊎ (list_any is_accepted old.now.schema.tables ≡ false) ⊎ Reads old (λ db. (number : ℤ) (greatest : ℕ) → IsVersion db number greatest → ⊥)
+IsNoDesk old =
+    (list_any is_version old.now.schema.tables ≡ false) ⊎ (list_any is_accepted old.now.schema.tables ≡ false) ⊎ (has_state old.now.schema.tables ≡ false)
+    ⊎ Reads old (λ db. (number : ℤ) (greatest : ℕ) → IsVersion db number greatest → ⊥)
+
+-- the fault is not one of the list or of another table
+abbrev pub IsOfVersion : OpenFault → Type 0
+IsOfVersion (NotLawful n) = ⊥
+IsOfVersion (TableDiffers table) = ⊥
+IsOfVersion _ = ⊤
+
+-- a version is told of a file with the table `version`, and what is wrong with the rows of one with all tables
+abbrev pub IsToldOf : State → OpenFault → Type 0
+IsToldOf old (OtherVersion n) = list_any is_version old.now.schema.tables ≡ true
+IsToldOf old (NotLawful n) = IsNamed old
+IsToldOf old (TableDiffers table) = IsNamed old
+IsToldOf old _ = ⊤
+
+-- the list is lawful and its rows are there, and of the other tables, in their order, this is the first whose rows are not the list's
+pub record IsTableFault (old : State) (table : StateTable) : Type 0 where
+  pub greatest : ℕ
+  pub list : History
+  pub version : Reads old (λ db. IsVersion db (pos 2) greatest)
+  pub rows : Reads old (λ db. AreRowsOf Two greatest (accepted_in db) list)
+  pub first : Reads old (λ db. IsFirstWrong db (state_of list) table)
 
 -- what a fault says of what was committed
 abbrev pub IsFaultOf : State → OpenFault → Type 0
 IsFaultOf old NotADesk = IsNoDesk old
 IsFaultOf old (OtherVersion n) = (n ≢ pos 2) × Reads old (λ db. (greatest : ℕ) × IsVersion db n greatest)
 IsFaultOf old (NotLawful n) = (greatest : ℕ) × Reads old (λ db. IsVersion db (pos 2) greatest) × Reads old (λ db. StopsAt Two greatest (accepted_in db) n)
+IsFaultOf old (TableDiffers table) = IsTableFault old table
 IsFaultOf old NotBlank = ⊥
 IsFaultOf old Unavailable = ⊤
 
--- the name of a fault and, after a space, its number
+-- the name of a fault and, after a space, its number or its table
 abbrev pub fault_text : OpenFault → List ℕ
 fault_text NotADesk = codes "NotADesk"
 fault_text (OtherVersion n) = codes "OtherVersion " ++ signed_decimal n
 fault_text (NotLawful n) = codes "NotLawful " ++ decimal n
+fault_text (TableDiffers table) = codes "TableDiffers " ++ name_of table
 fault_text NotBlank = codes "NotBlank"
 fault_text Unavailable = codes "Unavailable"
 
--- The desk stands by rules Two for a judged list of so many entries, no more than the greatest number. On a clean disk, where the schema is ours, that is the greatest number of `version`, the list is lawful, and its rows are those that are committed.
+-- The desk stands by rules Two for a judged list of so many entries, no more than the greatest number. On a clean disk, where the schema is ours, that is the greatest number of `version`, the list is lawful, its rows are those that are committed, the other tables are the list's, and their rowids tell their rows apart.
 pub record IsOpened {D : Type 0} (StandsFor : D → History → Type 0) (kept_rules : D → Rules) (Clean : Type 0) (old : State) (opened : Opened D) (H : History) : Type 0 where
   pub stands : StandsFor opened.desk H
   pub rules : kept_rules opened.desk ≡ Two
@@ -71,3 +102,5 @@ pub record IsOpened {D : Type 0} (StandsFor : D → History → Type 0) (kept_ru
   pub bound : opened.greatest ≤ MOST_ENTRIES
   pub version : Clean → Reads old (λ db. IsVersion db (pos 2) opened.greatest)
   pub rows : Clean → Reads old (λ db. AreRowsOf Two opened.greatest (accepted_in db) H)
+  pub state : Clean → Reads old (λ db. HoldsState db (state_of H))
+  pub apart : Clean → Reads old (λ db. AreAllApart db)

@@ -1,5 +1,6 @@
 //! Why there is no store.
 
+use line_audit::StateTable;
 use line_replay::ReplayFault;
 use std::fmt;
 
@@ -8,21 +9,23 @@ use std::fmt;
 #[derive(Clone, Copy, Debug, PartialEq, Eq)]
 pub enum OpenFault {
     /// `version` or a column of it is missing, or it has not just one row of three whole numbers, of
-    /// which the first is 1 and the last 1 to 1,000,000,000; or, where the version is ours, `accepted`
-    /// or a column of it is missing.
+    /// which the first is 1 and the last 1 to 1,000,000,000; or, where the version is ours, another
+    /// table or a column of it is missing.
     NotADesk,
     /// The tables are of another version.
     OtherVersion(i64),
     /// The first place of the list, from 1, whose row is missing, can't be read, or isn't what judging
     /// it again gives.
     NotLawful(u32),
+    /// The first table, in their order, whose rows aren't those of the list.
+    TableDiffers(StateTable),
     /// A table of one of our names is there.
     NotBlank,
     /// Memory was refused, or the database failed.
     Unavailable,
 }
 
-/// Its name and, after a space, its number.
+/// Its name and, after a space, its number or its table.
 impl fmt::Display for OpenFault {
     ghost use Rattle.std.specs.Prelude.{Some};
     ghost use Rattle.line_schema.specs.Opening.{fault_text};
@@ -34,6 +37,7 @@ impl fmt::Display for OpenFault {
             OpenFault::NotADesk => f.write_str("NotADesk"),
             OpenFault::OtherVersion(number) => write!(f, "OtherVersion {number}"),
             OpenFault::NotLawful(place) => write!(f, "NotLawful {place}"),
+            OpenFault::TableDiffers(table) => write!(f, "TableDiffers {table}"),
             OpenFault::NotBlank => f.write_str("NotBlank"),
             OpenFault::Unavailable => f.write_str("Unavailable"),
         }

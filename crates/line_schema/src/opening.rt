@@ -7,12 +7,13 @@ ghost use Rattle.desk_types.specs.declared.desk.TheConstants.{MOST_ENTRIES};
 ghost use Rattle.desk_types.specs.History.{History};
 ghost use Rattle.line_tables.specs.Calls.{Reads};
 ghost use Rattle.line_schema.specs.declared.fault.OpenFault.TheVariants as Fault;
-ghost use Rattle.line_schema.specs.Opening.{IsVersion, IsFaultOf, IsNamed, IsOpened, IsGreatest};
+ghost use Rattle.line_schema.specs.Opening.{IsVersion, IsFaultOf, IsNamed, IsOfVersion, IsToldOf, IsOpened, IsGreatest};
 
 use crate::fault::OpenFault;
 use desk_types::{Desk, MOST_ENTRIES, Rules};
+use line_audit::audit;
 use line_replay::{Replayed, replay};
-use line_tables::{Version, find_version, has_accepted, has_version};
+use line_tables::{Version, are_apart, find_version, has_accepted, has_state, has_version};
 use sqlite::{Alter, Connection};
 use std::alloc::Global;
 
@@ -26,39 +27,54 @@ pub struct Opened<D: Desk + Drop> {
     pub greatest: u32,
 }
 
-/// Reads the version and then the list, each of whose entries is judged again.
+/// Reads the version and then the list, each of whose entries is judged again, and compares the other
+/// tables with the list's.
 pub fn read_tables<S: Alter, D: Desk + Drop>(
     alloc: Global,
     conn: &mut Connection<S>,
 ) -> Result<Opened<D>, OpenFault>
     ensures ok { IfOk result (λ r. (H : History) × IsOpened D.Stands D.kept_rules (HasCleanDisk (state S.Store conn.new)) (state S.Store conn.old) r H) }
     ensures named { IfOk result (λ _. IsNamed (state S.Store conn.old)) }
+    ensures told { IfErr result (IsToldOf (state S.Store conn.old)) }
     ensures never { IfErr result (λ f. f ≢ Fault.NotBlank) }
     ensures err { HasCleanDisk (state S.Store conn.new) → IfErr result (IsFaultOf (state S.Store conn.old)) }
     ensures kept { HasCleanDisk (state S.Store conn.new) → KeepsCommit (state S.Store conn.old) (state S.Store conn.new) }
     ensures mode { conn.old.in_transaction ≡ false → conn.new.in_transaction ≡ false }
     ensures survives { Survives (state S.Store conn.old) (state S.Store conn.new) (λ _. ⊥) }
 {
-    let listed = has_accepted(conn);
+    let whole = has_accepted(conn) && has_state(conn);
     if !has_version(conn) {
         return Err(OpenFault::NotADesk);
     }
     let greatest = read_greatest(conn)?;
-    if !listed {
+    if !whole {
         return Err(OpenFault::NotADesk);
     }
-    let Replayed { desk, count } = replay(alloc, conn, Rules::Two, greatest)?;
-    Ok(Opened {
+    let Replayed {
         desk,
         count,
-        greatest,
-    })
+        beside,
+    } = replay(alloc, conn, Rules::Two, greatest)?;
+    let apart = are_apart(conn)?;
+    if !apart {
+        return Err(OpenFault::Unavailable);
+    }
+    let other = audit(alloc, conn, &beside.rows, beside.placed)?;
+    match other {
+        None => Ok(Opened {
+            desk,
+            count,
+            greatest,
+        }),
+        Some(table) => Err(OpenFault::TableDiffers(table)),
+    }
 }
 
 /// The greatest number, where the tables are of our version.
 fn read_greatest<S: Alter>(conn: &mut Connection<S>) -> Result<u32, OpenFault>
     ensures ok { HasCleanDisk (state S.Store conn.new) → IfOk result (λ greatest. Reads (state S.Store conn.old) (λ db. IsVersion db (pos 2) greatest)) }
     ensures bound { IfOk result (λ greatest. greatest ≤ MOST_ENTRIES) }
+    ensures of_version { IfErr result IsOfVersion }
     ensures never { IfErr result (λ f. f ≢ Fault.NotBlank) }
     ensures err { HasCleanDisk (state S.Store conn.new) → IfErr result (IsFaultOf (state S.Store conn.old)) }
     ensures kept { HasCleanDisk (state S.Store conn.new) → KeepsCommit (state S.Store conn.old) (state S.Store conn.new) }

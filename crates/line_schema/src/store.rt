@@ -19,8 +19,10 @@ ghost use Rattle.line_tables.specs.Names.{has_name};
 ghost use Rattle.line_tables.specs.Rows.{Holds, HoldsAt, blank};
 ghost use Rattle.line_rows.specs.Rows.{tables_of};
 ghost use Rattle.line_schema.specs.declared.fault.OpenFault.TheVariants as Fault;
-ghost use Rattle.line_schema.specs.Opening.{IsFaultOf, IsNamed};
+ghost use Rattle.line_schema.specs.Opening.{IsFaultOf, IsNamed, IsToldOf};
 ghost use Rattle.line_schema.specs.Stands.{Kept, Stands, state_of, conn_of, has_desk, accepting, ledger, kept_after, answer_in, NewlyLeaves, Leaves};
+
+mod traces;
 
 use crate::edits::{Acceptance, prepare};
 use crate::fault::OpenFault;
@@ -100,6 +102,7 @@ impl<S: Alter, D: Desk + Drop> LineStore<S, D> {
         ensures named { IfOk result (λ _. IsNamed (state S.Store conn)) }
         ensures ready { IfOk result (λ store. IsTrue (has_desk store)) }
         ensures fault { IfErr result (λ e. HasCleanDisk (state S.Store e.1) → IsFaultOf (state S.Store conn) e.0) }
+        ensures told { IfErr result (λ e. IsToldOf (state S.Store conn) e.0) }
         ensures never { IfErr result (λ e. e.0 ≢ Fault.NotBlank) }
         ensures inside { IsTrue conn.in_transaction → result ≡ Err (Fault.Unavailable, conn) }
         ensures mode { IfErr result (λ e. conn.in_transaction ≡ false → e.1.in_transaction ≡ false) }
@@ -183,7 +186,13 @@ impl<S: Alter, D: Desk + Drop> LineStore<S, D> {
         ensures survives { Survives (state_of S.Store self.old) (state_of S.Store self.new) (λ _. ⊥) }
     {
         match rebuild(self.alloc, &mut self.conn, Rules::Two, self.greatest) {
-            Some(Replayed { desk, count }) => {
+            Some(
+                Replayed {
+                    desk,
+                    count,
+                    beside: _beside,
+                },
+            ) => {
                 self.desk = Some(desk);
                 self.count = count;
                 Ok(())
@@ -294,8 +303,11 @@ impl<S: Alter, D: Desk + Drop> LineStore<S, D> {
         change.stamped.ranges_hold();
         let _ = change.minute.get();
         let number = self.count + 1;
-        let Acceptance { text, edits } = prepare(self.alloc, number, &change)?;
-        append(&mut self.conn, edits.as_slice())?;
+        let Some(desk) = &self.desk else {
+            return Err(Unavailable);
+        };
+        let Acceptance { text, edits } = prepare(self.alloc, number, desk, &change)?;
+        append(self.alloc, &mut self.conn, edits.as_slice())?;
         self.count = number;
         self.desk = settled(self.desk.take(), change);
         Ok(Answer::Accepted(u64::from(number), text))

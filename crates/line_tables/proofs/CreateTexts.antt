@@ -1,48 +1,142 @@
 -- What the texts that make the tables mean.
 use Rattle.std.proofs.Common.{◌≡◌, List, ℕ, [], ◌∷◌, codes, pos, Ok, refl}
-use Rattle.sqlite.specs.Compile.{table_defined_by}
-use Rattle.sqlite.specs.Command.TheVariants.{CreateTable, Insert}
+use Rattle.sqlite.specs.Compile.{table_defined_by, index_defined_by}
+use Rattle.sqlite.specs.Command.TheVariants.{CreateTable, CreateIndex, Insert}
 use Rattle.sqlite.specs.Source.TheVariants.{Values}
 use Rattle.sqlite.specs.Term.{Term, lit, col}
 use Rattle.sqlite.specs.declared.types.Value.TheVariants.{Null, Int}
 use Rattle.sqlite.specs.Listing.{understood}
 use Rattle.sqlite_tied.specs.Compute.{everything}
-use Rattle.sqlite.specs.Change.{created}
+use Rattle.sqlite.specs.Change.{created, indexed}
 use Rattle.sqlite.specs.Schema.{Schema}
+use Rattle.sqlite.specs.Table.{Table}
 use Rattle.sqlite.proofs.Callers.{IsPlain, command_of, statement_of}
-use Rattle.line_tables.specs.Line.{version, accepted, no_schema, line_schema}
+use Rattle.line_tables.specs.Line.{version, accepted, part, alternate, sheet_row, selected, reel, mount, board, placement, placement_reel, found, first_of_line, line_schema}
 
--- the schema with `version` alone
-abbrev pub schema_1 : Schema
-schema_1 = record { tables = version ∷ []; indexes = []; views = [] }
+-- the text makes this table, but for its tree, in a database of the schema
+abbrev pub IsCreate : Schema → List ℕ → Table → Type 0
+IsCreate schema text table = (command_of (understood schema text) ≡ CreateTable) × (statement_of text (understood schema text) ≡ text) × IsPlain (understood schema text) × (table_defined_by text ≡ Ok (record table { tree = 0 }))
 
 abbrev pub version_text : List ℕ
 version_text = codes "CREATE TABLE version (one INTEGER NOT NULL PRIMARY KEY, number INTEGER NOT NULL, greatest INTEGER NOT NULL) STRICT"
 
+pub version_is : IsCreate (first_of_line 0 0) version_text version
+unfolding understood everything
+version_is = (refl, refl, (refl, refl), refl)
+
+pub version_makes : created (first_of_line 0 0) (record version { tree = 0 }) ≡ first_of_line 1 0
+version_makes = refl
+
 abbrev pub accepted_text : List ℕ
 accepted_text = codes "CREATE TABLE accepted (number INTEGER NOT NULL PRIMARY KEY, uid TEXT NOT NULL UNIQUE, source TEXT NOT NULL, own INTEGER NOT NULL, effective INTEGER NOT NULL, command TEXT NOT NULL, detail TEXT NOT NULL) STRICT"
 
-pub version_is : (command_of (understood no_schema version_text) ≡ CreateTable) × (statement_of version_text (understood no_schema version_text) ≡ version_text) × IsPlain (understood no_schema version_text)
+pub accepted_is : IsCreate (first_of_line 1 0) accepted_text accepted
 unfolding understood everything
-version_is = (refl, refl, (refl, refl))
+accepted_is = (refl, refl, (refl, refl), refl)
 
-pub version_defined : table_defined_by version_text ≡ Ok version
-unfolding understood everything
-version_defined = refl
-
-pub version_makes : created no_schema version ≡ schema_1
-version_makes = refl
-
-pub accepted_is : (command_of (understood schema_1 accepted_text) ≡ CreateTable) × (statement_of accepted_text (understood schema_1 accepted_text) ≡ accepted_text) × IsPlain (understood schema_1 accepted_text)
-unfolding understood everything
-accepted_is = (refl, refl, (refl, refl))
-
-pub accepted_defined : table_defined_by accepted_text ≡ Ok (record accepted { tree = 0 })
-unfolding understood everything
-accepted_defined = refl
-
-pub accepted_makes : created schema_1 (record accepted { tree = 0 }) ≡ line_schema
+pub accepted_makes : created (first_of_line 1 0) (record accepted { tree = 0 }) ≡ first_of_line 2 1
 accepted_makes = refl
+
+abbrev pub part_text : List ℕ
+part_text = codes "CREATE TABLE part (part TEXT NOT NULL, PRIMARY KEY (part)) STRICT"
+
+pub part_is : IsCreate (first_of_line 2 1) part_text part
+unfolding understood everything
+part_is = (refl, refl, (refl, refl), refl)
+
+pub part_makes : created (first_of_line 2 1) (record part { tree = 0 }) ≡ first_of_line 3 2
+part_makes = refl
+
+abbrev pub alternate_text : List ℕ
+alternate_text = codes "CREATE TABLE alternate (part TEXT NOT NULL, alternate TEXT NOT NULL, PRIMARY KEY (part, alternate)) STRICT"
+
+pub alternate_is : IsCreate (first_of_line 3 2) alternate_text alternate
+unfolding understood everything
+alternate_is = (refl, refl, (refl, refl), refl)
+
+pub alternate_makes : created (first_of_line 3 2) (record alternate { tree = 0 }) ≡ first_of_line 4 3
+alternate_makes = refl
+
+abbrev pub sheet_row_text : List ℕ
+sheet_row_text = codes "CREATE TABLE sheet_row (product TEXT NOT NULL, machine TEXT NOT NULL, place INTEGER NOT NULL, slot TEXT NOT NULL, part TEXT NOT NULL, designators TEXT NOT NULL, PRIMARY KEY (product, machine, place)) STRICT"
+
+pub sheet_row_is : IsCreate (first_of_line 4 3) sheet_row_text sheet_row
+unfolding understood everything
+sheet_row_is = (refl, refl, (refl, refl), refl)
+
+pub sheet_row_makes : created (first_of_line 4 3) (record sheet_row { tree = 0 }) ≡ first_of_line 5 4
+sheet_row_makes = refl
+
+abbrev pub selected_text : List ℕ
+selected_text = codes "CREATE TABLE selected (machine TEXT NOT NULL, product TEXT NOT NULL, PRIMARY KEY (machine)) STRICT"
+
+pub selected_is : IsCreate (first_of_line 5 4) selected_text selected
+unfolding understood everything
+selected_is = (refl, refl, (refl, refl), refl)
+
+pub selected_makes : created (first_of_line 5 4) (record selected { tree = 0 }) ≡ first_of_line 6 5
+selected_makes = refl
+
+abbrev pub reel_text : List ℕ
+reel_text = codes "CREATE TABLE reel (reel TEXT NOT NULL, part TEXT NOT NULL, lot TEXT NOT NULL, level TEXT NOT NULL, label INTEGER NOT NULL, received INTEGER NOT NULL, placed INTEGER NOT NULL, scrapped INTEGER NOT NULL, remaining INTEGER NOT NULL, used INTEGER NOT NULL, open_since INTEGER NOT NULL, baked INTEGER NOT NULL, PRIMARY KEY (reel), CHECK (received = placed + scrapped + remaining)) STRICT"
+
+pub reel_is : IsCreate (first_of_line 6 5) reel_text reel
+unfolding understood everything
+reel_is = (refl, refl, (refl, refl), refl)
+
+pub reel_makes : created (first_of_line 6 5) (record reel { tree = 0 }) ≡ first_of_line 7 6
+reel_makes = refl
+
+abbrev pub mount_text : List ℕ
+mount_text = codes "CREATE TABLE mount (since INTEGER NOT NULL PRIMARY KEY, machine TEXT NOT NULL, slot TEXT NOT NULL, reel TEXT NOT NULL UNIQUE) STRICT"
+
+pub mount_is : IsCreate (first_of_line 7 6) mount_text mount
+unfolding understood everything
+mount_is = (refl, refl, (refl, refl), refl)
+
+pub mount_makes : created (first_of_line 7 6) (record mount { tree = 0 }) ≡ first_of_line 8 7
+mount_makes = refl
+
+abbrev pub board_text : List ℕ
+board_text = codes "CREATE TABLE board (board TEXT NOT NULL, product TEXT NOT NULL, machine TEXT NOT NULL, PRIMARY KEY (board)) STRICT"
+
+pub board_is : IsCreate (first_of_line 8 7) board_text board
+unfolding understood everything
+board_is = (refl, refl, (refl, refl), refl)
+
+pub board_makes : created (first_of_line 8 7) (record board { tree = 0 }) ≡ first_of_line 9 8
+board_makes = refl
+
+abbrev pub placement_text : List ℕ
+placement_text = codes "CREATE TABLE placement (number INTEGER NOT NULL, place INTEGER NOT NULL, board TEXT NOT NULL, designator TEXT NOT NULL, machine TEXT NOT NULL, slot TEXT NOT NULL, reel TEXT NOT NULL REFERENCES reel, overdue INTEGER NOT NULL, UNIQUE (board, designator)) STRICT"
+
+pub placement_is : IsCreate (first_of_line 9 8) placement_text placement
+unfolding understood everything
+placement_is = (refl, refl, (refl, refl), refl)
+
+pub placement_makes : created (first_of_line 9 8) (record placement { tree = 0 }) ≡ first_of_line 10 9
+placement_makes = refl
+
+abbrev pub index_text : List ℕ
+index_text = codes "CREATE INDEX placement_reel ON placement (reel)"
+
+pub index_is : (command_of (understood (first_of_line 10 9) index_text) ≡ CreateIndex 9) × (statement_of index_text (understood (first_of_line 10 9) index_text) ≡ index_text) × IsPlain (understood (first_of_line 10 9) index_text)
+    × (index_defined_by placement index_text ≡ Ok (record placement_reel { tree = 0 }))
+unfolding understood everything
+index_is = (refl, refl, (refl, refl), refl)
+
+pub index_makes : indexed (first_of_line 10 9) placement (record placement_reel { tree = 0 }) ≡ first_of_line 10 10
+index_makes = refl
+
+abbrev pub found_text : List ℕ
+found_text = codes "CREATE TABLE found (reel TEXT NOT NULL, pieces INTEGER NOT NULL, PRIMARY KEY (reel), CHECK (pieces >= 1)) STRICT"
+
+pub found_is : IsCreate (first_of_line 10 10) found_text found
+unfolding understood everything
+found_is = (refl, refl, (refl, refl), refl)
+
+pub found_makes : created (first_of_line 10 10) (record found { tree = 0 }) ≡ first_of_line 11 11
+found_makes = refl
 
 abbrev pub insert_version : List ℕ
 insert_version = codes "INSERT INTO version VALUES (1, 2, ?1)"

@@ -1,79 +1,153 @@
--- What a CREATE TABLE does, for any schema in which the text means one.
-use Rattle.std.proofs.Common.{◌≡◌, ◌∷◌, pos, map, ℕ, List, [], false, None, Ok, Result, refl, sym, ap, subst, ◌∙◌}
+-- What CREATE TABLE and CREATE INDEX do, for any schema in which the text means one.
+use Rattle.std.proofs.Common.{◌≡◌, ◌≢◌, ◌∷◌, ◌++◌, ◌==◌, not, true, pos, map, ℕ, List, [], false, None, Some, Ok, Result, slice_get, refl, sym, ap, subst, ◌∙◌}
+use Rattle.std.specs.List.{AllByRecursion, list_all}
 use Rattle.sqlite.specs.Table.{Table}
 use Rattle.sqlite.specs.Schema.{Schema}
-use Rattle.sqlite.specs.Compile.{table_defined_by}
-use Rattle.sqlite.specs.Command.TheVariants.{CreateTable}
-use Rattle.sqlite.specs.Change.{created, next_tree, KeepsRows}
-use Rattle.sqlite.specs.Does.{Tally, lacks_sequence}
+use Rattle.sqlite.specs.Compile.{index_defined_by}
+use Rattle.sqlite.specs.Command.TheVariants.{CreateTable, CreateIndex}
+use Rattle.sqlite_schema.specs.declared.schema.Index.{Index}
+use Rattle.sqlite.specs.Change.{created, indexed, next_tree, KeepsRows}
+use Rattle.sqlite.specs.Does.{Tally, Does, AtPlace, Defines, MakesIndex, lacks_sequence}
 use Rattle.sqlite.specs.Effect.{Database, IsDatabase}
 use Rattle.sqlite.specs.Listing.{understood}
-use Rattle.sqlite.specs.State.{State, Writes, Executes}
+use Rattle.sqlite.specs.State.{State, Writes, mode_of}
 use Rattle.sqlite.proofs.Callers.{IsPlain, command_of, statement_of, runs_as}
 use Rattle.line_tables.proofs.Inserts.{went, same_value, insert_does}
-use Rattle.std.specs.List.Sorted.{IsPermutation}
-use Rattle.std.proofs.lemmas.List.Sorted.{IsPermutation-refl}
+use Rattle.std.proofs.lemmas.Bool.{and_parts}
+use Rattle.line_tables.proofs.Altering.{state_tables, other_tree, holds_blank}
 use Rattle.sqlite.specs.declared.types.Value.TheVariants.{Null, Int}
 use Rattle.sqlite.specs.Cast.{cast_row}
-use Rattle.sqlite_trees.specs.Tree.{put_row}
+use Rattle.sqlite_trees.specs.Tree.{Trees, put_row}
 use Rattle.sqlite_rules.specs.Edit.{with_rowid}
 use Rattle.sqlite.specs.Rowids.TheVariants.{Chosen}
 use Rattle.line_tables.proofs.Puts.{cast_int, cast_null, quiet}
-use Rattle.line_tables.proofs.CreateTexts.{insert_version, version_terms, insert_version_is}
-use Rattle.line_tables.specs.Line.{no_schema, line_schema, version, accepted}
-use Rattle.line_tables.specs.Rows.{Holds, blank, accepted_columns, version_columns}
-use Rattle.line_tables.specs.Calls.{Runs, Makes}
-use Rattle.line_tables.proofs.CreateTexts.{schema_1, version_text, accepted_text, version_is, accepted_is, version_defined, accepted_defined}
+use Rattle.line_tables.proofs.CreateTexts.{IsCreate, version_text, version_is, accepted_text, accepted_is, part_text, part_is, alternate_text, alternate_is, sheet_row_text, sheet_row_is, selected_text, selected_is, reel_text, reel_is, mount_text, mount_is, board_text, board_is, placement_text, placement_is, index_text, index_is, found_text, found_is, insert_version, version_terms, insert_version_is}
+use Rattle.line_tables.specs.Line.{no_schema, line_schema, first_of_line, version, accepted, part, alternate, sheet_row, selected, reel, mount, board, placement, placement_reel, found}
+use Rattle.line_tables.specs.Rows.{Holds, blank, version_columns}
+use Rattle.line_tables.specs.Calls.{Runs, Makes, IsBare, Extends}
+
+pub extends_then : (a b c : Schema) (old mid new : State) → Extends a b old mid → Extends b c mid new → Extends a c old new
+extends_then a b c old mid new p q = record { was_open = p.was_open; bare = λ h. q.bare (p.bare h) }
+
+all_push : {X : Type 0} (P : X → Type 0) (xs : List X) (x : X) → AllByRecursion P xs → P x → AllByRecursion P (xs ++ x ∷ [])
+all_push P [] x all last = (last, tt)
+all_push P (y ∷ ys) x all last = (all.0, all_push P ys x all.1 last)
+
+still_empty : (tables : List Table) (old new : Trees) → KeepsRows tables old new → AllByRecursion (λ t. old t.tree ≡ []) tables → AllByRecursion (λ t. new t.tree ≡ []) tables
+still_empty [] old new kept empty = tt
+still_empty (t ∷ more) old new kept empty = (kept.0 ∙ empty.0, still_empty more old new kept.1 empty.1)
 
 -- there is one table more, which is empty
-record Creates (schema : Schema) (table : Table) (old new : State) : Type 0 where
-  pub same : new.now.schema ≡ created schema table
-  pub empty : new.now.trees (next_tree schema) ≡ []
-  pub others : KeepsRows schema.tables old.now.trees new.now.trees
-
-module _ (sql : List ℕ) (old new : State) (schema : Schema) (has : old.now.schema ≡ schema) (table : Table)
-    (is : command_of (understood schema sql) ≡ CreateTable) (text : statement_of sql (understood schema sql) ≡ sql) (plain : IsPlain (understood schema sql))
-    (defined : table_defined_by sql ≡ Ok table) (counts : lacks_sequence (created schema table) ≡ false) where
-  create_does : (count : ℕ) → Executes sql [] old new (Ok count) → Creates schema table old new
-  create_does count h =
-      let w = subst (λ t. Writes old new None CreateTable t [] count) text (runs_as sql [] old new schema has CreateTable is plain count h) in
+pub creates_bare : (sql : List ℕ) (old new : State) (schema : Schema) (table : Table) → IsCreate schema sql table → lacks_sequence (created schema (record table { tree = 0 })) ≡ false → Runs sql [] old new
+    → Extends schema (created schema (record table { tree = 0 })) old new
+creates_bare sql old new schema table is counts ran = record {
+  was_open = ran.shown.was_open;
+  bare = λ bare.
+      let has = bare.schema in
+      let bare_table : Table = record table { tree = 0 } in
+      let w = subst (λ t. Writes old new None CreateTable t [] ran.count) is.1 (runs_as sql [] old new schema has CreateTable is.0 is.2 ran.count ran.executed) in
       let all = went w.changed in
       let first = went all.1 in
       let made = first.1 in
-      let both : ◌≡◌ {A = Result Table _} (Ok made.table) (Ok table) = sym made.defined ∙ defined in
-      let same : made.table ≡ table = cc in
-      let after : first.0.schema ≡ created schema table = made.is ∙ ap (λ s. created s made.table) has ∙ ap (created schema) same in
+      let both : ◌≡◌ {A = Result Table _} (Ok made.table) (Ok bare_table) = sym made.defined ∙ is.3 in
+      let same : made.table ≡ bare_table = cc in
+      let after : first.0.schema ≡ created schema bare_table = made.is ∙ ap (λ s. created s made.table) has ∙ ap (created schema) same in
       let none : lacks_sequence first.0.schema ≡ false = ap lacks_sequence after ∙ counts in
       let now : new.now ≡ first.0 = ap (λ (p : Tally × Database). p.1) (same_value all.2) ∙ same_value (rw none at first.2) in
-      record {
-        same = ap (λ (d : Database). d.schema) now ∙ after;
-        empty = ap (λ (d : Database). d.trees (next_tree schema)) now ∙ subst (λ s. first.0.trees (next_tree s) ≡ []) has made.empty;
-        others = subst (λ (d : Database). KeepsRows schema.tables old.now.trees d.trees) (sym now) (subst (λ (s : Schema). KeepsRows s.tables old.now.trees first.0.trees) has made.others);
-      }
+      let kept = subst (λ (s : Schema). KeepsRows s.tables old.now.trees first.0.trees) has made.others in
+      let rows : AllByRecursion (λ t. first.0.trees t.tree ≡ []) (created schema bare_table).tables =
+      all_push (λ t. first.0.trees t.tree ≡ []) schema.tables _ (still_empty schema.tables old.now.trees first.0.trees kept bare.empty) (subst (λ s. first.0.trees (next_tree s) ≡ []) has made.empty) in
+      subst (IsBare (created schema bare_table)) (sym now) (record { schema = after; empty = rows });
+}
+
+-- there is one index more
+pub indexes_bare : (sql : List ℕ) (old new : State) (schema : Schema) (at : ℕ) (table : Table) (index : Index) → slice_get schema.tables at ≡ Some table
+    → (command_of (understood schema sql) ≡ CreateIndex at) × (statement_of sql (understood schema sql) ≡ sql) × IsPlain (understood schema sql) × (index_defined_by table sql ≡ Ok index) → Runs sql [] old new
+    → Extends schema (indexed schema table index) old new
+indexes_bare sql old new schema at table index listed is ran = record {
+  was_open = ran.shown.was_open;
+  bare = λ bare.
+      let has = bare.schema in
+      let w = subst (λ t. Writes old new None (CreateIndex at) t [] ran.count) is.1 (runs_as sql [] old new schema has (CreateIndex at) is.0 is.2 ran.count ran.executed) in
+      let out : Tally × Database = (w.tally, new.now) in
+      let there = subst (λ s. Does old.step_limit (mode_of old) [] (record old.now { schema = s }) sql None (CreateIndex at) (Ok out)) has w.changed in
+      let on = subst (λ o. AtPlace (λ t. Defines (mode_of old) (MakesIndex sql (record old.now { schema = schema }) t)) o (Ok out)) listed there in
+      let all = went on in
+      let made = all.1 in
+      let both : ◌≡◌ {A = Result Index _} (Ok made.index) (Ok index) = sym made.defined ∙ is.3 in
+      let same : made.index ≡ index = cc in
+      let now : new.now ≡ all.0 = ap (λ (p : Tally × Database). p.1) (same_value all.2) in
+      subst (IsBare (indexed schema table index)) (sym now) (record { schema = made.is ∙ ap (indexed schema table) same; empty = still_empty schema.tables old.now.trees all.0.trees made.rows bare.empty });
+}
+
+-- each text in its turn
+makes_version : (old new : State) → Runs version_text [] old new → Extends (first_of_line 0 0) (first_of_line 1 0) old new
+makes_version old new = creates_bare version_text old new (first_of_line 0 0) version version_is refl
+
+makes_accepted : (old new : State) → Runs accepted_text [] old new → Extends (first_of_line 1 0) (first_of_line 2 1) old new
+makes_accepted old new = creates_bare accepted_text old new (first_of_line 1 0) accepted accepted_is refl
+
+makes_part : (old new : State) → Runs part_text [] old new → Extends (first_of_line 2 1) (first_of_line 3 2) old new
+makes_part old new = creates_bare part_text old new (first_of_line 2 1) part part_is refl
+
+makes_alternate : (old new : State) → Runs alternate_text [] old new → Extends (first_of_line 3 2) (first_of_line 4 3) old new
+makes_alternate old new = creates_bare alternate_text old new (first_of_line 3 2) alternate alternate_is refl
+
+makes_sheet_row : (old new : State) → Runs sheet_row_text [] old new → Extends (first_of_line 4 3) (first_of_line 5 4) old new
+makes_sheet_row old new = creates_bare sheet_row_text old new (first_of_line 4 3) sheet_row sheet_row_is refl
+
+makes_selected : (old new : State) → Runs selected_text [] old new → Extends (first_of_line 5 4) (first_of_line 6 5) old new
+makes_selected old new = creates_bare selected_text old new (first_of_line 5 4) selected selected_is refl
+
+makes_reel : (old new : State) → Runs reel_text [] old new → Extends (first_of_line 6 5) (first_of_line 7 6) old new
+makes_reel old new = creates_bare reel_text old new (first_of_line 6 5) reel reel_is refl
+
+makes_mount : (old new : State) → Runs mount_text [] old new → Extends (first_of_line 7 6) (first_of_line 8 7) old new
+makes_mount old new = creates_bare mount_text old new (first_of_line 7 6) mount mount_is refl
+
+makes_board : (old new : State) → Runs board_text [] old new → Extends (first_of_line 8 7) (first_of_line 9 8) old new
+makes_board old new = creates_bare board_text old new (first_of_line 8 7) board board_is refl
+
+makes_placement : (old new : State) → Runs placement_text [] old new → Extends (first_of_line 9 8) (first_of_line 10 9) old new
+makes_placement old new = creates_bare placement_text old new (first_of_line 9 8) placement placement_is refl
+
+makes_index : (old new : State) → Runs index_text [] old new → Extends (first_of_line 10 9) (first_of_line 10 10) old new
+makes_index old new = indexes_bare index_text old new (first_of_line 10 9) 9 placement (record placement_reel { tree = 0 }) refl index_is
+
+makes_found : (old new : State) → Runs found_text [] old new → Extends (first_of_line 10 10) (first_of_line 11 11) old new
+makes_found old new = creates_bare found_text old new (first_of_line 10 10) found found_is refl
+
+pub makes_list : (a b c : State) → Runs version_text [] a b → Runs accepted_text [] b c → Extends (first_of_line 0 0) (first_of_line 2 1) a c
+makes_list a b c r1 r2 = extends_then _ _ _ a b c (makes_version a b r1) (makes_accepted b c r2)
+
+pub makes_setup : (a b c d e : State) → Runs part_text [] a b → Runs alternate_text [] b c → Runs sheet_row_text [] c d → Runs selected_text [] d e → Extends (first_of_line 2 1) (first_of_line 6 5) a e
+makes_setup a b c d e r1 r2 r3 r4 = extends_then _ _ _ a d e (extends_then _ _ _ a c d (extends_then _ _ _ a b c (makes_part a b r1) (makes_alternate b c r2)) (makes_sheet_row c d r3)) (makes_selected d e r4)
+
+pub makes_floor : (a b c d : State) → Runs reel_text [] a b → Runs mount_text [] b c → Runs board_text [] c d → Extends (first_of_line 6 5) (first_of_line 9 8) a d
+makes_floor a b c d r1 r2 r3 = extends_then _ _ _ a c d (extends_then _ _ _ a b c (makes_reel a b r1) (makes_mount b c r2)) (makes_board c d r3)
+
+pub makes_pieces : (a b c d : State) → Runs placement_text [] a b → Runs index_text [] b c → Runs found_text [] c d → Extends (first_of_line 9 8) (first_of_line 11 11) a d
+makes_pieces a b c d r1 r2 r3 = extends_then _ _ _ a c d (extends_then _ _ _ a b c (makes_placement a b r1) (makes_index b c r2)) (makes_found c d r3)
+
+-- what was empty is so in the trees that stay
+still_bare : (tree : ℕ) (tables : List Table) (old new : Trees) → list_all (λ t. not (t.tree == tree)) tables ≡ true → AllByRecursion (λ t. t.tree ≢ tree → new t.tree ≡ old t.tree) tables → AllByRecursion (λ t. old t.tree ≡ []) tables
+    → AllByRecursion (λ t. new t.tree ≡ []) tables
+still_bare tree [] old new apart others empty = tt
+still_bare tree (t ∷ ts) old new apart others empty = let is = and_parts _ _ apart in (others.0 (other_tree _ _ is.0) ∙ empty.0, still_bare tree ts old new is.1 others.1 empty.1)
 
 version_cast : (greatest : ℕ) → cast_row version (Int (pos 1) ∷ Null ∷ Int (pos 2) ∷ Int (pos greatest) ∷ []) ≡ Int (pos 1) ∷ Null ∷ Int (pos 2) ∷ Int (pos greatest) ∷ []
 version_cast greatest = rw (cast_int (pos 1), cast_int (pos 2), cast_int (pos greatest), cast_null) refl
 
-makes_tables : (greatest : ℕ) (a b c d : State) → Runs version_text [] a b → Runs accepted_text [] b c → Runs insert_version (Int (pos greatest) ∷ []) c d → a.now.schema ≡ no_schema
-    → Holds d.now (blank greatest) × IsDatabase d.now
-makes_tables greatest a b c d one two three has =
-    let first = create_does version_text a b no_schema has version version_is.0 version_is.1 version_is.2 version_defined refl one.count one.executed in
-    let second = create_does accepted_text b c schema_1 first.same (record accepted { tree = 0 }) accepted_is.0 accepted_is.1 accepted_is.2 accepted_defined refl two.count two.executed in
-    let put = insert_does insert_version (Int (pos greatest) ∷ []) c d line_schema second.same 0 version version_terms 4 refl refl refl insert_version_is.0 insert_version_is.1 three.count three.executed (quiet 0 []) in
-    let empty : c.now.trees 0 ≡ [] = second.others.0 ∙ first.empty in
-    let unfilled : c.now.trees 1 ≡ [] = second.empty in
+-- the one row of `version` is put in
+puts_version : (greatest : ℕ) (old new : State) → Runs insert_version (Int (pos greatest) ∷ []) old new → IsBare line_schema old.now → Holds new.now (blank greatest) × IsDatabase new.now
+puts_version greatest old new ran bare =
+    let put = insert_does insert_version (Int (pos greatest) ∷ []) old new line_schema bare.schema 0 version version_terms 4 refl refl refl insert_version_is.0 insert_version_is.1 ran.count ran.executed (quiet 0 []) in
     let row = Int (pos 1) ∷ Null ∷ Int (pos 2) ∷ Int (pos greatest) ∷ [] in
-    let is : d.now.trees 0 ≡ row ∷ [] = put.step.rows ∙ ap (λ r. put_row (with_rowid Chosen (c.now.trees 0) r) (c.now.trees 0)) (version_cast greatest) ∙ ap (λ l. put_row row l) empty in
-    let other : d.now.trees 1 ≡ [] = put.step.tables.1.0 (λ e. cc) ∙ unfilled in (
-      record {
-        schema = put.same;
-        version = ap (map version_columns) is;
-        accepted = subst (λ l. IsPermutation (map accepted_columns l) []) (sym other) (IsPermutation-refl []);
-      },
-      put.sound,
-    )
+    let is : new.now.trees 0 ≡ row ∷ [] = put.step.rows ∙ ap (λ r. put_row (with_rowid Chosen (old.now.trees 0) r) (old.now.trees 0)) (version_cast greatest) ∙ ap (λ l. put_row row l) bare.empty.0 in
+    let others : AllByRecursion (λ t. new.now.trees t.tree ≡ []) (accepted ∷ state_tables) = still_bare 0 (accepted ∷ state_tables) old.now.trees new.now.trees refl put.step.tables.1 bare.empty.1 in
+    (holds_blank greatest new.now put.same (ap (map version_columns) is) others, put.sound)
 
-pub makes_all : (greatest : ℕ) (a b c d : State) → Runs version_text [] a b → Runs accepted_text [] b c → Runs insert_version (Int (pos greatest) ∷ []) c d → Makes greatest a d
-makes_all greatest a b c d one two three =
-    let made = makes_tables greatest a b c d one two three in
-    record { was_open = one.shown.was_open; done = λ has. (made has).0; sound = λ has. (made has).1 }
+pub makes_all : (greatest : ℕ) (a b c : State) → Extends no_schema line_schema a b → Runs insert_version (Int (pos greatest) ∷ []) b c → Makes greatest a c
+makes_all greatest a b c made put =
+    let all : a.now.schema ≡ no_schema → Holds c.now (blank greatest) × IsDatabase c.now = λ has. puts_version greatest b c put (made.bare (record { schema = has; empty = tt })) in
+    record { was_open = made.was_open; done = λ has. (all has).0; sound = λ has. (all has).1 }

@@ -85,8 +85,12 @@ select_count = codes "SELECT count(*) FROM accepted"
 abbrev pub count_all : Grouping
 count_all = record { keys = []; collations = []; aggregates = record { op = by.CountRows; distinct = false; collation = Binary; argument = lit Null } ∷ []; having = [] }
 
+-- how many rows a table has
+abbrev pub count_from : ℕ → Query
+count_from tree = record { from = inner tree end; filter = []; group = Some count_all; project = col 1 0 ∷ []; distinct = false; collations = []; order = []; limit = lit (Int (negsuc 0)); offset = lit (Int (pos 0)) }
+
 abbrev pub count_query : Query
-count_query = record { from = inner 1 end; filter = []; group = Some count_all; project = col 1 0 ∷ []; distinct = false; collations = []; order = []; limit = lit (Int (negsuc 0)); offset = lit (Int (pos 0)) }
+count_query = count_from 1
 
 pub select_count_is : IsSelect select_count count_query (codes "count(*)" ∷ [])
 unfolding understood everything

@@ -1,5 +1,5 @@
 -- What the queries find.
-use Rattle.std.proofs.Common.{◌≡◌, ◌∙◌, IsTrue, Some, None, Option, Result, Ok, Err, IfOk, Vec, Global, ℕ, pos, List, [], ◌∷◌, ◌++◌, length, map, filter, Bool, true, false, not, ◌&&◌, ◌||◌, ◌==◌, if◌then◌else◌, refl, sym, ap, ap₂, subst, subst₂, arith, true≢false}
+use Rattle.std.proofs.Common.{◌≡◌, ◌∙◌, IsTrue, Some, None, Option, Result, Ok, Err, IfOk, Vec, Global, ℕ, pos, List, [], ◌∷◌, ◌++◌, length, map, filter, Bool, true, false, not, ◌&&◌, ◌||◌, ◌==◌, if◌then◌else◌, unwrap_or, nat_le, ◌^◌, refl, sym, ap, ap₂, subst, subst₂, arith, true≢false}
 use Rattle.std.specs.List.{flat_map, list_all, list_any}
 use Rattle.std.specs.List.Sorted.{IsPermutation}
 use Rattle.std.proofs.Math.Dec.{eqb-suc-zero}
@@ -33,10 +33,10 @@ answer_of g sql q names is params old rows h schema =
     subst (λ (db : Database). IsAnswer q (overlay db.trees []) params rows) h.settled (read.answer Null)
 
 -- what is shown of the rows that pass
-abbrev shown_of : Query → Row → List Row → List Row
+abbrev pub shown_of : Query → Row → List Row → List Row
 shown_of q params rows = map (λ (o : Output). o.1) (map (output q) (flat_map (λ r. if list_all (holds (params ∷ r ∷ [])) q.filter then (params ∷ r ∷ []) ∷ [] else []) rows))
 
-rows_answer : (tree : ℕ) (test project : List Term) (db : Trees) (params : Row) (rows : List Row) → IsAnswer (rows_from tree test project) db params rows → IsPermutation (shown_of (rows_from tree test project) params (db tree)) rows
+pub rows_answer : (tree : ℕ) (test project : List Term) (db : Trees) (params : Row) (rows : List Row) → IsAnswer (rows_from tree test project) db params rows → IsPermutation (shown_of (rows_from tree test project) params (db tree)) rows
 rows_answer tree test project db params rows a =
     let q = rows_from tree test project in
     let kept = a.distinct ∙ ap (map (output q)) a.grouped in
@@ -44,7 +44,7 @@ rows_answer tree test project db params rows a =
     subst₂ (λ k r. IsPermutation k r) (ap (map (λ (o : Output). o.1)) kept) (sym a.shown) same
 
 -- a test of the columns that are shown
-shown_is : (q : Query) (params : Row) (columns : Row → Row) (show : Row → Row) (has : Row → Bool) → ((r : Row) → list_all (holds (params ∷ r ∷ [])) q.filter ≡ has (columns r)) → ((r : Row) → (output q (params ∷ r ∷ [])).1 ≡ show (columns r))
+pub shown_is : (q : Query) (params : Row) (columns : Row → Row) (show : Row → Row) (has : Row → Bool) → ((r : Row) → list_all (holds (params ∷ r ∷ [])) q.filter ≡ has (columns r)) → ((r : Row) → (output q (params ∷ r ∷ [])).1 ≡ show (columns r))
     → (rows : List Row) → shown_of q params rows ≡ map show (filter has (map columns rows))
 shown_is q params columns show has test out [] = refl
 shown_is q params columns show has test out (r ∷ rows) = go (list_all (holds (params ∷ r ∷ [])) q.filter) (has (columns r)) (test r) (shown_is q params columns show has test out rows)
@@ -56,13 +56,27 @@ shown_is q params columns show has test out (r ∷ rows) = go (list_all (holds (
     go true false e more = absurd (true≢false e)
     go false true e more = absurd (true≢false (sym e))
 
-and_true : (b : Bool) → (b && true) ≡ b
+pub and_true : (b : Bool) → (b && true) ≡ b
 and_true true = refl
 and_true false = refl
 
-whole : (rows : List Row) → map (λ (r : Row). r) rows ≡ rows
+pub whole : (rows : List Row) → map (λ (r : Row). r) rows ≡ rows
 whole [] = refl
 whole (r ∷ rows) = ap (λ rest. r ∷ rest) (whole rows)
+
+-- with no table of its own a query sees the trees
+pub overlay_none : (db : Trees) (tree : ℕ) → overlay db [] tree ≡ db tree
+overlay_none db tree = elim (nat_le (2 ^ 31) tree) as (λ b. unwrap_or (if b then None else None) (db tree) ≡ db tree) [ true ↦ refl | false ↦ refl ]
+
+-- the rows that pass a test of their columns are found
+pub finds_rows : {S : Type 0} (g : Ghosts S) (sql : List ℕ) (tree : ℕ) (test project : List Term) (names : List (List ℕ)) → IsSelect sql (rows_from tree test project) names → (params : Row) (columns : Row → Row) (has : Row → Bool)
+    → ((r : Row) → list_all (holds (params ∷ r ∷ [])) test ≡ has (columns r)) → ((r : Row) → (output (rows_from tree test project) (params ∷ r ∷ [])).1 ≡ columns r)
+    → (old : Held S) (rows : List Row) → Selects g sql params old rows → Reads (state g old) (λ db. IsPermutation (filter has (map columns (db.trees tree))) rows)
+finds_rows g sql tree test project names is params columns has passes out old rows h = record {
+  was_open = h.was_open;
+  are = λ schema. subst (λ l. IsPermutation l rows) (ap (shown_of (rows_from tree test project) params) (overlay_none (state g old).committed.trees tree) ∙ shown_is (rows_from tree test project) params columns (λ r. r) has passes out ((state g old).committed.trees tree) ∙ whole _)
+      (rows_answer tree test project (overlay (state g old).committed.trees []) params rows (answer_of g sql (rows_from tree test project) names is params old rows h schema));
+}
 
 pub finds_uid : {S : Type 0} (g : Ghosts S) (uid : List ℕ) (old : Held S) (rows : List Row) → Selects g select_uid (Text uid ∷ []) old rows → Reads (state g old) (λ db. IsPermutation (filter (has_uid uid) (accepted_in db)) rows)
 finds_uid g uid old rows h = record {

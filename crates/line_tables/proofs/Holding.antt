@@ -1,5 +1,5 @@
 -- What is read, told of the tables that a database holds.
-use Rattle.std.proofs.Common.{◌≡◌, ◌∙◌, [], ◌∷◌, ℕ, ℤ, pos, Bool, length, map, filter, Option, Some, None, ap₂, sym, subst}
+use Rattle.std.proofs.Common.{◌≡◌, ◌∙◌, ℕ, ℤ, pos, Bool, length, filter, Option, Some, None, ap₂, sym, subst}
 use Rattle.std.specs.List.{list_any}
 use Rattle.std.specs.List.Sorted.{IsPermutation}
 use Rattle.std.proofs.lemmas.List.Sorted.{length_permutation, IsPermutation-sym, IsPermutation-trans, IsPermutation-map, list_any-IsPermutation}
@@ -9,11 +9,12 @@ use Rattle.sqlite_trees.specs.Tree.{Trees}
 use Rattle.sqlite_trees.specs.Objects.{catalog_tree}
 use Rattle.sqlite_catalog.specs.Listing.{Lists}
 use Rattle.sqlite_catalog.proofs.ReadLemmas.{lists_once}
+use Rattle.sqlite.specs.Schema.{Schema}
 use Rattle.sqlite.specs.Effect.{Database, IsDatabase}
 use Rattle.sqlite.specs.State.{State}
 use Rattle.line_tables.specs.declared.edit.Accepted.{Accepted}
 use Rattle.line_tables.specs.declared.version.Version.{Version}
-use Rattle.line_tables.specs.Rows.{Tables, Holds, HoldsAt, accepted_in, version_in, columns_of, version_row, version_columns, accepted_columns}
+use Rattle.line_tables.specs.Rows.{Tables, Holds, HoldsAt, accepted_in, version_in, columns_of}
 use Rattle.line_tables.specs.Calls.{Reads, only, row_of, IsLeast, IsVersionOf}
 use Rattle.line_tables.proofs.Finds.{one_order}
 
@@ -22,11 +23,8 @@ pub held_at : (t : Tables) (trees : Trees) → HoldsAt t trees → (db : Databas
 held_at t trees (left, holds, sound, is) db found same =
     let lists : Lists (left.trees catalog_tree) db.schema = subst (λ (d : Trees). Lists (d catalog_tree) db.schema) (same ∙ is) found.lists in
     let schema : left.schema ≡ db.schema = lists_once (left.trees catalog_tree) left.schema db.schema sound.lists lists in
-    record {
-      schema = sym schema ∙ holds.schema;
-      version = subst (λ (d : Trees). map version_columns (d 0) ≡ version_row t.greatest ∷ []) (sym (same ∙ is)) holds.version;
-      accepted = subst (λ (d : Trees). IsPermutation (map accepted_columns (d 1)) t.accepted) (sym (same ∙ is)) holds.accepted;
-    }
+    let one : left ≡ db = ap₂ (λ (s : Schema) (d : Trees). record { schema = s; trees = d }) schema (sym (same ∙ is)) in
+    subst (λ (d : Database). Holds d t) one holds
 
 module _ (old : State) (tables : Tables) (holds : Holds old.committed tables) where
   pub only_held : (has : Row → Bool) (o : Option Row) → Reads old (λ db. filter has (accepted_in db) ≡ only o) → filter has tables.accepted ≡ only o

@@ -13,7 +13,7 @@ module _ {S : Type 0} (g : Ghosts S) (old last : Held S) (trees : Trees) where
       → LeavesEdited edits (state g old) trees
   leaves_edited edits settled w is = record {
     was_open = w.was_open;
-    holds = λ tables holds. let held = subst (λ (db : Database). Holds db tables) (sym (settled w.was_open)) holds in ((state g last).now, w.done tables held, w.sound tables held, is);
+    holds = λ tables holds fresh. let held = subst (λ (db : Database). Holds db tables) (sym (settled w.was_open)) holds in ((state g last).now, w.done tables held fresh, w.sound tables held fresh, is);
   }
 
   pub leaves_blank : (greatest : ℕ) → Makes greatest (state g (record old { in_transaction = true })) (state g last) → trees ≡ (state g last).now.trees → LeavesBlank greatest (state g old) trees

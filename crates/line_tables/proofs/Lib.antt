@@ -10,3 +10,14 @@ pub mod Numbers
 pub mod Leaves
 pub mod Ours
 pub mod Holding
+pub mod Apart
+pub mod Altering
+pub mod Changes
+pub mod Alterations
+pub mod RowTexts
+pub mod RowPuts
+pub mod Keyed
+pub mod Spaced
+pub mod RowidTexts
+pub mod Rising
+pub mod Placing

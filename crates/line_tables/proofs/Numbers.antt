@@ -27,8 +27,8 @@ use Rattle.sqlite.specs.Held.{Held, state}
 use Rattle.sqlite.proofs.Callers.{one_permutation}
 use Rattle.line_tables.specs.Rows.{accepted_columns, accepted_in}
 use Rattle.line_tables.specs.Calls.{Selects, Reads, number_row, IsLeast}
-use Rattle.line_tables.proofs.FindTexts.{select_least, least_query, select_least_is, select_count, count_query, count_all, select_count_is}
-use Rattle.line_tables.proofs.Finds.{answer_of}
+use Rattle.line_tables.proofs.FindTexts.{select_least, least_query, select_least_is, IsSelect, select_count, count_from, count_all, select_count_is}
+use Rattle.line_tables.proofs.Finds.{answer_of, overlay_none}
 
 module _ {X : Type 0} (cmp : X → X → Ordering) (total : IsTotalOrder cmp) where
   abbrev AtMost : X → X → Type 0
@@ -138,19 +138,21 @@ not_most n length most is below = omega (arith, is, below)
 same_number : (n m : ℕ) → ◌≡◌ {A = List Row} ((Int (pos n) ∷ []) ∷ []) ((Int (pos m) ∷ []) ∷ []) → n ≡ m
 same_number n m e = cc
 
-count_is : (db : Trees) (shown : List Row) → IsAnswer count_query db [] shown → (n : ℕ) → shown ≡ (Int (pos n) ∷ []) ∷ [] → n < 9223372036854775807 → n ≡ length (map accepted_columns (db 1))
-count_is db shown a n is below =
-    let rows = db 1 in
+count_is : (tree : ℕ) (db : Trees) (shown : List Row) → IsAnswer (count_from tree) db [] shown → (n : ℕ) → shown ≡ (Int (pos n) ∷ []) ∷ [] → n < 9223372036854775807 → n ≡ length (db tree)
+count_is tree db shown a n is below =
+    let rows = db tree in
     let all = envs rows in
-    let kept : a.kept ≡ ([], counted (length all) ∷ []) ∷ [] = a.distinct ∙ ap (map (output count_query)) (summed all a.staged a.grouped) in
+    let kept : a.kept ≡ ([], counted (length all) ∷ []) ∷ [] = a.distinct ∙ ap (map (output (count_from tree))) (summed all a.staged a.grouped) in
     let ordered : a.ordered ≡ ([], counted (length all) ∷ []) ∷ [] = one_permutation _ a.ordered (subst (λ l. IsPermutation l a.ordered) kept a.same) in
     let row : ◌≡◌ {A = List Row} ((Int (pos n) ∷ []) ∷ []) ((counted (length all) ∷ []) ∷ []) = sym is ∙ a.shown ∙ ap (map (λ (o : Output). o.1)) ordered in
-    not_most n (length all) 9223372036854775807 (same_number n _ row) below ∙ envs_length rows ∙ sym (length-map rows accepted_columns)
+    not_most n (length all) 9223372036854775807 (same_number n _ row) below ∙ envs_length rows
 
-pub finds_count : {S : Type 0} (g : Ghosts S) (old : Held S) (rows : List Row) (n : ℕ) → Selects g select_count [] old rows → rows ≡ (Int (pos n) ∷ []) ∷ [] → n < 9223372036854775807 → Reads (state g old) (λ db. n ≡ length (accepted_in db))
-finds_count g old rows n h is below = record {
+-- the number of a table's rows is read, where it is below the greatest that SQL counts
+pub finds_count : {S : Type 0} (g : Ghosts S) (sql : List ℕ) (tree : ℕ) (names : List (List ℕ)) → IsSelect sql (count_from tree) names → (columns : Row → Row) (old : Held S) (rows : List Row) (n : ℕ) → Selects g sql [] old rows → rows ≡ (Int (pos n) ∷ []) ∷ []
+    → n < 9223372036854775807 → Reads (state g old) (λ db. n ≡ length (map columns (db.trees tree)))
+finds_count g sql tree names is columns old rows n h shown below = record {
   was_open = h.was_open;
-  are = λ schema. count_is (overlay (state g old).committed.trees []) rows (answer_of g select_count count_query _ select_count_is [] old rows h schema) n is below;
+  are = λ schema. count_is tree (overlay (state g old).committed.trees []) rows (answer_of g sql (count_from tree) names is [] old rows h schema) n shown below ∙ ap length (overlay_none (state g old).committed.trees tree) ∙ sym (length-map ((state g old).committed.trees tree) columns);
 }
 
 pub finds_least_in : {S : Type 0} (g : Ghosts S) (old : Held S) (rows : List Row) (r : Result (Option ℤ) Error) → IfOk r (λ o. rows ≡ number_row o) → Selects g select_least [] old rows → IfOk r (λ o. Reads (state g old) (λ db. IsLeast (accepted_in db) o))
@@ -160,4 +162,4 @@ finds_least_in g old rows (Ok o) is h = finds_least g old rows o h is
 pub finds_count_in : {S : Type 0} (g : Ghosts S) (old : Held S) (rows : List Row) (r : Result ℕ Error) → IfOk r (λ n. rows ≡ (Int (pos n) ∷ []) ∷ []) → IfOk r (λ n. n < 9223372036854775807) → Selects g select_count [] old rows
     → IfOk r (λ n. Reads (state g old) (λ db. n ≡ length (accepted_in db)))
 finds_count_in g old rows (Err e) is below h = tt
-finds_count_in g old rows (Ok n) is below h = finds_count g old rows n h is below
+finds_count_in g old rows (Ok n) is below h = finds_count g select_count 1 _ select_count_is accepted_columns old rows n h is below

@@ -7,7 +7,7 @@ use Rattle.sqlite.specs.Schema.{Schema}
 use Rattle.sqlite_schema.specs.Names.{same_name}
 use Rattle.sqlite_schema.specs.contracts.schema.Schema.{the_row}
 use Rattle.line_tables.specs.Line.{line_schema, no_schema, is_ours, is_blank, is_same_schema, is_same_code}
-use Rattle.line_tables.specs.Names.{has_name, is_version, is_accepted}
+use Rattle.line_tables.specs.Names.{has_name, is_version, is_accepted, has_state}
 
 both : (a b : Bool) → (a && b) ≡ true → (a ≡ true) × (b ≡ true)
 both true b h = (refl, h)
@@ -62,3 +62,7 @@ ours_versioned = refl
 pub ours_listed : list_any is_accepted line_schema.tables ≡ true
 unfolding same_name
 ours_listed = refl
+
+pub ours_whole : has_state line_schema.tables ≡ true
+unfolding same_name
+ours_whole = refl

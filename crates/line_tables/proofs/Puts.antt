@@ -1,10 +1,11 @@
 -- What the writes make of the tables.
-use Rattle.std.proofs.Common.{◌≡◌, ℕ, ℤ, pos, List, [], ◌∷◌, ◌++◌, map, fold, length, take, get_or, ◌<◌, ◌+◌, ◌==◌, not, ◌||◌, ◌&&◌, Bool, true, false, cond, refl, sym, ap, subst, ◌∙◌, arith}
+use Rattle.std.proofs.Common.{◌≡◌, ℕ, ℤ, pos, List, [], ◌∷◌, ◌++◌, map, length, take, drop, ◌==◌, not, ◌||◌, ◌&&◌, Bool, true, false, cond, refl, sym, ap, subst, ◌∙◌, arith}
 use Rattle.std.specs.List.{flat_map, filter_map}
 use Rattle.std.specs.List.Sorted.{IsPermutation}
 use Rattle.std.specs.Ordering.{is_eq, match_ordering}
 use Rattle.std.specs.declared.cmp.Ordering.TheVariants.{Less, Equal, Greater}
-use Rattle.std.proofs.lemmas.List.{take_more}
+use Rattle.std.proofs.lemmas.List.{take-append-drop}
+use Rattle.std.proofs.lemmas.List.Sums.{fold-append}
 use Rattle.std.proofs.lemmas.List.Sorted.{IsPermutation-refl, IsPermutation-cons, IsPermutation-trans, IsPermutation-map, IsPermutation-swap}
 use Rattle.sqlite.specs.declared.types.Value.TheVariants.{Null, Int}
 use Rattle.sqlite.specs.declared.types.Value.{Value}
@@ -25,9 +26,10 @@ use Rattle.line_tables.specs.declared.edit.Accepted.{Accepted}
 use Rattle.line_tables.specs.declared.edit.Edit.{Edit}
 use Rattle.line_tables.specs.declared.edit.Edit.TheVariants.{PutAccepted}
 use Rattle.line_tables.specs.Line.{line_schema, accepted}
-use Rattle.line_tables.specs.Rows.{Tables, Holds, columns_of, accepted_columns, version_columns, with_edit, edited}
+use Rattle.line_tables.specs.Rows.{Tables, Holds, AreNew, columns_of, accepted_columns, with_edit, edited}
 use Rattle.line_tables.specs.Calls.{Runs, Edits, Writes}
 use Rattle.line_tables.proofs.Inserts.{Inserted, insert_does}
+use Rattle.line_tables.proofs.Altering.{list_grows}
 use Rattle.line_tables.proofs.PutTexts.{insert_accepted, accepted_terms, insert_accepted_is}
 
 either : (b : Bool) (x : Value) → cond b x x ≡ x
@@ -48,12 +50,12 @@ quiet tree olds news =
     elim (length news == 0) as (λ b. flat_map (λ child. filter_map (λ ref. work_by 0 tree (pairs olds news) child ref (deed_for Enforced b ref) (parent_key line_schema.tables ref)) child.references) line_schema.tables ≡ [])
     [ true ↦ refl | false ↦ refl ]
 
-not_taken : (b : Bool) → (not b && true) ≡ true → b ≡ false
+pub not_taken : (b : Bool) → (not b && true) ≡ true → b ≡ false
 not_taken true h = absurd (cc)
 not_taken false h = refl
 
 -- a row whose key is free is one more
-put_permutes : (rows : List Row) (new : Row) → is_taken rows new ≡ false → IsPermutation (put_row new rows) (new ∷ rows)
+pub put_permutes : (rows : List Row) (new : Row) → is_taken rows new ≡ false → IsPermutation (put_row new rows) (new ∷ rows)
 put_permutes [] new h = IsPermutation-refl (new ∷ [])
 put_permutes (r ∷ rows) new h =
     let o = value_cmp (rowid r) (rowid new) in
@@ -77,14 +79,10 @@ inserted_edits a old new went tables holds =
     let row = kept_row (columns_of a) in
     let news : with_rowid Chosen rows (cast_row accepted row) ≡ row = ap (with_rowid Chosen rows) (row_cast a) in
     let free : is_taken rows row ≡ false = not_taken (is_taken rows row) (subst (λ r. (not (is_taken rows r) && true) ≡ true) news went.step.fresh) in
-    let same : new.now.trees 0 ≡ old.now.trees 0 = went.step.tables.0 (λ e. cc) in
     let put : new.now.trees 1 ≡ put_row row rows = went.step.rows ∙ ap (λ r. put_row r rows) news in
-    record {
-      schema = went.same;
-      version = ap (map version_columns) same ∙ holds.version;
-      accepted = subst (λ t. IsPermutation (map accepted_columns t) (columns_of a ∷ tables.accepted)) (sym put)
-          (IsPermutation-trans _ _ _ (IsPermutation-map accepted_columns _ _ (put_permutes rows row free)) (IsPermutation-cons (columns_of a) _ _ holds.accepted));
-    }
+    list_grows (columns_of a) old.now new.now tables holds went.same went.step.tables
+    (subst (λ t. IsPermutation (map accepted_columns t) (columns_of a ∷ tables.accepted)) (sym put)
+    (IsPermutation-trans _ _ _ (IsPermutation-map accepted_columns _ _ (put_permutes rows row free)) (IsPermutation-cons (columns_of a) _ _ holds.accepted)))
 
 pub puts_accepted : (a : Accepted) (old new : State) → Runs insert_accepted (columns_of a) old new → Writes (PutAccepted a ∷ []) old new
 puts_accepted a old new h =
@@ -92,19 +90,34 @@ puts_accepted a old new h =
     λ has. insert_does insert_accepted (columns_of a) old new line_schema has 1 accepted accepted_terms 8 refl refl refl insert_accepted_is.0 insert_accepted_is.1 h.count h.executed (quiet 1 []) in
     record {
       was_open = h.shown.was_open;
-      done = λ tables holds. inserted_edits a old new (inserted holds.schema) tables holds;
-      sound = λ tables holds. (inserted holds.schema).sound;
+      done = λ tables holds _. inserted_edits a old new (inserted holds.schema) tables holds;
+      sound = λ tables holds _. (inserted holds.schema).sound;
     }
 
-fold_push : {A B : Type 0} (f : B → A → B) (b : B) (xs : List A) (x : A) → fold f b (xs ++ x ∷ []) ≡ f (fold f b xs) x
-fold_push f b [] x = refl
-fold_push f b (y ∷ ys) x = fold_push f (f b y) ys x
+-- what is left of the edits, where the first of them are made: it makes of the tables that the one database holds what all make of those of the other
+abbrev pub Remain : List Edit → List Edit → Database → Database → Type 0
+Remain edits rest old now = (tables : Tables) → Holds old tables → AreNew edits tables → (mid : Tables) × Holds now mid × AreNew rest mid × (edited rest mid ≡ edited edits tables)
 
-pub edits_none : (db : Database) → Edits [] db db
-edits_none db tables h = h
+pub remain_none : (edits : List Edit) (old now : Database) → Remain edits [] old now → Edits edits old now
+remain_none edits old now was tables h new = let m = was tables h new in subst (Holds now) m.3 m.1
 
--- so many edits, and then the next one
-pub edits_more : (edits : List Edit) (i : ℕ) (e : Edit) (old mid new : Database) → i < length edits → e ≡ get_or edits i e → Edits (take i edits) old mid → Edits (e ∷ []) mid new → Edits (take (i + 1) edits) old new
-edits_more edits i e old mid new inside is done step tables h =
-    let next : take (i + 1) edits ≡ take i edits ++ e ∷ [] = take_more edits i e inside ∙ ap (λ x. take i edits ++ x ∷ []) (sym is) in
-    subst (Holds new) (sym (ap (λ l. edited l tables) next ∙ fold_push with_edit tables (take i edits) e)) (step _ (done tables h))
+new_parts : (xs ys : List Edit) (tables : Tables) → AreNew (xs ++ ys) tables → AreNew xs tables × AreNew ys (edited xs tables)
+new_parts [] ys tables h = (tt, h)
+new_parts (x ∷ xs) ys tables h = let more = new_parts xs ys (with_edit tables x) h.1 in ((h.0, more.0), more.1)
+
+module _ (edits rest : List Edit) (n : ℕ) (old mid : Database) (was : Remain edits rest old mid) where
+  both : take n rest ++ drop n rest ≡ rest
+  both = take-append-drop n rest
+
+  -- the first of the edits that were left are made
+  pub remain_less : (new : Database) → Edits (take n rest) mid new → Remain edits (drop n rest) old new
+  remain_less new step tables h fresh =
+      let m = was tables h fresh in
+      let parts = new_parts (take n rest) (drop n rest) m.0 (subst (λ l. AreNew l m.0) (sym both) m.2) in
+      (edited (take n rest) m.0, step m.0 m.1 parts.0, parts.1, sym (fold-append with_edit m.0 (take n rest) (drop n rest)) ∙ ap (λ l. edited l m.0) both ∙ m.3)
+
+  -- and the trees list the schema
+  pub sound_less : (sound : Type 0) → ((tables : Tables) → Holds mid tables → AreNew (take n rest) tables → sound) → (tables : Tables) → Holds old tables → AreNew edits tables → sound
+  sound_less sound step tables h fresh =
+      let m = was tables h fresh in
+      step m.0 m.1 (new_parts (take n rest) (drop n rest) m.0 (subst (λ l. AreNew l m.0) (sym both) m.2)).0

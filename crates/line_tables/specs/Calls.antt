@@ -8,6 +8,7 @@ use Rattle.sqlite_value.specs.declared.value.Value.{Value}
 use Rattle.sqlite_value.specs.Keys.{collated}
 use Rattle.sqlite_value.specs.Order.{Row, column}
 use Rattle.sqlite_schema.specs.Rules.{equal}
+use Rattle.sqlite.specs.Schema.{Schema}
 use Rattle.sqlite_sql.specs.Ops.{binary, is_true}
 use Rattle.sqlite_sql.specs.declared.ops.BinaryOp.TheVariants.{Compare}
 use Rattle.sqlite_sql.specs.declared.ops.CompareOp.TheVariants.{Lt}
@@ -19,24 +20,30 @@ use Rattle.sqlite.specs.Held.{Held, state}
 use Rattle.sqlite.specs.State.{State, Shows, Shown, Executes}
 use Rattle.line_tables.specs.declared.edit.Accepted.{Accepted}
 use Rattle.line_tables.specs.declared.edit.Edit.{Edit}
+use Rattle.line_tables.specs.declared.edit.Edit.TheVariants.{EditRow}
+use Rattle.state_rows.specs.declared.edit.RowEdit.{RowEdit}
 use Rattle.line_tables.specs.declared.version.Version.{Version}
 use Rattle.line_tables.specs.Line.{no_schema, line_schema}
-use Rattle.line_tables.specs.Rows.{Tables, Holds, HoldsAt, columns_of, blank, edited}
+use Rattle.line_tables.specs.Rows.{Tables, Holds, HoldsAt, columns_of, blank, edited, AreNew}
 
 -- whatever tables the one database holds, the other holds them with the edits made
 abbrev pub Edits : List Edit → Database → Database → Type 0
-Edits edits before after = (tables : Tables) → Holds before tables → Holds after (edited edits tables)
+Edits edits before after = (tables : Tables) → Holds before tables → AreNew edits tables → Holds after (edited edits tables)
 
 -- the connection was open, and the edits were made inside its transaction, whose trees list its schema
 pub record Writes (edits : List Edit) (old new : State) : Type 0 where
   pub was_open : IsTrue old.is_open
   pub done : Edits edits old.now new.now
-  pub sound : (tables : Tables) → Holds old.now tables → IsDatabase new.now
+  pub sound : (tables : Tables) → Holds old.now tables → AreNew edits tables → IsDatabase new.now
+
+-- the same of one edit of a state table
+abbrev pub WritesRow : RowEdit → State → State → Type 0
+WritesRow edit old new = Writes (EditRow edit ∷ []) old new
 
 -- a crash may leave the tables of the last commit with the edits made
 pub record LeavesEdited (edits : List Edit) (old : State) (trees : Trees) : Type 0 where
   pub was_open : IsTrue old.is_open
-  pub holds : (tables : Tables) → Holds old.committed tables → HoldsAt (edited edits tables) trees
+  pub holds : (tables : Tables) → Holds old.committed tables → AreNew edits tables → HoldsAt (edited edits tables) trees
 
 -- a crash may leave the tables of an empty list, where there was no table before
 pub record LeavesBlank (greatest : ℕ) (old : State) (trees : Trees) : Type 0 where
@@ -49,9 +56,24 @@ pub record Makes (greatest : ℕ) (old new : State) : Type 0 where
   pub done : old.now.schema ≡ no_schema → Holds new.now (blank greatest)
   pub sound : old.now.schema ≡ no_schema → IsDatabase new.now
 
+-- the database has this schema, and its tables have no row
+pub record IsBare (with : Schema) (db : Database) : Type 0 where
+  pub schema : db.schema ≡ with
+  pub empty : AllByRecursion (λ t. db.trees t.tree ≡ []) with.tables
+
+-- the connection was open, and a database with the one schema and no row has the other, and no row
+pub record Extends (before after : Schema) (old new : State) : Type 0 where
+  pub was_open : IsTrue old.is_open
+  pub bare : IsBare before old.now → IsBare after new.now
+
 -- the statement ran inside a transaction, which goes on
 pub record Runs (sql : List ℕ) (params : Row) (old new : State) : Type 0 where
   pub count : ℕ
+  pub executed : Executes sql params old new (Ok count)
+  pub shown : Shows old new new.now old.committed true
+
+-- the statement ran inside a transaction, which goes on, and changed so many rows
+pub record Changes (count : ℕ) (sql : List ℕ) (params : Row) (old new : State) : Type 0 where
   pub executed : Executes sql params old new (Ok count)
   pub shown : Shows old new new.now old.committed true
 

@@ -1,14 +1,21 @@
--- The schema of the line's tables, written out: their columns, their keys and the index on the UniqueIDs.
-use Rattle.std.specs.Prelude.{Bool, true, false, ◌&&◌, ◌==◌, [], ◌∷◌, Some, codes, List, ℕ}
+-- The schema of the line's tables, written out: their columns, their keys, their rules and their indexes.
+use Rattle.std.specs.Prelude.{Bool, true, false, ◌&&◌, ◌==◌, [], ◌∷◌, Some, None, codes, List, ℕ, pos, take}
 use base.Stored.{Gv, gnil, gnum, gcons}
 use Rattle.sqlite.specs.Collation.TheVariants.{Binary}
 use Rattle.sqlite_value.specs.declared.keys.Order.{Order}
-use Rattle.sqlite_value.specs.declared.value.Value.TheVariants.{Null}
+use Rattle.sqlite_value.specs.declared.value.Value.TheVariants.{Null, Int}
 use Rattle.sqlite.specs.Table.{Table}
 use Rattle.sqlite.specs.Schema.{Schema}
 use Rattle.sqlite.specs.Kind.{Kind}
 use Rattle.sqlite.specs.Kind.TheVariants.{Integer, Text}
 use Rattle.sqlite_schema.specs.declared.schema.Column.{Column}
+use Rattle.sqlite_schema.specs.declared.schema.Index.{Index}
+use Rattle.sqlite_schema.specs.declared.schema.Reference.{Reference}
+use Rattle.sqlite_schema.specs.declared.schema.Action.TheVariants.{NoAction}
+use Rattle.sqlite_sql.specs.Term.{Term, col, lit, op2}
+use Rattle.sqlite_sql.specs.declared.ops.BinaryOp.TheVariants.{Compare, Arith}
+use Rattle.sqlite_sql.specs.declared.ops.ArithOp.TheVariants.{Add}
+use Rattle.sqlite_sql.specs.declared.ops.CompareOp.TheVariants.{Eq, Ge}
 use Rattle.sqlite_schema.specs.contracts.schema.Schema.{the_row}
 use Rattle.sqlite_catalog.specs.Listing as listing
 
@@ -32,17 +39,20 @@ plain = record { digits = 0 }
 abbrev pub column : List ℕ → Kind → Column
 column name kind = record { name = name; kind = kind; is_strict = true; not_null = true; default = Null; collation = Binary }
 
--- the INTEGER NOT NULL PRIMARY KEY, which a row keeps as its rowid
-abbrev pub key_column : List ℕ → Column
-key_column name = record { name = name; kind = Integer; is_strict = true; not_null = true; default = Null; collation = Binary }
+abbrev pub number : List ℕ → Column
+number name = column name Integer
 
-abbrev pub version : Table
-version = record {
-  name = codes "version";
-  tree = 0;
-  columns = key_column (codes "one") ∷ column (codes "number") Integer ∷ column (codes "greatest") Integer ∷ [];
-  key = Some 0;
-  primary = 0 ∷ [];
+abbrev pub text : List ℕ → Column
+text name = column name Text
+
+-- a table with no key and no rule
+abbrev pub table_of : List ℕ → ℕ → List Column → Table
+table_of name tree columns = record {
+  name = name;
+  tree = tree;
+  columns = columns;
+  key = None;
+  primary = [];
   uniques = [];
   orders = [];
   checks = [];
@@ -52,29 +62,94 @@ version = record {
   is_counted = false;
 }
 
+-- the first column is an INTEGER PRIMARY KEY, which a row keeps as its rowid
+abbrev pub by_number : Table → Table
+by_number table = record table { key = Some 0; primary = 0 ∷ [] }
+
+-- the columns at these places are the PRIMARY KEY
+abbrev pub by_columns : List ℕ → Table → Table
+by_columns places table = record table { primary = places; uniques = places ∷ []; orders = plain ∷ [] }
+
+-- the columns at these places are UNIQUE
+abbrev pub unique : List ℕ → Table → Table
+unique places table = record table { uniques = places ∷ []; orders = plain ∷ [] }
+
+abbrev pub version : Table
+version = by_number (table_of (codes "version") 0 (number (codes "one") ∷ number (codes "number") ∷ number (codes "greatest") ∷ []))
+
 abbrev pub accepted : Table
-accepted = record {
-  name = codes "accepted";
-  tree = 1;
-  columns = key_column (codes "number") ∷ column (codes "uid") Text ∷ column (codes "source") Text ∷ column (codes "own") Integer ∷ column (codes "effective") Integer ∷ column (codes "command") Text ∷ column (codes "detail") Text ∷ [];
-  key = Some 0;
-  primary = 0 ∷ [];
-  uniques = (2 ∷ []) ∷ [];
-  orders = plain ∷ [];
-  checks = [];
-  references = [];
-  computed = [];
-  stamps = record { places = []; terms = []; formats = [] };
-  is_counted = false;
-}
+accepted = unique (2 ∷ []) (by_number (table_of (codes "accepted") 1
+    (number (codes "number") ∷ text (codes "uid") ∷ text (codes "source") ∷ number (codes "own") ∷ number (codes "effective") ∷ text (codes "command") ∷ text (codes "detail") ∷ [])))
+
+abbrev pub part : Table
+part = by_columns (1 ∷ []) (table_of (codes "part") 3 (text (codes "part") ∷ []))
+
+abbrev pub alternate : Table
+alternate = by_columns (1 ∷ 2 ∷ []) (table_of (codes "alternate") 5 (text (codes "part") ∷ text (codes "alternate") ∷ []))
+
+abbrev pub sheet_row : Table
+sheet_row = by_columns (1 ∷ 2 ∷ 3 ∷ []) (table_of (codes "sheet_row") 7
+    (text (codes "product") ∷ text (codes "machine") ∷ number (codes "place") ∷ text (codes "slot") ∷ text (codes "part") ∷ text (codes "designators") ∷ []))
+
+abbrev pub selected : Table
+selected = by_columns (1 ∷ []) (table_of (codes "selected") 9 (text (codes "machine") ∷ text (codes "product") ∷ []))
+
+-- all pieces that were received are placed, scrapped or left
+abbrev pub balance : Term
+balance = op2 (Compare Eq Binary) (col 1 6) (op2 (Arith Add) (op2 (Arith Add) (col 1 7) (col 1 8)) (col 1 9))
+
+abbrev pub reel : Table
+reel = record (by_columns (1 ∷ []) (table_of (codes "reel") 11
+    (text (codes "reel") ∷ text (codes "part") ∷ text (codes "lot") ∷ text (codes "level") ∷ number (codes "label") ∷ number (codes "received") ∷ number (codes "placed") ∷ number (codes "scrapped") ∷ number (codes "remaining")
+    ∷ number (codes "used") ∷ number (codes "open_since") ∷ number (codes "baked") ∷ []))) { checks = balance ∷ [] }
+
+abbrev pub mount : Table
+mount = unique (4 ∷ []) (by_number (table_of (codes "mount") 13 (number (codes "since") ∷ text (codes "machine") ∷ text (codes "slot") ∷ text (codes "reel") ∷ [])))
+
+abbrev pub board : Table
+board = by_columns (1 ∷ []) (table_of (codes "board") 15 (text (codes "board") ∷ text (codes "product") ∷ text (codes "machine") ∷ []))
+
+-- the column at the place refers to the key of `reel`
+abbrev pub to_reel : ℕ → Reference
+to_reel place = record { columns = place ∷ []; parent = codes "reel"; parent_columns = []; on_delete = NoAction; on_update = NoAction; is_deferred = false }
+
+abbrev pub placement : Table
+placement = record (unique (3 ∷ 4 ∷ []) (table_of (codes "placement") 17
+    (number (codes "number") ∷ number (codes "place") ∷ text (codes "board") ∷ text (codes "designator") ∷ text (codes "machine") ∷ text (codes "slot") ∷ text (codes "reel") ∷ number (codes "overdue") ∷ []))) { references = to_reel 7 ∷ [] }
+
+-- the placements of a reel are found by it
+abbrev pub placement_reel : Index
+placement_reel = record { name = codes "placement_reel"; tree = 19; table = 17; columns = 7 ∷ []; order = plain; is_unique = false }
+
+-- so many pieces were found on the reel
+abbrev pub some_pieces : Term
+some_pieces = op2 (Compare Ge Binary) (col 1 2) (lit (Int (pos 1)))
+
+abbrev pub found : Table
+found = record (by_columns (1 ∷ []) (table_of (codes "found") 20 (text (codes "reel") ∷ number (codes "pieces") ∷ []))) { checks = some_pieces ∷ [] }
 
 -- the schema of a database with no table
 abbrev pub no_schema : Schema
 no_schema = record { tables = []; indexes = []; views = [] }
 
--- `version` and `accepted`, and no other object
+-- all tables of the line in the order in which they are made: the trees count up over a table, its indexes and the next table
+abbrev pub line_tables : List Table
+line_tables = version ∷ accepted ∷ part ∷ alternate ∷ sheet_row ∷ selected ∷ reel ∷ mount ∷ board ∷ placement ∷ found ∷ []
+
+-- the index of each PRIMARY KEY or UNIQUE, and that on the reels of placements
+abbrev pub line_indexes : List Index
+line_indexes =
+    listing.automatic accepted 0 (2 ∷ []) 2 ∷ listing.automatic part 0 (1 ∷ []) 4 ∷ listing.automatic alternate 0 (1 ∷ 2 ∷ []) 6 ∷ listing.automatic sheet_row 0 (1 ∷ 2 ∷ 3 ∷ []) 8
+    ∷ listing.automatic selected 0 (1 ∷ []) 10 ∷ listing.automatic reel 0 (1 ∷ []) 12 ∷ listing.automatic mount 0 (4 ∷ []) 14 ∷ listing.automatic board 0 (1 ∷ []) 16
+    ∷ listing.automatic placement 0 (3 ∷ 4 ∷ []) 18 ∷ placement_reel ∷ listing.automatic found 0 (1 ∷ []) 21 ∷ []
+
+-- the tables of the line, and no other object
 abbrev pub line_schema : Schema
-line_schema = record { tables = version ∷ accepted ∷ []; indexes = listing.automatic accepted 0 (2 ∷ []) 2 ∷ []; views = [] }
+line_schema = record { tables = line_tables; indexes = line_indexes; views = [] }
+
+-- the first of our tables and of our indexes
+abbrev pub first_of_line : ℕ → ℕ → Schema
+first_of_line tables indexes = record { tables = take tables line_tables; indexes = take indexes line_indexes; views = [] }
 
 -- two schemas are one, columns and all: both have one code
 unfoldable pub is_same_schema : Schema → Schema → Bool

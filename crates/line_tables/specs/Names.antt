@@ -1,6 +1,6 @@
 -- The names of the tables and of their columns. SQL reads names in any case.
-use Rattle.std.specs.Prelude.{Bool, ◌&&◌, ◌||◌, ℕ, List, codes}
-use Rattle.std.specs.List.{list_any}
+use Rattle.std.specs.Prelude.{Bool, ◌&&◌, ◌||◌, ℕ, List, [], ◌∷◌, codes}
+use Rattle.std.specs.List.{list_any, list_all}
 use Rattle.sqlite_schema.specs.Names.{same_name}
 use Rattle.sqlite_schema.specs.declared.schema.Table.{Table}
 
@@ -10,7 +10,9 @@ has_column t name = list_any (λ column. same_name column.name name) t.columns
 
 -- the table has a name of ours
 abbrev pub has_name : Table → Bool
-has_name t = same_name t.name (codes "version") || same_name t.name (codes "accepted")
+has_name t =
+    same_name t.name (codes "version") || same_name t.name (codes "accepted") || same_name t.name (codes "part") || same_name t.name (codes "alternate") || same_name t.name (codes "sheet_row") || same_name t.name (codes "selected")
+    || same_name t.name (codes "reel") || same_name t.name (codes "mount") || same_name t.name (codes "board") || same_name t.name (codes "placement") || same_name t.name (codes "found")
 
 -- the table is named `version` and has its columns
 abbrev pub is_version : Table → Bool
@@ -21,3 +23,32 @@ abbrev pub is_accepted : Table → Bool
 is_accepted t =
     same_name t.name (codes "accepted") && has_column t (codes "number") && has_column t (codes "uid") && has_column t (codes "source") && has_column t (codes "own")
     && has_column t (codes "effective") && has_column t (codes "command") && has_column t (codes "detail")
+
+-- some table has this name and these columns
+abbrev pub has_table : List Table → List ℕ → List (List ℕ) → Bool
+has_table tables name columns = list_any (λ t. same_name t.name name && list_all (has_column t) columns) tables
+
+-- there are the tables of what is set up, with their columns
+abbrev pub has_setup : List Table → Bool
+has_setup tables =
+    has_table tables (codes "part") (codes "part" ∷ [])
+    && has_table tables (codes "alternate") (codes "part" ∷ codes "alternate" ∷ [])
+    && has_table tables (codes "sheet_row") (codes "product" ∷ codes "machine" ∷ codes "place" ∷ codes "slot" ∷ codes "part" ∷ codes "designators" ∷ [])
+    && has_table tables (codes "selected") (codes "machine" ∷ codes "product" ∷ [])
+
+-- there are the tables of what is on the line, with their columns
+abbrev pub has_floor : List Table → Bool
+has_floor tables =
+    has_table tables (codes "reel") (codes "reel" ∷ codes "part" ∷ codes "lot" ∷ codes "level" ∷ codes "label" ∷ codes "received" ∷ codes "placed" ∷ codes "scrapped" ∷ codes "remaining" ∷ codes "used" ∷ codes "open_since" ∷ codes "baked" ∷ [])
+    && has_table tables (codes "mount") (codes "since" ∷ codes "machine" ∷ codes "slot" ∷ codes "reel" ∷ [])
+    && has_table tables (codes "board") (codes "board" ∷ codes "product" ∷ codes "machine" ∷ [])
+
+-- there are the tables of what pieces went where and of what counts found, with their columns
+abbrev pub has_pieces : List Table → Bool
+has_pieces tables =
+    has_table tables (codes "placement") (codes "number" ∷ codes "place" ∷ codes "board" ∷ codes "designator" ∷ codes "machine" ∷ codes "slot" ∷ codes "reel" ∷ codes "overdue" ∷ [])
+    && has_table tables (codes "found") (codes "reel" ∷ codes "pieces" ∷ [])
+
+-- all tables but `version` and `accepted` are there, with their columns
+abbrev pub has_state : List Table → Bool
+has_state tables = has_setup tables && has_floor tables && has_pieces tables

@@ -1,5 +1,5 @@
 -- The rows of the tables, and what edits make of them.
-use Rattle.std.specs.Prelude.{◌≡◌, ℕ, pos, List, [], ◌∷◌, map, fold, string_bytes}
+use Rattle.std.specs.Prelude.{◌≡◌, ⊤, ℕ, pos, List, [], ◌∷◌, map, fold, string_bytes}
 use Rattle.std.specs.List.Sorted.{IsPermutation}
 use Rattle.sqlite.specs.declared.types.Value.TheVariants.{Int, Text}
 use Rattle.sqlite_value.specs.Order.{Row, column}
@@ -7,7 +7,11 @@ use Rattle.sqlite.specs.Effect.{Database, IsDatabase}
 use Rattle.sqlite_trees.specs.Tree.{Trees}
 use Rattle.line_tables.specs.declared.edit.Accepted.{Accepted}
 use Rattle.line_tables.specs.declared.edit.Edit.{Edit}
-use Rattle.line_tables.specs.declared.edit.Edit.TheVariants.{PutAccepted}
+use Rattle.line_tables.specs.declared.edit.Edit.TheVariants.{PutAccepted, EditRow}
+use Rattle.state_rows.specs.Tables.{Tables as StateTables, tables_of as state_of}
+use Rattle.state_rows.specs.Edits.{with_edit as state_with, IsNew as IsNewRow}
+use Rattle.line_tables.specs.StateRows.{HoldsState}
+use Rattle.line_tables.specs.Rowids.{AreAllApart}
 use Rattle.line_tables.specs.Line.{line_schema}
 
 -- the columns of a row of `accepted`, in their order
@@ -32,16 +36,19 @@ version_in db = map version_columns (db.trees 0)
 abbrev pub accepted_in : Database → List Row
 accepted_in db = map accepted_columns (db.trees 1)
 
--- the greatest number, and the rows of each other table, whose order says nothing
+-- the greatest number, the rows of `accepted`, whose order says nothing, and the state tables
 pub record Tables : Type 0 where
   pub greatest : ℕ
   pub accepted : List Row
+  pub state : StateTables
 
--- the database has our schema, and these tables
+-- the database has our schema, and these tables, and a rowid is that of one row
 pub record Holds (db : Database) (tables : Tables) : Type 0 where
   pub schema : db.schema ≡ line_schema
   pub version : version_in db ≡ version_row tables.greatest ∷ []
   pub accepted : IsPermutation (accepted_in db) tables.accepted
+  pub state : HoldsState db tables.state
+  pub apart : AreAllApart db
 
 -- what a crash may leave is a database with these tables, whose schema the trees list
 abbrev pub HoldsAt : Tables → Trees → Type 0
@@ -49,12 +56,23 @@ HoldsAt tables trees = (db : Database) × Holds db tables × IsDatabase db × (t
 
 -- the tables of an empty list
 abbrev pub blank : ℕ → Tables
-blank greatest = record { greatest = greatest; accepted = [] }
+blank greatest = record { greatest = greatest; accepted = []; state = state_of [] }
 
 -- the tables with one edit made
 abbrev pub with_edit : Tables → Edit → Tables
 with_edit tables (PutAccepted a) = record tables { accepted = columns_of a ∷ tables.accepted }
+with_edit tables (EditRow edit) = record tables { state = state_with edit tables.state }
 
 -- the tables with the edits made, the first one first
 abbrev pub edited : List Edit → Tables → Tables
 edited edits tables = fold with_edit tables edits
+
+-- the edit puts nothing new where the tables have it
+abbrev pub IsNew : Edit → Tables → Type 0
+IsNew (PutAccepted a) tables = ⊤
+IsNew (EditRow edit) tables = IsNewRow edit tables.state
+
+-- so it is of each edit, made one after the other
+abbrev pub AreNew : List Edit → Tables → Type 0
+AreNew [] tables = ⊤
+AreNew (x ∷ xs) tables = IsNew x tables × AreNew xs (with_edit tables x)

@@ -1,5 +1,7 @@
 //! What is written into the tables.
 
+use state_rows::RowEdit;
+
 /// A row of `accepted`.
 #[derive(Debug, Drop)]
 pub struct Accepted {
@@ -22,4 +24,6 @@ pub struct Accepted {
 pub enum Edit {
     /// A new row of `accepted`. It is refused where its number or its UniqueID is there.
     PutAccepted(Accepted),
+    /// An edit of another table.
+    EditRow(RowEdit),
 }

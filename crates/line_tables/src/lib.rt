@@ -3,17 +3,24 @@
 #![tactic(auto)]
 
 mod edit;
+mod floor;
 mod making;
 mod naming;
+mod pieces;
 mod reading;
-mod select;
+mod rowids;
+mod rows;
+pub mod select;
+mod setup;
 mod statement;
+mod values;
 mod version;
 mod writing;
 
 pub use edit::{Accepted, Edit};
 pub use making::make;
-pub use naming::{has_accepted, has_our_name, has_version, is_blank};
-pub use reading::{count, find, is_repeat, least_number, row_at};
+pub use naming::{has_accepted, has_our_name, has_state, has_version, is_blank};
+pub use reading::{MOST_COUNTED, count, count_of, find, is_repeat, least_number, row_at};
+pub use rowids::are_apart;
 pub use version::{Version, find_version};
 pub use writing::append;

@@ -6,9 +6,9 @@ ghost use Rattle.sqlite.specs.declared.error.Error.TheVariants as Error;
 ghost use Rattle.sqlite.specs.declared.error.ErrorCode.TheVariants as code;
 ghost use Rattle.sqlite.specs.State.{HasCleanDisk, Survives, KeepsCommit};
 ghost use Rattle.sqlite.specs.Held.{state};
-ghost use Rattle.line_tables.specs.Line.{no_schema};
+ghost use Rattle.line_tables.specs.Line.{no_schema, line_schema, first_of_line};
 ghost use Rattle.line_tables.specs.Rows.{Holds, blank};
-ghost use Rattle.line_tables.specs.Calls.{Makes, LeavesBlank};
+ghost use Rattle.line_tables.specs.Calls.{Makes, LeavesBlank, Extends};
 
 use crate::statement::run;
 use sqlite::{Alter, Connection, Error, ErrorCode, Transaction, params};
@@ -39,6 +39,34 @@ fn make_all<S: Alter>(tx: &mut Transaction<'_, S>, greatest: u32) -> Result<(), 
     ensures kept { HasCleanDisk (state S.Store tx.new.conn.now) → KeepsCommit (state S.Store tx.old.conn.now) (state S.Store tx.new.conn.now) }
     ensures survives { Survives (state S.Store tx.old.conn.now) (state S.Store tx.new.conn.now) (λ _. ⊥) }
 {
+    make_tables(tx)?;
+    run(
+        tx,
+        "INSERT INTO version VALUES (1, 2, ?1)",
+        params![greatest],
+    )
+}
+
+/// All tables with their indexes, and no row.
+fn make_tables<S: Alter>(tx: &mut Transaction<'_, S>) -> Result<(), Error>
+    ensures same_reference { tx.new.conn.ghost_name ≡ tx.old.conn.ghost_name }
+    ensures made { HasCleanDisk (state S.Store tx.new.conn.now) → OnOk result (Extends no_schema line_schema (state S.Store tx.old.conn.now) (state S.Store tx.new.conn.now)) }
+    ensures kept { HasCleanDisk (state S.Store tx.new.conn.now) → KeepsCommit (state S.Store tx.old.conn.now) (state S.Store tx.new.conn.now) }
+    ensures survives { Survives (state S.Store tx.old.conn.now) (state S.Store tx.new.conn.now) (λ _. ⊥) }
+{
+    make_list(tx)?;
+    make_setup(tx)?;
+    make_floor(tx)?;
+    make_pieces(tx)
+}
+
+/// The list and its version.
+fn make_list<S: Alter>(tx: &mut Transaction<'_, S>) -> Result<(), Error>
+    ensures same_reference { tx.new.conn.ghost_name ≡ tx.old.conn.ghost_name }
+    ensures made { HasCleanDisk (state S.Store tx.new.conn.now) → OnOk result (Extends no_schema (first_of_line 2 1) (state S.Store tx.old.conn.now) (state S.Store tx.new.conn.now)) }
+    ensures kept { HasCleanDisk (state S.Store tx.new.conn.now) → KeepsCommit (state S.Store tx.old.conn.now) (state S.Store tx.new.conn.now) }
+    ensures survives { Survives (state S.Store tx.old.conn.now) (state S.Store tx.new.conn.now) (λ _. ⊥) }
+{
     run(
         tx,
         "CREATE TABLE version (one INTEGER NOT NULL PRIMARY KEY, number INTEGER NOT NULL, greatest INTEGER NOT NULL) STRICT",
@@ -48,10 +76,78 @@ fn make_all<S: Alter>(tx: &mut Transaction<'_, S>, greatest: u32) -> Result<(), 
         tx,
         "CREATE TABLE accepted (number INTEGER NOT NULL PRIMARY KEY, uid TEXT NOT NULL UNIQUE, source TEXT NOT NULL, own INTEGER NOT NULL, effective INTEGER NOT NULL, command TEXT NOT NULL, detail TEXT NOT NULL) STRICT",
         &[],
+    )
+}
+
+/// What is set up before the line runs.
+fn make_setup<S: Alter>(tx: &mut Transaction<'_, S>) -> Result<(), Error>
+    ensures same_reference { tx.new.conn.ghost_name ≡ tx.old.conn.ghost_name }
+    ensures made { HasCleanDisk (state S.Store tx.new.conn.now) → OnOk result (Extends (first_of_line 2 1) (first_of_line 6 5) (state S.Store tx.old.conn.now) (state S.Store tx.new.conn.now)) }
+    ensures kept { HasCleanDisk (state S.Store tx.new.conn.now) → KeepsCommit (state S.Store tx.old.conn.now) (state S.Store tx.new.conn.now) }
+    ensures survives { Survives (state S.Store tx.old.conn.now) (state S.Store tx.new.conn.now) (λ _. ⊥) }
+{
+    run(
+        tx,
+        "CREATE TABLE part (part TEXT NOT NULL, PRIMARY KEY (part)) STRICT",
+        &[],
     )?;
     run(
         tx,
-        "INSERT INTO version VALUES (1, 2, ?1)",
-        params![greatest],
+        "CREATE TABLE alternate (part TEXT NOT NULL, alternate TEXT NOT NULL, PRIMARY KEY (part, alternate)) STRICT",
+        &[],
+    )?;
+    run(
+        tx,
+        "CREATE TABLE sheet_row (product TEXT NOT NULL, machine TEXT NOT NULL, place INTEGER NOT NULL, slot TEXT NOT NULL, part TEXT NOT NULL, designators TEXT NOT NULL, PRIMARY KEY (product, machine, place)) STRICT",
+        &[],
+    )?;
+    run(
+        tx,
+        "CREATE TABLE selected (machine TEXT NOT NULL, product TEXT NOT NULL, PRIMARY KEY (machine)) STRICT",
+        &[],
+    )
+}
+
+/// What is on the line.
+fn make_floor<S: Alter>(tx: &mut Transaction<'_, S>) -> Result<(), Error>
+    ensures same_reference { tx.new.conn.ghost_name ≡ tx.old.conn.ghost_name }
+    ensures made { HasCleanDisk (state S.Store tx.new.conn.now) → OnOk result (Extends (first_of_line 6 5) (first_of_line 9 8) (state S.Store tx.old.conn.now) (state S.Store tx.new.conn.now)) }
+    ensures kept { HasCleanDisk (state S.Store tx.new.conn.now) → KeepsCommit (state S.Store tx.old.conn.now) (state S.Store tx.new.conn.now) }
+    ensures survives { Survives (state S.Store tx.old.conn.now) (state S.Store tx.new.conn.now) (λ _. ⊥) }
+{
+    run(
+        tx,
+        "CREATE TABLE reel (reel TEXT NOT NULL, part TEXT NOT NULL, lot TEXT NOT NULL, level TEXT NOT NULL, label INTEGER NOT NULL, received INTEGER NOT NULL, placed INTEGER NOT NULL, scrapped INTEGER NOT NULL, remaining INTEGER NOT NULL, used INTEGER NOT NULL, open_since INTEGER NOT NULL, baked INTEGER NOT NULL, PRIMARY KEY (reel), CHECK (received = placed + scrapped + remaining)) STRICT",
+        &[],
+    )?;
+    run(
+        tx,
+        "CREATE TABLE mount (since INTEGER NOT NULL PRIMARY KEY, machine TEXT NOT NULL, slot TEXT NOT NULL, reel TEXT NOT NULL UNIQUE) STRICT",
+        &[],
+    )?;
+    run(
+        tx,
+        "CREATE TABLE board (board TEXT NOT NULL, product TEXT NOT NULL, machine TEXT NOT NULL, PRIMARY KEY (board)) STRICT",
+        &[],
+    )
+}
+
+/// Where pieces went, and what counts found.
+fn make_pieces<S: Alter>(tx: &mut Transaction<'_, S>) -> Result<(), Error>
+    ensures same_reference { tx.new.conn.ghost_name ≡ tx.old.conn.ghost_name }
+    ensures made { HasCleanDisk (state S.Store tx.new.conn.now) → OnOk result (Extends (first_of_line 9 8) line_schema (state S.Store tx.old.conn.now) (state S.Store tx.new.conn.now)) }
+    ensures kept { HasCleanDisk (state S.Store tx.new.conn.now) → KeepsCommit (state S.Store tx.old.conn.now) (state S.Store tx.new.conn.now) }
+    ensures survives { Survives (state S.Store tx.old.conn.now) (state S.Store tx.new.conn.now) (λ _. ⊥) }
+{
+    run(
+        tx,
+        "CREATE TABLE placement (number INTEGER NOT NULL, place INTEGER NOT NULL, board TEXT NOT NULL, designator TEXT NOT NULL, machine TEXT NOT NULL, slot TEXT NOT NULL, reel TEXT NOT NULL REFERENCES reel, overdue INTEGER NOT NULL, UNIQUE (board, designator)) STRICT",
+        &[],
+    )?;
+    run(tx, "CREATE INDEX placement_reel ON placement (reel)", &[])?;
+    run(
+        tx,
+        "CREATE TABLE found (reel TEXT NOT NULL, pieces INTEGER NOT NULL, PRIMARY KEY (reel), CHECK (pieces >= 1)) STRICT",
+        &[],
     )
 }

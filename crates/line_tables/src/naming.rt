@@ -1,10 +1,11 @@
 //! The names of the tables and of their columns, in any case, as SQL reads names.
 
-ghost use Rattle.std.specs.Prelude.{◌≡◌, ◌↔◌, IsTrue};
-ghost use Rattle.std.specs.List.{list_any};
+ghost use Rattle.std.specs.Prelude.{◌≡◌, ◌↔◌, ◌&&◌, IsTrue};
+ghost use Rattle.std.specs.List.{list_any, list_all};
 ghost use Rattle.sqlite.specs.Held.{state};
 ghost use Rattle.line_tables.specs.Line.{no_schema};
-ghost use Rattle.line_tables.specs.Names.{has_name, is_version, is_accepted, has_column};
+ghost use Rattle.line_tables.specs.Names.{has_name, is_version, is_accepted, has_column, has_setup, has_floor, has_pieces, has_state};
+ghost use Rattle.sqlite_schema.specs.Names.{same_name};
 
 use sqlite::{Alter, Connection};
 use sqlite_schema::names::same_name;
@@ -18,7 +19,7 @@ pub fn is_blank<S: Alter>(conn: &Connection<S>) -> bool
     schema.tables.is_empty() && schema.indexes.is_empty() && schema.views.is_empty()
 }
 
-/// Whether some table is named `version` or `accepted`.
+/// Whether some table is named as one of ours.
 pub fn has_our_name<S: Alter>(conn: &Connection<S>) -> bool
     ensures { result ≡ list_any has_name (state S.Store conn.now).now.schema.tables }
 {
@@ -37,6 +38,14 @@ pub fn has_accepted<S: Alter>(conn: &Connection<S>) -> bool
     ensures { result ≡ list_any is_accepted (state S.Store conn.now).now.schema.tables }
 {
     any_accepted(conn.schema().tables.as_slice())
+}
+
+/// Whether all other tables of ours are there with their columns.
+pub fn has_state<S: Alter>(conn: &Connection<S>) -> bool
+    ensures { result ≡ has_state (state S.Store conn.now).now.schema.tables }
+{
+    let tables = conn.schema().tables.as_slice();
+    has_setup(tables) && has_floor(tables) && has_pieces(tables)
 }
 
 #[tactic(auto, using(std::proofs::lemmas::List::Folds::list_any_more, std::proofs::lemmas::List::Folds::list_any_at))]
@@ -79,7 +88,17 @@ fn has_name(table: &Table) -> bool
     ensures { result ≡ has_name table.now }
 {
     let name = table.name.as_slice();
-    same_name(name, "version".as_bytes()) || same_name(name, "accepted".as_bytes())
+    same_name(name, "version".as_bytes())
+        || same_name(name, "accepted".as_bytes())
+        || same_name(name, "part".as_bytes())
+        || same_name(name, "alternate".as_bytes())
+        || same_name(name, "sheet_row".as_bytes())
+        || same_name(name, "selected".as_bytes())
+        || same_name(name, "reel".as_bytes())
+        || same_name(name, "mount".as_bytes())
+        || same_name(name, "board".as_bytes())
+        || same_name(name, "placement".as_bytes())
+        || same_name(name, "found".as_bytes())
 }
 
 fn is_version(table: &Table) -> bool
@@ -114,4 +133,79 @@ fn has_column(table: &Table, name: &str) -> bool
         }
     }
     false
+}
+
+fn has_setup(tables: &[Table]) -> bool
+    ensures { result ≡ has_setup tables.now }
+{
+    has_table(tables, "part", &["part"])
+        && has_table(tables, "alternate", &["part", "alternate"])
+        && has_table(
+            tables,
+            "sheet_row",
+            &["product", "machine", "place", "slot", "part", "designators"],
+        )
+        && has_table(tables, "selected", &["machine", "product"])
+}
+
+fn has_floor(tables: &[Table]) -> bool
+    ensures { result ≡ has_floor tables.now }
+{
+    has_table(
+        tables,
+        "reel",
+        &[
+            "reel",
+            "part",
+            "lot",
+            "level",
+            "label",
+            "received",
+            "placed",
+            "scrapped",
+            "remaining",
+            "used",
+            "open_since",
+            "baked",
+        ],
+    ) && has_table(tables, "mount", &["since", "machine", "slot", "reel"])
+        && has_table(tables, "board", &["board", "product", "machine"])
+}
+
+fn has_pieces(tables: &[Table]) -> bool
+    ensures { result ≡ has_pieces tables.now }
+{
+    has_table(
+        tables,
+        "placement",
+        &[
+            "number",
+            "place",
+            "board",
+            "designator",
+            "machine",
+            "slot",
+            "reel",
+            "overdue",
+        ],
+    ) && has_table(tables, "found", &["reel", "pieces"])
+}
+
+fn has_table(tables: &[Table], name: &str, columns: &[&str]) -> bool
+    ensures { result ≡ list_any (λ table. same_name table.name name.now && list_all (λ column. has_column table column.now) columns.now) tables.now }
+{
+    tables.iter().any(|table| is_named(table, name, columns))
+}
+
+/// Whether the table has this name and these columns.
+fn is_named(table: &Table, name: &str, columns: &[&str]) -> bool
+    ensures { result ≡ (same_name table.now.name name.now && list_all (λ column. has_column table.now column.now) columns.now) }
+{
+    same_name(table.name.as_slice(), name.as_bytes()) && has_columns(table, columns)
+}
+
+fn has_columns(table: &Table, columns: &[&str]) -> bool
+    ensures { result ≡ list_all (λ column. has_column table.now column.now) columns.now }
+{
+    columns.iter().all(|column| has_column(table, column))
 }

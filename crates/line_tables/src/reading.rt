@@ -17,7 +17,7 @@ use crate::select::select;
 use sqlite::{Alter, Connection, Error, Row, params};
 
 /// SQL's count goes no higher.
-const MOST_COUNTED: u64 = 9_223_372_036_854_775_807;
+pub const MOST_COUNTED: u64 = 9_223_372_036_854_775_807;
 
 /// The row with this UniqueID, by the index on it, where there is one. Two such rows are an error,
 /// and so is one with a number outside `u32` or a value of another type.
@@ -139,7 +139,7 @@ fn least_of(rows: &[Row]) -> Result<Option<i64>, Error>
     }
 }
 
-fn number_of(row: &Row) -> Result<i64, Error>
+pub fn number_of(row: &Row) -> Result<i64, Error>
     ensures { IfOk result (λ n. row.now ≡ Int n ∷ []) }
 {
     if row.column_count() != 1 {
@@ -149,7 +149,7 @@ fn number_of(row: &Row) -> Result<i64, Error>
 }
 
 /// The one number, below the greatest `i64`, at which SQL's count stays.
-fn count_of(rows: &[Row]) -> Result<u64, Error>
+pub fn count_of(rows: &[Row]) -> Result<u64, Error>
     ensures row { IfOk result (λ n. rows.now ≡ (Int (pos n) ∷ []) ∷ []) }
     ensures below { IfOk result (λ n. n < MOST_COUNTED) }
 {

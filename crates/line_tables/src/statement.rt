@@ -1,10 +1,10 @@
 //! One statement inside a transaction.
 
-ghost use Rattle.std.specs.Prelude.{◌≡◌, OnOk};
+ghost use Rattle.std.specs.Prelude.{◌≡◌, OnOk, IfOk};
 ghost use Rattle.sqlite.specs.State.{HasCleanDisk, Survives, KeepsCommit};
 ghost use Rattle.sqlite.specs.Values.{bound};
 ghost use Rattle.sqlite.specs.Held.{state};
-ghost use Rattle.line_tables.specs.Calls.{Runs};
+ghost use Rattle.line_tables.specs.Calls.{Runs, Changes};
 
 use sqlite::types::ValueRef;
 use sqlite::{Alter, Error, Transaction};
@@ -20,8 +20,22 @@ pub fn run<S: Alter>(
     ensures kept { HasCleanDisk (state S.Store tx.new.conn.now) → KeepsCommit (state S.Store tx.old.conn.now) (state S.Store tx.new.conn.now) }
     ensures survives { Survives (state S.Store tx.old.conn.now) (state S.Store tx.new.conn.now) (λ _. ⊥) }
 {
-    match tx.execute(sql, values) {
+    match run_counted(tx, sql, values) {
         Ok(_) => Ok(()),
         Err(error) => Err(error),
     }
+}
+
+/// Runs one statement that shows no rows, and tells how many it changed.
+pub fn run_counted<S: Alter>(
+    tx: &mut Transaction<'_, S>,
+    sql: &str,
+    values: &[ValueRef<'_>],
+) -> Result<usize, Error>
+    ensures same_reference { tx.new.conn.ghost_name ≡ tx.old.conn.ghost_name }
+    ensures ran { HasCleanDisk (state S.Store tx.new.conn.now) → IfOk result (λ count. Changes count sql.now (bound values.now) (state S.Store tx.old.conn.now) (state S.Store tx.new.conn.now)) }
+    ensures kept { HasCleanDisk (state S.Store tx.new.conn.now) → KeepsCommit (state S.Store tx.old.conn.now) (state S.Store tx.new.conn.now) }
+    ensures survives { Survives (state S.Store tx.old.conn.now) (state S.Store tx.new.conn.now) (λ _. ⊥) }
+{
+    tx.execute(sql, values)
 }

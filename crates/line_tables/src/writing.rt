@@ -1,22 +1,32 @@
 //! Edits, written in one transaction.
 
-ghost use Rattle.std.specs.Prelude.{◌≡◌, ◌<◌, false, length, Err, IsTrue, OnOk, OnErr, [], ◌∷◌};
+ghost use Rattle.std.specs.Prelude.{◌≡◌, ◌<◌, ◌≤◌, false, length, take, Err, IsTrue, IfOk, IfSome, OnOk, OnErr, [], ◌∷◌};
 ghost use Rattle.sqlite_trees.specs.Tree.{Trees};
 ghost use Rattle.sqlite.specs.declared.error.Error.TheVariants as Error;
 ghost use Rattle.sqlite.specs.declared.error.ErrorCode.TheVariants as code;
 ghost use Rattle.sqlite.specs.State.{HasCleanDisk, Survives, KeepsCommit};
 ghost use Rattle.sqlite.specs.Held.{state};
 ghost use Rattle.line_tables.specs.declared.edit.Edit.TheVariants as Edit;
+ghost use Rattle.sqlite.specs.Values.{bound};
+ghost use Rattle.line_tables.specs.Placing.{ArePlacing};
 ghost use Rattle.line_tables.specs.Calls.{Edits, Writes, LeavesEdited};
 
 use crate::edit::{Accepted, Edit};
+use crate::pieces::{put_eight, values_of_all};
+use crate::rows::put_row;
 use crate::statement::run;
+use sqlite::types::ValueRef;
 use sqlite::{Alter, Connection, Error, ErrorCode, Transaction, params};
+use std::alloc::Global;
 
 /// Writes all edits in their order and commits them, or none of them. In an open transaction of the
 /// caller's nothing is done. An edit that a rule of its table refuses is told with the rule, as
 /// `ConstraintViolation(Unique)`.
-pub fn append<S: Alter>(conn: &mut Connection<S>, edits: &[Edit]) -> Result<(), Error>
+pub fn append<S: Alter>(
+    alloc: Global,
+    conn: &mut Connection<S>,
+    edits: &[Edit],
+) -> Result<(), Error>
     requires some { 0 < length edits.now }
     ensures done { HasCleanDisk (state S.Store conn.new) → OnOk result (Edits edits.now (state S.Store conn.old).committed (state S.Store conn.new).committed) }
     ensures stays_open { HasCleanDisk (state S.Store conn.new) → OnOk result (IsTrue (state S.Store conn.old).is_open × IsTrue (state S.Store conn.new).is_open) }
@@ -30,24 +40,62 @@ pub fn append<S: Alter>(conn: &mut Connection<S>, edits: &[Edit]) -> Result<(), 
         return Err(Error::SqliteFailure(ErrorCode::TransactionState));
     }
     let mut tx = conn.transaction();
-    put_all(&mut tx, edits)?;
+    put_all(alloc, &mut tx, edits)?;
     tx.commit()
 }
 
-fn put_all<S: Alter>(tx: &mut Transaction<'_, S>, edits: &[Edit]) -> Result<(), Error>
+fn put_all<S: Alter>(
+    alloc: Global,
+    tx: &mut Transaction<'_, S>,
+    edits: &[Edit],
+) -> Result<(), Error>
     requires some { 0 < length edits.now }
     ensures same_reference { tx.new.conn.ghost_name ≡ tx.old.conn.ghost_name }
     ensures done { HasCleanDisk (state S.Store tx.new.conn.now) → OnOk result (Writes edits.now (state S.Store tx.old.conn.now) (state S.Store tx.new.conn.now)) }
     ensures kept { HasCleanDisk (state S.Store tx.new.conn.now) → KeepsCommit (state S.Store tx.old.conn.now) (state S.Store tx.new.conn.now) }
     ensures survives { Survives (state S.Store tx.old.conn.now) (state S.Store tx.new.conn.now) (λ _. ⊥) }
 {
-    for edit in edits {
-        put(tx, edit)?;
+    let mut rest = edits;
+    while !rest.is_empty() {
+        let taken = put_first(alloc, tx, rest)?;
+        let (_, more) = rest.split_at(taken);
+        rest = more;
     }
     Ok(())
 }
 
-fn put<S: Alter>(tx: &mut Transaction<'_, S>, edit: &Edit) -> Result<(), Error>
+/// Makes the first edit, or the first eight where each of them puts a placement, and tells how many.
+fn put_first<S: Alter>(
+    alloc: Global,
+    tx: &mut Transaction<'_, S>,
+    edits: &[Edit],
+) -> Result<usize, Error>
+    requires some { 0 < length edits.now }
+    ensures same_reference { tx.new.conn.ghost_name ≡ tx.old.conn.ghost_name }
+    ensures some { IfOk result (λ taken. 0 < taken × taken ≤ length edits.now) }
+    ensures done { HasCleanDisk (state S.Store tx.new.conn.now) → IfOk result (λ taken. Writes (take taken edits.now) (state S.Store tx.old.conn.now) (state S.Store tx.new.conn.now)) }
+    ensures kept { HasCleanDisk (state S.Store tx.new.conn.now) → KeepsCommit (state S.Store tx.old.conn.now) (state S.Store tx.new.conn.now) }
+    ensures survives { Survives (state S.Store tx.old.conn.now) (state S.Store tx.new.conn.now) (λ _. ⊥) }
+{
+    if let Some(values) = first_eight(alloc, edits)? {
+        put_eight(tx, values.as_slice())?;
+        return Ok(8);
+    }
+    put(alloc, tx, &edits[0])?;
+    Ok(1)
+}
+
+/// The values of the first eight edits, where there are so many and each puts a placement.
+fn first_eight<'a>(alloc: Global, edits: &'a [Edit]) -> Result<Option<Vec<ValueRef<'a>>>, Error>
+    ensures { IfOk result (λ found. IfSome found (λ values. 8 ≤ length edits.now × ArePlacing (take 8 edits.now) (bound values.items))) }
+{
+    match edits.get(..8) {
+        Some(eight) => values_of_all(alloc, eight),
+        None => Ok(None),
+    }
+}
+
+fn put<S: Alter>(alloc: Global, tx: &mut Transaction<'_, S>, edit: &Edit) -> Result<(), Error>
     ensures same_reference { tx.new.conn.ghost_name ≡ tx.old.conn.ghost_name }
     ensures done { HasCleanDisk (state S.Store tx.new.conn.now) → OnOk result (Writes (edit.now ∷ []) (state S.Store tx.old.conn.now) (state S.Store tx.new.conn.now)) }
     ensures kept { HasCleanDisk (state S.Store tx.new.conn.now) → KeepsCommit (state S.Store tx.old.conn.now) (state S.Store tx.new.conn.now) }
@@ -55,6 +103,7 @@ fn put<S: Alter>(tx: &mut Transaction<'_, S>, edit: &Edit) -> Result<(), Error>
 {
     match edit {
         Edit::PutAccepted(row) => put_accepted(tx, row),
+        Edit::EditRow(edit) => put_row(alloc, tx, edit),
     }
 }
 

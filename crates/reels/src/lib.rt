@@ -2,7 +2,5 @@
 #![tactic(auto)]
 
 mod reel;
-#[cfg(test)]
-mod tests;
 
 pub use reel::{Reel, Usage};

@@ -7,8 +7,6 @@ mod look_ups;
 mod parts;
 mod rows;
 mod sheet;
-#[cfg(test)]
-mod tests;
 mod verification;
 
 pub use alternates::{Alternates, allowed};

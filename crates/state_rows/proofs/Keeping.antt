@@ -78,11 +78,11 @@ module _ {K : Type 0} (cmp : K → K → Ordering) (is : K → K → Bool) (agre
 
 pub lists : {K X : Type 0} (cmp : K → K → Ordering) (given kept : List (K × X)) (table : K → Option X) → given ≡ kept → IsStrictlySortedBy cmp (keys_of kept)
     → ((k : K) → row_at cmp kept k ≡ table k) → Lists cmp given table
-lists cmp given kept table is up found = subst (λ es. Lists cmp es table) (sym is) (record { ascending = up; found = found })
+lists cmp given kept table is up found = subst (λ es. Lists cmp es table) (sym is) (record { ascending = up; rows = found })
 
 pub lists-keys : {K : Type 0} (cmp : K → K → Ordering) (given kept : List K) (table : K → Bool) → given ≡ kept → IsStrictlySortedBy cmp kept
     → ((k : K) → has_key cmp kept k ≡ table k) → ListsKeys cmp given table
-lists-keys cmp given kept table is up found = subst (λ ks. ListsKeys cmp ks table) (sym is) (record { ascending = up; found = found })
+lists-keys cmp given kept table is up found = subst (λ ks. ListsKeys cmp ks table) (sym is) (record { ascending = up; rows = found })
 
 -- ---- edits, where s is what was kept and the list is new
 

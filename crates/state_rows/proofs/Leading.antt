@@ -381,10 +381,10 @@ lead H minute number (WorkCompleted machine board) edits judged accepted free ar
     ∙ board-edited H board None (selected_on H machine) (tables_of H) at_work.product at_work.is_selected
     ∙ same-tables _ _ (λ p. refl) (λ p q. refl) (λ p m k. refl) (λ m. refl) (λ r. quiet H minute (WorkCompleted machine board) r refl refl refl (λ left. refl)) (λ r. refl) (λ b. refl) (λ n k. unplaced H number n k free) (λ r. unfound H r (WorkCompleted machine board) refl)
 lead H minute number (MaterialsInstalled machine board ds) edits judged accepted free are =
-    lead-took H minute number (MaterialsInstalled machine board ds) edits judged free are (λ p. refl) (λ p q. refl) (λ p m. refl) (λ m. refl) (λ r. refl)
+    lead-took H minute number (MaterialsInstalled machine board ds) edits judged free are.lead (λ p. refl) (λ p q. refl) (λ p m. refl) (λ m. refl) (λ r. refl)
     (λ r. record { out = refl; baked = refl; told = refl; finds = λ left. refl }) (λ r. refl) (λ b. refl)
 lead H minute number (MaterialsScrapped machine slot n) edits judged accepted free are =
-    lead-took H minute number (MaterialsScrapped machine slot n) edits judged free are (λ p. refl) (λ p q. refl) (λ p m. refl) (λ m. refl) (λ r. refl)
+    lead-took H minute number (MaterialsScrapped machine slot n) edits judged free are.lead (λ p. refl) (λ p q. refl) (λ p m. refl) (λ m. refl) (λ r. refl)
     (λ r. record { out = refl; baked = refl; told = refl; finds = λ left. refl }) (λ r. refl) (λ b. refl)
 lead H minute number (CountsTaken counts) edits judged accepted free are =
     ap (λ xs. with_edits xs (tables_of H)) are

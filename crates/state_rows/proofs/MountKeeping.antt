@@ -110,7 +110,7 @@ found-some reel table row (e ∷ es) each some there =
 pub lists-mounts : (given numbered : List ((ℕ × Name) × MountRow)) (named : List (Name × MountRow)) → given ≡ numbered → IsStrictlySortedBy by_since (keys_of numbered)
     → All (λ e. row_at by_since numbered e.0 ≡ Some e.1) numbered → AreTheSame numbered named → ListsMounts given (row_at by_name named)
 lists-mounts given numbered named is up all alike =
-    subst (λ es. ListsMounts es (row_at by_name named)) (sym is) (record { ascending = up; found = λ reel. by reel (row_at by_name named reel) refl; each = each })
+    subst (λ es. ListsMounts es (row_at by_name named)) (sym is) (record { ascending = up; rows = λ reel. by reel (row_at by_name named reel) refl; each = each })
   where
     each : All (λ e. since_is e.0.0 (row_at by_name named e.0.1) ≡ Some e.1) numbered
     each = λ k d h. sym (alike _) ∙ all k d h

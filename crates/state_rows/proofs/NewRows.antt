@@ -1,12 +1,14 @@
--- The edits of an accepted command put no placement, no mount and no sheet row where there is one.
-use Rattle.std.proofs.Common.{◌≡◌, ℕ, ◌+◌, ◌≤◌, Bool, true, false, Option, Some, None, List, [], ◌∷◌, ◌++◌, map, refl, sym, ap, ◌∙◌, subst, unwrap_or, arith}
-use Rattle.std.specs.Prelude.{if◌then◌else◌, ◌==◌, ◌&&◌, is_some, nat_lt, ◌-◌}
-use Rattle.std.specs.Option.{option_map, option_to_list, option_and_then}
-use Rattle.std.specs.List.{flat_map}
-use Rattle.std.proofs.lemmas.Bool.{ne_eqb}
+-- The tables take the edits of an accepted command one after the other, with their keys and their checks.
+use Rattle.std.proofs.Common.{◌≡◌, ℕ, ◌+◌, ◌≤◌, Bool, true, false, Option, Some, None, List, [], ◌∷◌, ◌++◌, map, refl, sym, ap, ◌∙◌, subst, unwrap_or, arith, append_assoc}
+use Rattle.std.specs.Prelude.{if◌then◌else◌, ◌==◌, ◌&&◌, is_some, nat_lt, ◌-◌, ◌<◌, ◌||◌, ⊤}
+use Rattle.std.specs.Option.{option_map, option_map_or, option_or, option_to_list, option_and_then}
+use Rattle.std.specs.List.{AllByRecursion, flat_map, list_any}
+use Rattle.std.proofs.lemmas.Bool.{ne_eqb, ltb-true}
+use Rattle.std.proofs.lemmas.List.{append-nil}
 use Rattle.desk_types.specs.declared.command.Command.{Command}
 use Rattle.desk_types.specs.declared.command.Command.TheVariants.{PartDefined, AlternateAllowed, SheetDefined, ProductSelected, ReelReceived, ReelOpened, ReelSealed, ReelBaked, MaterialsLoaded, MaterialsSpliced, MaterialsUnloaded, WorkStarted, WorkCompleted, MaterialsInstalled, MaterialsScrapped, CountsTaken, ClockSet}
 use Rattle.desk_types.specs.declared.command.Entry.{Entry}
+use Rattle.desk_types.specs.declared.command.Receipt.{Receipt}
 use Rattle.desk_types.specs.declared.count.CountRow.{CountRow}
 use Rattle.desk_types.specs.declared.rules.Rules.TheVariants.{Two}
 use Rattle.desk_types.specs.declared.sheet.SheetRow.{SheetRow}
@@ -16,61 +18,149 @@ use Rattle.desk_types.specs.declared.take.Take.{Take}
 use Rattle.desk_types.specs.declared.view.ReelView.{ReelView}
 use Rattle.desk_types.specs.Id.{Name, same}
 use Rattle.desk_types.specs.History.{History}
-use Rattle.desk_types.specs.Setup.{sheet_of, selected_on}
-use Rattle.desk_types.specs.Pieces.{is_mounted}
+use Rattle.desk_types.specs.Setup.{sheet_of, selected_on, receipt_by, receipt_of}
+use Rattle.desk_types.specs.Pieces.{is_mounted, picks_of}
 use Rattle.desk_types.specs.Outcome.{takes_by}
-use Rattle.desk_types.specs.View.{reel_view}
+use Rattle.desk_types.specs.View.{view_of, reel_view}
 use Rattle.desk_types.specs.Refusals.{command_refusal}
 use Rattle.desk_types.specs.Judged.{IsJudged}
 use Rattle.desk_types.proofs.Keys.{same-refl}
 use Rattle.desk_laws.proofs.Accepted.{next-accepted, mountable}
-use Rattle.desk_laws.proofs.Distinct.{all-append}
+use Rattle.desk_laws.proofs.Balance.{balance}
 use Rattle.state_rows.specs.declared.row.ReelRow.{ReelRow}
 use Rattle.state_rows.specs.declared.row.PlacementRow.{PlacementRow}
 use Rattle.state_rows.specs.declared.edit.RowEdit.{RowEdit}
-use Rattle.state_rows.specs.declared.edit.RowEdit.TheVariants.{TakeMount, PutSheetRow, PutMount, PutPlacement, PutFound}
-use Rattle.state_rows.specs.Tables.{at_place, Tables, tables_of, last_put, reel_row, placement_row}
-use Rattle.state_rows.specs.Edits.{with_edit, with_edits, IsNew, AreNew}
-use Rattle.state_rows.specs.After.{placed_row}
-use Rattle.state_rows.specs.EditsOf.{taken_rows, put_rows, opened_row, reel_edit, board_edit, reels_on, counted_edits, count_edits, place_rows, IsPlain, ArePlain, ArePlacedLast, AreOrdered, AreEditsOf}
-use Rattle.state_rows.proofs.PlacementRows.{unplaced-later}
+use Rattle.state_rows.specs.declared.edit.RowEdit.TheVariants.{TakeSheetRow, TakeMount, PutSheetRow, PutReel, PutMount, PutPlacement, PutFound}
+use Rattle.state_rows.specs.Tables.{at_place, columns_of, Tables, tables_of, last_put, reel_row}
+use Rattle.state_rows.specs.Edits.{with_edit, with_edits, IsNew, AreNew, takes_out, AreTakesFirst, IsBalanced, AreBalanced}
+use Rattle.state_rows.specs.After.{fresh_row, step_row, placed_row}
+use Rattle.state_rows.specs.EditsOf.{taken_rows, put_rows, opened_row, sealed_row, baked_row, reel_edit, board_edit, reels_on, pick_of, gathered, take_spent, counted_row, counted_edits, count_edits, place_rows, AreTakeEdits, AreEditsOf}
 use Rattle.state_rows.proofs.Editing.{rows-taken}
+use Rattle.state_rows.proofs.ReelRows.{reel_row-next}
+use Rattle.state_rows.proofs.Taking.{OnlyTakes, picks-again, reels-took}
 
 -- ---- lists of edits
 
-new-append : (xs ys : List RowEdit) (t : Tables) → AreNew xs t → AreNew ys (with_edits xs t) → AreNew (xs ++ ys) t
-new-append [] ys t first rest = rest
-new-append (x ∷ xs) ys t (new, first) rest = (new, new-append xs ys (with_edit x t) first rest)
+-- These tables take the edits, one after the other.
+pub record AreFit (edits : List RowEdit) (t : Tables) : Type 0 where
+  pub new : AreNew edits t
+  pub takes_first : AreTakesFirst edits
+  pub balanced : AreBalanced edits
 
--- a plain edit puts nothing where there is something
-plain-new : (edit : RowEdit) (t : Tables) → IsPlain edit → IsNew edit t
-plain-new (PutPlacement row) t plain = absurd plain
-plain-new (PutMount row) t plain = absurd plain
-plain-new (PutSheetRow product machine place row) t plain = absurd plain
-plain-new _ t plain = tt
+-- the edit takes no row out, and these tables take it
+abbrev IsPutIn : RowEdit → Tables → Type 0
+IsPutIn x t = (takes_out x ≡ false) × IsBalanced x × IsNew x t
 
-all-plain-new : (edits : List RowEdit) (t : Tables) → ArePlain edits → AreNew edits t
-all-plain-new [] t plain = tt
-all-plain-new (x ∷ xs) t (first, plain) = (plain-new x t first, all-plain-new xs (with_edit x t) plain)
+-- so it is of each edit, made one after the other
+abbrev ArePutIn : List RowEdit → Tables → Type 0
+ArePutIn [] t = ⊤
+ArePutIn (x ∷ xs) t = IsPutIn x t × ArePutIn xs (with_edit x t)
 
--- and leaves the placed pieces
-plain-places : (edit : RowEdit) (t : Tables) (n k : ℕ) → IsPlain edit → (with_edit edit t).placements n k ≡ t.placements n k
-plain-places (PutPlacement row) t n k plain = absurd plain
-plain-places _ t n k plain = refl
+-- each edit takes a row out
+abbrev AreTaken : List RowEdit → Type 0
+AreTaken edits = AllByRecursion (λ x. takes_out x ≡ true) edits
 
-all-plain-places : (edits : List RowEdit) (t : Tables) (n k : ℕ) → ArePlain edits → (with_edits edits t).placements n k ≡ t.placements n k
-all-plain-places [] t n k plain = refl
-all-plain-places (x ∷ xs) t n k (first, plain) = all-plain-places xs (with_edit x t) n k plain ∙ plain-places x t n k first
+put-append : (xs ys : List RowEdit) (t : Tables) → ArePutIn xs t → ArePutIn ys (with_edits xs t) → ArePutIn (xs ++ ys) t
+put-append [] ys t first rest = rest
+put-append (x ∷ xs) ys t (one, first) rest = (one, put-append xs ys (with_edit x t) first rest)
+
+put-fit : (xs : List RowEdit) (t : Tables) → ArePutIn xs t → AreFit xs t × (list_any takes_out xs ≡ false)
+put-fit [] t puts = (record { new = tt; takes_first = tt; balanced = tt }, refl)
+put-fit (x ∷ xs) t ((put, balanced, new), puts) =
+    let rest = put-fit xs (with_edit x t) puts in (
+      record {
+        new = (new, rest.0.new);
+        takes_first = ((λ any. let none = sym rest.1 ∙ any in cc), rest.0.takes_first);
+        balanced = (balanced, rest.0.balanced);
+      },
+      ap (λ b. b || list_any takes_out xs) put ∙ rest.1,
+    )
+
+-- rows are taken out, and then others are put in
+fit : (xs ys : List RowEdit) (t : Tables) → AreTaken xs → ArePutIn ys (with_edits xs t) → AreFit (xs ++ ys) t
+fit [] ys t taken puts = (put-fit ys t puts).0
+fit (x ∷ xs) ys t (takes, taken) puts =
+    let rest = fit xs ys (with_edit x t) taken puts in
+    let own = one x takes in
+    record { new = (own.0, rest.new); takes_first = ((λ any. takes), rest.takes_first); balanced = (own.1, rest.balanced) }
+  where
+    one : (edit : RowEdit) → takes_out edit ≡ true → IsNew edit t × IsBalanced edit
+    one (TakeSheetRow product machine place) is = (tt, tt)
+    one (TakeMount reel) is = (tt, tt)
+    one _ is = cc
+
+-- rows that are taken out leave the placed pieces
+taken-places : (xs : List RowEdit) (t : Tables) (n k : ℕ) → AreTaken xs → (with_edits xs t).placements n k ≡ t.placements n k
+taken-places [] t n k taken = refl
+taken-places (x ∷ xs) t n k (takes, taken) = taken-places xs (with_edit x t) n k taken ∙ one x takes
+  where
+    one : (edit : RowEdit) → takes_out edit ≡ true → (with_edit edit t).placements n k ≡ t.placements n k
+    one (PutPlacement row) is = cc
+    one _ is = refl
+
+-- ---- reels
+
+-- the row of a reel accounts for its pieces
+row-balanced : (H : History) (reel : Name) (row : ReelRow) → IsJudged Two H → reel_row H reel ≡ Some row → IsBalanced (PutReel row)
+row-balanced H reel row judged = by (receipt_of H reel)
+  where
+    by : (said : Option Receipt) → option_map columns_of (option_map (view_of H reel) said) ≡ Some row → IsBalanced (PutReel row)
+    by None is = cc
+    by (Some receipt) is = subst (λ x. IsBalanced (PutReel x)) (ap (λ o. option_map_or (λ (x : ReelRow). x) o row) is) (balance H reel judged)
+
+-- and so does a changed one, where the change leaves the pieces
+reel-in : (H : History) (reel : Name) (change : ReelRow → ReelRow) (t : Tables) → IsJudged Two H → ((row : ReelRow) → IsBalanced (PutReel row) → IsBalanced (PutReel (change row)))
+    → ArePutIn (reel_edit change (reel_row H reel)) t
+reel-in H reel change t judged keeps = by (reel_row H reel) refl
+  where
+    by : (row : Option ReelRow) → reel_row H reel ≡ row → ArePutIn (reel_edit change row) t
+    by None is = tt
+    by (Some row) is = ((refl, keeps row (row-balanced H reel row judged is), tt), tt)
+
+-- a count accounts for what is missing and for what is above
+count-in : (H : History) (counts : List CountRow) (t : Tables) → IsJudged Two H → ArePutIn (flat_map (count_edits H) counts) t
+count-in H [] t judged = tt
+count-in H (row ∷ rows) t judged =
+    put-append (count_edits H row) (flat_map (count_edits H) rows) t (one row.quantity (reel_view H row.reel) refl) (count-in H rows (with_edits (count_edits H row) t) judged)
+  where
+    one : (n : ℕ) (view : Option ReelView) → reel_view H row.reel ≡ view → ArePutIn (counted_edits n view) t
+    one n None is = tt
+    one n (Some view) is = ((refl, counted, tt), found (nat_lt view.remaining n) refl)
+      where
+        counted : IsBalanced (PutReel (counted_row n (columns_of view)))
+        counted =
+            let before : view.received ≡ view.placed + view.scrapped + view.remaining = row-balanced H row.reel (columns_of view) judged (ap (option_map columns_of) is) in
+            let after : view.received + (n - view.remaining) ≡ view.placed + (view.scrapped + (view.remaining - n)) + n = omega (arith, before) in
+            after
+
+        found : (b : Bool) → nat_lt view.remaining n ≡ b
+            → ArePutIn (if b then PutFound view.reel (view.found + (n - view.remaining)) ∷ [] else []) (with_edit (PutReel (counted_row n (columns_of view))) t)
+        found true more = ((refl, tt, (let above = ltb-true view.remaining n more in let some : 0 < view.found + (n - view.remaining) = omega (arith, above) in some)), tt)
+        found false few = tt
+
+-- the row of a reel off which a command takes pieces accounts for them
+took-balanced : (H : History) (e : Entry) (reel : Name) (row : ReelRow) → IsJudged Two (e ∷ H) → OnlyTakes reel e.stamped.command → receipt_by reel e.effective e.stamped.command ≡ None
+    → gathered (reel_row H) (picks_of H e.stamped.command) reel ≡ Some row → IsBalanced (PutReel row)
+took-balanced H e reel row judged only other is =
+    row-balanced (e ∷ H) reel row judged (
+    reel_row-next H e reel judged
+    ∙ ap (λ o. option_or (option_map (fresh_row reel) o) (option_map (step_row e.effective (picks_of H e.stamped.command) reel e.stamped.command) (reel_row H reel))) other
+    ∙ sym (reels-took H e.effective (picks_of H e.stamped.command) e.stamped.command reel only)
+    ∙ ap (λ o. option_or o (reel_row H reel)) is)
 
 -- ---- sheets
+
+-- the tables of a list, but with these placements
+abbrev tables_with : History → (ℕ → ℕ → Option PlacementRow) → Tables
+tables_with H placed = record (tables_of H) { placements = placed }
 
 -- no row of the sheet is in this place or a later one
 abbrev IsFreeFrom : Name → Name → ℕ → Tables → Type 0
 IsFreeFrom product machine n t = (k : ℕ) → n ≤ k → t.sheets product machine k ≡ None
 
-put-new : (product machine : Name) (rows : List SheetRow) (n : ℕ) (t : Tables) → IsFreeFrom product machine n t → AreNew (put_rows product machine n rows) t
-put-new product machine [] n t free = tt
-put-new product machine (row ∷ rows) n t free = (free n (omega arith), put-new product machine rows (n + 1) (with_edit (PutSheetRow product machine n row) t) later)
+sheet-in : (product machine : Name) (rows : List SheetRow) (n : ℕ) (t : Tables) → IsFreeFrom product machine n t → ArePutIn (put_rows product machine n rows) t
+sheet-in product machine [] n t free = tt
+sheet-in product machine (row ∷ rows) n t free = ((refl, tt, free n (omega arith)), sheet-in product machine rows (n + 1) (with_edit (PutSheetRow product machine n row) t) later)
   where
     apart : (b : Bool) (k : ℕ) → (n == k) ≡ false → (if (b && (n == k)) then Some row else t.sheets product machine k) ≡ t.sheets product machine k
     apart true k is = ap (λ c. if c then Some row else t.sheets product machine k) is
@@ -79,14 +169,15 @@ put-new product machine (row ∷ rows) n t free = (free n (omega arith), put-new
     later : IsFreeFrom product machine (n + 1) (with_edit (PutSheetRow product machine n row) t)
     later k le = apart (same product product && same machine machine) k (ne_eqb n k (λ is. omega (arith, is, le))) ∙ free k (omega (arith, le))
 
-taken-plain : (product machine : Name) (rows : List SheetRow) (n : ℕ) → ArePlain (taken_rows product machine n rows)
-taken-plain product machine [] n = tt
-taken-plain product machine (row ∷ rows) n = (tt, taken-plain product machine rows (n + 1))
+taken-out : (product machine : Name) (rows : List SheetRow) (n : ℕ) → AreTaken (taken_rows product machine n rows)
+taken-out product machine [] n = tt
+taken-out product machine (row ∷ rows) n = (refl, taken-out product machine rows (n + 1))
 
 -- the rows of a sheet that were taken out are gone
-sheet-free : (H : History) (product machine : Name) → IsFreeFrom product machine 1 (with_edits (taken_rows product machine 1 (unwrap_or (sheet_of H product machine) [])) (tables_of H))
-sheet-free H product machine k le =
-    ap (λ t. t.sheets product machine k) (rows-taken product machine (unwrap_or (sheet_of H product machine) []) 1 (tables_of H))
+sheet-free : (H : History) (placed : ℕ → ℕ → Option PlacementRow) (product machine : Name)
+    → IsFreeFrom product machine 1 (with_edits (taken_rows product machine 1 (unwrap_or (sheet_of H product machine) [])) (tables_with H placed))
+sheet-free H placed product machine k le =
+    ap (λ t. t.sheets product machine k) (rows-taken product machine (unwrap_or (sheet_of H product machine) []) 1 (tables_with H placed))
     ∙ ap (λ b. if (b && is_some (at_place 1 (unwrap_or (sheet_of H product machine) []) k)) then None else option_and_then (λ rows. at_place 1 rows k) (sheet_of H product machine)) here
     ∙ gone (sheet_of H product machine)
   where
@@ -103,13 +194,13 @@ sheet-free H product machine k le =
 
 -- ---- placements
 
-places-new : (number : ℕ) (takes : List Take) (n : ℕ) (t : Tables) → ((k : ℕ) → n ≤ k → t.placements number k ≡ None) → AreNew (place_rows number n takes) t
-places-new number [] n t free = tt
-places-new number (take ∷ takes) n t free = by take.purpose (places-new number takes (n + 1))
+places-in : (number : ℕ) (takes : List Take) (n : ℕ) (t : Tables) → ((k : ℕ) → n ≤ k → t.placements number k ≡ None) → ArePutIn (place_rows number n takes) t
+places-in number [] n t free = tt
+places-in number (take ∷ takes) n t free = by take.purpose (places-in number takes (n + 1))
   where
-    by : (purpose : Purpose) → ((u : Tables) → ((k : ℕ) → n + 1 ≤ k → u.placements number k ≡ None) → AreNew (place_rows number (n + 1) takes) u)
-        → AreNew (option_to_list (option_map (λ (r : PlacementRow). PutPlacement r) (placed_row number n (record take { purpose = purpose }))) ++ place_rows number (n + 1) takes) t
-    by (Placed board designator machine slot) rest = (free n (omega arith), rest (with_edit (PutPlacement row) t) later)
+    by : (purpose : Purpose) → ((u : Tables) → ((k : ℕ) → n + 1 ≤ k → u.placements number k ≡ None) → ArePutIn (place_rows number (n + 1) takes) u)
+        → ArePutIn (option_to_list (option_map (λ (r : PlacementRow). PutPlacement r) (placed_row number n (record take { purpose = purpose }))) ++ place_rows number (n + 1) takes) t
+    by (Placed board designator machine slot) rest = ((refl, tt, free n (omega arith)), rest (with_edit (PutPlacement row) t) later)
       where
         row : PlacementRow
         row = record { number = number; place = n; board = board; designator = designator; machine = machine; slot = slot; reel = take.reel; overdue = take.overdue }
@@ -123,80 +214,97 @@ places-new number (take ∷ takes) n t free = by take.purpose (places-new number
     by (Rejected machine slot) rest = rest t (λ k le. free k (omega (arith, le)))
     by Counted rest = rest t (λ k le. free k (omega (arith, le)))
 
+-- ---- takes
+
+spent-taken : (rows : List ReelRow) → AreTaken (flat_map take_spent rows)
+spent-taken [] = tt
+spent-taken (row ∷ rows) = by (row.remaining == 0) (spent-taken rows)
+  where
+    by : (b : Bool) → AreTaken (flat_map take_spent rows) → AreTaken ((if b then TakeMount row.reel ∷ [] else []) ++ flat_map take_spent rows)
+    by true rest = (refl, rest)
+    by false rest = rest
+
+module _ (H : History) (number : ℕ) (takes : List Take) (balanced : (reel : Name) (row : ReelRow) → gathered (reel_row H) (map pick_of takes) reel ≡ Some row → IsBalanced (PutReel row)) where
+  -- gathered rows are put
+  rows-in : (rows : List ReelRow) (t : Tables) → AllByRecursion (λ row. gathered (reel_row H) (map pick_of takes) row.reel ≡ Some row) rows → ArePutIn (map (λ row. PutReel row) rows) t
+  rows-in [] t each = tt
+  rows-in (row ∷ rows) t (is, each) = ((refl, balanced row.reel row is, tt), rows-in rows (with_edit (PutReel row) t) each)
+
+  -- and leave the placed pieces
+  rows-places : (rows : List ReelRow) (t : Tables) (n k : ℕ) → (with_edits (map (λ row. PutReel row) rows) t).placements n k ≡ t.placements n k
+  rows-places [] t n k = refl
+  rows-places (row ∷ rows) t n k = rows-places rows (with_edit (PutReel row) t) n k
+
+  take-fit : (edits : List RowEdit) (t : Tables) → ((k : ℕ) → t.placements number k ≡ None) → AreTakeEdits H number takes edits → AreFit edits t
+  take-fit edits t free is =
+      let spent : List RowEdit = flat_map take_spent is.rows in
+      let put : List RowEdit = map (λ row. PutReel row) is.rows in
+      subst (λ xs. AreFit xs t) (sym (is.are ∙ append_assoc spent put (place_rows number 1 takes))) (
+      fit spent (put ++ place_rows number 1 takes) t (spent-taken is.rows) (
+      put-append put (place_rows number 1 takes) (with_edits spent t) (rows-in is.rows (with_edits spent t) is.each) (
+      places-in number takes 1 (with_edits put (with_edits spent t))
+      (λ k le. rows-places is.rows (with_edits spent t) number k ∙ taken-places spent t number k (spent-taken is.rows) ∙ free k))))
+
 -- ---- other commands
 
-reel-plain : (change : ReelRow → ReelRow) (row : Option ReelRow) → ArePlain (reel_edit change row)
-reel-plain change None = tt
-reel-plain change (Some row) = (tt, tt)
+board-in : (board : Name) (machine product : Option Name) (t : Tables) → ArePutIn (board_edit board machine product) t
+board-in board machine None t = tt
+board-in board machine (Some p) t = ((refl, tt, tt), tt)
 
-board-plain : (board : Name) (machine product : Option Name) → ArePlain (board_edit board machine product)
-board-plain board machine None = tt
-board-plain board machine (Some p) = (tt, tt)
-
-unload-plain : (reels : List Name) → ArePlain (map (λ reel. TakeMount reel) reels)
-unload-plain [] = tt
-unload-plain (r ∷ rs) = (tt, unload-plain rs)
-
-count-plain : (H : History) (counts : List CountRow) → ArePlain (flat_map (count_edits H) counts)
-count-plain H [] = tt
-count-plain H (row ∷ rows) = all-append IsPlain (count_edits H row) (flat_map (count_edits H) rows) (one row.quantity (reel_view H row.reel)) (count-plain H rows)
-  where
-    one : (n : ℕ) (view : Option ReelView) → ArePlain (counted_edits n view)
-    one n None = tt
-    one n (Some view) = (tt, found (nat_lt view.remaining n))
-      where
-        found : (b : Bool) → ArePlain (if b then PutFound view.reel (view.found + (n - view.remaining)) ∷ [] else [])
-        found true = (tt, tt)
-        found false = tt
-
--- a load or a splice is of a reel that is not mounted
-mount-new : (H : History) (minute number : ℕ) (machine slot reel : Name) → is_mounted H reel ≡ false
-    → AreNew (PutMount (record { since = number; machine = machine; slot = slot; reel = reel }) ∷ reel_edit (opened_row minute) (reel_row H reel)) (tables_of H)
-mount-new H minute number machine slot reel rests = (ap (λ b. if b then last_put H reel else None) rests, all-plain-new _ _ (reel-plain (opened_row minute) (reel_row H reel)))
-
--- pieces are placed by an entry of which there are none
-take-new : (H : History) (number : ℕ) (takes : List Take) (edits : List RowEdit) → ((k : ℕ) → placement_row H number k ≡ None) → ArePlacedLast number takes edits → AreNew edits (tables_of H)
-take-new H number takes edits free last =
-    subst (λ xs. AreNew xs (tables_of H)) (sym last.are) (
-    new-append last.rows (place_rows number 1 takes) (tables_of H) (all-plain-new last.rows (tables_of H) last.plain) (
-    places-new number takes 1 (with_edits last.rows (tables_of H)) (λ k le. all-plain-places last.rows (tables_of H) number k last.plain ∙ free k)))
+unload-taken : (reels : List Name) → AreTaken (map (λ reel. TakeMount reel) reels)
+unload-taken [] = tt
+unload-taken (r ∷ rs) = (refl, unload-taken rs)
 
 -- ---- any command
 
-plainly : (H : History) (edits given : List RowEdit) → edits ≡ given → ArePlain given → AreNew edits (tables_of H)
-plainly H edits given are plain = subst (λ xs. AreNew xs (tables_of H)) (sym are) (all-plain-new given (tables_of H) plain)
+module _ (H : History) (minute number : ℕ) (takes : List Take) (placed : ℕ → ℕ → Option PlacementRow) (judged : IsJudged Two H) (free : (k : ℕ) → placed number k ≡ None) where
+  -- the gathered rows account for the pieces that the command takes
+  abbrev TakesBalance : Command → Type 0
+  TakesBalance command = (reel : Name) (row : ReelRow) → OnlyTakes reel command → receipt_by reel minute command ≡ None
+      → gathered (reel_row H) (map pick_of takes) reel ≡ Some row → IsBalanced (PutReel row)
 
-news : (H : History) (minute number : ℕ) (takes : List Take) (command : Command) (edits : List RowEdit) → command_refusal Two H minute command ≡ None
-    → ((k : ℕ) → placement_row H number k ≡ None) → AreEditsOf H number minute takes command edits → AreOrdered number takes command edits → AreNew edits (tables_of H)
-unfolding command_refusal
-news H minute number takes (SheetDefined product machine rows) edits accepted free are order =
-    subst (λ xs. AreNew xs (tables_of H)) (sym are) (
-    new-append (taken_rows product machine 1 (unwrap_or (sheet_of H product machine) [])) (put_rows product machine 1 rows) (tables_of H)
-    (all-plain-new _ (tables_of H) (taken-plain product machine (unwrap_or (sheet_of H product machine) []) 1))
-    (put-new product machine rows 1 _ (sheet-free H product machine)))
-news H minute number takes (MaterialsLoaded machine slot reel) edits accepted free are order =
-    subst (λ xs. AreNew xs (tables_of H)) (sym are) (mount-new H minute number machine slot reel (mountable H minute machine slot reel _ accepted).not_mounted)
-news H minute number takes (MaterialsSpliced machine slot reel) edits accepted free are order =
-    subst (λ xs. AreNew xs (tables_of H)) (sym are) (mount-new H minute number machine slot reel (mountable H minute machine slot reel _ accepted).not_mounted)
-news H minute number takes (MaterialsInstalled machine board ds) edits accepted free are order = take-new H number takes edits free order
-news H minute number takes (MaterialsScrapped machine slot n) edits accepted free are order = take-new H number takes edits free order
-news H minute number takes (PartDefined part) edits accepted free are order = plainly H edits _ are (tt, tt)
-news H minute number takes (AlternateAllowed part alternate) edits accepted free are order = plainly H edits _ are (tt, tt)
-news H minute number takes (ProductSelected machine product) edits accepted free are order = plainly H edits _ are (tt, tt)
-news H minute number takes (ReelReceived reel part lot moisture quantity) edits accepted free are order = plainly H edits _ are (tt, tt)
-news H minute number takes (ReelOpened reel) edits accepted free are order = plainly H edits _ are (reel-plain _ (reel_row H reel))
-news H minute number takes (ReelSealed reel) edits accepted free are order = plainly H edits _ are (reel-plain _ (reel_row H reel))
-news H minute number takes (ReelBaked reel) edits accepted free are order = plainly H edits _ are (reel-plain _ (reel_row H reel))
-news H minute number takes (MaterialsUnloaded machine slot) edits accepted free are order = plainly H edits _ are (unload-plain (reels_on H machine slot))
-news H minute number takes (WorkStarted machine board) edits accepted free are order = plainly H edits _ are (board-plain board (Some machine) (selected_on H machine))
-news H minute number takes (WorkCompleted machine board) edits accepted free are order = plainly H edits _ are (board-plain board None (selected_on H machine))
-news H minute number takes (CountsTaken counts) edits accepted free are order = plainly H edits _ are (count-plain H counts)
-news H minute number takes ClockSet edits accepted free are order = plainly H edits _ are tt
+  put-only : (edits given : List RowEdit) → edits ≡ given → ArePutIn given (tables_with H placed) → AreFit edits (tables_with H placed)
+  put-only edits given are puts = subst (λ xs. AreFit xs (tables_with H placed)) (sym are) (put-fit given (tables_with H placed) puts).0
 
--- The edits of the next entry's command put no placement, no mount and no sheet row where the tables have one.
-pub edits-new : (H : History) (e : Entry) (edits : List RowEdit) → IsJudged Two (e ∷ H)
-    → AreEditsOf H e.number e.effective (takes_by H e.effective e.stamped.command) e.stamped.command edits
-    → AreOrdered e.number (takes_by H e.effective e.stamped.command) e.stamped.command edits
-    → AreNew edits (tables_of H)
-edits-new H e edits (next, judged) are order =
-    news H e.effective e.number _ e.stamped.command edits (next-accepted H e next) (λ k. unplaced-later H e.number k judged (let at = next.number in omega (arith, at))) are order
+  -- a load or a splice is of a reel that is not mounted
+  mount-fit : (machine slot reel : Name) (edits : List RowEdit) → is_mounted H reel ≡ false
+      → edits ≡ PutMount (record { since = number; machine = machine; slot = slot; reel = reel }) ∷ reel_edit (opened_row minute) (reel_row H reel) → AreFit edits (tables_with H placed)
+  mount-fit machine slot reel edits rests are =
+      put-only edits _ are ((refl, tt, ap (λ b. if b then last_put H reel else None) rests), reel-in H reel (opened_row minute) _ judged (λ row balanced. balanced))
+
+  command-fit : (command : Command) (edits : List RowEdit) → command_refusal Two H minute command ≡ None → TakesBalance command
+      → AreEditsOf H number minute takes command edits → AreFit edits (tables_with H placed)
+  unfolding command_refusal
+  command-fit (SheetDefined product machine rows) edits accepted balance_of are =
+      subst (λ xs. AreFit xs (tables_with H placed)) (sym are) (
+      fit (taken_rows product machine 1 (unwrap_or (sheet_of H product machine) [])) (put_rows product machine 1 rows) (tables_with H placed)
+      (taken-out product machine (unwrap_or (sheet_of H product machine) []) 1)
+      (sheet-in product machine rows 1 _ (sheet-free H placed product machine)))
+  command-fit (MaterialsLoaded machine slot reel) edits accepted balance_of are = mount-fit machine slot reel edits (mountable H minute machine slot reel _ accepted).not_mounted are
+  command-fit (MaterialsSpliced machine slot reel) edits accepted balance_of are = mount-fit machine slot reel edits (mountable H minute machine slot reel _ accepted).not_mounted are
+  command-fit (MaterialsUnloaded machine slot) edits accepted balance_of are =
+      subst (λ xs. AreFit xs (tables_with H placed)) (sym (are ∙ sym (append-nil _))) (fit (map (λ reel. TakeMount reel) (reels_on H machine slot)) [] _ (unload-taken (reels_on H machine slot)) tt)
+  command-fit (MaterialsInstalled machine board ds) edits accepted balance_of are =
+      take-fit H number takes (λ reel row. balance_of reel row (record { out = refl; baked = refl; told = refl; finds = λ left. refl }) refl) edits (tables_with H placed) free are
+  command-fit (MaterialsScrapped machine slot n) edits accepted balance_of are =
+      take-fit H number takes (λ reel row. balance_of reel row (record { out = refl; baked = refl; told = refl; finds = λ left. refl }) refl) edits (tables_with H placed) free are
+  command-fit (CountsTaken counts) edits accepted balance_of are = put-only edits _ are (count-in H counts _ judged)
+  command-fit (ReelReceived reel part lot moisture quantity) edits accepted balance_of are = put-only edits _ are ((refl, (let all : quantity ≡ 0 + 0 + quantity = omega arith in all), tt), tt)
+  command-fit (ReelOpened reel) edits accepted balance_of are = put-only edits _ are (reel-in H reel (opened_row minute) _ judged (λ row balanced. balanced))
+  command-fit (ReelSealed reel) edits accepted balance_of are = put-only edits _ are (reel-in H reel (sealed_row minute) _ judged (λ row balanced. balanced))
+  command-fit (ReelBaked reel) edits accepted balance_of are = put-only edits _ are (reel-in H reel baked_row _ judged (λ row balanced. balanced))
+  command-fit (WorkStarted machine board) edits accepted balance_of are = put-only edits _ are (board-in board (Some machine) (selected_on H machine) _)
+  command-fit (WorkCompleted machine board) edits accepted balance_of are = put-only edits _ are (board-in board None (selected_on H machine) _)
+  command-fit (PartDefined part) edits accepted balance_of are = put-only edits _ are ((refl, tt, tt), tt)
+  command-fit (AlternateAllowed part alternate) edits accepted balance_of are = put-only edits _ are ((refl, tt, tt), tt)
+  command-fit (ProductSelected machine product) edits accepted balance_of are = put-only edits _ are ((refl, tt, tt), tt)
+  command-fit ClockSet edits accepted balance_of are = put-only edits _ are tt
+
+-- The tables of a list take the edits of the next entry's command, where no piece with the edits' number is placed.
+pub edits-fit : (H : History) (e : Entry) (number : ℕ) (placed : ℕ → ℕ → Option PlacementRow) (edits : List RowEdit) → IsJudged Two (e ∷ H) → ((k : ℕ) → placed number k ≡ None)
+    → AreEditsOf H number e.effective (takes_by H e.effective e.stamped.command) e.stamped.command edits → AreFit edits (tables_with H placed)
+edits-fit H e number placed edits (next, judged) free are =
+    command-fit H e.effective number _ placed judged free e.stamped.command edits (next-accepted H e next)
+    (λ reel row only other is.
+    took-balanced H e reel row (next, judged) only other (sym (ap (λ ps. gathered (reel_row H) ps reel) (picks-again H e.effective (picks_of H e.stamped.command))) ∙ is))
+    are

@@ -162,4 +162,4 @@ pieces-ascend (e ∷ H) (next, judged) =
 
 -- The rows of the placements are those of the table `placement`.
 pub pieces-listed : (H : History) → IsJudged Two H → Lists by_piece (piece_entries H) (λ key. placement_row H key.0 key.1)
-pieces-listed H judged = record { ascending = pieces-ascend H judged; found = pieces-found H }
+pieces-listed H judged = record { ascending = pieces-ascend H judged; rows = pieces-found H }

@@ -210,4 +210,4 @@ module _ (H : History) (machine slot : Name) (judged : IsJudged Two H) where
       back : (r : Name) → has (live_on H machine slot) r ≡ true → has (slot_reels machine slot entries) r ≡ true
       back r live =
           let put = live-mount H machine slot r judged live in
-          live-rows r put.mount entries put.reel_is put.machine_is put.slot_is (lists.found r ∙ put.is)
+          live-rows r put.mount entries put.reel_is put.machine_is put.slot_is (lists.rows r ∙ put.is)

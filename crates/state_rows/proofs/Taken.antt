@@ -22,7 +22,6 @@ use Rattle.desk_types.specs.declared.desk.TheConstants.{MOST_ENTRIES}
 use Rattle.desk_types.specs.declared.rules.Rules.{Rules}
 use Rattle.desk_types.specs.declared.rules.Rules.TheVariants.{Two}
 use Rattle.desk_types.proofs.BothRules.{judged-by-two}
-use Rattle.desk_laws.proofs.Distinct.{all-append}
 use Rattle.desk_types.specs.Outcome.{takes_by}
 use Rattle.desk_types.specs.Pieces.{picks_of}
 use Rattle.desk_types.proofs.Keys.{same-true, same-sym, same-refl, is_at-by_name}
@@ -32,16 +31,17 @@ use Rattle.state_rows.specs.declared.row.PlacementRow.{PlacementRow}
 use Rattle.state_rows.specs.declared.row.MountRow.{MountRow}
 use Rattle.state_rows.specs.declared.edit.RowEdit.{RowEdit}
 use Rattle.state_rows.specs.declared.edit.RowEdit.TheVariants.{TakeMount, PutReel, PutPlacement}
-use Rattle.state_rows.specs.Tables.{Tables, tables_of, reel_row}
-use Rattle.state_rows.specs.Edits.{with_edits, AreNew}
+use Rattle.state_rows.specs.Tables.{Tables, tables_of, reel_row, placement_row}
+use Rattle.state_rows.specs.Edits.{with_edits, AreNew, AreTakesFirst, AreBalanced}
 use Rattle.state_rows.specs.Kept.{row_at}
 use Rattle.state_rows.specs.After.{placed_row}
-use Rattle.state_rows.specs.EditsOf.{pick_of, is_picked, is_spent, less_row, after_placing, AreEditsOf, AreOrdered, IsPlain, ArePlain, ArePlacedLast, less_by, LessFits, ArePiecesFitting, gathered, with_reels, without_spent, take_spent, after_rows, place_rows, AreNamed}
+use Rattle.state_rows.specs.EditsOf.{pick_of, is_picked, is_spent, less_row, AreTakeEdits, AreEditsOf, less_by, LessFits, ArePiecesFitting, gathered, with_reels, without_spent, take_spent, after_rows, place_rows, AreNamed}
 use Rattle.state_rows.proofs.Editing.{with_edits-append}
 use Rattle.state_rows.proofs.Gathering.{rows-named, gathered-next, gathered-fits, places-put}
 use Rattle.state_rows.proofs.Fitting.{pieces-fit, entry-next}
 use Rattle.state_rows.proofs.Leading.{edits-lead}
-use Rattle.state_rows.proofs.NewRows.{edits-new}
+use Rattle.state_rows.proofs.NewRows.{edits-fit}
+use Rattle.state_rows.proofs.PlacementRows.{unplaced-later}
 use Rattle.state_rows.proofs.Taking.{picks-again}
 
 -- the row that is written over what was found
@@ -123,15 +123,30 @@ up-tail e es (above, up) = up
 first-at : (e : Name × ReelRow) (es : List (Name × ReelRow)) (r : Name) → row_at by_name (e ∷ es) r ≡ cond (same e.0 r) (Some e.1) (row_at by_name es r)
 first-at e es r = ap (λ b. cond b (Some e.1) (row_at by_name es r)) (is_at-by_name r e.0 ∙ same-sym r e.0)
 
+first-own : (e : Name × ReelRow) (es : List (Name × ReelRow)) → row_at by_name (e ∷ es) e.0 ≡ Some e.1
+first-own e es = first-at e es e.0 ∙ ap (λ b. cond b (Some e.1) (row_at by_name es e.0)) (same-refl e.0)
+
 first-named : (e : Name × ReelRow) (es : List (Name × ReelRow)) → AreNamed (row_at by_name (e ∷ es)) → e.1.reel ≡ e.0
-first-named e es named = named e.0 e.1 (first-at e es e.0 ∙ ap (λ b. cond b (Some e.1) (row_at by_name es e.0)) (same-refl e.0))
+first-named e es named = named e.0 e.1 (first-own e es)
+
+-- a row of the others is found among all
+rest-at : (e : Name × ReelRow) (es : List (Name × ReelRow)) (r : Name) (row : ReelRow) → IsStrictlySortedBy by_name (keys_of (e ∷ es)) → row_at by_name es r ≡ Some row
+    → row_at by_name (e ∷ es) r ≡ Some row
+rest-at e es r row up is = by (same e.0 r) refl
+  where
+    by : (b : Bool) → same e.0 r ≡ b → row_at by_name (e ∷ es) r ≡ Some row
+    by true here = let gone = sym (ap (row_at by_name es) (sym (same-true e.0 r here)) ∙ alone e es up) ∙ is in cc
+    by false here = first-at e es r ∙ ap (λ b. cond b (Some e.1) (row_at by_name es r)) here ∙ is
 
 rest-named : (e : Name × ReelRow) (es : List (Name × ReelRow)) → IsStrictlySortedBy by_name (keys_of (e ∷ es)) → AreNamed (row_at by_name (e ∷ es)) → AreNamed (row_at by_name es)
-rest-named e es up named r row is = by (same e.0 r) refl
-  where
-    by : (b : Bool) → same e.0 r ≡ b → row.reel ≡ r
-    by true here = let gone = sym (ap (row_at by_name es) (sym (same-true e.0 r here)) ∙ alone e es up) ∙ is in cc
-    by false here = named r row (first-at e es r ∙ ap (λ b. cond b (Some e.1) (row_at by_name es r)) here ∙ is)
+rest-named e es up named r row is = named r row (rest-at e es r row up is)
+
+-- what holds of each row that is found holds of each row
+each-row : (P : ReelRow → Type 0) (es : List (Name × ReelRow)) → IsStrictlySortedBy by_name (keys_of es) → ((r : Name) (row : ReelRow) → row_at by_name es r ≡ Some row → P row)
+    → AllByRecursion P (values_of es)
+each-row P [] up holds = tt
+each-row P (e ∷ es) up holds =
+    (holds e.0 e.1 (first-own e es), each-row P es (up-tail e es up) (λ r row is. holds r row (rest-at e es r row up is)))
 
 -- Each row is put in its place.
 pub rows-put : (es : List (Name × ReelRow)) (t : Tables) → IsStrictlySortedBy by_name (keys_of es) → AreNamed (row_at by_name es)
@@ -177,20 +192,6 @@ spent-taken (e ∷ es) t up named =
     by r false here true is = refl
     by r false here false is = refl
 
--- ---- order
-
-put-plain : (rows : List ReelRow) → ArePlain (map (λ row. PutReel row) rows)
-put-plain [] = tt
-put-plain (row ∷ rows) = (tt, put-plain rows)
-
-spent-plain : (rows : List ReelRow) → ArePlain (flat_map take_spent rows)
-spent-plain [] = tt
-spent-plain (row ∷ rows) = by (row.remaining == 0) (spent-plain rows)
-  where
-    by : (b : Bool) → ArePlain (flat_map take_spent rows) → ArePlain ((if b then TakeMount row.reel ∷ [] else []) ++ flat_map take_spent rows)
-    by true rest = (tt, rest)
-    by false rest = rest
-
 -- ---- a command that takes
 
 -- gathered rows are of the reels by whose names they are found
@@ -202,40 +203,40 @@ gathered-named rows picks named r row is = by (is_picked picks r) (rows r) (name
     by true (Some x) of is = sym (ap (λ o. option_map_or (λ (y : ReelRow). y.reel) o []) is) ∙ of x refl
     by false o of is = cc
 
--- What the takes of a command come to, by the rows that were gathered.
+-- The edits of the takes of a command, by the rows that were gathered.
 pub taken-all : (H : History) (number : ℕ) (takes : List Take) (es : List (Name × ReelRow)) (edits : List RowEdit) → IsStrictlySortedBy by_name (keys_of es)
     → ((r : Name) → row_at by_name es r ≡ gathered (reel_row H) (map pick_of takes) r)
     → edits ≡ (flat_map take_spent (values_of es) ++ map (λ row. PutReel row) (values_of es)) ++ place_rows number 1 takes
-    → (t : Tables) → with_edits edits t ≡ after_placing number takes (after_rows (gathered (reel_row H) (map pick_of takes)) t)
-taken-all H number takes es edits up gathers all t =
-    ap (λ xs. with_edits xs t) all
-    ∙ with_edits-append (spent ++ put) (place_rows number 1 takes) t
-    ∙ ap (with_edits (place_rows number 1 takes)) (
-    with_edits-append spent put t
-    ∙ ap (with_edits put) (spent-taken es t up named)
-    ∙ rows-put es (without_spent (row_at by_name es) t) up named
-    ∙ ap (λ (f : Name → Option ReelRow). after_rows f t) same_rows)
-    ∙ places-put number takes 1 (after_rows (gathered (reel_row H) (map pick_of takes)) t)
+    → AreTakeEdits H number takes edits
+taken-all H number takes es edits up gathers all = record {
+  rows = values_of es;
+  each = each-row (λ row. kept row.reel ≡ Some row) es up (λ r row is. ap kept (named r row is) ∙ sym (gathers r) ∙ is);
+  are = all;
+  lead = λ t.
+      ap (λ xs. with_edits xs t) all
+      ∙ with_edits-append (spent ++ put) (place_rows number 1 takes) t
+      ∙ ap (with_edits (place_rows number 1 takes)) (
+      with_edits-append spent put t
+      ∙ ap (with_edits put) (spent-taken es t up named)
+      ∙ rows-put es (without_spent (row_at by_name es) t) up named
+      ∙ ap (λ (f : Name → Option ReelRow). after_rows f t) same_rows)
+      ∙ places-put number takes 1 (after_rows kept t);
+}
   where
+    kept : Name → Option ReelRow
+    kept = gathered (reel_row H) (map pick_of takes)
+
     spent : List RowEdit
     spent = flat_map take_spent (values_of es)
 
     put : List RowEdit
     put = map (λ row. PutReel row) (values_of es)
 
-    same_rows : row_at by_name es ≡ gathered (reel_row H) (map pick_of takes)
+    same_rows : row_at by_name es ≡ kept
     same_rows = λ j r. gathers r j
 
     named : AreNamed (row_at by_name es)
     named = subst AreNamed (sym same_rows) (gathered-named (reel_row H) (map pick_of takes) (rows-named H))
-
-pub placed-last : (number : ℕ) (takes : List Take) (rows : List ReelRow) (edits : List RowEdit)
-    → edits ≡ (flat_map take_spent rows ++ map (λ row. PutReel row) rows) ++ place_rows number 1 takes → ArePlacedLast number takes edits
-placed-last number takes rows edits is = record {
-  rows = flat_map take_spent rows ++ map (λ row. PutReel row) rows;
-  plain = all-append IsPlain _ _ (spent-plain rows) (put-plain rows);
-  are = is;
-}
 
 -- ---- a change
 
@@ -257,18 +258,21 @@ module _ (rules : Rules) (H : History) (s : Stamped) (change : Change) (is : IsC
     change-fits few =
         subst (ArePiecesFitting H) (sym (ap (map pick_of) takes-are ∙ picks-again H (effective_minute H s.minute) (picks_of H s.command))) (pieces-fit H (entry_of H s) next-judged few)
 
-    module _ (number : ℕ) (edits : List RowEdit) (next : number ≡ length H + 1) (are : AreEditsOf H number change.minute change.takes s.command edits) where
-      are-edits : AreEditsOf H (length H + 1) (effective_minute H s.minute) (takes_by H (effective_minute H s.minute) s.command) s.command edits
+    module _ (number : ℕ) (edits : List RowEdit) (are : AreEditsOf H number change.minute change.takes s.command edits) where
+      are-edits : AreEditsOf H number (effective_minute H s.minute) (takes_by H (effective_minute H s.minute) s.command) s.command edits
       are-edits =
-          subst (λ ts. AreEditsOf H (length H + 1) (effective_minute H s.minute) ts s.command edits) takes-are (
-          subst (λ m. AreEditsOf H (length H + 1) m change.takes s.command edits) minute-is (
-          subst (λ n. AreEditsOf H n change.minute change.takes s.command edits) next are))
+          subst (λ ts. AreEditsOf H number (effective_minute H s.minute) ts s.command edits) takes-are (
+          subst (λ m. AreEditsOf H number m change.takes s.command edits) minute-is are)
 
-      pub rows-lead : with_edits edits (tables_of H) ≡ tables_of (accept H s)
-      rows-lead = edits-lead H (entry_of H s) edits next-judged are-edits
+      pub rows-lead : number ≡ length H + 1 → with_edits edits (tables_of H) ≡ tables_of (accept H s)
+      rows-lead next =
+          edits-lead H (entry_of H s) edits next-judged
+          (subst (λ n. AreEditsOf H n (effective_minute H s.minute) (takes_by H (effective_minute H s.minute) s.command) s.command edits) next are-edits)
 
-      pub rows-new : AreOrdered number change.takes s.command edits → AreNew edits (tables_of H)
-      rows-new order =
-          edits-new H (entry_of H s) edits next-judged are-edits (
-          subst (λ ts. AreOrdered (length H + 1) ts s.command edits) takes-are (
-          subst (λ n. AreOrdered n change.takes s.command edits) next order))
+      pub rows-new : number ≡ length H + 1 → AreNew edits (tables_of H)
+      rows-new next =
+          (edits-fit H (entry_of H s) number (placement_row H) edits next-judged (λ k. unplaced-later H number k (judged-by-two rules H judged) (omega (arith, next))) are-edits).new
+
+      -- whatever the number, its pieces are new in tables without placements
+      pub rows-fit : AreTakesFirst edits × AreBalanced edits
+      rows-fit = let is_fit = edits-fit H (entry_of H s) number (λ n k. None) edits next-judged (λ k. refl) are-edits in (is_fit.takes_first, is_fit.balanced)

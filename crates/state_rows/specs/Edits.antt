@@ -1,5 +1,6 @@
 -- What edits make of tables.
-use Rattle.std.specs.Prelude.{◌==◌, ◌&&◌, ◌||◌, ◌≡◌, ⊤, Some, None, List, [], ◌∷◌, if◌then◌else◌}
+use Rattle.std.specs.Prelude.{◌==◌, ◌&&◌, ◌||◌, ◌≡◌, ◌<◌, ◌+◌, ⊤, Bool, true, false, Some, None, List, [], ◌∷◌, if◌then◌else◌}
+use Rattle.std.specs.List.{AllByRecursion, list_any}
 use Rattle.desk_types.specs.Id.{same}
 use Rattle.state_rows.specs.declared.edit.RowEdit.{RowEdit}
 use Rattle.state_rows.specs.declared.edit.RowEdit.TheVariants.{TakeSheetRow, TakeMount, PutPart, PutAlternate, PutSheetRow, PutSelected, PutReel, PutMount, PutBoard, PutPlacement, PutFound}
@@ -27,14 +28,37 @@ abbrev pub with_edits : List RowEdit → Tables → Tables
 with_edits [] t = t
 with_edits (x ∷ xs) t = with_edits xs (with_edit x t)
 
--- the edit puts no placement, no mount and no sheet row where the tables have one
+-- ---- edits that a table with its keys and its checks takes one after the other
+
+-- the edit puts no placement, no mount and no sheet row where the tables have one, and no row of 0 found pieces
 abbrev pub IsNew : RowEdit → Tables → Type 0
 IsNew (PutPlacement row) t = t.placements row.number row.place ≡ None
 IsNew (PutMount row) t = t.mounts row.reel ≡ None
 IsNew (PutSheetRow product machine place row) t = t.sheets product machine place ≡ None
+IsNew (PutFound reel pieces) t = 0 < pieces
 IsNew _ t = ⊤
 
 -- so it is of each edit, made one after the other
 abbrev pub AreNew : List RowEdit → Tables → Type 0
 AreNew [] t = ⊤
 AreNew (x ∷ xs) t = IsNew x t × AreNew xs (with_edit x t)
+
+-- whether the edit takes a row out
+abbrev pub takes_out : RowEdit → Bool
+takes_out (TakeSheetRow product machine place) = true
+takes_out (TakeMount reel) = true
+takes_out edit = false
+
+-- no row is taken out after one was put in
+abbrev pub AreTakesFirst : List RowEdit → Type 0
+AreTakesFirst [] = ⊤
+AreTakesFirst (x ∷ xs) = (list_any takes_out xs ≡ true → takes_out x ≡ true) × AreTakesFirst xs
+
+-- a reel's row that the edit puts accounts for every received piece: it was placed or scrapped, or it remains
+abbrev pub IsBalanced : RowEdit → Type 0
+IsBalanced (PutReel row) = row.received ≡ row.placed + row.scrapped + row.remaining
+IsBalanced edit = ⊤
+
+-- each reel's row does
+abbrev pub AreBalanced : List RowEdit → Type 0
+AreBalanced edits = AllByRecursion IsBalanced edits

@@ -1,5 +1,5 @@
 -- The edits of a command, by what the list says before it: no definitions of the tables', but words for the code and its proof.
-use Rattle.std.specs.Prelude.{◌≡◌, ◌<◌, ◌^◌, ⊤, ℕ, ◌+◌, ◌-◌, ◌==◌, nat_lt, Bool, true, false, Option, Some, None, List, [], ◌∷◌, ◌++◌, map, if◌then◌else◌, unwrap_or}
+use Rattle.std.specs.Prelude.{◌≡◌, ◌<◌, ◌^◌, ℕ, ◌+◌, ◌-◌, ◌==◌, nat_lt, Bool, true, false, Option, Some, None, List, [], ◌∷◌, ◌++◌, map, if◌then◌else◌, unwrap_or}
 use Rattle.std.specs.Option.{option_map, option_and_then, option_or, option_to_list, option_map_or}
 use Rattle.std.specs.List.{AllByRecursion, list_any, filter_map, flat_map}
 use Rattle.desk_types.specs.declared.command.Command.{Command}
@@ -135,6 +135,13 @@ after_placing number takes t = record t {
   placements = λ n k. option_or (if number == n then option_and_then (placed_row n k) (at_place 1 takes k) else None) (t.placements n k);
 }
 
+-- The edits of takes: the reels with nothing left are taken off, the gathered rows are put, and then the pieces are placed.
+pub record AreTakeEdits (H : History) (number : ℕ) (takes : List Take) (edits : List RowEdit) : Type 0 where
+  pub rows : List ReelRow
+  pub each : AllByRecursion (λ row. gathered (reel_row H) (map pick_of takes) row.reel ≡ Some row) rows
+  pub are : edits ≡ (flat_map take_spent rows ++ map (λ row. PutReel row) rows) ++ place_rows number 1 takes
+  pub lead : (t : Tables) → with_edits edits t ≡ after_placing number takes (after_rows (gathered (reel_row H) (map pick_of takes)) t)
+
 -- ---- counts
 
 -- a reel's row with so many pieces counted: what is missing is scrapped, and what is above is received
@@ -177,34 +184,7 @@ AreEditsOf H number minute takes (MaterialsSpliced machine slot reel) edits =
 AreEditsOf H number minute takes (MaterialsUnloaded machine slot) edits = edits ≡ map (λ reel. TakeMount reel) (reels_on H machine slot)
 AreEditsOf H number minute takes (WorkStarted machine board) edits = edits ≡ board_edit board (Some machine) (selected_on H machine)
 AreEditsOf H number minute takes (WorkCompleted machine board) edits = edits ≡ board_edit board None (selected_on H machine)
-AreEditsOf H number minute takes (MaterialsInstalled machine board designators) edits =
-    (t : Tables) → with_edits edits t ≡ after_placing number takes (after_rows (gathered (reel_row H) (map pick_of takes)) t)
-AreEditsOf H number minute takes (MaterialsScrapped machine slot quantity) edits =
-    (t : Tables) → with_edits edits t ≡ after_placing number takes (after_rows (gathered (reel_row H) (map pick_of takes)) t)
+AreEditsOf H number minute takes (MaterialsInstalled machine board designators) edits = AreTakeEdits H number takes edits
+AreEditsOf H number minute takes (MaterialsScrapped machine slot quantity) edits = AreTakeEdits H number takes edits
 AreEditsOf H number minute takes (CountsTaken counts) edits = edits ≡ flat_map (count_edits H) counts
 AreEditsOf H number minute takes ClockSet edits = edits ≡ []
-
--- ---- order
-
--- the edit puts no placement, no mount and no sheet row, so none where there is one
-abbrev pub IsPlain : RowEdit → Type 0
-IsPlain (PutPlacement row) = ⊥
-IsPlain (PutMount row) = ⊥
-IsPlain (PutSheetRow product machine place row) = ⊥
-IsPlain edit = ⊤
-
--- no edit does
-abbrev pub ArePlain : List RowEdit → Type 0
-ArePlain edits = AllByRecursion IsPlain edits
-
--- edits of reels and mounts, and then the rows of these takes
-pub record ArePlacedLast (number : ℕ) (takes : List Take) (edits : List RowEdit) : Type 0 where
-  pub rows : List RowEdit
-  pub plain : ArePlain rows
-  pub are : edits ≡ rows ++ place_rows number 1 takes
-
--- the pieces of an install and of a scrap are placed last
-abbrev pub AreOrdered : ℕ → List Take → Command → List RowEdit → Type 0
-AreOrdered number takes (MaterialsInstalled machine board designators) edits = ArePlacedLast number takes edits
-AreOrdered number takes (MaterialsScrapped machine slot quantity) edits = ArePlacedLast number takes edits
-AreOrdered number takes command edits = ⊤

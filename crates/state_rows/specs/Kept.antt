@@ -82,12 +82,12 @@ but_placements t other = record t { placements = other.placements }
 -- The entries are the rows of the table: their keys ascend, and each key has the row that the table has, or none.
 pub record Lists {K X : Type 0} (cmp : K → K → Ordering) (entries : List (K × X)) (table : K → Option X) : Type 0 where
   pub ascending : IsStrictlySortedBy cmp (keys_of entries)
-  pub found : (k : K) → row_at cmp entries k ≡ table k
+  pub rows : (k : K) → row_at cmp entries k ≡ table k
 
 -- The keys are those of the table: they ascend, and a key is among them where the table has it.
 pub record ListsKeys {K : Type 0} (cmp : K → K → Ordering) (keys : List K) (table : K → Bool) : Type 0 where
   pub ascending : IsStrictlySortedBy cmp keys
-  pub found : (k : K) → has_key cmp keys k ≡ table k
+  pub rows : (k : K) → has_key cmp keys k ≡ table k
 
 -- the row, where its number is this one
 abbrev pub since_is : ℕ → Option MountRow → Option MountRow
@@ -96,7 +96,7 @@ since_is since row = option_and_then (λ (m : MountRow). if m.since == since the
 -- The entries are the rows of `mount` in the order of their numbers: each reel has the row that the table has, and each entry is one of the table.
 pub record ListsMounts (entries : List ((ℕ × Name) × MountRow)) (table : Name → Option MountRow) : Type 0 where
   pub ascending : IsStrictlySortedBy by_since (keys_of entries)
-  pub found : (reel : Name) → lookup (λ k. same reel k.1) entries ≡ table reel
+  pub rows : (reel : Name) → lookup (λ k. same reel k.1) entries ≡ table reel
   pub each : All (λ e. since_is e.0.0 (table e.0.1) ≡ Some e.1) entries
 
 -- the rows by numbers and reels are those by reels

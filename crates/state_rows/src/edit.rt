@@ -37,7 +37,7 @@ pub enum RowEdit {
     PutPlacement(PlacementRow),
     PutFound {
         reel: Id,
-        /// Not 0.
+        /// At least 1.
         pieces: u64,
     },
 }

@@ -1,6 +1,6 @@
 //! The rows of `mount`, by reel and by number.
 
-ghost use Rattle.std.specs.Prelude.{◌≡◌, [], None, Some, OnOk, if◌then◌else◌};
+ghost use Rattle.std.specs.Prelude.{◌≡◌, [], None, Some, OnOk, if◌then◌else◌, is_some};
 ghost use Rattle.desk_types.specs.Id.{Name, same, by_name};
 ghost use Rattle.state_rows.specs.Kept.{row_at, AreTheSame, ListsMounts};
 
@@ -56,6 +56,13 @@ impl Mounts {
         take_both(&mut self.by_reel, &mut self.by_since, &row.reel);
         put_both(&mut self.by_reel, &mut self.by_since, row)?;
         Ok(())
+    }
+
+    /// Whether the reel has a row. Takes no memory.
+    pub fn has(&self, reel: &Id) -> bool
+        ensures { result ≡ is_some (row_at by_name self.now reel.now) }
+    {
+        self.by_reel.contains_key(reel)
     }
 
     /// The rows in the order of their numbers. Takes no memory.

@@ -6,8 +6,8 @@ ghost use Rattle.desk_types.specs.History.{History, now_of, accept};
 ghost use Rattle.desk_types.specs.Judged.{IsJudged};
 ghost use Rattle.desk_types.specs.Desk.{HasRoom, IsChange};
 ghost use Rattle.state_rows.specs.Tables.{tables_of};
-ghost use Rattle.state_rows.specs.Edits.{with_edits, AreNew};
-ghost use Rattle.state_rows.specs.EditsOf.{pick_of, AreEditsOf, AreOrdered, ArePiecesFitting};
+ghost use Rattle.state_rows.specs.Edits.{with_edits, AreNew, AreTakesFirst, AreBalanced};
+ghost use Rattle.state_rows.specs.EditsOf.{pick_of, AreEditsOf, ArePiecesFitting};
 
 use crate::counted::count;
 use crate::edit::{RowEdit, RowEdits};
@@ -41,8 +41,7 @@ fn edits_of<D: Desk>(
     requires judged { (H : History) → D.Stands desk.now H → IsJudged Two H }
     requires not_before { (H : History) → D.Stands desk.now H → now_of H ≤ minute }
     requires fits { (H : History) × D.Stands desk.now H × ArePiecesFitting H (map pick_of takes.now) }
-    ensures edits { (H : History) → D.Stands desk.now H → IfOk result (λ edits. AreEditsOf H number minute takes.now command.now edits.items) }
-    ensures order { IfOk result (λ edits. AreOrdered number takes.now command.now edits.items) }
+    ensures { (H : History) → D.Stands desk.now H → IfOk result (λ edits. AreEditsOf H number minute takes.now command.now edits.items) }
 {
     match command {
         Command::PartDefined { part } => one(alloc, RowEdit::PutPart { part: *part }),
@@ -112,8 +111,9 @@ fn edits_of<D: Desk>(
 }
 
 /// The edits that lead the state tables to those with the change, which is accepted with this number.
-/// Rows are taken out before others are put in. A placement, a mount or a row of a sheet is only put
-/// where there is none.
+/// Made one after the other, they keep each table's keys and checks: rows are taken out before others
+/// are put in, a placement, a mount or a row of a sheet is only put where there is none, and each row
+/// that is put adds up.
 pub fn rows_of<D: Desk>(
     alloc: Global,
     desk: &D,
@@ -124,6 +124,8 @@ pub fn rows_of<D: Desk>(
     requires judged { (H : History) → D.Stands desk.now H → IsChange (D.kept_rules desk.now) H change.now.stamped change.now }
     ensures lead { (H : History) → D.Stands desk.now H → number ≡ length H + 1 → IfOk result (λ edits. with_edits edits (tables_of H) ≡ tables_of (accept H change.now.stamped)) }
     ensures new { (H : History) → D.Stands desk.now H → number ≡ length H + 1 → IfOk result (λ edits. AreNew edits (tables_of H)) }
+    ensures takes_first { IfOk result (λ edits. AreTakesFirst edits) }
+    ensures balanced { IfOk result (λ edits. AreBalanced edits) }
 {
     desk.is_judged();
     change.stamped.ranges_hold();

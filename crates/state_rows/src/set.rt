@@ -1,6 +1,6 @@
 //! Sets of rows.
 
-ghost use Rattle.std.specs.Prelude.{◌≡◌, [], Some, OnOk, if◌then◌else◌, IfOk};
+ghost use Rattle.std.specs.Prelude.{◌≡◌, [], Some, OnOk, if◌then◌else◌, IfOk, is_some, unwrap_or};
 ghost use Rattle.std.specs.BTreeMap.{get, is_at};
 ghost use Rattle.desk_types.specs.Id.{by_name};
 ghost use Rattle.desk_types.specs.Pair.{by_pair};
@@ -277,6 +277,23 @@ impl RowSet {
         ensures { Lists by_name result (tables_in self.now).found }
     {
         self.found.iter()
+    }
+
+    /// The pieces that counts found on the reel. Takes no memory, as the next one.
+    pub fn found_on(&self, reel: &Id) -> u64
+        ensures { result ≡ unwrap_or ((tables_in self.now).found reel.now) 0 }
+    {
+        match self.found.get(reel) {
+            Some(pieces) => *pieces,
+            None => 0,
+        }
+    }
+
+    /// Whether the reel has a row of `mount`.
+    pub fn is_mounted(&self, reel: &Id) -> bool
+        ensures { result ≡ is_some ((tables_in self.now).mounts reel.now) }
+    {
+        self.mounts.has(reel)
     }
 }
 

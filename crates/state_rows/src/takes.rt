@@ -11,10 +11,9 @@ ghost use Rattle.desk_types.specs.Pieces.{is_placed};
 ghost use Rattle.state_rows.specs.declared.row.ReelRow.{ReelRow};
 ghost use Rattle.state_rows.specs.declared.row.PlacementRow.{PlacementRow};
 ghost use Rattle.state_rows.specs.declared.edit.RowEdit.TheVariants.{PutReel, PutPlacement};
-ghost use Rattle.state_rows.specs.Tables.{Tables, reel_row};
-ghost use Rattle.state_rows.specs.Edits.{with_edits};
+ghost use Rattle.state_rows.specs.Tables.{reel_row};
 ghost use Rattle.state_rows.specs.After.{placed_row};
-ghost use Rattle.state_rows.specs.EditsOf.{pick_of, less_by, LessFits, ArePiecesFitting, gathered, after_rows, after_placing, take_spent, place_rows, ArePlacedLast};
+ghost use Rattle.state_rows.specs.EditsOf.{pick_of, less_by, LessFits, ArePiecesFitting, gathered, take_spent, place_rows, AreTakeEdits};
 
 use crate::edit::RowEdit;
 use crate::reels::row;
@@ -165,9 +164,7 @@ pub fn take<D: Desk>(
     takes: &[Take],
 ) -> Result<Vec<RowEdit>, AllocError>
     requires fits { (H : History) × D.Stands desk.now H × ArePiecesFitting H (map pick_of takes.now) }
-    ensures edits { (H : History) → D.Stands desk.now H
-        → IfOk result (λ edits. (t : Tables) → with_edits edits.items t ≡ after_placing number takes.now (after_rows (gathered (reel_row H) (map pick_of takes.now)) t)) }
-    ensures order { IfOk result (λ edits. ArePlacedLast number takes.now edits.items) }
+    ensures { (H : History) → D.Stands desk.now H → IfOk result (λ edits. AreTakeEdits H number takes.now edits.items) }
 {
     let rows = gather(alloc, desk, takes)?;
     let pieces_and_reels = takes.len().saturating_add(rows.len().saturating_mul(2));

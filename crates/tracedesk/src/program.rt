@@ -72,7 +72,7 @@ fn wordless<E: Write>(error: &io::Error, errors: &mut Wire<E>) -> u8
 ///
 /// 0: done. 1: some line was answered by a refusal. 2: the command line is bad, and standard error
 /// says why. 3: the desk's file was refused, or memory was, outside of a message: `tracedesk: ` and
-/// the fault, with its number after a space. 4: input or output failed, told as `tracedesk: Read`,
+/// the fault, with its number or its table after a space. 4: input or output failed, told as `tracedesk: Read`,
 /// `tracedesk: Write` or `tracedesk: TooManyReads`.
 pub fn program<T: Start, R: Read, W: Write, E: Write>(
     rt: &HostRuntime,

@@ -7,7 +7,7 @@ use Rattle.imports.specs.declared.fault.ImportFault.TheVariants.{NoMemory, OverL
 use Rattle.imports.specs.declared.rows.TheConstants.{FIRST_ROW, LAST_ROW}
 use Rattle.imports.specs.File.{row_at, each}
 use Rattle.imports.proofs.EachRow.{each-more, each-fault}
-use Rattle.imports.proofs.Faults.{IsSaid-fault}
+use Rattle.cfx_profile.proofs.Faults.{IsSaid-fault}
 use Rattle.imports.proofs.rows.each.Goals as goal
 
 pub loop-record-preserved : goal.loop-record-preserved

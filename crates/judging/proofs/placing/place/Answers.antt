@@ -15,7 +15,7 @@ returns g c = λ H picks before stands feeding seen.
     let board = c.args.board.now in
     let reels = g.F.Facts.reels_on c.args.facts.now machine in
     let piece : Piece = record { slot = c.in-Some.slot; reel = c.in-Some-2.reel } in
-    let slot : slot_on H machine d ≡ Some piece.slot = sym (c.slot_on.ensures H stands) ∙ c.in-Some.is in
+    let slot : slot_on H machine d ≡ Some piece.slot = sym (c.slot_for.ensures H stands) ∙ c.in-Some.is in
     let new = was-new c.args.seen.now before d c.in_ok-insert.field-0 seen c.in_ok-insert.ensures.added c.if-not-branch.false in
     let front = sym (feeding-front (tape_of H machine) (left_of H) reels picks piece.slot c.args.feeding.now feeding) ∙ sym (c.in_ok-reel.ensures.reel H stands) ∙ c.in-Some-2.is in
     let pick = pick-found (slot_on H machine) (tape_of H machine) (left_of H) machine board picks d piece slot front in (

@@ -23,7 +23,7 @@ loop-designator-init g c = λ H stands.
     let slots = slot_on H machine in
     let tape = tape_of H machine in
     let reels = g.F.Facts.reels_on a.facts.now machine in
-    let none = c.new-picks.ensures.items in
+    let none = c.in_ok-picks.ensures.items in
     record {
       feeding = subst (λ ps. IsFeeding tape (left_of H) reels ps (record { stock = c.new.result; firsts = c.new-2.result })) (sym none)
           (feeding-first H machine reels (record { stock = c.new.result; firsts = c.new-2.result }) (λ slot. c.tells_live.ensures H machine slot stands)

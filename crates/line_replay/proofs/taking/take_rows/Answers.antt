@@ -1,12 +1,32 @@
-use Rattle.std.proofs.Common.{◌∙◌, Bool, subst, arith}
+use Rattle.std.proofs.Common.{◌∙◌, Bool, [], refl, subst, rules, arith}
 use Rattle.sqlite.specs.State.{HasCleanDisk}
 use Rattle.sqlite.specs.Held.{state}
 use Rattle.sqlite.proofs.StateLemmas.{survives_then}
 use Rattle.desk_types.specs.declared.rules.Rules.{Rules}
 use Rattle.line_tables.proofs.Keeps.{keeps_then}
 use Rattle.line_replay.specs.Replay.{Goes}
+use Rattle.line_replay.proofs.Adding.{beside_none}
 use Rattle.line_replay.proofs.Taken.{taken_more}
 use Rattle.line_replay.proofs.taking.take_rows.Goals as goal
+
+pub loop-number-init : goal.loop-number-init
+loop-number-init g c =
+    let old = state g.S.Store c.args.conn.now in record {
+      rules = refl;
+      taken = (
+        [],
+        record {
+          stands = c.requires.fresh;
+          judged = tt;
+          counted = refl;
+          rows = λ clean schema. tt;
+          others = beside_none (HasCleanDisk old) old.committed c.args.beside.now (c.requires.none old.committed);
+        },
+      );
+      kept = λ clean. record { was_open = λ is. is; committed = λ is. refl };
+      mode = λ is. is;
+      survives = search rules;
+    }
 
 pub loop-number-preserved : goal.loop-number-preserved
 loop-number-preserved g c =
@@ -19,10 +39,10 @@ loop-number-preserved g c =
     let taken = was.taken.1 in
     let early : HasCleanDisk new → HasCleanDisk mid = λ clean. omega (arith, c.take_row.ensures.survives.clean) in
     let went = c.in_ok-taken.ensures.ok H taken.stands (omega (arith, taken.counted)) in
-    let again = subst (λ (r : Rules). Goes F r (HasCleanDisk new) mid H c.take_row.new.desk c.in_ok-taken.taken) was.rules went in
-    let more = subst (λ (b : Bool). Goes F (g.D.Desk.kept_rules c.args.desk.now) (HasCleanDisk new) mid H c.take_row.new.desk b) c.if-not-taken.false again in record {
+    let again = subst (λ (r : Rules). Goes F r (HasCleanDisk new) mid H c.loop-number.beside c.take_row.new.desk c.take_row.new.beside c.in_ok-taken.taken) was.rules went in
+    let more = subst (λ (b : Bool). Goes F (g.D.Desk.kept_rules c.args.desk.now) (HasCleanDisk new) mid H c.loop-number.beside c.take_row.new.desk c.take_row.new.beside b) c.if-not-taken.false again in record {
       rules = c.in_ok-taken.ensures.rules ∙ was.rules;
-      taken = taken_more F (g.D.Desk.kept_rules c.args.desk.now) old mid (HasCleanDisk mid) (HasCleanDisk new) early was.kept c.loop-number.desk c.take_row.new.desk c.loop-number.number H taken more;
+      taken = taken_more F (g.D.Desk.kept_rules c.args.desk.now) old mid (HasCleanDisk mid) (HasCleanDisk new) early was.kept c.loop-number.desk c.take_row.new.desk c.loop-number.beside c.take_row.new.beside c.loop-number.number H taken more;
       kept = λ clean. keeps_then old mid new (was.kept (early clean)) (c.take_row.ensures.kept clean);
       mode = λ is. c.take_row.ensures.mode (was.mode is);
       survives = survives_then old mid new _ _ (λ _. ⊥) (λ _ db none. none) (λ _ db none. none) was.survives c.take_row.ensures.survives;

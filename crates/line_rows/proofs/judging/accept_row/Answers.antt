@@ -1,4 +1,4 @@
-use Rattle.std.proofs.Common.{◌≡◌, inr, refl, rules}
+use Rattle.std.proofs.Common.{◌≡◌, inr, refl, sym, rules}
 use Rattle.desk_types.specs.History.{entry_of}
 use Rattle.line_rows.proofs.Judgements.{refused, unsaid, said, stamped_is}
 use Rattle.line_rows.proofs.judging.accept_row.Goals as goal
@@ -21,6 +21,10 @@ returns-in-Ok-clause-ok g c H stands numbered =
       refl,
       rw same at (c.in_ok-settle-in-Ok.ensures.stands H stands),
       said c.texts_tell_commands_apart.ensures _ H c.args.row.now s (search rules) c.ranges_hold.ensures c.in-Ok.change c.args.number _ is numbered c.in_ok-text-in-Ok.ensures (search rules) (search rules),
+      record {
+        lead = rw same at (c.in_ok-edits-in-Ok.ensures.lead H stands (sym numbered));
+        new = c.in_ok-edits-in-Ok.ensures.new H stands (sym numbered);
+      },
     )
 
 pub returns-in-Err-Refused-clause-err : goal.returns-in-Err-Refused-clause-err

@@ -1,34 +1,39 @@
-use Rattle.std.proofs.Common.{◌≡◌, ◌<◌, ◌∙◌, take, subst, arith, rules}
-use Rattle.std.proofs.lemmas.List.{take_all}
+use Rattle.std.proofs.Common.{◌≡◌, ◌<◌, ◌∙◌, List, [], length, drop, subst, arith, rules}
 use Rattle.sqlite.specs.State.{HasCleanDisk}
 use Rattle.sqlite.specs.Held.{state}
 use Rattle.sqlite.proofs.StateLemmas.{survives_then}
-use Rattle.line_tables.specs.Calls.{Edits}
+use Rattle.sqlite.specs.Effect.{IsDatabase}
+use Rattle.line_tables.specs.declared.edit.Edit.{Edit}
+use Rattle.line_tables.proofs.Alterations.{no_length}
 use Rattle.line_tables.proofs.Keeps.{keeps_then}
-use Rattle.line_tables.proofs.Puts.{edits_more}
+use Rattle.line_tables.proofs.Puts.{Remain, remain_none, remain_less, sound_less}
 use Rattle.line_tables.proofs.writing.put_all.Goals as goal
 
-pub loop-edit-preserved : goal.loop-edit-preserved
-loop-edit-preserved g c =
+pub loop-rest-preserved : goal.loop-rest-preserved
+loop-rest-preserved g c =
     let old = state g.S.Store c.args.tx.now.conn.now in
-    let mid = state g.S.Store c.loop-edit.tx.conn.now in
-    let new = state g.S.Store c.put.new.tx.conn.now in
-    let was = c.loop-edit.invariant in
-    let early : HasCleanDisk new → HasCleanDisk mid = λ clean. omega (arith, c.put.ensures.survives.clean) in record {
-      same = c.put.ensures.same_reference ∙ was.same;
-      done = λ clean. edits_more c.args.edits.now c.loop-edit.edit-index c.edit-item.result old.now mid.now new.now (search arith) (search rules) (was.done (early clean)) (c.in_ok-put.ensures.done clean).done;
-      was_open = λ clean _. (was.kept (early clean)).was_open (c.in_ok-put.ensures.done clean).was_open;
-      sound = λ clean _ tables held. (c.in_ok-put.ensures.done clean).sound _ (was.done (early clean) tables held);
-      kept = λ clean. keeps_then old mid new (was.kept (early clean)) (c.put.ensures.kept clean);
-      survives = survives_then old mid new _ _ (λ _. ⊥) (λ _ db none. none) (λ _ db none. none) was.survives c.put.ensures.survives;
+    let mid = state g.S.Store c.loop-rest.tx.conn.now in
+    let new = state g.S.Store c.put_first.new.tx.conn.now in
+    let edits = c.args.edits.now in
+    let rest : List Edit = c.loop-rest.rest.now in
+    let was = c.loop-rest.invariant in
+    let cut : drop c.in_ok-taken.taken rest ≡ c.split_at.result.1.now = search rules in
+    let early : HasCleanDisk new → HasCleanDisk mid = λ clean. omega (arith, c.put_first.ensures.survives.clean) in record {
+      same = c.put_first.ensures.same_reference ∙ was.same;
+      left = λ clean. subst (λ l. Remain edits l old.now new.now) cut (remain_less edits rest c.in_ok-taken.taken old.now mid.now (was.left (early clean)) new.now (c.in_ok-taken.ensures.done clean).done);
+      was_open = λ clean _. (was.kept (early clean)).was_open (c.in_ok-taken.ensures.done clean).was_open;
+      sound = λ clean _. sound_less edits rest _ old.now mid.now (was.left (early clean)) (IsDatabase new.now) (c.in_ok-taken.ensures.done clean).sound;
+      kept = λ clean. keeps_then old mid new (was.kept (early clean)) (c.put_first.ensures.kept clean);
+      survives = survives_then old mid new _ _ (λ _. ⊥) (λ _ db none. none) (λ _ db none. none) was.survives c.put_first.ensures.survives;
     }
 
 pub returns-clause-done : goal.returns-clause-done
 returns-clause-done g c clean =
-    let was = c.loop-edit.invariant in
-    let some : 0 < c.loop-edit.edit-index = search arith in
-    let whole : take c.loop-edit.edit-index c.args.edits.now ≡ c.args.edits.now = take_all _ _ (search arith) in record {
+    let was = c.loop-rest.invariant in
+    let none : c.loop-rest.rest.now ≡ [] = no_length _ (search arith) in
+    let some : length c.loop-rest.rest.now < length c.args.edits.now = search arith in
+    record {
       was_open = was.was_open clean some;
-      done = subst (λ l. Edits l (state g.S.Store c.args.tx.now.conn.now).now (state g.S.Store c.loop-edit.tx.conn.now).now) whole (was.done clean);
+      done = remain_none _ _ _ (subst (λ l. Remain c.args.edits.now l (state g.S.Store c.args.tx.now.conn.now).now (state g.S.Store c.loop-rest.tx.conn.now).now) none (was.left clean));
       sound = was.sound clean some;
     }

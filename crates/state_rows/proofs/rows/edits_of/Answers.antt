@@ -3,7 +3,7 @@ use Rattle.state_rows.specs.declared.edit.RowEdit.TheVariants.{PutReel}
 use Rattle.state_rows.specs.EditsOf.{AreEditsOf}
 use Rattle.state_rows.proofs.rows.edits_of.Goals as goal
 
-pub returns-in-ReelReceived-clause-edits : goal.returns-in-ReelReceived-clause-edits
-returns-in-ReelReceived-clause-edits g c = λ H stands.
+pub returns-in-ReelReceived : goal.returns-in-ReelReceived
+returns-in-ReelReceived g c = λ H stands.
     subst (λ command. IfOk c.one-in-ReelReceived.result (λ edits. AreEditsOf H c.args.number c.args.minute c.args.takes.now command edits.items)) (sym c.in-ReelReceived.is)
     (subst (λ row. IfOk c.one-in-ReelReceived.result (λ edits. edits.items ≡ PutReel row ∷ [])) (c.received.ensures c.args.minute) c.one-in-ReelReceived.ensures)

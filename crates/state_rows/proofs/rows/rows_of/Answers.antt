@@ -3,9 +3,9 @@ use Rattle.desk_types.specs.Number.{IsMinute}
 use Rattle.desk_types.specs.History.{History}
 use Rattle.desk_types.proofs.BothRules.{judged-by-two}
 use Rattle.state_rows.specs.Tables.{tables_of}
-use Rattle.state_rows.specs.Edits.{with_edits, AreNew}
-use Rattle.state_rows.specs.EditsOf.{pick_of, AreEditsOf, AreOrdered, ArePiecesFitting}
-use Rattle.state_rows.proofs.Taken.{change-fits, rows-lead, rows-new}
+use Rattle.state_rows.specs.Edits.{with_edits, AreNew, AreTakesFirst, AreBalanced}
+use Rattle.state_rows.specs.EditsOf.{pick_of, AreEditsOf, ArePiecesFitting}
+use Rattle.state_rows.proofs.Taken.{change-fits, rows-lead, rows-new, rows-fit}
 use Rattle.state_rows.proofs.rows.rows_of.Goals as goal
 
 pub edits_of-requires-clause-judged : goal.edits_of-requires-clause-judged
@@ -29,14 +29,33 @@ returns-clause-lead g c = λ H stands next.
     let change = c.args.change.now in
     let range : IsMinute change.minute = subst IsMinute c.get.ensures.value c.get.ensures.range in
     ap (λ xs. with_edits xs (tables_of H)) c.new.ensures
-    ∙ rows-lead _ H change.stamped change (c.requires.judged H stands) (c.is_judged.ensures H stands) c.ranges_hold.ensures range c.args.number c.in_ok-edits.edits.items next
-    (subst (λ takes. AreEditsOf H c.args.number change.minute takes change.stamped.command c.in_ok-edits.edits.items) c.takes.ensures (c.in_ok-edits.ensures.edits H stands))
+    ∙ rows-lead _ H change.stamped change (c.requires.judged H stands) (c.is_judged.ensures H stands) c.ranges_hold.ensures range c.args.number c.in_ok-edits.edits.items
+    (subst (λ takes. AreEditsOf H c.args.number change.minute takes change.stamped.command c.in_ok-edits.edits.items) c.takes.ensures (c.in_ok-edits.ensures H stands)) next
 
 pub returns-clause-new : goal.returns-clause-new
 returns-clause-new g c = λ H stands next.
     let change = c.args.change.now in
     let range : IsMinute change.minute = subst IsMinute c.get.ensures.value c.get.ensures.range in
     subst (λ xs. AreNew xs (tables_of H)) (sym c.new.ensures)
-    (rows-new _ H change.stamped change (c.requires.judged H stands) (c.is_judged.ensures H stands) c.ranges_hold.ensures range c.args.number c.in_ok-edits.edits.items next
-    (subst (λ takes. AreEditsOf H c.args.number change.minute takes change.stamped.command c.in_ok-edits.edits.items) c.takes.ensures (c.in_ok-edits.ensures.edits H stands))
-    (subst (λ takes. AreOrdered c.args.number takes change.stamped.command c.in_ok-edits.edits.items) c.takes.ensures c.in_ok-edits.ensures.order))
+    (rows-new _ H change.stamped change (c.requires.judged H stands) (c.is_judged.ensures H stands) c.ranges_hold.ensures range c.args.number c.in_ok-edits.edits.items
+    (subst (λ takes. AreEditsOf H c.args.number change.minute takes change.stamped.command c.in_ok-edits.edits.items) c.takes.ensures (c.in_ok-edits.ensures H stands)) next)
+
+pub returns-clause-takes_first : goal.returns-clause-takes_first
+returns-clause-takes_first g c =
+    let change = c.args.change.now in
+    let H : History = c.requires.room.0 in
+    let stands = c.requires.room.1 in
+    let range : IsMinute change.minute = subst IsMinute c.get.ensures.value c.get.ensures.range in
+    subst AreTakesFirst (sym c.new.ensures)
+    (rows-fit _ H change.stamped change (c.requires.judged H stands) (c.is_judged.ensures H stands) c.ranges_hold.ensures range c.args.number c.in_ok-edits.edits.items
+    (subst (λ takes. AreEditsOf H c.args.number change.minute takes change.stamped.command c.in_ok-edits.edits.items) c.takes.ensures (c.in_ok-edits.ensures H stands))).0
+
+pub returns-clause-balanced : goal.returns-clause-balanced
+returns-clause-balanced g c =
+    let change = c.args.change.now in
+    let H : History = c.requires.room.0 in
+    let stands = c.requires.room.1 in
+    let range : IsMinute change.minute = subst IsMinute c.get.ensures.value c.get.ensures.range in
+    subst AreBalanced (sym c.new.ensures)
+    (rows-fit _ H change.stamped change (c.requires.judged H stands) (c.is_judged.ensures H stands) c.ranges_hold.ensures range c.args.number c.in_ok-edits.edits.items
+    (subst (λ takes. AreEditsOf H c.args.number change.minute takes change.stamped.command c.in_ok-edits.edits.items) c.takes.ensures (c.in_ok-edits.ensures H stands))).1

@@ -3,21 +3,12 @@ use Rattle.std.specs.List.{flat_map}
 use Rattle.std.specs.BTreeMap.{values}
 use Rattle.state_rows.specs.declared.edit.RowEdit.TheVariants.{PutReel}
 use Rattle.state_rows.specs.EditsOf.{take_spent, place_rows}
-use Rattle.state_rows.proofs.Taken.{taken-all, placed-last}
+use Rattle.state_rows.proofs.Taken.{taken-all}
 use Rattle.state_rows.proofs.takes.take.Goals as goal
 
-pub returns-clause-edits : goal.returns-clause-edits
-returns-clause-edits g c = λ H stands.
+pub returns : goal.returns
+returns g c = λ H stands.
     taken-all H c.args.number c.args.takes.now c.in_ok-rows.rows.entries c.place_all.new.edits.items c.in_ok-put_all.ensures.ordered (c.in_ok-rows.ensures H stands)
-    (c.in_ok-place_all.ensures
-    ∙ ap (λ l. l ++ place_rows c.args.number 1 c.args.takes.now)
-    (c.in_ok-put_all.ensures.put
-    ∙ ap (λ l. l ++ map (λ row. PutReel row) (values c.in_ok-rows.rows))
-    (c.in_ok-take_off.ensures ∙ ap (λ l. l ++ flat_map take_spent (values c.in_ok-rows.rows)) c.in_ok-edits.ensures.items)))
-
-pub returns-clause-order : goal.returns-clause-order
-returns-clause-order g c =
-    placed-last c.args.number c.args.takes.now (values c.in_ok-rows.rows) c.place_all.new.edits.items
     (c.in_ok-place_all.ensures
     ∙ ap (λ l. l ++ place_rows c.args.number 1 c.args.takes.now)
     (c.in_ok-put_all.ensures.put

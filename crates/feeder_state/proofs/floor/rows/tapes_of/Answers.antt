@@ -1,0 +1,15 @@
+use Rattle.std.proofs.Common.{rules, unwrap_or, [], ◌++◌, ap, subst, ◌∙◌}
+use Rattle.std.specs.BTreeMap.{is_at}
+use Rattle.std.specs.Map.{lookup}
+use Rattle.desk_types.specs.Pair.{by_pair}
+use Rattle.state_rows.specs.Kept.{tables_in, ListsMounts}
+use Rattle.state_rows.specs.Tables.{Tables}
+use Rattle.state_rows.proofs.SlotRows.{slot_reels, slot-reels}
+use Rattle.feeder_state.proofs.floor.rows.tapes_of.Goals as goal
+
+pub loop-row-init : goal.loop-row-init
+loop-row-init c = λ H rows m s.
+    let es = c.into_iter-row-iterator.result in
+    let lists : ListsMounts es (tables_in c.args.rows.now).mounts = subst (λ xs. ListsMounts xs (tables_in c.args.rows.now).mounts) (search rules) c.mounts-row-items.ensures in
+    ap (λ entries. unwrap_or (lookup (is_at (by_pair (m, s))) entries) [] ++ slot_reels m s es) c.new-tapes.ensures.empty
+    ∙ slot-reels H m s rows.judged es (subst (ListsMounts es) (ap (λ (t : Tables). t.mounts) rows.tables) lists)

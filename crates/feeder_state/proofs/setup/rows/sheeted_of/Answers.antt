@@ -1,0 +1,27 @@
+use Rattle.std.proofs.Common.{rules, sym, ap, subst, ◌∙◌}
+use Rattle.std.specs.Prelude.{◌||◌}
+use Rattle.std.specs.BTreeMap.{is_at}
+use Rattle.std.specs.List.{list_any}
+use Rattle.desk_types.specs.Id.{same, by_name}
+use Rattle.state_rows.specs.Kept.{tables_in, by_sheet_place, Lists}
+use Rattle.state_rows.specs.Tables.{Tables}
+use Rattle.feeder_state.specs.Setup.{is_sheeted}
+use Rattle.feeder_state.proofs.Filling.{set-next}
+use Rattle.feeder_state.proofs.Sets.{put}
+use Rattle.feeder_state.proofs.Sheeting.{is_for, rows-for}
+use Rattle.feeder_state.proofs.setup.rows.sheeted_of.Goals as goal
+
+pub loop-key-init : goal.loop-key-init
+loop-key-init c = λ H rows m.
+    let es = c.into_iter-key-iterator.result in
+    let sheets = (tables_in c.args.rows.now).sheets in
+    let lists : Lists by_sheet_place es (λ k. sheets k.0 k.1 k.2) = subst (λ xs. Lists by_sheet_place xs (λ k. sheets k.0 k.1 k.2)) (search rules) c.sheets-key-items.ensures in
+    ap (λ names. list_any (is_at (by_name m)) names || is_for m es) c.new-sheeted.ensures.empty
+    ∙ rows-for H m es rows.judged (subst (λ f. Lists by_sheet_place es (λ k. f k.0 k.1 k.2)) (ap (λ (t : Tables). t.sheets) rows.tables) lists)
+
+pub loop-key-preserved : goal.loop-key-preserved
+loop-key-preserved c = λ H rows m.
+    let machine = c.in-Some.key.now.1 in
+    let now = is_sheeted c.loop-key.sheeted m in
+    set-next now (is_sheeted c.insert.new.self m) (same machine m) (is_for m c.next.new.self) _ (put machine m (is_sheeted c.insert.new.self m) now (c.in_ok-insert.ensures.updates.0 m))
+    (ap (λ es. now || is_for m es) (sym c.in-Some.ensures.steps) ∙ c.loop-key.invariant H rows m)

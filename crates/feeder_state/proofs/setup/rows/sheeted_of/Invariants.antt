@@ -1,0 +1,13 @@
+use Rattle.std.proofs.Common.{◌≡◌}
+use Rattle.std.specs.Prelude.{◌||◌}
+use Rattle.desk_types.specs.Id.{Name}
+use Rattle.desk_types.specs.History.{History}
+use Rattle.desk_types.specs.View.{has_sheet}
+use Rattle.feeder_state.specs.Restored.{AreRowsOf}
+use Rattle.feeder_state.specs.Setup.{is_sheeted}
+use Rattle.feeder_state.proofs.Sheeting.{is_for}
+use Rattle.feeder_state.proofs.setup.rows.sheeted_of.Given as goal
+
+-- the machines that are in, or are left to be put in
+abbrev pub invariant-loop-key : goal.invariant-loop-key
+invariant-loop-key l = (H : History) → AreRowsOf H l.rows → (m : Name) → (is_sheeted l.sheeted m || is_for m l.key-iterator) ≡ has_sheet H m

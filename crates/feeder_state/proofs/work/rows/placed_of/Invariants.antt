@@ -1,0 +1,11 @@
+use Rattle.std.proofs.Common.{◌≡◌}
+use Rattle.std.specs.Prelude.{◌||◌}
+use Rattle.std.specs.List.{list_any}
+use Rattle.desk_types.specs.Id.{Name, same}
+use Rattle.feeder_state.specs.Work.{is_placed_at}
+use Rattle.feeder_state.proofs.Working.{has_such}
+use Rattle.feeder_state.proofs.work.rows.placed_of.Given as goal
+
+-- the designators that are in, or are left to be put in
+abbrev pub invariant-loop-board : goal.invariant-loop-board
+invariant-loop-board l = (b d : Name) → (is_placed_at l.placed b d || has_such (list_any (same d)) b l.board-iterator) ≡ has_such (list_any (same d)) b l.initial.board-iterator

@@ -1,0 +1,53 @@
+use Rattle.std.proofs.Common.{rules, Some, cond, sym, ap, subst, ◌∙◌}
+use Rattle.std.specs.BTreeMap.{is_at}
+use Rattle.std.specs.Map.{lookup}
+use Rattle.std.specs.Option.{option_map_or}
+use Rattle.std.proofs.lemmas.Cmp.{nat_list_cmp_total}
+use Rattle.desk_types.specs.Id.{same, by_name}
+use Rattle.desk_types.specs.Work.{in_work_on}
+use Rattle.state_rows.specs.Kept.{tables_in, Lists}
+use Rattle.state_rows.specs.Tables.{Tables}
+use Rattle.feeder_state.specs.Work.{running_at}
+use Rattle.feeder_state.proofs.Filling.{AreOf, each-of}
+use Rattle.feeder_state.proofs.Working.{IsRunning, running-first, running-next, running-last}
+use Rattle.feeder_state.proofs.work.rows.running_of.Goals as goal
+
+pub loop-board-init : goal.loop-board-init
+loop-board-init c =
+    let es = c.into_iter-board-iterator.result in
+    let boards = (tables_in c.args.rows.now).boards in
+    let lists : Lists by_name es boards = subst (λ xs. Lists by_name xs boards) (search rules) c.boards-board-items.ensures in (
+      each-of by_name nat_list_cmp_total es boards lists,
+      λ H rows m.
+          running-first H m es (running_at c.new-running.result m) rows.judged (λ b. lists.rows b ∙ ap (λ (t : Tables). t.boards b) rows.tables)
+          (ap (lookup (is_at (by_name m))) c.new-running.ensures.empty),
+    )
+
+pub loop-board-preserved-in-Some-machine : goal.loop-board-preserved-in-Some-machine
+loop-board-preserved-in-Some-machine c =
+    let board = c.in-Some.board.now in
+    let old = running_at c.loop-board.running in
+    let each = subst (AreOf (tables_in c.args.rows.now).boards) c.in-Some.ensures.steps c.loop-board.invariant.0 in (
+      each.1,
+      λ H rows m.
+          running-next H m board c.in-Some.row.now c.next.new.self (old m) (running_at c.put.new.map m) rows.judged (sym (ap (λ (t : Tables). t.boards board) rows.tables) ∙ each.0)
+          (subst (λ es. IsRunning es (in_work_on H m) (old m)) c.in-Some.ensures.steps (c.loop-board.invariant.1 H rows m))
+          (c.in_ok-put.ensures m ∙ ap (λ o. option_map_or (λ x. cond (same x m) (Some board) (old m)) o (old m)) (sym c.in-Some-machine.is)),
+    )
+
+pub loop-board-preserved : goal.loop-board-preserved
+loop-board-preserved c =
+    let board = c.in-Some.board.now in
+    let old = running_at c.loop-board.running in
+    let each = subst (AreOf (tables_in c.args.rows.now).boards) c.in-Some.ensures.steps c.loop-board.invariant.0 in (
+      each.1,
+      λ H rows m.
+          running-next H m board c.in-Some.row.now c.next.new.self (old m) (old m) rows.judged (sym (ap (λ (t : Tables). t.boards board) rows.tables) ∙ each.0)
+          (subst (λ es. IsRunning es (in_work_on H m) (old m)) c.in-Some.ensures.steps (c.loop-board.invariant.1 H rows m))
+          (sym (ap (λ o. option_map_or (λ x. cond (same x m) (Some board) (old m)) o (old m)) c.in_default.is)),
+    )
+
+pub returns : goal.returns
+returns c = λ H rows m.
+    running-last (in_work_on H m) (running_at c.loop-board.running m)
+    (subst (λ es. IsRunning es (in_work_on H m) (running_at c.loop-board.running m)) c.in-None.ensures.steps.0 (c.loop-board.invariant.1 H rows m))

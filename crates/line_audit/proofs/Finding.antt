@@ -1,0 +1,36 @@
+-- What a look-up by a key tells.
+use Rattle.std.proofs.Common.{◌≡◌, ◌↔◌, Bool, IsTrue, ℕ, List, [], ◌∷◌, Some, filter, subst}
+use Rattle.std.specs.List.{list_all}
+use Rattle.std.specs.List.Sorted.{IsPermutation}
+use Rattle.std.proofs.lemmas.List.Sorted.{IsPermutation-sym}
+use Rattle.sqlite_value.specs.Order.{Row}
+use Rattle.sqlite_schema.specs.declared.schema.Table.{Table}
+use Rattle.sqlite.specs.Term.{Term, holds}
+use Rattle.sqlite.specs.Query.{output}
+use Rattle.sqlite_trees.specs.declared.store.Store.{Ghosts}
+use Rattle.sqlite.specs.Held.{Held, state}
+use Rattle.line_tables.specs.StateRows.{columns, rows_in}
+use Rattle.line_tables.proofs.FindTexts.{IsSelect, rows_from, count_from}
+use Rattle.line_tables.proofs.Finds.{finds_rows, one_order}
+use Rattle.line_tables.proofs.Numbers.{finds_count}
+use Rattle.line_audit.specs.Alone.{ShowsOnly, FindsAlone, ShowsCount, Counts}
+
+-- one row is shown just where one row passes
+alone_as : (passed shown : List Row) (row : Row) (b : Bool) → IsPermutation passed shown → (IsTrue b ↔ (shown ≡ row ∷ [])) → IsTrue b ↔ (passed ≡ row ∷ [])
+alone_as passed shown row b same is = (
+  λ yes. one_order passed (Some row) (subst (IsPermutation passed) (is.0 yes) same),
+  λ one. is.1 (one_order shown (Some row) (subst (IsPermutation shown) one (IsPermutation-sym passed shown same))),
+)
+
+-- a query of a table of ours by a test of its columns tells whether the row is the one that passes
+pub finds_alone : {S : Type 0} (g : Ghosts S) (sql : List ℕ) (table : Table) (test project : List Term) (names : List (List ℕ)) → IsSelect sql (rows_from table.tree test project) names → (params : Row) (has : Row → Bool)
+    → ((r : Row) → list_all (holds (params ∷ r ∷ [])) test ≡ has (columns table r)) → ((r : Row) → (output (rows_from table.tree test project) (params ∷ r ∷ [])).1 ≡ columns table r)
+    → (old : Held S) (row : Row) (b : Bool) → ShowsOnly g sql params old row b → FindsAlone table has row (state g old) b
+finds_alone g sql table test project names is params has passes out old row b shows =
+    let rows = shows.0 in
+    let found = finds_rows g sql table.tree test project names is params (columns table) has passes out old rows shows.1 in
+    record { was_open = found.was_open; are = λ schema. alone_as (filter has (rows_in table (state g old).committed)) rows row b (found.are schema) shows.2 }
+
+-- a query of a table of ours counts its rows
+pub counts_rows : {S : Type 0} (g : Ghosts S) (sql : List ℕ) (table : Table) (names : List (List ℕ)) → IsSelect sql (count_from table.tree) names → (old : Held S) (n : ℕ) → ShowsCount g sql old n → Counts table (state g old) n
+counts_rows g sql table names is old n shows = finds_count g sql table.tree names is (columns table) old shows.0 n shows.1 shows.2 shows.3

@@ -1,0 +1,12 @@
+pub mod Alike
+pub mod Finding
+pub mod Here
+pub mod Keys
+pub mod Listing
+pub mod Looked
+pub mod Matching
+pub mod Members
+pub mod Placing
+pub mod Spaced
+pub mod Telling
+pub mod Texts

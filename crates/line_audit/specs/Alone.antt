@@ -1,0 +1,67 @@
+-- Rows that are looked up by their keys.
+use Rattle.std.specs.Prelude.{◌≡◌, ◌↔◌, ◌⊎◌, ◌<◌, ◌+◌, ⊤, ℕ, pos, length, Bool, true, IsTrue, Option, Some, List, [], ◌∷◌, map, filter}
+use Rattle.std.specs.List.{AllByRecursion}
+use Rattle.sqlite_value.specs.declared.value.ValueRef.{ValueRef}
+use Rattle.sqlite.specs.declared.types.Value.TheVariants.{Int}
+use Rattle.sqlite_value.specs.Value.{owned}
+use Rattle.sqlite_value.specs.Order.{Row}
+use Rattle.sqlite_schema.specs.declared.schema.Table.{Table}
+use Rattle.sqlite_trees.specs.declared.store.Store.{Ghosts}
+use Rattle.sqlite.specs.Held.{Held}
+use Rattle.sqlite.specs.State.{State}
+use Rattle.sqlite.specs.Effect.{Database}
+use Rattle.line_tables.specs.declared.reading.TheConstants.{MOST_COUNTED}
+use Rattle.line_tables.specs.Calls.{Selects, Reads}
+use Rattle.line_tables.specs.StateRows.{rows_in}
+
+-- the values that are lent
+abbrev pub values_of : List ValueRef → Row
+values_of values = map owned values
+
+-- the query shows this row and no other
+abbrev pub ShowsOnly : {S : Type 0} → Ghosts S → List ℕ → Row → Held S → Row → Bool → Type 0
+ShowsOnly g sql params old row b = (rows : List Row) × Selects g sql params old rows × (IsTrue b ↔ (rows ≡ row ∷ []))
+
+-- of what is committed, this is the one row that passes the test
+abbrev pub FindsAlone : Table → (Row → Bool) → Row → State → Bool → Type 0
+FindsAlone table has row old b = Reads old (λ db. IsTrue b ↔ (filter has (rows_in table db) ≡ row ∷ []))
+
+-- the query shows one number, below the greatest that SQL counts
+abbrev pub ShowsCount : {S : Type 0} → Ghosts S → List ℕ → Held S → ℕ → Type 0
+ShowsCount g sql old n = (rows : List Row) × Selects g sql [] old rows × (rows ≡ (Int (pos n) ∷ []) ∷ []) × (n < MOST_COUNTED)
+
+-- of what is committed, the table has so many rows
+abbrev pub Counts : Table → State → ℕ → Type 0
+Counts table old n = Reads old (λ db. n ≡ length (rows_in table db))
+
+-- the row of each entry is the one with its key
+abbrev pub AreAlone : {K R : Type 0} → (K → Row → Bool) → (K → R → Row) → List Row → List (K × R) → Type 0
+AreAlone has columns rows es = AllByRecursion (λ e. filter (has e.0) rows ≡ columns e.0 e.1 ∷ []) es
+
+-- the row of each entry is the one with its key, and so many rows are left beside them
+abbrev pub Matched : {K R : Type 0} → Table → (K → Row → Bool) → (K → R → Row) → State → ℕ → List (K × R) → Type 0
+Matched table has columns old left es = Reads old (λ db. (left + length es ≡ length (rows_in table db)) × AreAlone has columns (rows_in table db) es)
+
+-- whether what is committed is so
+abbrev pub Tells : (Database → Type 0) → State → Bool → Type 0
+Tells Is old b = Reads old (λ db. IsTrue b ↔ Is db)
+
+-- the key differs from those of the entries
+abbrev pub IsNew : {K R : Type 0} → K → List (K × R) → Type 0
+IsNew k es = AllByRecursion (λ e. k ≡ e.0 → ⊥) es
+
+-- no two entries have one key
+abbrev pub AreApart : {K R : Type 0} → List (K × R) → Type 0
+AreApart [] = ⊤
+AreApart (e ∷ es) = IsNew e.0 es × AreApart es
+
+-- some entry has the key
+abbrev pub IsNamed : {K R : Type 0} → K → List (K × R) → Type 0
+IsNamed k [] = ⊥
+IsNamed k (e ∷ es) = (k ≡ e.0) ⊎ IsNamed k es
+
+-- the entries are those of the map
+pub record Listed {K R : Type 0} (es : List (K × R)) (f : K → Option R) : Type 0 where
+  pub each : AllByRecursion (λ e. f e.0 ≡ Some e.1) es
+  pub all : (k : K) (r : R) → f k ≡ Some r → IsNamed k es
+  pub distinct : AreApart es

@@ -1,0 +1,75 @@
+-- What an audit of the state tables tells.
+use Rattle.std.specs.Prelude.{◌≡◌, ℕ, Bool, false, IsTrue, Option, Some, None, List, [], ◌∷◌, ◌++◌, length}
+use Rattle.std.specs.List.{AllByRecursion}
+use Rattle.sqlite_rules.specs.Lists.{Has}
+use Rattle.sqlite.specs.Effect.{Database}
+use Rattle.sqlite.specs.State.{State}
+use Rattle.state_rows.specs.declared.row.PlacementRow.{PlacementRow}
+use Rattle.state_rows.specs.Tables.{Tables as StateTables}
+use Rattle.line_tables.specs.Line as line
+use Rattle.line_tables.specs.Line.{line_schema}
+use Rattle.line_tables.specs.StateRows.{AreRows, rows_in, has_piece, placement_columns, HoldsParts, HoldsAlternates, HoldsSheets, HoldsSelected, HoldsReels, HoldsMounts, HoldsBoards, HoldsPlacements, HoldsFound, HoldsState}
+use Rattle.line_audit.specs.declared.table.StateTable.{StateTable}
+use Rattle.line_audit.specs.declared.table.StateTable.TheVariants.{Part, Alternate, SheetRow, Selected, Reel, Mount, Board, Placement, Found}
+use Rattle.line_audit.specs.Alone.{Listed, AreAlone}
+
+-- the order in which the tables are looked at
+abbrev pub state_tables : List StateTable
+state_tables = Part ∷ Alternate ∷ SheetRow ∷ Selected ∷ Reel ∷ Mount ∷ Board ∷ Placement ∷ Found ∷ []
+
+-- the rows of one table are those of its map
+abbrev pub HoldsTable : Database → StateTables → StateTable → Type 0
+HoldsTable db t Part = HoldsParts db t
+HoldsTable db t Alternate = HoldsAlternates db t
+HoldsTable db t SheetRow = HoldsSheets db t
+HoldsTable db t Selected = HoldsSelected db t
+HoldsTable db t Reel = HoldsReels db t
+HoldsTable db t Mount = HoldsMounts db t
+HoldsTable db t Board = HoldsBoards db t
+HoldsTable db t Placement = HoldsPlacements db t
+HoldsTable db t Found = HoldsFound db t
+
+-- the rows of the table are not those of its map, and those of each table before it are
+pub record IsFirstWrong (db : Database) (t : StateTables) (table : StateTable) : Type 0 where
+  pub before : List StateTable
+  pub after : List StateTable
+  pub place : state_tables ≡ before ++ table ∷ after
+  pub right : AllByRecursion (HoldsTable db t) before
+  pub wrong : HoldsTable db t table → ⊥
+
+-- the database has the rows of these tables, or this table is the first that has other rows
+abbrev pub IsVerdict : Database → StateTables → Option StateTable → Type 0
+IsVerdict db t None = HoldsState db t
+IsVerdict db t (Some table) = IsFirstWrong db t table
+
+-- placements, each with its number and its place
+abbrev pub Pieces : Type 0
+Pieces = List ((ℕ × ℕ) × PlacementRow)
+
+-- each entry goes by the number and the place of its row
+abbrev pub AreByPiece : Pieces → Type 0
+AreByPiece es = AllByRecursion (λ e. e.0 ≡ (e.1.number, e.1.place)) es
+
+-- Where they were all found, each row is in the table. Where not, some row is not the one of its number and place.
+pub record ArePlaced (db : Database) (all : Bool) (es : Pieces) : Type 0 where
+  pub here : IsTrue all → AllByRecursion (λ e. Has (rows_in line.placement db) (placement_columns e.1)) es
+  pub missing : all ≡ false → AreAlone has_piece (λ _ row. placement_columns row) (rows_in line.placement db) es → ⊥
+
+-- the tables with these placements
+abbrev pub with_placements : (ℕ × ℕ → Option PlacementRow) → StateTables → StateTables
+with_placements f t = record t { placements = λ number place. f (number, place) }
+
+-- the rows of `placement` are those of the map
+abbrev pub HasPlacements : Database → (ℕ × ℕ → Option PlacementRow) → Type 0
+HasPlacements db f = AreRows has_piece (λ _ row. placement_columns row) (rows_in line.placement db) f
+
+-- The expected placements are these, so many, and those of the map; and what is committed has them, if all were found.
+pub record IsExpected (old : State) (all : Bool) (count : ℕ) (es : Pieces) (f : ℕ × ℕ → Option PlacementRow) : Type 0 where
+  pub listed : Listed es f
+  pub pieces : AreByPiece es
+  pub counted : length es ≡ count
+  pub placed : IsTrue old.is_open → old.committed.schema ≡ line_schema → ArePlaced old.committed all es
+
+-- an entry for a row, by its number and its place
+abbrev pub piece_of : PlacementRow → (ℕ × ℕ) × PlacementRow
+piece_of p = ((p.number, p.place), p)

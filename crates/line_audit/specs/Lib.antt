@@ -1,0 +1,4 @@
+pub mod Alone
+pub mod Audit
+pub mod Placed
+pub mod TableNames

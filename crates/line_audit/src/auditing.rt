@@ -1,0 +1,98 @@
+//! The audit of all state tables.
+
+ghost use Rattle.std.specs.Prelude.{◌≡◌, ℕ, Option, false, IfOk};
+ghost use Rattle.sqlite.specs.State.{HasCleanDisk, Survives, KeepsCommit};
+ghost use Rattle.sqlite.specs.Held.{state};
+ghost use Rattle.state_rows.specs.declared.row.PlacementRow.{PlacementRow as PlacedRow};
+ghost use Rattle.state_rows.specs.Kept.{tables_in};
+ghost use Rattle.line_tables.specs.Calls.{Reads};
+ghost use Rattle.line_audit.specs.Alone.{Tells};
+ghost use Rattle.line_audit.specs.Audit.{Pieces, IsExpected, HasPlacements, HoldsTable, IsVerdict, with_placements};
+
+use crate::compared::{
+    are_alternates, are_boards, are_found, are_mounts, are_parts, are_reels, are_selected,
+    are_sheets,
+};
+use crate::placed::count_placements;
+use crate::table::StateTable;
+use sqlite::{Alter, Connection, Error};
+use state_rows::RowSet;
+use std::alloc::Global;
+
+/// What was learnt of the placements that are expected.
+#[derive(Clone, Copy, Debug)]
+pub struct Placed {
+    /// Whether each was found.
+    pub all: bool,
+    pub count: u64,
+}
+
+const STATE_TABLES: [StateTable; 9] = [
+    StateTable::Part,
+    StateTable::Alternate,
+    StateTable::SheetRow,
+    StateTable::Selected,
+    StateTable::Reel,
+    StateTable::Mount,
+    StateTable::Board,
+    StateTable::Placement,
+    StateTable::Found,
+];
+
+/// The first table whose rows are not those of the set, if there is one. What is said of placements
+/// goes by what was learnt of them, and not by those of the set.
+pub fn audit<S: Alter>(
+    alloc: Global,
+    conn: &mut Connection<S>,
+    rows: &RowSet,
+    placed: Placed,
+) -> Result<Option<StateTable>, Error>
+    ensures verdict { HasCleanDisk (state S.Store conn.new) → IfOk result (λ verdict. (f : ℕ × ℕ → Option PlacedRow) → (es : Pieces) → IsExpected (state S.Store conn.old) placed.all placed.count es f → Reads (state S.Store conn.old) (λ db. IsVerdict db (with_placements f (tables_in rows.now)) verdict)) }
+    ensures kept { HasCleanDisk (state S.Store conn.new) → KeepsCommit (state S.Store conn.old) (state S.Store conn.new) }
+    ensures mode { conn.old.in_transaction ≡ false → conn.new.in_transaction ≡ false }
+    ensures survives { Survives (state S.Store conn.old) (state S.Store conn.new) (λ _. ⊥) }
+{
+    for table in &STATE_TABLES {
+        if !is_same(alloc, conn, rows, placed, *table)? {
+            return Ok(Some(*table));
+        }
+    }
+    Ok(None)
+}
+
+/// Whether the rows of the table are those of the set.
+fn is_same<S: Alter>(
+    alloc: Global,
+    conn: &mut Connection<S>,
+    rows: &RowSet,
+    placed: Placed,
+    table: StateTable,
+) -> Result<bool, Error>
+    ensures same { HasCleanDisk (state S.Store conn.new) → IfOk result (λ b. (f : ℕ × ℕ → Option PlacedRow) → (es : Pieces) → IsExpected (state S.Store conn.old) placed.all placed.count es f → Tells (λ db. HoldsTable db (with_placements f (tables_in rows.now)) table) (state S.Store conn.old) b) }
+    ensures kept { HasCleanDisk (state S.Store conn.new) → KeepsCommit (state S.Store conn.old) (state S.Store conn.new) }
+    ensures mode { conn.old.in_transaction ≡ false → conn.new.in_transaction ≡ false }
+    ensures survives { Survives (state S.Store conn.old) (state S.Store conn.new) (λ _. ⊥) }
+{
+    match table {
+        StateTable::Part => are_parts(conn, rows),
+        StateTable::Alternate => are_alternates(conn, rows),
+        StateTable::SheetRow => are_sheets(alloc, conn, rows),
+        StateTable::Selected => are_selected(conn, rows),
+        StateTable::Reel => are_reels(conn, rows),
+        StateTable::Mount => are_mounts(conn, rows),
+        StateTable::Board => are_boards(conn, rows),
+        StateTable::Placement => are_placements(conn, placed),
+        StateTable::Found => are_found(conn, rows),
+    }
+}
+
+/// Whether `placement` has the expected rows: each was found, and there are so many.
+fn are_placements<S: Alter>(conn: &mut Connection<S>, placed: Placed) -> Result<bool, Error>
+    ensures same { HasCleanDisk (state S.Store conn.new) → IfOk result (λ b. (f : ℕ × ℕ → Option PlacedRow) → (es : Pieces) → IsExpected (state S.Store conn.old) placed.all placed.count es f → Tells (λ db. HasPlacements db f) (state S.Store conn.old) b) }
+    ensures kept { HasCleanDisk (state S.Store conn.new) → KeepsCommit (state S.Store conn.old) (state S.Store conn.new) }
+    ensures mode { conn.old.in_transaction ≡ false → conn.new.in_transaction ≡ false }
+    ensures survives { Survives (state S.Store conn.old) (state S.Store conn.new) (λ _. ⊥) }
+{
+    let count = count_placements(conn)?;
+    Ok(placed.all && count == placed.count)
+}

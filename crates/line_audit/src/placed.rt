@@ -1,0 +1,54 @@
+//! The table `placement`.
+
+ghost use Rattle.std.specs.Prelude.{◌≡◌, false, IfOk};
+ghost use Rattle.sqlite.specs.State.{HasCleanDisk, Survives, KeepsCommit};
+ghost use Rattle.sqlite.specs.Held.{state};
+ghost use Rattle.line_tables.specs.Line as line;
+ghost use Rattle.line_tables.specs.StateRows.{placement_columns};
+ghost use Rattle.line_audit.specs.Alone.{Counts, FindsAlone};
+ghost use Rattle.line_audit.specs.Placed.{has_placement};
+
+use crate::shown::{shows_count, shows_only};
+use crate::values::{designator, number, text, yes_or_no};
+use sqlite::{Alter, Connection, Error};
+use state_rows::PlacementRow;
+
+/// Whether the row is the one of its board, its designator, its number and its place. It is looked up
+/// by the index on board and designator.
+pub fn has_placement<S: Alter>(conn: &mut Connection<S>, row: &PlacementRow) -> Result<bool, Error>
+    ensures found { HasCleanDisk (state S.Store conn.new) → IfOk result (FindsAlone line.placement (has_placement row.now) (placement_columns row.now) (state S.Store conn.old)) }
+    ensures kept { HasCleanDisk (state S.Store conn.new) → KeepsCommit (state S.Store conn.old) (state S.Store conn.new) }
+    ensures mode { conn.old.in_transaction ≡ false → conn.new.in_transaction ≡ false }
+    ensures survives { Survives (state S.Store conn.old) (state S.Store conn.new) (λ _. ⊥) }
+{
+    shows_only(
+        conn,
+        "SELECT number, place, board, designator, machine, slot, reel, overdue FROM placement WHERE board = ?1 AND designator = ?2 AND number = ?3 AND place = ?4",
+        &[
+            text(&row.board),
+            designator(&row.designator),
+            number(row.number)?,
+            number(row.place)?,
+        ],
+        &[
+            number(row.number)?,
+            number(row.place)?,
+            text(&row.board),
+            designator(&row.designator),
+            text(&row.machine),
+            text(&row.slot),
+            text(&row.reel),
+            yes_or_no(row.overdue),
+        ],
+    )
+}
+
+/// How many rows `placement` has.
+pub fn count_placements<S: Alter>(conn: &mut Connection<S>) -> Result<u64, Error>
+    ensures counted { HasCleanDisk (state S.Store conn.new) → IfOk result (Counts line.placement (state S.Store conn.old)) }
+    ensures kept { HasCleanDisk (state S.Store conn.new) → KeepsCommit (state S.Store conn.old) (state S.Store conn.new) }
+    ensures mode { conn.old.in_transaction ≡ false → conn.new.in_transaction ≡ false }
+    ensures survives { Survives (state S.Store conn.old) (state S.Store conn.new) (λ _. ⊥) }
+{
+    shows_count(conn, "SELECT count(*) FROM placement")
+}

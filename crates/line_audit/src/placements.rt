@@ -1,0 +1,101 @@
+//! The placements of one entry.
+
+ghost use Rattle.std.specs.Prelude.{◌≡◌, ◌<◌, ◌↔◌, false, length, map, IsTrue, IfOk};
+ghost use Rattle.sqlite.specs.State.{HasCleanDisk, Survives, KeepsCommit};
+ghost use Rattle.sqlite.specs.Held.{state};
+ghost use Rattle.line_tables.specs.Calls.{Reads};
+ghost use Rattle.line_tables.specs.StateRows.{placement_columns};
+ghost use Rattle.line_audit.specs.Audit.{ArePlaced, piece_of};
+ghost use Rattle.line_audit.specs.Placed.{AreHere};
+
+use crate::placed::has_placement;
+use crate::values::{designator, is_row, number, text, yes_or_no};
+use line_tables::select::select;
+use sqlite::{Alter, Connection, Error, Row};
+use state_rows::PlacementRow;
+
+/// Whether each of the rows, all of this number, is in the table. In a file of ours their rowids go by
+/// number and place, so one query shows them; in any other each is looked up.
+pub fn has_placements<S: Alter>(
+    conn: &mut Connection<S>,
+    entry: u64,
+    rows: &[PlacementRow],
+) -> Result<bool, Error>
+    requires some { 0 < length rows.now }
+    ensures found { HasCleanDisk (state S.Store conn.new) → IfOk result (λ all. Reads (state S.Store conn.old) (λ db. ArePlaced db all (map piece_of rows.now))) }
+    ensures kept { HasCleanDisk (state S.Store conn.new) → KeepsCommit (state S.Store conn.old) (state S.Store conn.new) }
+    ensures mode { conn.old.in_transaction ≡ false → conn.new.in_transaction ≡ false }
+    ensures survives { Survives (state S.Store conn.old) (state S.Store conn.new) (λ _. ⊥) }
+{
+    if are_in_a_row(conn, entry, rows)? {
+        return Ok(true);
+    }
+    has_each(conn, rows)
+}
+
+/// Whether the rows whose rowids go by this number are just these. Then each is in the table.
+fn are_in_a_row<S: Alter>(
+    conn: &mut Connection<S>,
+    entry: u64,
+    rows: &[PlacementRow],
+) -> Result<bool, Error>
+    ensures found { HasCleanDisk (state S.Store conn.new) → IfOk result (λ all. Reads (state S.Store conn.old) (λ db. IsTrue all → AreHere db rows.now)) }
+    ensures kept { HasCleanDisk (state S.Store conn.new) → KeepsCommit (state S.Store conn.old) (state S.Store conn.new) }
+    ensures mode { conn.old.in_transaction ≡ false → conn.new.in_transaction ≡ false }
+    ensures survives { Survives (state S.Store conn.old) (state S.Store conn.new) (λ _. ⊥) }
+{
+    let first = entry.saturating_mul(65_536);
+    let shown = select(
+        conn,
+        "SELECT number, place, board, designator, machine, slot, reel, overdue FROM placement WHERE rowid >= ?1 AND rowid < ?2",
+        &[number(first)?, number(first.saturating_add(65_536))?],
+    )?;
+    are_rows(shown.as_slice(), rows)
+}
+
+fn are_rows(shown: &[Row], rows: &[PlacementRow]) -> Result<bool, Error>
+    ensures { IfOk result (λ are. IsTrue are → shown.now ≡ map placement_columns rows.now) }
+{
+    if shown.len() != rows.len() {
+        return Ok(false);
+    }
+    for at in 0..rows.len() {
+        if !is_placement(&shown[at], &rows[at])? {
+            return Ok(false);
+        }
+    }
+    Ok(true)
+}
+
+fn is_placement(shown: &Row, row: &PlacementRow) -> Result<bool, Error>
+    ensures { IfOk result (λ is. IsTrue is ↔ (shown.now ≡ placement_columns row.now)) }
+{
+    Ok(is_row(
+        shown,
+        &[
+            number(row.number)?,
+            number(row.place)?,
+            text(&row.board),
+            designator(&row.designator),
+            text(&row.machine),
+            text(&row.slot),
+            text(&row.reel),
+            yes_or_no(row.overdue),
+        ],
+    ))
+}
+
+fn has_each<S: Alter>(conn: &mut Connection<S>, rows: &[PlacementRow]) -> Result<bool, Error>
+    requires some { 0 < length rows.now }
+    ensures found { HasCleanDisk (state S.Store conn.new) → IfOk result (λ all. Reads (state S.Store conn.old) (λ db. ArePlaced db all (map piece_of rows.now))) }
+    ensures kept { HasCleanDisk (state S.Store conn.new) → KeepsCommit (state S.Store conn.old) (state S.Store conn.new) }
+    ensures mode { conn.old.in_transaction ≡ false → conn.new.in_transaction ≡ false }
+    ensures survives { Survives (state S.Store conn.old) (state S.Store conn.new) (λ _. ⊥) }
+{
+    for row in rows {
+        if !has_placement(conn, row)? {
+            return Ok(false);
+        }
+    }
+    Ok(true)
+}

@@ -1,0 +1,16 @@
+use Rattle.std.proofs.Common.{◌+◌, List, length, subst, ap, ◌∙◌}
+use Rattle.sqlite.specs.Effect.{Database}
+use Rattle.sqlite.specs.Held.{state}
+use Rattle.state_rows.specs.declared.row.PlacementRow.{PlacementRow}
+use Rattle.line_replay.specs.Beside.{Tells, ArePlacedToo}
+use Rattle.line_replay.proofs.beside.Beside.add.Goals as goal
+
+pub returns-clause-ok : goal.returns-clause-ok
+returns-clause-ok g c =
+    let same = c.as_slice-placed.ensures.value ∙ c.in_ok-placements.ensures in record {
+      rows = c.in_ok-apply_but_placements.ensures;
+      count = c.in_ok-count.ensures.ok ∙ ap (λ n. c.args.self.now.placed.count + n) (ap length same);
+      told = λ clean.
+          subst (λ (rows : List PlacementRow). Tells (state g.S.Store c.args.conn.now) (λ (db : Database). ArePlacedToo db c.args.self.now.placed.all c.in_ok-all.all rows))
+          same (c.in_ok-all.ensures.told clean);
+    }

@@ -1,0 +1,28 @@
+use Rattle.std.proofs.Common.{List, subst, arith}
+use Rattle.sqlite.specs.State.{HasCleanDisk, KeepsCommit}
+use Rattle.sqlite.specs.Held.{state}
+use Rattle.state_rows.specs.declared.edit.RowEdit.{RowEdit}
+use Rattle.line_tables.proofs.Keeps.{keeps_then}
+use Rattle.line_replay.specs.Beside.{Adds}
+use Rattle.line_replay.proofs.Adding.{adds_back}
+use Rattle.line_replay.proofs.Taken.{row_taken}
+use Rattle.line_replay.proofs.taking.take_row.Goals as goal
+
+pub returns-in_ok-add-in-Some-clause-ok : goal.returns-in_ok-add-in-Some-clause-ok
+returns-in_ok-add-in-Some-clause-ok g c H stands numbered =
+    let old = state g.S.Store c.args.conn.now in
+    let first = state g.S.Store c.row_at.new.conn in
+    let mid = state g.S.Store c.accept_first.new.conn in
+    let After = HasCleanDisk (state g.S.Store c.add.new.conn) in
+    let early : After → HasCleanDisk mid = λ clean. omega (arith, c.add.ensures.survives.clean, clean) in
+    let earlier : After → HasCleanDisk first = λ clean. omega (arith, c.accept_first.ensures.survives.clean, early clean) in
+    let kept : After → KeepsCommit old mid = λ clean. keeps_then old first mid (c.row_at.ensures.kept (earlier clean)) (c.accept_first.ensures.kept (early clean)) in
+    let accepts = c.in_ok-edits-in-Some.ensures.ok H stands numbered in record {
+      entry = accepts.entry;
+      stands = accepts.stands;
+      next = accepts.goes.next;
+      row = λ clean. row_taken old first c.in_ok-found.found c.in-Some.row H accepts.entry c.args.number (c.row_at.ensures.kept (earlier clean)) c.in-Some.is numbered accepts.goes.same (c.in_ok-found.ensures.found (earlier clean)) (accepts.first (early clean));
+      edits = c.in_ok-edits-in-Some.edits;
+      lead = accepts.lead;
+      adds = adds_back After old mid c.in_ok-edits-in-Some.edits c.args.beside.now c.add.new.self kept (subst (λ (xs : List RowEdit). Adds After mid xs c.args.beside.now c.add.new.self) c.as_slice.ensures c.in_ok-add-in-Some.ensures.ok);
+    }

@@ -1,0 +1,52 @@
+-- The rows of the state tables beside a list that is read again.
+use Rattle.std.specs.Prelude.{◌≡◌, ◌⊎◌, ◌+◌, Bool, true, false, IsTrue, map, Option, Some, None, List, [], ◌∷◌, length}
+use Rattle.std.specs.List.{filter_map}
+use Rattle.sqlite.specs.Effect.{Database}
+use Rattle.sqlite.specs.State.{State}
+use Rattle.desk_types.specs.History.{History}
+use Rattle.state_rows.specs.declared.edit.RowEdit.{RowEdit}
+use Rattle.state_rows.specs.declared.edit.RowEdit.TheVariants.{PutPlacement}
+use Rattle.state_rows.specs.declared.row.PlacementRow.{PlacementRow}
+use Rattle.state_rows.specs.Tables.{tables_of as state_of, placement_row}
+use Rattle.state_rows.specs.Edits.{with_edits}
+use Rattle.state_rows.specs.Kept.{tables_in, but_placements}
+use Rattle.line_tables.specs.Line.{line_schema}
+use Rattle.line_tables.specs.Calls.{Reads}
+use Rattle.line_audit.specs.Alone.{Listed}
+use Rattle.line_audit.specs.Audit.{Pieces, AreByPiece, ArePlaced, piece_of}
+use Rattle.line_replay.specs.declared.beside.Beside.{Beside}
+
+-- the placement that an edit puts, where it puts one
+abbrev pub placement_by : RowEdit → Option PlacementRow
+placement_by (PutPlacement row) = Some row
+placement_by edit = None
+
+-- the placements among the edits
+abbrev pub placements_by : List RowEdit → List PlacementRow
+placements_by edits = filter_map placement_by edits
+
+-- The rows are those of the list's state tables but for the placements, which are so many; on a clean disk it was told whether each of these is in the database of our schema.
+pub record IsBeside (Clean : Type 0) (db : Database) (beside : Beside) (H : History) : Type 0 where
+  pub rows : tables_in beside.rows ≡ but_placements (state_of H) (state_of [])
+  pub pieces : Pieces
+  pub listed : Listed pieces (λ key. placement_row H key.0 key.1)
+  pub named : AreByPiece pieces
+  pub counted : length pieces ≡ beside.placed.count
+  pub told : Clean → db.schema ≡ line_schema → ArePlaced db beside.placed.all pieces
+
+-- ---- on the way
+
+-- it holds of any database, or it was read of what is committed
+abbrev pub Tells : State → (Database → Type 0) → Type 0
+Tells old Is = ((db : Database) → Is db) ⊎ Reads old Is
+
+-- all were found before, and these too; or one before was not, or one of these
+pub record ArePlacedToo (db : Database) (before after : Bool) (rows : List PlacementRow) : Type 0 where
+  pub here : IsTrue after → IsTrue before × ArePlaced db true (map piece_of rows)
+  pub missing : after ≡ false → (before ≡ false) ⊎ ArePlaced db false (map piece_of rows)
+
+-- the edits were made, and their placements were looked for
+pub record Adds (Clean : Type 0) (old : State) (edits : List RowEdit) (before after : Beside) : Type 0 where
+  pub rows : tables_in after.rows ≡ but_placements (with_edits edits (tables_in before.rows)) (tables_in before.rows)
+  pub count : after.placed.count ≡ before.placed.count + length (placements_by edits)
+  pub told : Clean → Tells old (λ db. ArePlacedToo db before.placed.all after.placed.all (placements_by edits))

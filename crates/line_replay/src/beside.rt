@@ -1,0 +1,117 @@
+//! What is kept beside the desk while a list is read again.
+
+ghost use Rattle.std.specs.Prelude.{◌≡◌, ◌+◌, ⊤, [], false, IfOk, IfErr, OnOk, length};
+ghost use Rattle.sqlite.specs.State.{HasCleanDisk, Survives, KeepsCommit};
+ghost use Rattle.sqlite.specs.Effect.{Database};
+ghost use Rattle.sqlite.specs.Held.{state};
+ghost use Rattle.line_replay.specs.declared.fault.ReplayFault.TheVariants.{Unavailable};
+ghost use Rattle.line_replay.specs.Beside.{IsBeside, Adds, Tells, ArePlacedToo, placement_by, placements_by};
+
+use crate::fault::ReplayFault;
+use line_audit::{Placed, has_placements};
+use sqlite::{Alter, Connection};
+use state_rows::{PlacementRow, RowEdit, RowSet};
+use std::alloc::{AllocError, Global};
+
+/// The rows of the state tables that a list makes. Placements are not kept: each entry's are looked
+/// for in the table at once.
+#[derive(Drop)]
+pub struct Beside {
+    /// The rows of all tables but `placement`.
+    pub rows: RowSet,
+    /// Whether each placement was found, and how many there are.
+    pub placed: Placed,
+}
+
+impl Beside {
+    /// That of an empty list.
+    pub fn new(alloc: Global) -> Beside
+        ensures { (db : Database) → IsBeside ⊤ db result [] }
+    {
+        Beside {
+            rows: RowSet::new(alloc),
+            placed: Placed {
+                all: true,
+                count: 0,
+            },
+        }
+    }
+
+    /// Makes the edits of the entry of this number, and looks for its placements.
+    pub fn add<S: Alter>(
+        &mut self,
+        alloc: Global,
+        conn: &mut Connection<S>,
+        number: u64,
+        edits: &[RowEdit],
+    ) -> Result<(), ReplayFault>
+        ensures ok { OnOk result (Adds (HasCleanDisk (state S.Store conn.new)) (state S.Store conn.old) edits.now self.old self.new) }
+        ensures err { IfErr result (λ f. f ≡ Unavailable) }
+        ensures kept { HasCleanDisk (state S.Store conn.new) → KeepsCommit (state S.Store conn.old) (state S.Store conn.new) }
+        ensures mode { conn.old.in_transaction ≡ false → conn.new.in_transaction ≡ false }
+        ensures survives { Survives (state S.Store conn.old) (state S.Store conn.new) (λ _. ⊥) }
+    {
+        let placements = placements_by(alloc, edits)?;
+        self.rows.apply_but_placements(edits)?;
+        let placed = placements.as_slice();
+        let count = sum(self.placed.count, placed.len())?;
+        let all = are_found(conn, self.placed.all, number, placed)?;
+        self.placed = Placed { all, count };
+        Ok(())
+    }
+}
+
+/// The placements among the edits.
+fn placements_by(alloc: Global, edits: &[RowEdit]) -> Result<Vec<PlacementRow>, AllocError>
+    ensures { IfOk result (λ rows. rows.items ≡ placements_by edits.now) }
+{
+    let mut rows = Vec::new(alloc);
+    for edit in edits {
+        match placement_by(edit) {
+            Some(row) => rows.push(row)?,
+            None => {}
+        }
+    }
+    Ok(rows)
+}
+
+fn placement_by(edit: &RowEdit) -> Option<PlacementRow>
+    ensures { result ≡ placement_by edit.now }
+{
+    match edit {
+        RowEdit::PutPlacement(row) => Some(*row),
+        _ => None,
+    }
+}
+
+fn sum(placed: u64, more: usize) -> Result<u64, ReplayFault>
+    ensures ok { IfOk result (λ n. n ≡ placed + more) }
+    ensures err { IfErr result (λ f. f ≡ Unavailable) }
+{
+    match placed.checked_add(more as u64) {
+        Some(n) => Ok(n),
+        None => Err(ReplayFault::Unavailable),
+    }
+}
+
+/// Whether all were found so far, and these rows are in the table too.
+fn are_found<S: Alter>(
+    conn: &mut Connection<S>,
+    found: bool,
+    number: u64,
+    rows: &[PlacementRow],
+) -> Result<bool, ReplayFault>
+    ensures told { HasCleanDisk (state S.Store conn.new) → IfOk result (λ now. Tells (state S.Store conn.old) (λ db. ArePlacedToo db found now rows.now)) }
+    ensures err { IfErr result (λ f. f ≡ Unavailable) }
+    ensures kept { HasCleanDisk (state S.Store conn.new) → KeepsCommit (state S.Store conn.old) (state S.Store conn.new) }
+    ensures mode { conn.old.in_transaction ≡ false → conn.new.in_transaction ≡ false }
+    ensures survives { Survives (state S.Store conn.old) (state S.Store conn.new) (λ _. ⊥) }
+{
+    if !found {
+        return Ok(false);
+    }
+    if rows.is_empty() {
+        return Ok(true);
+    }
+    Ok(has_placements(conn, number, rows)?)
+}

@@ -1,0 +1,13 @@
+use Rattle.std.proofs.Common.{sym, subst}
+use Rattle.sqlite.specs.Held.{state}
+use Rattle.line_traces.specs.Pieces.{board_trace, lot_board_names, AreConverse}
+use Rattle.line_traces.proofs.Converse.{told-converse}
+use Rattle.line_schema.proofs.Telling.{told-of}
+use Rattle.line_schema.proofs.store.LineStore.board_rows.Goals as goal
+
+pub returns-clause-trace : goal.returns-clause-trace
+returns-clause-trace g c = told-of g.S.Store g.D.Desk.Stands g.D.Desk.kept_rules c.args.self.now (state g.S.Store c.board_rows.new.conn) (λ H. board_trace H c.args.board.now) c.in_ok-board_rows.field-0 c.board_rows.ensures.survives c.in_ok-board_rows.ensures.trace
+
+pub returns-clause-converse : goal.returns-clause-converse
+returns-clause-converse g c L stands clean own lot =
+    subst (λ pieces. AreConverse c.args.board.now pieces lot (lot_board_names L.history lot)) (sym (returns-clause-trace g c L stands clean own)) (told-converse L.history c.args.board.now lot stands.judged)

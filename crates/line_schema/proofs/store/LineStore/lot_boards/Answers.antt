@@ -1,0 +1,13 @@
+use Rattle.std.proofs.Common.{sym, subst}
+use Rattle.sqlite.specs.Held.{state}
+use Rattle.line_traces.specs.Pieces.{lot_board_names, board_trace, AreConverse}
+use Rattle.line_traces.proofs.Converse.{told-converse}
+use Rattle.line_schema.proofs.Telling.{told-of}
+use Rattle.line_schema.proofs.store.LineStore.lot_boards.Goals as goal
+
+pub returns-clause-boards : goal.returns-clause-boards
+returns-clause-boards g c = told-of g.S.Store g.D.Desk.Stands g.D.Desk.kept_rules c.args.self.now (state g.S.Store c.lot_boards.new.conn) (λ H. lot_board_names H c.args.lot.now) c.in_ok-lot_boards.field-0 c.lot_boards.ensures.survives c.in_ok-lot_boards.ensures.boards
+
+pub returns-clause-converse : goal.returns-clause-converse
+returns-clause-converse g c L stands clean own board =
+    subst (λ boards. AreConverse board (board_trace L.history board) c.args.lot.now boards) (sym (returns-clause-boards g c L stands clean own)) (told-converse L.history board c.args.lot.now stands.judged)

@@ -1,0 +1,65 @@
+//! The pieces of a board, of a lot, and of overdue reels, by the tables that a store keeps. The desk is
+//! let be, and need not be at hand.
+
+ghost use Rattle.std.specs.Prelude.{◌≡◌, IsTrue, IfOk};
+ghost use Rattle.sqlite.specs.State.{HasCleanDisk, KeepsCommit, Survives};
+ghost use Rattle.desk_types.specs.Id.{Name};
+ghost use Rattle.line_traces.specs.Pieces.{board_trace, lot_trace, lot_board_names, overdue_pieces, AreConverse};
+ghost use Rattle.line_schema.specs.Stands.{Kept, Stands, state_of};
+ghost use Rattle.line_schema.specs.Traces.{desk_of};
+
+use crate::store::LineStore;
+use crate::unavailable::Unavailable;
+use desk_types::{Desk, Id, IdList};
+use line_traces::PlacedRows;
+use sqlite::Alter;
+
+impl<S: Alter, D: Desk + Drop> LineStore<S, D> {
+    /// The pieces on a board by number, then place; none where no accepted command started the board.
+    pub fn board_rows(&mut self, board: &Id) -> Result<Option<PlacedRows>, Unavailable>
+        ensures trace { (L : Kept) → Stands S.Store D.Stands D.kept_rules self.old L → HasCleanDisk (state_of S.Store self.new) → IsTrue L.own → IfOk result (λ pieces. pieces ≡ board_trace L.history board.now) }
+        ensures converse { (L : Kept) → Stands S.Store D.Stands D.kept_rules self.old L → HasCleanDisk (state_of S.Store self.new) → IsTrue L.own → IfOk result (λ pieces. (lot : Name) → AreConverse board.now pieces lot (lot_board_names L.history lot)) }
+        ensures stands { (L : Kept) → Stands S.Store D.Stands D.kept_rules self.old L → Stands S.Store D.Stands D.kept_rules self.new L }
+        ensures desk { desk_of self.new ≡ desk_of self.old }
+        ensures unchanged { HasCleanDisk (state_of S.Store self.new) → KeepsCommit (state_of S.Store self.old) (state_of S.Store self.new) }
+        ensures survives { Survives (state_of S.Store self.old) (state_of S.Store self.new) (λ _. ⊥) }
+    {
+        Ok(line_traces::board_rows(self.alloc, &mut self.conn, board)?)
+    }
+
+    /// The pieces of a lot by number, then place; none where no accepted command received a reel of the
+    /// lot.
+    pub fn lot_rows(&mut self, lot: &Id) -> Result<Option<PlacedRows>, Unavailable>
+        ensures trace { (L : Kept) → Stands S.Store D.Stands D.kept_rules self.old L → HasCleanDisk (state_of S.Store self.new) → IsTrue L.own → IfOk result (λ pieces. pieces ≡ lot_trace L.history lot.now) }
+        ensures stands { (L : Kept) → Stands S.Store D.Stands D.kept_rules self.old L → Stands S.Store D.Stands D.kept_rules self.new L }
+        ensures desk { desk_of self.new ≡ desk_of self.old }
+        ensures unchanged { HasCleanDisk (state_of S.Store self.new) → KeepsCommit (state_of S.Store self.old) (state_of S.Store self.new) }
+        ensures survives { Survives (state_of S.Store self.old) (state_of S.Store self.new) (λ _. ⊥) }
+    {
+        Ok(line_traces::lot_rows(self.alloc, &mut self.conn, lot)?)
+    }
+
+    /// The boards that hold a piece of a lot, each once and in byte order; none where no accepted
+    /// command received a reel of the lot.
+    pub fn lot_boards(&mut self, lot: &Id) -> Result<Option<IdList>, Unavailable>
+        ensures boards { (L : Kept) → Stands S.Store D.Stands D.kept_rules self.old L → HasCleanDisk (state_of S.Store self.new) → IsTrue L.own → IfOk result (λ boards. boards ≡ lot_board_names L.history lot.now) }
+        ensures converse { (L : Kept) → Stands S.Store D.Stands D.kept_rules self.old L → HasCleanDisk (state_of S.Store self.new) → IsTrue L.own → IfOk result (λ boards. (board : Name) → AreConverse board (board_trace L.history board) lot.now boards) }
+        ensures stands { (L : Kept) → Stands S.Store D.Stands D.kept_rules self.old L → Stands S.Store D.Stands D.kept_rules self.new L }
+        ensures desk { desk_of self.new ≡ desk_of self.old }
+        ensures unchanged { HasCleanDisk (state_of S.Store self.new) → KeepsCommit (state_of S.Store self.old) (state_of S.Store self.new) }
+        ensures survives { Survives (state_of S.Store self.old) (state_of S.Store self.new) (λ _. ⊥) }
+    {
+        Ok(line_traces::lot_boards(self.alloc, &mut self.conn, lot)?)
+    }
+
+    /// The pieces of reels whose floor life was used up, by number, then place.
+    pub fn overdue_rows(&mut self) -> Result<PlacedRows, Unavailable>
+        ensures rows { (L : Kept) → Stands S.Store D.Stands D.kept_rules self.old L → HasCleanDisk (state_of S.Store self.new) → IsTrue L.own → IfOk result (λ pieces. pieces ≡ overdue_pieces L.history) }
+        ensures stands { (L : Kept) → Stands S.Store D.Stands D.kept_rules self.old L → Stands S.Store D.Stands D.kept_rules self.new L }
+        ensures desk { desk_of self.new ≡ desk_of self.old }
+        ensures unchanged { HasCleanDisk (state_of S.Store self.new) → KeepsCommit (state_of S.Store self.old) (state_of S.Store self.new) }
+        ensures survives { Survives (state_of S.Store self.old) (state_of S.Store self.new) (λ _. ⊥) }
+    {
+        Ok(line_traces::overdue_rows(self.alloc, &mut self.conn)?)
+    }
+}

@@ -1,0 +1,131 @@
+-- What the statements make of the table of placements: rows with rowids of their own are put in, one or eight at once.
+use Rattle.std.proofs.Common.{◌≡◌, ◌∙◌, ◌&&◌, ◌==◌, ◌<◌, ◌≤◌, ◌+◌, ◌++◌, if◌then◌else◌, ℕ, pos, Bool, List, [], ◌∷◌, map, take, get_or, length, not, true, false, IsTrue, Option, Some, refl, ap, ap₂, subst, sym, arith}
+use Rattle.std.specs.List.{flat_map}
+use Rattle.std.specs.List.Sorted.{IsPermutation}
+use Rattle.std.proofs.lemmas.Bool.{and_parts, and_from}
+use Rattle.std.proofs.lemmas.List.{take_more, map-append, flat_map_more, length-map, length-take-le}
+use Rattle.std.proofs.lemmas.List.Sorted.{IsPermutation-map}
+use Rattle.sqlite_value.specs.Order.{Row}
+use Rattle.sqlite.specs.Cast.{cast_row}
+use Rattle.sqlite.specs.Rowids.TheVariants.{Chosen}
+use Rattle.sqlite_rules.specs.Edit.{numbered, with_rowid, put_all, are_fresh}
+use Rattle.sqlite_trees.specs.Tree.{put_row}
+use Rattle.sqlite.specs.State.{State}
+use Rattle.state_rows.specs.declared.row.PlacementRow.{PlacementRow}
+use Rattle.line_tables.specs.Line.{line_schema, placement}
+use Rattle.line_tables.specs.Rowids.{placement_id}
+use Rattle.line_tables.specs.StateRows.{AreRows, columns, has_piece, placement_columns, flag}
+use Rattle.line_tables.specs.Placing.{placing, placement_kept, ArePlacing}
+use Rattle.line_tables.specs.declared.edit.Edit.{Edit}
+use Rattle.line_tables.specs.Rows.{Tables, Holds, AreNew, with_edit, edited, version_columns, accepted_columns}
+use Rattle.line_tables.specs.Calls.{Runs, Writes}
+use Rattle.line_tables.proofs.Inserts.{Inserted, insert_does}
+use Rattle.line_tables.proofs.Puts.{quiet, cast_int, put_permutes}
+use Rattle.line_tables.proofs.Altering.{others_hold, all_apart_but, other_tree}
+use Rattle.line_tables.proofs.Keyed.{added, one_piece, own_int, same_piece, tells_piece}
+use Rattle.line_tables.proofs.RowTexts.{insert_placement, placement_terms, insert_placement_is, insert_placements, placements_terms, insert_placements_is}
+
+placement_cast : (row : PlacementRow) → cast_row placement (placement_kept row) ≡ placement_kept row
+placement_cast row = rw (cast_int (pos (placement_id row.number row.place)), cast_int (pos row.number), cast_int (pos row.place), cast_int (flag row.overdue)) refl
+
+-- the rows keep their rowids
+all_kept : (rows : List PlacementRow) (db : List Row) → numbered Chosen db (map (λ s. cast_row placement s) (map placement_kept rows)) ≡ map placement_kept rows
+all_kept [] db = refl
+all_kept (row ∷ rows) db =
+    ap (λ r. with_rowid Chosen db r ∷ numbered Chosen (put_row (with_rowid Chosen db r) db) (map (λ s. cast_row placement s) (map placement_kept rows))) (placement_cast row)
+    ∙ ap (λ l. placement_kept row ∷ l) (all_kept rows (put_row (placement_kept row) db))
+
+-- the map with the rows at their keys
+abbrev with_pieces : List PlacementRow → (ℕ → ℕ → Option PlacementRow) → ℕ → ℕ → Option PlacementRow
+with_pieces [] f = f
+with_pieces (row ∷ rows) f = with_pieces rows (λ n k. if row.number == n && (row.place == k) then Some row else f n k)
+
+edits_of : (rows : List PlacementRow) (t : Tables) → edited (map placing rows) t ≡ record t { state = record t.state { placements = with_pieces rows t.state.placements } }
+edits_of [] t = refl
+edits_of (row ∷ rows) t = edits_of rows (with_edit t (placing row))
+
+is_false : (b : Bool) → not b ≡ true → b ≡ false
+is_false false h = refl
+is_false true h = absurd (cc)
+
+abbrev HasPieces : List Row → (ℕ → ℕ → Option PlacementRow) → Type 0
+HasPieces db f = AreRows has_piece (λ _ row. placement_columns row) (map (columns placement) db) (λ piece. f piece.0 piece.1)
+
+-- rows with new keys come in, one after the other
+pieces_in : (rows : List PlacementRow) (db : List Row) (t : Tables) → HasPieces db t.state.placements → are_fresh db (map placement_kept rows) ≡ true → AreNew (map placing rows) t
+    → HasPieces (put_all db (map placement_kept rows)) (with_pieces rows t.state.placements)
+pieces_in [] db t was fresh new = was
+pieces_in (row ∷ rows) db t was fresh new =
+    let free = and_parts _ _ fresh in
+    let one = IsPermutation-map (columns placement) _ _ (put_permutes db (placement_kept row) (is_false _ free.0)) in
+    pieces_in rows (put_row (placement_kept row) db) (with_edit t (placing row))
+    (added has_piece (λ _ row. placement_columns row) one_piece same_piece tells_piece (row.number, row.place) row _ _ (λ piece. t.state.placements piece.0 piece.1) _ new.0 (and_from _ _ (own_int row.number) (own_int row.place)) (λ l. refl) one was) free.1 new.1
+
+-- the rows that a statement puts in are those of as many edits
+puts_pieces : (rows : List PlacementRow) (a c : State) → IsTrue a.is_open → (a.now.schema ≡ line_schema → Inserted line_schema placement (map placement_kept rows) a c) → Writes (map placing rows) a c
+puts_pieces rows a c was_open did = record {
+  was_open = was_open;
+  done = λ t was new.
+      let went = did was.schema in
+      let db = a.now.trees 17 in
+      let others = went.step.tables in
+      let k = others_hold 17 a.now c.now t.state others was.state in
+      let fresh : are_fresh db (map placement_kept rows) ≡ true = subst (λ l. are_fresh db l ≡ true) (all_kept rows db) went.step.fresh in
+      let put : c.now.trees 17 ≡ put_all db (map placement_kept rows) = went.step.rows ∙ ap (put_all db) (all_kept rows db) in
+      subst (Holds c.now) (sym (edits_of rows t)) (record {
+        schema = went.same;
+        version = ap (map version_columns) (others.0 (other_tree 0 17 refl)) ∙ was.version;
+        accepted = subst (λ l. IsPermutation (map accepted_columns l) t.accepted) (sym (others.1.0 (other_tree 1 17 refl))) was.accepted;
+        state = record {
+          parts = k.parts refl;
+          alternates = k.alternates refl;
+          sheets = k.sheets refl;
+          selected = k.selected refl;
+          reels = k.reels refl;
+          mounts = k.mounts refl;
+          boards = k.boards refl;
+          placements = subst (λ l. HasPieces l (with_pieces rows t.state.placements)) (sym put) (pieces_in rows db t was.state.placements fresh new);
+          found = k.found refl;
+        };
+        apart = all_apart_but 17 a.now c.now others refl was.apart;
+      });
+  sound = λ t was new. (did was.schema).sound;
+}
+
+pub placement_put : (row : PlacementRow) (a c : State) → Runs insert_placement (placement_kept row) a c → Writes (placing row ∷ []) a c
+placement_put row a c ran =
+    puts_pieces (row ∷ []) a c ran.shown.was_open
+    (λ has. insert_does insert_placement (placement_kept row) a c line_schema has 9 placement placement_terms 9 refl refl refl insert_placement_is.0 insert_placement_is.1 ran.count ran.executed (quiet 17 []))
+
+-- the parameters of the text for eight rows are the values of these
+eight_in : (rows : List PlacementRow) (a c : State) → length rows ≡ 8 → Runs insert_placements (flat_map placement_kept rows) a c → a.now.schema ≡ line_schema → Inserted line_schema placement (map placement_kept rows) a c
+eight_in (p ∷ q ∷ r ∷ s ∷ t ∷ u ∷ v ∷ w ∷ []) a c eight ran has =
+    insert_does insert_placements (flat_map placement_kept (p ∷ q ∷ r ∷ s ∷ t ∷ u ∷ v ∷ w ∷ [])) a c line_schema has 9 placement placements_terms 9 refl refl refl insert_placements_is.0 insert_placements_is.1 ran.count ran.executed (quiet 17 [])
+eight_in [] a c eight ran has = absurd (omega (arith, eight))
+eight_in (p ∷ []) a c eight ran has = absurd (omega (arith, eight))
+eight_in (p ∷ q ∷ []) a c eight ran has = absurd (omega (arith, eight))
+eight_in (p ∷ q ∷ r ∷ []) a c eight ran has = absurd (omega (arith, eight))
+eight_in (p ∷ q ∷ r ∷ s ∷ []) a c eight ran has = absurd (omega (arith, eight))
+eight_in (p ∷ q ∷ r ∷ s ∷ t ∷ []) a c eight ran has = absurd (omega (arith, eight))
+eight_in (p ∷ q ∷ r ∷ s ∷ t ∷ u ∷ []) a c eight ran has = absurd (omega (arith, eight))
+eight_in (p ∷ q ∷ r ∷ s ∷ t ∷ u ∷ v ∷ []) a c eight ran has = absurd (omega (arith, eight))
+eight_in (p ∷ q ∷ r ∷ s ∷ t ∷ u ∷ v ∷ w ∷ x ∷ more) a c eight ran has = absurd (omega (arith, eight))
+
+pub eight_put : (rows : List PlacementRow) (a c : State) → length rows ≡ 8 → Runs insert_placements (flat_map placement_kept rows) a c → Writes (map placing rows) a c
+eight_put rows a c eight ran = puts_pieces rows a c ran.shown.was_open (eight_in rows a c eight ran)
+
+-- ---- the values of edits
+
+-- one edit more puts a placement
+pub placing_more : (edits : List Edit) (i : ℕ) (edit : Edit) (row : PlacementRow) (values : Row) → i < length edits → edit ≡ get_or edits i edit → edit ≡ placing row → ArePlacing (take i edits) values → ArePlacing (take (i + 1) edits) (values ++ placement_kept row)
+placing_more edits i edit row values inside item is was = (
+  was.0 ++ row ∷ [],
+  take_more edits i edit inside ∙ ap₂ (λ l e. l ++ e ∷ []) was.1 (sym item ∙ is) ∙ sym (map-append placing was.0 (row ∷ [])),
+  ap (λ v. v ++ placement_kept row) was.2 ∙ flat_map_more placement_kept [] was.0 row,
+)
+
+-- eight edits that put placements are made as their values are put in
+pub eight_first : (edits : List Edit) (values : Row) (a c : State) → 8 ≤ length edits → ArePlacing (take 8 edits) values → ((rows : List PlacementRow) → length rows ≡ 8 → values ≡ flat_map placement_kept rows → Writes (map placing rows) a c) → Writes (take 8 edits) a c
+eight_first edits values a c long are put =
+    let eight : length are.0 ≡ 8 = sym (length-map are.0 placing) ∙ ap length (sym are.1) ∙ length-take-le 8 edits long in
+    subst (λ l. Writes l a c) (sym are.1) (put are.0 eight are.2)

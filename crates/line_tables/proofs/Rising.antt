@@ -1,0 +1,185 @@
+-- Rowids that rise are each that of one row.
+use Rattle.std.proofs.Common.{◌≡◌, ◌∙◌, inl, inr, ℕ, ℤ, ◌≤◌, ◌<◌, ◌+◌, List, [], ◌∷◌, ◌++◌, map, filter, length, take, drop, get_or, Bool, true, false, ◌&&◌, if◌then◌else◌, IsTrue, Option, None, Some, Ordering, Less, Equal, Greater, is_eq, int_cmp, int_lt, cond, refl, sym, ap, subst, arith, true≢false}
+use Rattle.std.specs.List.{AllByRecursion}
+use Rattle.std.specs.List.Sorted.{IsPermutation}
+use Rattle.std.proofs.lemmas.Bool.{and_parts}
+use Rattle.std.proofs.lemmas.Cmp.{tied_itself, tied_back, int_cmp_total}
+use Rattle.std.proofs.lemmas.List.{take_more}
+use Rattle.std.proofs.lemmas.List.Elements.{All-from_recursion, recursion_from_All}
+use Rattle.std.proofs.lemmas.List.Sorted.{IsPermutation-sym, IsPermutation-map, length_permutation, All-permutation}
+use Rattle.sqlite_trees.proofs.ListLemmas.{IsPermutation-filter}
+use Rattle.sqlite_keyed.proofs.ListLemmas.{all-append, all_weaker}
+use Rattle.sqlite_catalog.proofs.ListFacts.{ascending_push}
+use Rattle.sqlite_rules.specs.Lists.{Has}
+use Rattle.sqlite_rules.proofs.ListLemmas.{all_has}
+use Rattle.sqlite.specs.declared.types.Value.{Value}
+use Rattle.sqlite.specs.declared.types.Value.TheVariants.{Int}
+use Rattle.sqlite_value.specs.Order.{Row, column, value_cmp}
+use Rattle.sqlite_value.proofs.OrderLemmas.{value_cmp_total, value_cmp-Int}
+use Rattle.sqlite_trees.specs.Tree.{Trees, rowid, IsAscending}
+use Rattle.sqlite_trees.specs.View.{is_int}
+use Rattle.sqlite_trees.specs.declared.store.Store.{Ghosts}
+use Rattle.sqlite_schema.specs.declared.schema.Table.{Table}
+use Rattle.sqlite.specs.Effect.{Database}
+use Rattle.sqlite.specs.Held.{Held, state}
+use Rattle.sqlite.specs.Query.{IsAnswer, Output, output}
+use Rattle.sqlite.specs.State.{State, KeepsCommit}
+use Rattle.line_tables.specs.Calls.{Reads}
+use Rattle.line_tables.specs.Rowids.{AreApart, AreAllApart, changed_tables}
+use Rattle.line_tables.specs.Rising.{AreRising, IsBefore, IsPast, Shows, AreTold}
+use Rattle.line_tables.proofs.Finds.{answer_of, shown_of, overlay_none}
+use Rattle.line_tables.proofs.Keeps.{keeps_same}
+use Rattle.line_tables.proofs.RowidTexts.{rowids_from, IsRowids}
+
+-- ---- one row more
+
+pub past_by : (last n : ℤ) → int_lt last n ≡ true → int_cmp last n ≡ Less
+past_by last n h = subst (λ b. cond b Less (cond (int_lt n last) Greater Equal) ≡ Less) (sym h) refl
+
+past_then : (last : Option ℤ) (n m : ℤ) → IsPast last n → int_cmp n m ≡ Less → IsPast last m
+past_then None n m h k = tt
+past_then (Some l) n m h k = int_cmp_total.trans l n m h k
+
+module _ (rows : List Row) (i : ℕ) (row : Row) (n : ℤ) (last : Option ℤ) (inside : i < length rows) (item : row ≡ get_or rows i row) (is : row ≡ Int n ∷ []) (past : IsPast last n) where
+  next : take (i + 1) rows ≡ take i rows ++ row ∷ []
+  next = take_more rows i row inside ∙ ap (λ r. take i rows ++ r ∷ []) (sym item)
+
+  pub rising_more : AreRising (take i rows) → ((m : ℤ) → IsPast last m → AllByRecursion (IsBefore (Int m)) (take i rows)) → AreRising (take (i + 1) rows)
+  rising_more was below =
+      let all = below n past in
+      subst AreRising (sym next) (
+        ascending_push (λ a b. value_cmp (column a 0) (column b 0) ≡ Less) (take i rows) row was.0 (λ y there. subst (λ r. value_cmp (column y 0) (column r 0) ≡ Less) (sym is) (all_has (IsBefore (Int n)) (take i rows) y all there)),
+        all-append (λ r. IsTrue (is_int (column r 0))) (take i rows) (row ∷ []) was.1 (subst (λ r. IsTrue (is_int (column r 0))) (sym is) refl, tt),
+      )
+
+  pub below_more : ((m : ℤ) → IsPast last m → AllByRecursion (IsBefore (Int m)) (take i rows)) → (m : ℤ) → IsPast (Some n) m → AllByRecursion (IsBefore (Int m)) (take (i + 1) rows)
+  below_more below m h =
+      subst (AllByRecursion (IsBefore (Int m))) (sym next)
+      (all-append (IsBefore (Int m)) (take i rows) (row ∷ []) (below m (past_then last n m past h)) (subst (IsBefore (Int m)) (sym is) (value_cmp-Int n m ∙ h), tt))
+
+-- ---- rows by the values that are shown of them
+
+none_pass : (p : Row → Bool) (xs : List Row) → AllByRecursion (λ x. p x ≡ false) xs → filter p xs ≡ []
+none_pass p [] h = refl
+none_pass p (x ∷ xs) h = subst (λ b. (if b then x ∷ filter p xs else filter p xs) ≡ []) (sym h.0) (none_pass p xs h.1)
+
+tied_less : (x y v : Value) → value_cmp x y ≡ Less → is_eq (value_cmp x v) ≡ true → is_eq (value_cmp y v) ≡ false
+tied_less x y v less tie = go (value_cmp x v) (value_cmp y v) refl refl tie
+  where
+    go : (a b : Ordering) → value_cmp x v ≡ a → value_cmp y v ≡ b → is_eq a ≡ true → is_eq b ≡ false
+    go Less b p q h = absurd (true≢false (sym h))
+    go Greater b p q h = absurd (true≢false (sym h))
+    go Equal Less p q h = refl
+    go Equal Greater p q h = refl
+    go Equal Equal p q h = absurd (let e : Less ≡ Equal = sym less ∙ value_cmp_total.congr x v y p ∙ tied_back value_cmp_total y v q in cc)
+
+-- of rows that rise at most one has a value
+one_at_most : (v : Value) (xs : List Row) → IsAscending (λ a b. value_cmp (column a 0) (column b 0) ≡ Less) xs → length (filter (λ x. is_eq (value_cmp (column x 0) v)) xs) ≤ 1
+one_at_most v [] h = omega arith
+one_at_most v (x ∷ xs) h = go (is_eq (value_cmp (column x 0) v)) refl (one_at_most v xs h.1)
+  where
+    go : (b : Bool) → is_eq (value_cmp (column x 0) v) ≡ b → length (filter (λ y. is_eq (value_cmp (column y 0) v)) xs) ≤ 1
+        → length (if b then x ∷ filter (λ y. is_eq (value_cmp (column y 0) v)) xs else filter (λ y. is_eq (value_cmp (column y 0) v)) xs) ≤ 1
+    go false e more = more
+    go true e more =
+        let none = none_pass (λ y. is_eq (value_cmp (column y 0) v)) xs (all_weaker (λ y. value_cmp (column x 0) (column y 0) ≡ Less) (λ y. is_eq (value_cmp (column y 0) v) ≡ false) (λ y less. tied_less (column x 0) (column y 0) v less e) xs h.0) in
+        let long = ap length none in
+        omega (arith, long)
+
+module _ (show : Row → Row) (p : Row → Bool) where
+  some_in : (xs : List Row) (y : Row) → Has xs y → p (show y) ≡ true → 1 ≤ length (filter p (map show xs))
+  some_in [] y h e = absurd h
+  some_in (x ∷ xs) y (inl same) e = subst (λ b. 1 ≤ length (if b then show x ∷ filter p (map show xs) else filter p (map show xs))) (sym (ap (λ r. p (show r)) (sym same) ∙ e)) (omega arith)
+  some_in (x ∷ xs) y (inr there) e = go (p (show x)) (some_in xs y there e)
+    where
+      go : (b : Bool) → 1 ≤ length (filter p (map show xs)) → 1 ≤ length (if b then show x ∷ filter p (map show xs) else filter p (map show xs))
+      go true h = omega (arith, h)
+      go false h = h
+
+  -- where at most one passes, two that pass are one
+  alone : (xs : List Row) (a b : Row) → length (filter p (map show xs)) ≤ 1 → Has xs a → Has xs b → p (show a) ≡ true → p (show b) ≡ true → a ≡ b
+  alone [] a b h i j pa pb = absurd i
+  alone (x ∷ xs) a b h i j pa pb = go (p (show x)) refl h i j (λ few i j. alone xs a b few i j pa pb)
+    where
+      go : (c : Bool) → p (show x) ≡ c → length (if c then show x ∷ filter p (map show xs) else filter p (map show xs)) ≤ 1 → Has (x ∷ xs) a → Has (x ∷ xs) b → (length (filter p (map show xs)) ≤ 1 → Has xs a → Has xs b → a ≡ b) → a ≡ b
+      go true e few (inl one) (inl other) more = one ∙ sym other
+      go true e few (inl one) (inr j) more = absurd (let some = some_in xs b j pb in omega (arith, some, few))
+      go true e few (inr i) j more = absurd (let some = some_in xs a i pa in omega (arith, some, few))
+      go false e few (inl one) j more = absurd (true≢false (sym pa ∙ ap (λ r. p (show r)) one ∙ e))
+      go false e few (inr i) (inl other) more = absurd (true≢false (sym pb ∙ ap (λ r. p (show r)) other ∙ e))
+      go false e few (inr i) (inr j) more = more few i j
+
+-- the row begins with an integer
+abbrev IsWhole : Row → Type 0
+IsWhole r = IsTrue (is_int (column r 0))
+
+abbrev id_of : Row → Row
+id_of r = rowid r ∷ []
+
+shown_has : (P : Row → Type 0) (xs : List Row) (a : Row) → AllByRecursion P (map id_of xs) → Has xs a → P (id_of a)
+shown_has P [] a all h = absurd h
+shown_has P (x ∷ xs) a all (inl same) = subst (λ r. P (id_of r)) (sym same) all.0
+shown_has P (x ∷ xs) a all (inr there) = shown_has P xs a all.1 there
+
+pub apart_shown : (rows shown : List Row) → IsPermutation (map id_of rows) shown → AreRising shown → AreApart rows
+apart_shown rows shown same rises = record {
+  keyed = λ a there. shown_has IsWhole rows a (recursion_from_All IsWhole (map id_of rows) (All-permutation IsWhole shown (map id_of rows) (IsPermutation-sym _ _ same) (All-from_recursion IsWhole shown rises.1))) there;
+  apart = λ a b i j tie.
+      let p : Row → Bool = λ r. is_eq (value_cmp (column r 0) (rowid b)) in
+      let few : length (filter p shown) ≤ 1 = one_at_most (rowid b) shown rises.0 in
+      let many : length (filter p (map id_of rows)) ≡ length (filter p shown) = sym (length_permutation _ _ (IsPermutation-filter p _ _ same)) in
+      alone id_of p rows a b (omega (arith, few, many)) i j (ap is_eq tie) (ap is_eq (tied_itself value_cmp_total (rowid b)));
+}
+
+-- ---- what the queries tell
+
+ids_shown : (tree : ℕ) (rows : List Row) → shown_of (rowids_from tree) [] rows ≡ map id_of rows
+ids_shown tree [] = refl
+ids_shown tree (r ∷ rows) = ap (λ rest. id_of r ∷ rest) (ids_shown tree rows)
+
+ids_answer : (tree : ℕ) (db : Trees) (rows : List Row) → IsAnswer (rowids_from tree) db [] rows → IsPermutation (map id_of (db tree)) rows
+ids_answer tree db rows a =
+    let show : Output → Row = λ o. o.1 in
+    let kept = a.distinct ∙ ap (map (output (rowids_from tree))) a.grouped in
+    let same : IsPermutation (map show a.kept) (map show a.ordered) = IsPermutation-map show a.kept a.ordered a.same in
+    subst (λ l. IsPermutation l rows) (ap (map show) kept ∙ ids_shown tree (db tree)) (subst (IsPermutation (map show a.kept)) (sym a.shown) same)
+
+module _ {S : Type 0} (g : Ghosts S) (old : Held S) where
+  pub tells : (sql : List ℕ) (tree : ℕ) (name : List ℕ) → IsRowids sql tree name → (b : Bool) → Shows g sql old b → Reads (state g old) (λ db. IsTrue b → AreApart (db.trees tree))
+  tells sql tree name is b h = record {
+    was_open = h.1.was_open;
+    are = λ schema told. apart_shown ((state g old).committed.trees tree) h.0 (subst (λ l. IsPermutation (map id_of l) h.0) (overlay_none (state g old).committed.trees tree) (ids_answer tree _ h.0 (answer_of g sql (rowids_from tree) _ is [] old h.0 h.1 schema))) (h.2 told);
+  }
+
+-- what is committed is read after calls that keep it
+reads_before : (old mid : State) → KeepsCommit old mid → (Is : Database → Type 0) → Reads mid Is → Reads old Is
+reads_before old mid kept Is r =
+    let same = kept.committed r.was_open in
+    record { was_open = kept.was_open r.was_open; are = λ schema. subst Is same (r.are (ap (λ (db : Database). db.schema) same ∙ schema)) }
+
+-- what is told of one table and then of others
+told_more : (old mid : State) → KeepsCommit old mid → (table : Table) (tables : List Table) (a b : Bool) → Reads old (λ db. IsTrue a → AreApart (db.trees table.tree)) → Reads mid (AreTold b tables) → Reads old (AreTold (a && b) (table ∷ tables))
+told_more old mid kept table tables a b first others = record {
+  was_open = first.was_open;
+  are = λ schema told. let both = and_parts _ _ told in (first.are schema both.0, (reads_before old mid kept (AreTold b tables) others).are schema both.1);
+}
+
+told_none : (s : State) → IsTrue s.is_open → Reads s (AreTold true [])
+told_none s was_open = record { was_open = was_open; are = λ schema told. tt }
+
+-- what is told of four tables, one after the other
+pub told_four : (s1 s2 s3 s4 : State) → KeepsCommit s1 s2 → KeepsCommit s2 s3 → KeepsCommit s3 s4 → (t1 t2 t3 t4 : Table) (a b c d : Bool) → Reads s1 (λ db. IsTrue a → AreApart (db.trees t1.tree)) → Reads s2 (λ db. IsTrue b → AreApart (db.trees t2.tree))
+    → Reads s3 (λ db. IsTrue c → AreApart (db.trees t3.tree)) → Reads s4 (λ db. IsTrue d → AreApart (db.trees t4.tree)) → (all : Bool) → all ≡ (a && (b && (c && (d && true)))) → Reads s1 (AreTold all (t1 ∷ t2 ∷ t3 ∷ t4 ∷ []))
+told_four s1 s2 s3 s4 k1 k2 k3 t1 t2 t3 t4 a b c d r1 r2 r3 r4 all is =
+    subst (λ x. Reads s1 (AreTold x (t1 ∷ t2 ∷ t3 ∷ t4 ∷ []))) (sym is)
+    (told_more s1 s2 k1 t1 (t2 ∷ t3 ∷ t4 ∷ []) a _ r1 (told_more s2 s3 k2 t2 (t3 ∷ t4 ∷ []) b _ r2 (told_more s3 s4 k3 t3 (t4 ∷ []) c _ r3 (told_more s4 s4 (keeps_same s4) t4 [] d true r4 (told_none s4 r4.was_open)))))
+
+-- and of all of them
+pub told_all : (old mid : State) → KeepsCommit old mid → Reads old (AreTold true (take 4 changed_tables)) → (b : Bool) → Reads mid (AreTold b (drop 4 changed_tables)) → Reads old (λ db. IsTrue b → AreAllApart db)
+told_all old mid kept first b others = record {
+  was_open = first.was_open;
+  are = λ schema told. all-append (λ (table : Table). AreApart (old.committed.trees table.tree)) (take 4 changed_tables) (drop 4 changed_tables) (first.are schema refl) ((reads_before old mid kept (AreTold b (drop 4 changed_tables)) others).are schema told);
+}
+
+pub told_false : (s : State) (Is : Database → Type 0) → IsTrue s.is_open → Reads s (λ db. IsTrue false → Is db)
+told_false s Is was_open = record { was_open = was_open; are = λ schema told. absurd (true≢false (sym told)) }

@@ -1,0 +1,255 @@
+-- What the statements make of the state tables.
+use Rattle.std.proofs.Common.{◌≡◌, ◌∙◌, ◌||◌, ◌&&◌, if◌then◌else◌, ℕ, ℤ, pos, Bool, List, [], ◌∷◌, drop, length, true, false, IsTrue, Some, None, refl, ap, ap₂, subst, sym}
+use Rattle.std.proofs.lemmas.Bool.{and_parts, and_from}
+use Rattle.sqlite.specs.declared.types.Value.TheVariants.{Null, Int, Real, Text, Blob}
+use Rattle.sqlite.specs.declared.types.Value.{Value}
+use Rattle.sqlite.specs.Ops.{binary}
+use Rattle.sqlite.specs.Collation.TheVariants.{Binary}
+use Rattle.sqlite_value.specs.Order.{Row, column, value_cmp}
+use Rattle.sqlite_schema.specs.Rules.{equal}
+use Rattle.sqlite.specs.Cast.{cast_row}
+use Rattle.sqlite_rules.specs.Edit.{with_rowid, next_rowid, id_in}
+use Rattle.sqlite.specs.Rowids.TheVariants.{Chosen}
+use Rattle.sqlite_rules.proofs.TableLemmas.{int_is}
+use Rattle.sqlite_trees.specs.Tree.{rowid}
+use Rattle.sqlite_trees.specs.View.{is_int}
+use Rattle.sqlite.specs.Term.{col}
+use Rattle.sqlite.specs.State.{State}
+use Rattle.desk_types.specs.Id.{Name, same}
+use Rattle.desk_types.specs.declared.sheet.SheetRow.{SheetRow}
+use Rattle.state_rows.specs.declared.edit.RowEdit.TheVariants.{TakeSheetRow, TakeMount, PutPart, PutAlternate, PutSheetRow, PutSelected, PutReel, PutMount, PutBoard, PutFound}
+use Rattle.state_rows.specs.declared.row.ReelRow.{ReelRow}
+use Rattle.state_rows.specs.declared.row.MountRow.{MountRow}
+use Rattle.state_rows.specs.declared.row.BoardRow.{BoardRow}
+use Rattle.line_tables.specs.Line.{line_schema, part, alternate, sheet_row, selected, reel, mount, board, found}
+use Rattle.line_tables.specs.StateRows.{columns, has_text, has_pair, has_sheet_place, unit_if, part_columns, alternate_columns, sheet_columns, selected_columns, reel_columns, mount_columns, board_columns, found_columns, since_or_none, flag}
+use Rattle.line_tables.specs.Calls.{Runs, Changes, WritesRow}
+use Rattle.line_tables.proofs.Inserts.{Inserted, insert_does}
+use Rattle.line_tables.proofs.Puts.{quiet, cast_int, cast_null}
+use Rattle.line_tables.proofs.Changes.{Changed, renewed, shows_of, passing, delete_does, update_does}
+use Rattle.line_tables.proofs.Finds.{and_true}
+use Rattle.line_tables.proofs.Altering.{without, put_in, Alters, alters_then, alters_writes}
+use Rattle.line_tables.proofs.Keyed.{changed, added, one_text, one_pair, one_sheet_place, own_text, own_int, same_pair, same_sheet_place, tells_text, tells_pair, tells_sheet_place}
+use Rattle.line_tables.proofs.Alterations.{deletes, inserts, updates_none, updates_one}
+use Rattle.line_tables.proofs.RowTexts.{delete_part, part_tests, delete_part_is, delete_alternate, alternate_tests, delete_alternate_is, delete_sheet_row, sheet_row_tests, delete_sheet_row_is, delete_selected, selected_tests, delete_selected_is, delete_mount, mount_tests, delete_mount_is, delete_board, board_tests, delete_board_is, delete_found, found_tests, delete_found_is, insert_part, part_terms, insert_part_is, insert_alternate, alternate_terms, insert_alternate_is, insert_sheet_row, sheet_row_terms, insert_sheet_row_is, insert_selected, selected_terms, insert_selected_is, insert_reel, reel_terms, insert_reel_is, insert_board, board_terms, insert_board_is, insert_found, found_terms, insert_found_is, insert_mount, mount_terms, insert_mount_is, update_reel, reel_renewed, update_reel_is, reel_tests}
+
+module _ (old new : State) where
+  pub takes_part : (p : Name) → Runs delete_part (Text p ∷ []) old new → Alters part (without (has_text 0 p)) old new
+  takes_part p ran =
+      deletes part (has_text 0 p) part_tests (col 1 0 ∷ []) (Text p ∷ []) old new (λ r. and_true _) (λ r. refl) ran.shown.was_open
+      (λ has. delete_does delete_part (Text p ∷ []) old new line_schema has 2 part part_tests (col 1 0 ∷ []) refl (quiet 3) delete_part_is.1 ran.count ran.executed delete_part_is.0)
+
+  pub takes_alternate : (p : Name) (q : Name) → Runs delete_alternate (Text p ∷ Text q ∷ []) old new → Alters alternate (without (has_pair (p, q))) old new
+  takes_alternate p q ran =
+      deletes alternate (has_pair (p, q)) alternate_tests (col 1 0 ∷ []) (Text p ∷ Text q ∷ []) old new (λ r. ap (λ c. has_text 0 p (columns alternate r) && c) (and_true _)) (λ r. refl) ran.shown.was_open
+      (λ has. delete_does delete_alternate (Text p ∷ Text q ∷ []) old new line_schema has 3 alternate alternate_tests (col 1 0 ∷ []) refl (quiet 5) delete_alternate_is.1 ran.count ran.executed delete_alternate_is.0)
+
+  pub takes_sheet_row : (p : Name) (m : Name) (n : ℕ) → Runs delete_sheet_row (Text p ∷ Text m ∷ Int (pos n) ∷ []) old new → Alters sheet_row (without (has_sheet_place (p, m, n))) old new
+  takes_sheet_row p m n ran =
+      deletes sheet_row (has_sheet_place (p, m, n)) sheet_row_tests (col 1 0 ∷ []) (Text p ∷ Text m ∷ Int (pos n) ∷ []) old new (λ r. ap (λ c. has_text 0 p (columns sheet_row r) && (has_text 1 m (columns sheet_row r) && c)) (and_true _)) (λ r. refl) ran.shown.was_open
+      (λ has. delete_does delete_sheet_row (Text p ∷ Text m ∷ Int (pos n) ∷ []) old new line_schema has 4 sheet_row sheet_row_tests (col 1 0 ∷ []) refl (quiet 7) delete_sheet_row_is.1 ran.count ran.executed delete_sheet_row_is.0)
+
+  pub takes_selected : (m : Name) → Runs delete_selected (Text m ∷ []) old new → Alters selected (without (has_text 0 m)) old new
+  takes_selected m ran =
+      deletes selected (has_text 0 m) selected_tests (col 1 0 ∷ []) (Text m ∷ []) old new (λ r. and_true _) (λ r. refl) ran.shown.was_open
+      (λ has. delete_does delete_selected (Text m ∷ []) old new line_schema has 5 selected selected_tests (col 1 0 ∷ []) refl (quiet 9) delete_selected_is.1 ran.count ran.executed delete_selected_is.0)
+
+  pub takes_mount : (r : Name) → Runs delete_mount (Text r ∷ []) old new → Alters mount (without (has_text 3 r)) old new
+  takes_mount r ran =
+      deletes mount (has_text 3 r) mount_tests (col 1 0 ∷ []) (Text r ∷ []) old new (λ r. and_true _) (λ r. refl) ran.shown.was_open
+      (λ has. delete_does delete_mount (Text r ∷ []) old new line_schema has 7 mount mount_tests (col 1 0 ∷ []) refl (quiet 13) delete_mount_is.1 ran.count ran.executed delete_mount_is.0)
+
+  pub takes_board : (b : Name) → Runs delete_board (Text b ∷ []) old new → Alters board (without (has_text 0 b)) old new
+  takes_board b ran =
+      deletes board (has_text 0 b) board_tests (col 1 0 ∷ []) (Text b ∷ []) old new (λ r. and_true _) (λ r. refl) ran.shown.was_open
+      (λ has. delete_does delete_board (Text b ∷ []) old new line_schema has 8 board board_tests (col 1 0 ∷ []) refl (quiet 15) delete_board_is.1 ran.count ran.executed delete_board_is.0)
+
+  pub takes_found : (r : Name) → Runs delete_found (Text r ∷ []) old new → Alters found (without (has_text 0 r)) old new
+  takes_found r ran =
+      deletes found (has_text 0 r) found_tests (col 1 0 ∷ []) (Text r ∷ []) old new (λ r. and_true _) (λ r. refl) ran.shown.was_open
+      (λ has. delete_does delete_found (Text r ∷ []) old new line_schema has 10 found found_tests (col 1 0 ∷ []) refl (quiet 20) delete_found_is.1 ran.count ran.executed delete_found_is.0)
+
+  part_cast : (p : Name) → cast_row part (Null ∷ part_columns p) ≡ Null ∷ part_columns p
+  part_cast p = rw (cast_null) refl
+
+  part_in : (p : Name) → (ran : Runs insert_part (part_columns p) old new) → old.now.schema ≡ line_schema → Inserted line_schema part ((Null ∷ part_columns p) ∷ []) old new
+  part_in p ran has = insert_does insert_part (part_columns p) old new line_schema has 2 part part_terms 2 refl refl refl insert_part_is.0 insert_part_is.1 ran.count ran.executed (quiet 3 [])
+
+  pub puts_part : (p : Name) → Runs insert_part (part_columns p) old new → Alters part (λ rows. (part_columns p) ∷ rows) old new
+  puts_part p ran =
+      inserts part (Null ∷ part_columns p) (part_columns p) (λ rows. Int (next_rowid rows) ∷ part_columns p) old new (λ rows. ap (with_rowid Chosen rows) (part_cast p)) (λ rows. refl) (λ rows. refl) ran.shown.was_open (part_in p ran)
+
+  alternate_cast : (p : Name) (q : Name) → cast_row alternate (Null ∷ alternate_columns (p, q)) ≡ Null ∷ alternate_columns (p, q)
+  alternate_cast p q = rw (cast_null) refl
+
+  alternate_in : (p : Name) (q : Name) → (ran : Runs insert_alternate (alternate_columns (p, q)) old new) → old.now.schema ≡ line_schema → Inserted line_schema alternate ((Null ∷ alternate_columns (p, q)) ∷ []) old new
+  alternate_in p q ran has = insert_does insert_alternate (alternate_columns (p, q)) old new line_schema has 3 alternate alternate_terms 3 refl refl refl insert_alternate_is.0 insert_alternate_is.1 ran.count ran.executed (quiet 5 [])
+
+  pub puts_alternate : (p : Name) (q : Name) → Runs insert_alternate (alternate_columns (p, q)) old new → Alters alternate (λ rows. (alternate_columns (p, q)) ∷ rows) old new
+  puts_alternate p q ran =
+      inserts alternate (Null ∷ alternate_columns (p, q)) (alternate_columns (p, q)) (λ rows. Int (next_rowid rows) ∷ alternate_columns (p, q)) old new (λ rows. ap (with_rowid Chosen rows) (alternate_cast p q)) (λ rows. refl) (λ rows. refl) ran.shown.was_open (alternate_in p q ran)
+
+  sheet_row_cast : (p : Name) (m : Name) (n : ℕ) (row : SheetRow) → cast_row sheet_row (Null ∷ sheet_columns (p, m, n) row) ≡ Null ∷ sheet_columns (p, m, n) row
+  sheet_row_cast p m n row = rw (cast_null, cast_int (pos n)) refl
+
+  sheet_row_in : (p : Name) (m : Name) (n : ℕ) (row : SheetRow) → (ran : Runs insert_sheet_row (sheet_columns (p, m, n) row) old new) → old.now.schema ≡ line_schema → Inserted line_schema sheet_row ((Null ∷ sheet_columns (p, m, n) row) ∷ []) old new
+  sheet_row_in p m n row ran has = insert_does insert_sheet_row (sheet_columns (p, m, n) row) old new line_schema has 4 sheet_row sheet_row_terms 7 refl refl refl insert_sheet_row_is.0 insert_sheet_row_is.1 ran.count ran.executed (quiet 7 [])
+
+  pub puts_sheet_row : (p : Name) (m : Name) (n : ℕ) (row : SheetRow) → Runs insert_sheet_row (sheet_columns (p, m, n) row) old new → Alters sheet_row (λ rows. sheet_columns (p, m, n) row ∷ rows) old new
+  puts_sheet_row p m n row ran =
+      inserts sheet_row (Null ∷ sheet_columns (p, m, n) row) (sheet_columns (p, m, n) row) (λ rows. Int (next_rowid rows) ∷ sheet_columns (p, m, n) row) old new (λ rows. ap (with_rowid Chosen rows) (sheet_row_cast p m n row)) (λ rows. refl) (λ rows. refl) ran.shown.was_open (sheet_row_in p m n row ran)
+
+  selected_cast : (m : Name) (p : Name) → cast_row selected (Null ∷ selected_columns m p) ≡ Null ∷ selected_columns m p
+  selected_cast m p = rw (cast_null) refl
+
+  selected_in : (m : Name) (p : Name) → (ran : Runs insert_selected (selected_columns m p) old new) → old.now.schema ≡ line_schema → Inserted line_schema selected ((Null ∷ selected_columns m p) ∷ []) old new
+  selected_in m p ran has = insert_does insert_selected (selected_columns m p) old new line_schema has 5 selected selected_terms 3 refl refl refl insert_selected_is.0 insert_selected_is.1 ran.count ran.executed (quiet 9 [])
+
+  pub puts_selected : (m : Name) (p : Name) → Runs insert_selected (selected_columns m p) old new → Alters selected (λ rows. (selected_columns m p) ∷ rows) old new
+  puts_selected m p ran =
+      inserts selected (Null ∷ selected_columns m p) (selected_columns m p) (λ rows. Int (next_rowid rows) ∷ selected_columns m p) old new (λ rows. ap (with_rowid Chosen rows) (selected_cast m p)) (λ rows. refl) (λ rows. refl) ran.shown.was_open (selected_in m p ran)
+
+  reel_cast : (row : ReelRow) → cast_row reel (Null ∷ reel_columns row) ≡ Null ∷ reel_columns row
+  reel_cast row = rw (cast_null, cast_int (pos row.label), cast_int (pos row.received), cast_int (pos row.placed), cast_int (pos row.scrapped), cast_int (pos row.remaining), cast_int (pos row.used), cast_int (since_or_none row.open_since), cast_int (flag row.baked)) refl
+
+  reel_in : (row : ReelRow) → (ran : Runs insert_reel (reel_columns row) old new) → old.now.schema ≡ line_schema → Inserted line_schema reel ((Null ∷ reel_columns row) ∷ []) old new
+  reel_in row ran has = insert_does insert_reel (reel_columns row) old new line_schema has 6 reel reel_terms 13 refl refl refl insert_reel_is.0 insert_reel_is.1 ran.count ran.executed (quiet 11 [])
+
+  pub puts_reel : (row : ReelRow) → Runs insert_reel (reel_columns row) old new → Alters reel (λ rows. (reel_columns row) ∷ rows) old new
+  puts_reel row ran =
+      inserts reel (Null ∷ reel_columns row) (reel_columns row) (λ rows. Int (next_rowid rows) ∷ reel_columns row) old new (λ rows. ap (with_rowid Chosen rows) (reel_cast row)) (λ rows. refl) (λ rows. refl) ran.shown.was_open (reel_in row ran)
+
+  board_cast : (row : BoardRow) → cast_row board (Null ∷ board_columns row) ≡ Null ∷ board_columns row
+  board_cast row = rw (cast_null) refl
+
+  board_in : (row : BoardRow) → (ran : Runs insert_board (board_columns row) old new) → old.now.schema ≡ line_schema → Inserted line_schema board ((Null ∷ board_columns row) ∷ []) old new
+  board_in row ran has = insert_does insert_board (board_columns row) old new line_schema has 8 board board_terms 4 refl refl refl insert_board_is.0 insert_board_is.1 ran.count ran.executed (quiet 15 [])
+
+  pub puts_board : (row : BoardRow) → Runs insert_board (board_columns row) old new → Alters board (λ rows. (board_columns row) ∷ rows) old new
+  puts_board row ran =
+      inserts board (Null ∷ board_columns row) (board_columns row) (λ rows. Int (next_rowid rows) ∷ board_columns row) old new (λ rows. ap (with_rowid Chosen rows) (board_cast row)) (λ rows. refl) (λ rows. refl) ran.shown.was_open (board_in row ran)
+
+  found_cast : (r : Name) (n : ℕ) → cast_row found (Null ∷ found_columns r n) ≡ Null ∷ found_columns r n
+  found_cast r n = rw (cast_null, cast_int (pos n)) refl
+
+  found_in : (r : Name) (n : ℕ) → (ran : Runs insert_found (found_columns r n) old new) → old.now.schema ≡ line_schema → Inserted line_schema found ((Null ∷ found_columns r n) ∷ []) old new
+  found_in r n ran has = insert_does insert_found (found_columns r n) old new line_schema has 10 found found_terms 3 refl refl refl insert_found_is.0 insert_found_is.1 ran.count ran.executed (quiet 20 [])
+
+  pub puts_found : (r : Name) (n : ℕ) → Runs insert_found (found_columns r n) old new → Alters found (λ rows. (found_columns r n) ∷ rows) old new
+  puts_found r n ran =
+      inserts found (Null ∷ found_columns r n) (found_columns r n) (λ rows. Int (next_rowid rows) ∷ found_columns r n) old new (λ rows. ap (with_rowid Chosen rows) (found_cast r n)) (λ rows. refl) (λ rows. refl) ran.shown.was_open (found_in r n ran)
+
+  -- the number of a mount is its rowid
+  abbrev mount_kept : MountRow → Row
+  mount_kept row = Int (pos row.since) ∷ Null ∷ Text row.machine ∷ Text row.slot ∷ Text row.reel ∷ []
+
+  mount_cast : (row : MountRow) → cast_row mount (mount_kept row) ≡ mount_kept row
+  mount_cast row = rw (cast_null, cast_int (pos row.since)) refl
+
+  mount_in : (row : MountRow) → Runs insert_mount (mount_columns row) old new → old.now.schema ≡ line_schema → Inserted line_schema mount (mount_kept row ∷ []) old new
+  mount_in row ran has = insert_does insert_mount (mount_columns row) old new line_schema has 7 mount mount_terms 5 refl refl refl insert_mount_is.0 insert_mount_is.1 ran.count ran.executed (quiet 13 [])
+
+  pub puts_mount : (row : MountRow) → Runs insert_mount (mount_columns row) old new → Alters mount (λ rows. mount_columns row ∷ rows) old new
+  puts_mount row ran = inserts mount (mount_kept row) (mount_columns row) (λ rows. mount_kept row) old new (λ rows. ap (with_rowid Chosen rows) (mount_cast row)) (λ rows. refl) (λ rows. refl) ran.shown.was_open (mount_in row ran)
+
+-- ---- the edits
+
+unit_or : (a b : Bool) → unit_if (a || b) ≡ (if a then Some tt else unit_if b)
+unit_or true b = refl
+unit_or false b = refl
+
+pub part_put : (p : Name) (a b c : State) → Runs delete_part (Text p ∷ []) a b → Runs insert_part (part_columns p) b c → WritesRow (PutPart p) a c
+part_put p a b c gone ran =
+    alters_writes (PutPart p) part (put_in (has_text 0 p) (part_columns p)) a c refl (λ all. all.0) (λ t was k new perm. record { parts = changed (has_text 0) (λ part _. part_columns part) (one_text 0) same tells_text p (Some tt) _ _ (λ part. unit_if (t.parts part)) _ (own_text p, tt) (λ l. unit_or _ _) perm was.parts; alternates = k.alternates refl; sheets = k.sheets refl; selected = k.selected refl; reels = k.reels refl; mounts = k.mounts refl; boards = k.boards refl; placements = k.placements refl; found = k.found refl })
+    (alters_then part (without (has_text 0 p)) (λ rows. part_columns p ∷ rows) a b c (takes_part a b p gone) (puts_part b c p ran))
+
+pub alternate_put : (p q : Name) (a b c : State) → Runs delete_alternate (Text p ∷ Text q ∷ []) a b → Runs insert_alternate (alternate_columns (p, q)) b c → WritesRow (PutAlternate p q) a c
+alternate_put p q a b c gone ran =
+    alters_writes (PutAlternate p q) alternate (put_in (has_pair (p, q)) (alternate_columns (p, q))) a c refl (λ all. all.1.0) (λ t was k new perm. record { parts = k.parts refl; alternates = changed has_pair (λ pair _. alternate_columns pair) one_pair same_pair tells_pair (p, q) (Some tt) _ _ (λ pair. unit_if (t.alternates pair.0 pair.1)) _ (and_from _ _ (own_text p) (own_text q), tt) (λ l. unit_or _ _) perm was.alternates; sheets = k.sheets refl; selected = k.selected refl; reels = k.reels refl; mounts = k.mounts refl; boards = k.boards refl; placements = k.placements refl; found = k.found refl })
+    (alters_then alternate (without (has_pair (p, q))) (λ rows. alternate_columns (p, q) ∷ rows) a b c (takes_alternate a b p q gone) (puts_alternate b c p q ran))
+
+pub selected_put : (m p : Name) (a b c : State) → Runs delete_selected (Text m ∷ []) a b → Runs insert_selected (selected_columns m p) b c → WritesRow (PutSelected m p) a c
+selected_put m p a b c gone ran =
+    alters_writes (PutSelected m p) selected (put_in (has_text 0 m) (selected_columns m p)) a c refl (λ all. all.1.1.1.0) (λ t was k new perm. record { parts = k.parts refl; alternates = k.alternates refl; sheets = k.sheets refl; selected = changed (has_text 0) selected_columns (one_text 0) same tells_text m (Some p) _ _ t.selected _ (own_text m, tt) (λ l. refl) perm was.selected; reels = k.reels refl; mounts = k.mounts refl; boards = k.boards refl; placements = k.placements refl; found = k.found refl })
+    (alters_then selected (without (has_text 0 m)) (λ rows. selected_columns m p ∷ rows) a b c (takes_selected a b m gone) (puts_selected b c m p ran))
+
+pub board_put : (row : BoardRow) (a b c : State) → Runs delete_board (Text row.board ∷ []) a b → Runs insert_board (board_columns row) b c → WritesRow (PutBoard row) a c
+board_put row a b c gone ran =
+    alters_writes (PutBoard row) board (put_in (has_text 0 row.board) (board_columns row)) a c refl (λ all. all.1.1.1.1.1.1.0) (λ t was k new perm. record { parts = k.parts refl; alternates = k.alternates refl; sheets = k.sheets refl; selected = k.selected refl; reels = k.reels refl; mounts = k.mounts refl; boards = changed (has_text 0) (λ _ row. board_columns row) (one_text 0) same tells_text row.board (Some row) _ _ t.boards _ (own_text row.board, tt) (λ l. refl) perm was.boards; placements = k.placements refl; found = k.found refl })
+    (alters_then board (without (has_text 0 row.board)) (λ rows. board_columns row ∷ rows) a b c (takes_board a b row.board gone) (puts_board b c row ran))
+
+pub found_put : (r : Name) (n : ℕ) (a b c : State) → Runs delete_found (Text r ∷ []) a b → Runs insert_found (found_columns r n) b c → WritesRow (PutFound r n) a c
+found_put r n a b c gone ran =
+    alters_writes (PutFound r n) found (put_in (has_text 0 r) (found_columns r n)) a c refl (λ all. all.1.1.1.1.1.1.1.0) (λ t was k new perm. record { parts = k.parts refl; alternates = k.alternates refl; sheets = k.sheets refl; selected = k.selected refl; reels = k.reels refl; mounts = k.mounts refl; boards = k.boards refl; placements = k.placements refl; found = changed (has_text 0) found_columns (one_text 0) same tells_text r (Some n) _ _ t.found _ (own_text r, tt) (λ l. refl) perm was.found })
+    (alters_then found (without (has_text 0 r)) (λ rows. found_columns r n ∷ rows) a b c (takes_found a b r gone) (puts_found b c r n ran))
+
+pub sheet_row_taken : (p m : Name) (n : ℕ) (a c : State) → Runs delete_sheet_row (Text p ∷ Text m ∷ Int (pos n) ∷ []) a c → WritesRow (TakeSheetRow p m n) a c
+sheet_row_taken p m n a c ran =
+    alters_writes (TakeSheetRow p m n) sheet_row (without (has_sheet_place (p, m, n))) a c refl (λ all. all.1.1.0) (λ t was k new perm. record { parts = k.parts refl; alternates = k.alternates refl; sheets = changed has_sheet_place sheet_columns one_sheet_place same_sheet_place tells_sheet_place (p, m, n) None _ _ (λ at. t.sheets at.0 at.1 at.2) _ tt (λ l. refl) perm was.sheets; selected = k.selected refl; reels = k.reels refl; mounts = k.mounts refl; boards = k.boards refl; placements = k.placements refl; found = k.found refl })
+    (takes_sheet_row a c p m n ran)
+
+pub sheet_row_put : (p m : Name) (n : ℕ) (row : SheetRow) (a c : State) → Runs insert_sheet_row (sheet_columns (p, m, n) row) a c → WritesRow (PutSheetRow p m n row) a c
+sheet_row_put p m n row a c ran =
+    alters_writes (PutSheetRow p m n row) sheet_row (λ rows. sheet_columns (p, m, n) row ∷ rows) a c refl (λ all. all.1.1.0) (λ t was k new perm. record { parts = k.parts refl; alternates = k.alternates refl; sheets = added has_sheet_place sheet_columns one_sheet_place same_sheet_place tells_sheet_place (p, m, n) row _ _ (λ at. t.sheets at.0 at.1 at.2) _ new (and_from _ _ (own_text p) (and_from _ _ (own_text m) (own_int n))) (λ l. refl) perm was.sheets; selected = k.selected refl; reels = k.reels refl; mounts = k.mounts refl; boards = k.boards refl; placements = k.placements refl; found = k.found refl })
+    (puts_sheet_row a c p m n row ran)
+
+pub mount_taken : (r : Name) (a c : State) → Runs delete_mount (Text r ∷ []) a c → WritesRow (TakeMount r) a c
+mount_taken r a c ran =
+    alters_writes (TakeMount r) mount (without (has_text 3 r)) a c refl (λ all. all.1.1.1.1.1.0) (λ t was k new perm. record { parts = k.parts refl; alternates = k.alternates refl; sheets = k.sheets refl; selected = k.selected refl; reels = k.reels refl; mounts = changed (has_text 3) (λ _ row. mount_columns row) (one_text 3) same tells_text r None _ _ t.mounts _ tt (λ l. refl) perm was.mounts; boards = k.boards refl; placements = k.placements refl; found = k.found refl })
+    (takes_mount a c r ran)
+
+pub mount_put : (row : MountRow) (a c : State) → Runs insert_mount (mount_columns row) a c → WritesRow (PutMount row) a c
+mount_put row a c ran =
+    alters_writes (PutMount row) mount (λ rows. mount_columns row ∷ rows) a c refl (λ all. all.1.1.1.1.1.0) (λ t was k new perm. record { parts = k.parts refl; alternates = k.alternates refl; sheets = k.sheets refl; selected = k.selected refl; reels = k.reels refl; mounts = added (has_text 3) (λ _ row. mount_columns row) (one_text 3) same tells_text row.reel row _ _ t.mounts _ new (own_text row.reel) (λ l. refl) perm was.mounts; boards = k.boards refl; placements = k.placements refl; found = k.found refl })
+    (puts_mount a c row ran)
+
+-- ---- reels
+
+equal_text : (v : Value) (k : List ℕ) → equal Binary v (Text k) ≡ true → v ≡ Text k
+unfolding binary value_cmp
+equal_text Null k h = absurd (cc)
+equal_text (Int n) k h = absurd (cc)
+equal_text (Real x) k h = absurd (cc)
+equal_text (Blob b) k h = absurd (cc)
+equal_text (Text t) k h = ap Text (one_text 0 t k (Text t ∷ []) (own_text t) h)
+
+reel_kept : (row : ReelRow) (id : ℤ) → cast_row reel (Int id ∷ reel_columns row) ≡ Int id ∷ reel_columns row
+reel_kept row id =
+    rw (cast_int id, cast_int (pos row.label), cast_int (pos row.received), cast_int (pos row.placed), cast_int (pos row.scrapped), cast_int (pos row.remaining), cast_int (pos row.used), cast_int (since_or_none row.open_since), cast_int (flag row.baked)) refl
+
+-- the row of the reel keeps its rowid and its name
+reel_renews : (row : ReelRow) (r : Row) → passing reel_tests (reel_columns row) r ≡ true → IsTrue (is_int (rowid r))
+    → let news = cast_row reel (drop 1 (shows_of 11 reel_tests reel_renewed (reel_columns row) r)) in IsTrue (is_int (rowid news)) × (columns reel news ≡ reel_columns row)
+reel_renews row r passes keyed =
+    let id = id_in (rowid r) in
+    let rid : column r 0 ≡ Int id = int_is (rowid r) keyed in
+    let same : column r 1 ≡ Text row.reel = equal_text (column r 1) row.reel (and_parts _ _ passes).0 in
+    let is : cast_row reel (drop 1 (shows_of 11 reel_tests reel_renewed (reel_columns row) r)) ≡ Int id ∷ reel_columns row = ap₂ (λ a b. cast_row reel (a ∷ b ∷ drop 1 (reel_columns row))) rid same ∙ reel_kept row id in
+    (subst (λ x. IsTrue (is_int (rowid x))) (sym is) refl, ap (columns reel) is)
+
+-- where no row was changed none is of this reel, and where one was it has these columns now
+record UpdatesReel (row : ReelRow) (count : ℕ) (old new : State) : Type 0 where
+  none : count ≡ 0 → Alters reel (without (has_text 0 row.reel)) old new
+  one : count ≡ 1 → Alters reel (put_in (has_text 0 row.reel) (reel_columns row)) old new
+
+reel_updates : (row : ReelRow) (count : ℕ) (a b : State) → Changes count update_reel (reel_columns row) a b → UpdatesReel row count a b
+reel_updates row count a b ran =
+    let did : a.now.schema ≡ line_schema → (h : Changed line_schema reel reel_tests reel_renewed (reel_columns row) (renewed reel) a b) × (count ≡ length h.found) =
+    λ has. update_does update_reel (reel_columns row) a b line_schema has 6 reel reel_tests reel_renewed refl (quiet 11) update_reel_is.1 count ran.executed update_reel_is.0 in
+    record {
+      none = updates_none reel (has_text 0 row.reel) reel_tests reel_renewed (reel_columns row) (reel_columns row) a b (λ r. and_true _) (λ r. refl) ran.shown.was_open count did;
+      one = updates_one reel (has_text 0 row.reel) reel_tests reel_renewed (reel_columns row) (reel_columns row) a b (λ r. and_true _) (λ r. refl) ran.shown.was_open count did (reel_renews row);
+    }
+
+-- a reel's row is put in the place of that with its name
+puts_in_reel : (row : ReelRow) (a c : State) → Alters reel (put_in (has_text 0 row.reel) (reel_columns row)) a c → WritesRow (PutReel row) a c
+puts_in_reel row a c did =
+    alters_writes (PutReel row) reel (put_in (has_text 0 row.reel) (reel_columns row)) a c refl (λ all. all.1.1.1.1.0) (λ t was k new perm. record { parts = k.parts refl; alternates = k.alternates refl; sheets = k.sheets refl; selected = k.selected refl; reels = changed (has_text 0) (λ _ row. reel_columns row) (one_text 0) same tells_text row.reel (Some row) _ _ t.reels _ (own_text row.reel, tt) (λ l. refl) perm was.reels; mounts = k.mounts refl; boards = k.boards refl; placements = k.placements refl; found = k.found refl })
+    did
+
+-- no row was changed, and then one is put in
+pub reel_put : (row : ReelRow) (a b c : State) → Changes 0 update_reel (reel_columns row) a b → Runs insert_reel (reel_columns row) b c → WritesRow (PutReel row) a c
+reel_put row a b c first ran = puts_in_reel row a c (alters_then reel (without (has_text 0 row.reel)) (λ rows. reel_columns row ∷ rows) a b c ((reel_updates row 0 a b first).none refl) (puts_reel b c row ran))
+
+pub reel_changed : (row : ReelRow) (a b : State) → Changes 1 update_reel (reel_columns row) a b → WritesRow (PutReel row) a b
+reel_changed row a b ran = puts_in_reel row a b ((reel_updates row 1 a b ran).one refl)

@@ -1,0 +1,7 @@
+use Rattle.std.proofs.Common.{refl}
+use Rattle.std.proofs.lemmas.Result.{on_ok_weaker}
+use Rattle.line_tables.proofs.floor.put_reel.Goals as goal
+
+pub returns-clause-done : goal.returns-clause-done
+returns-clause-done g c clean =
+    on_ok_weaker c.change_reel.result (λ done. done c.args.row.now (rw (c.to_sql.ensures, c.as_str.ensures, c.to_sql-2.ensures, c.as_str-2.ensures, c.to_sql-3.ensures, c.as_str-3.ensures, c.to_sql-4.ensures, c.as_str-4.ensures, c.in_ok-int.ensures, c.in_ok-int-2.ensures, c.in_ok-int-3.ensures, c.in_ok-int-4.ensures, c.in_ok-int-5.ensures, c.in_ok-int-6.ensures, c.since.ensures, c.to_sql-5.ensures) refl)) (c.change_reel.ensures.done clean)

@@ -1,0 +1,22 @@
+use Rattle.std.proofs.Common.{◌≡◌, ◌+◌, ℤ, Some, take, sym, subst, arith, rules, SFits, to_z, of_z, w64}
+use Rattle.std.proofs.lemmas.Int.{to_z-of_z}
+use Rattle.std.specs.List.{AllByRecursion}
+use Rattle.sqlite.specs.declared.types.Value.TheVariants.{Int}
+use Rattle.line_tables.specs.Rising.{IsPast, IsBefore}
+use Rattle.line_tables.proofs.Rising.{rising_more, below_more}
+use Rattle.line_tables.proofs.rowids.are_rising.Goals as goal
+
+pub loop-row-preserved : goal.loop-row-preserved
+loop-row-preserved c =
+    let was = c.loop-row.invariant in
+    let i = c.loop-row.row-index in
+    let n = c.in_ok-number.number in
+    let last = c.loop-row.last in
+    let fits : SFits w64 n = search rules in
+    let same : to_z w64 (of_z w64 n) ≡ n = to_z-of_z w64 n fits in
+    let past : IsPast last n = subst (IsPast last) same (c.is_past.ensures (search rules)) in
+    record {
+      rising = rising_more c.args.rows.now i c.row-item.result n last (search arith) (search rules) c.in_ok-number.ensures past was.rising was.below;
+      below = subst (λ k. (m : ℤ) → IsPast (Some k) m → AllByRecursion (IsBefore (Int m)) (take (i + 1) c.args.rows.now)) (sym same)
+          (below_more c.args.rows.now i c.row-item.result n last (search arith) (search rules) c.in_ok-number.ensures past was.below);
+    }

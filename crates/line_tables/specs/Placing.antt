@@ -1,0 +1,23 @@
+-- Edits that put placements, and the values of their rows.
+use Rattle.std.specs.Prelude.{◌≡◌, pos, List, ◌∷◌, map}
+use Rattle.std.specs.List.{flat_map}
+use Rattle.sqlite.specs.declared.types.Value.TheVariants.{Int}
+use Rattle.sqlite_value.specs.Order.{Row}
+use Rattle.state_rows.specs.declared.edit.RowEdit.TheVariants.{PutPlacement}
+use Rattle.state_rows.specs.declared.row.PlacementRow.{PlacementRow}
+use Rattle.line_tables.specs.declared.edit.Edit.{Edit}
+use Rattle.line_tables.specs.declared.edit.Edit.TheVariants.{EditRow}
+use Rattle.line_tables.specs.Rowids.{placement_id}
+use Rattle.line_tables.specs.StateRows.{placement_columns}
+
+-- the edit that puts the row
+abbrev pub placing : PlacementRow → Edit
+placing row = EditRow (PutPlacement row)
+
+-- the row as it is kept: its rowid goes by its number and its place
+abbrev pub placement_kept : PlacementRow → Row
+placement_kept row = Int (pos (placement_id row.number row.place)) ∷ placement_columns row
+
+-- the edits put placements, and these are the values of their rows, one row after the other
+abbrev pub ArePlacing : List Edit → Row → Type 0
+ArePlacing edits values = (rows : List PlacementRow) × (edits ≡ map placing rows) × (values ≡ flat_map placement_kept rows)

@@ -1,0 +1,36 @@
+-- What queries tell of rowids.
+use Rattle.std.specs.Prelude.{◌≡◌, ⊤, ℕ, ℤ, Bool, IsTrue, Option, None, Some, List, []}
+use Rattle.std.specs.List.{AllByRecursion}
+use Rattle.std.specs.Ordering.{int_cmp}
+use Rattle.std.specs.declared.cmp.Ordering.TheVariants.{Less}
+use Rattle.sqlite_value.specs.declared.value.Value.{Value}
+use Rattle.sqlite_value.specs.Order.{Row, column, value_cmp}
+use Rattle.sqlite_schema.specs.declared.schema.Table.{Table}
+use Rattle.sqlite.specs.Effect.{Database}
+use Rattle.sqlite.specs.Held.{Held}
+use Rattle.sqlite_trees.specs.Tree.{IsAscending}
+use Rattle.sqlite_trees.specs.View.{is_int}
+use Rattle.sqlite_trees.specs.declared.store.Store.{Ghosts}
+use Rattle.line_tables.specs.Rowids.{AreApart}
+use Rattle.line_tables.specs.Calls.{Selects}
+
+-- the number is above the last one, where there is one
+abbrev pub IsPast : Option ℤ → ℤ → Type 0
+IsPast None n = ⊤
+IsPast (Some last) n = int_cmp last n ≡ Less
+
+-- the row's first value is below this one
+abbrev pub IsBefore : Value → Row → Type 0
+IsBefore v row = value_cmp (column row 0) v ≡ Less
+
+-- each row is an integer, above those before
+abbrev pub AreRising : List Row → Type 0
+AreRising rows = IsAscending (λ a b. value_cmp (column a 0) (column b 0) ≡ Less) rows × AllByRecursion (λ row. IsTrue (is_int (column row 0))) rows
+
+-- what the query shows rises, where it is told so
+abbrev pub Shows : {S : Type 0} → Ghosts S → List ℕ → Held S → Bool → Type 0
+Shows g sql old rising = (rows : List Row) × Selects g sql [] old rows × (IsTrue rising → AreRising rows)
+
+-- the rows of each of the tables are apart, where it is told so
+abbrev pub AreTold : Bool → List Table → Database → Type 0
+AreTold apart tables db = IsTrue apart → AllByRecursion (λ table. AreApart (db.trees table.tree)) tables

@@ -1,0 +1,105 @@
+//! Whether rows are told apart by their rowids. Each call reads what is committed, and changes nothing.
+//! In an open transaction of the caller's it reads nothing.
+
+ghost use Rattle.std.specs.Prelude.{◌≡◌, ◌&&◌, true, false, Err, IsTrue, IfOk, take, drop};
+ghost use Rattle.sqlite.specs.declared.error.Error.TheVariants as Error;
+ghost use Rattle.sqlite.specs.declared.error.ErrorCode.TheVariants as code;
+ghost use Rattle.sqlite.specs.State.{HasCleanDisk, Survives, KeepsCommit};
+ghost use Rattle.sqlite.specs.Held.{state};
+ghost use Rattle.line_tables.specs.Calls.{Reads};
+ghost use Rattle.line_tables.specs.Rowids.{AreAllApart, changed_tables};
+ghost use Rattle.line_tables.specs.Rising.{AreTold, Shows, AreRising, IsPast};
+
+use crate::reading::number_of;
+use crate::select::select;
+use sqlite::{Alter, Connection, Error, Row};
+
+/// Whether in each state table but `placement` every row has an integer of its own as its rowid. SQL
+/// keeps it so in every file that it writes.
+pub fn are_apart<S: Alter>(conn: &mut Connection<S>) -> Result<bool, Error>
+    ensures apart { HasCleanDisk (state S.Store conn.new) → IfOk result (λ are. Reads (state S.Store conn.old) (λ db. IsTrue are → AreAllApart db)) }
+    ensures kept { HasCleanDisk (state S.Store conn.new) → KeepsCommit (state S.Store conn.old) (state S.Store conn.new) }
+    ensures inside { IsTrue conn.old.in_transaction → (result ≡ Err (Error.SqliteFailure code.TransactionState)) × (conn.new ≡ conn.old) }
+    ensures mode { conn.old.in_transaction ≡ false → conn.new.in_transaction ≡ false }
+    ensures survives { Survives (state S.Store conn.old) (state S.Store conn.new) (λ _. ⊥) }
+{
+    if !is_setup_apart(conn)? {
+        return Ok(false);
+    }
+    is_floor_apart(conn)
+}
+
+/// The tables of what is set up.
+fn is_setup_apart<S: Alter>(conn: &mut Connection<S>) -> Result<bool, Error>
+    ensures found { HasCleanDisk (state S.Store conn.new) → IfOk result (λ apart. Reads (state S.Store conn.old) (AreTold apart (take 4 changed_tables))) }
+    ensures kept { HasCleanDisk (state S.Store conn.new) → KeepsCommit (state S.Store conn.old) (state S.Store conn.new) }
+    ensures inside { IsTrue conn.old.in_transaction → (result ≡ Err (Error.SqliteFailure code.TransactionState)) × (conn.new ≡ conn.old) }
+    ensures mode { conn.old.in_transaction ≡ false → conn.new.in_transaction ≡ false }
+    ensures survives { Survives (state S.Store conn.old) (state S.Store conn.new) (λ _. ⊥) }
+{
+    let part = shows_rising(conn, "SELECT rowid FROM part ORDER BY rowid")?;
+    let alternate = shows_rising(conn, "SELECT rowid FROM alternate ORDER BY rowid")?;
+    let sheet_row = shows_rising(conn, "SELECT rowid FROM sheet_row ORDER BY rowid")?;
+    let selected = shows_rising(conn, "SELECT rowid FROM selected ORDER BY rowid")?;
+    Ok(are_true(part, alternate, sheet_row, selected))
+}
+
+/// The tables of what is on the line, and of what counts found.
+fn is_floor_apart<S: Alter>(conn: &mut Connection<S>) -> Result<bool, Error>
+    ensures found { HasCleanDisk (state S.Store conn.new) → IfOk result (λ apart. Reads (state S.Store conn.old) (AreTold apart (drop 4 changed_tables))) }
+    ensures kept { HasCleanDisk (state S.Store conn.new) → KeepsCommit (state S.Store conn.old) (state S.Store conn.new) }
+    ensures inside { IsTrue conn.old.in_transaction → (result ≡ Err (Error.SqliteFailure code.TransactionState)) × (conn.new ≡ conn.old) }
+    ensures mode { conn.old.in_transaction ≡ false → conn.new.in_transaction ≡ false }
+    ensures survives { Survives (state S.Store conn.old) (state S.Store conn.new) (λ _. ⊥) }
+{
+    let reel = shows_rising(conn, "SELECT rowid FROM reel ORDER BY rowid")?;
+    let mount = shows_rising(conn, "SELECT rowid FROM mount ORDER BY rowid")?;
+    let board = shows_rising(conn, "SELECT rowid FROM board ORDER BY rowid")?;
+    let found = shows_rising(conn, "SELECT rowid FROM found ORDER BY rowid")?;
+    Ok(are_true(reel, mount, board, found))
+}
+
+/// Whether the query shows numbers that rise.
+fn shows_rising<S: Alter>(conn: &mut Connection<S>, sql: &str) -> Result<bool, Error>
+    ensures shown { HasCleanDisk (state S.Store conn.new) → IfOk result (Shows S.Store sql.now conn.old) }
+    ensures kept { HasCleanDisk (state S.Store conn.new) → KeepsCommit (state S.Store conn.old) (state S.Store conn.new) }
+    ensures inside { IsTrue conn.old.in_transaction → (result ≡ Err (Error.SqliteFailure code.TransactionState)) × (conn.new ≡ conn.old) }
+    ensures mode { conn.old.in_transaction ≡ false → conn.new.in_transaction ≡ false }
+    ensures survives { Survives (state S.Store conn.old) (state S.Store conn.new) (λ _. ⊥) }
+{
+    let rows = select(conn, sql, &[])?;
+    are_rising(rows.as_slice())
+}
+
+/// Whether each row is an integer, above that of the row before.
+fn are_rising(rows: &[Row]) -> Result<bool, Error>
+    ensures { IfOk result (λ rising. IsTrue rising → AreRising rows.now) }
+{
+    let mut last: Option<i64> = None;
+    for row in rows {
+        let number = number_of(row)?;
+        if !is_past(last, number) {
+            return Ok(false);
+        }
+        last = Some(number);
+    }
+    Ok(true)
+}
+
+/// Whether all four are so.
+fn are_true(a: bool, b: bool, c: bool, d: bool) -> bool
+    ensures { result ≡ (a && (b && (c && (d && true)))) }
+{
+    a && b && c && d
+}
+
+/// Whether the number is above the last one, where there is one.
+#[tactic(auto, using(crate::proofs::Rising::past_by))]
+fn is_past(last: Option<i64>, number: i64) -> bool
+    ensures { IsTrue result → IsPast last number }
+{
+    match last {
+        Some(last) => last < number,
+        None => true,
+    }
+}

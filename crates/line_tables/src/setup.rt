@@ -1,0 +1,127 @@
+//! Rows of what is set up: parts, their alternates, sheets, and the products selected.
+
+ghost use Rattle.std.specs.Prelude.{◌≡◌, OnOk};
+ghost use Rattle.sqlite.specs.State.{HasCleanDisk, Survives, KeepsCommit};
+ghost use Rattle.sqlite.specs.Held.{state};
+ghost use Rattle.state_rows.specs.declared.edit.RowEdit.TheVariants as RowEdit;
+ghost use Rattle.line_tables.specs.Calls.{WritesRow};
+
+use crate::statement::run;
+use crate::values::{int, spaced};
+use desk_types::{Id, SheetRow};
+use sqlite::types::{ToSql, ValueRef};
+use sqlite::{Alter, Error, Transaction, params};
+use std::alloc::Global;
+
+/// A part, in the place of its row where it has one.
+pub fn put_part<S: Alter>(tx: &mut Transaction<'_, S>, part: &Id) -> Result<(), Error>
+    ensures same_reference { tx.new.conn.ghost_name ≡ tx.old.conn.ghost_name }
+    ensures done { HasCleanDisk (state S.Store tx.new.conn.now) → OnOk result (WritesRow (RowEdit.PutPart part.now) (state S.Store tx.old.conn.now) (state S.Store tx.new.conn.now)) }
+    ensures kept { HasCleanDisk (state S.Store tx.new.conn.now) → KeepsCommit (state S.Store tx.old.conn.now) (state S.Store tx.new.conn.now) }
+    ensures survives { Survives (state S.Store tx.old.conn.now) (state S.Store tx.new.conn.now) (λ _. ⊥) }
+{
+    run(
+        tx,
+        "DELETE FROM part WHERE part = ?1",
+        params![part.as_str()],
+    )?;
+    run(tx, "INSERT INTO part VALUES (?1)", params![part.as_str()])
+}
+
+/// An alternate of a part, in the place of its row where it has one.
+pub fn put_alternate<S: Alter>(
+    tx: &mut Transaction<'_, S>,
+    part: &Id,
+    alternate: &Id,
+) -> Result<(), Error>
+    ensures same_reference { tx.new.conn.ghost_name ≡ tx.old.conn.ghost_name }
+    ensures done { HasCleanDisk (state S.Store tx.new.conn.now) → OnOk result (WritesRow (RowEdit.PutAlternate part.now alternate.now) (state S.Store tx.old.conn.now) (state S.Store tx.new.conn.now)) }
+    ensures kept { HasCleanDisk (state S.Store tx.new.conn.now) → KeepsCommit (state S.Store tx.old.conn.now) (state S.Store tx.new.conn.now) }
+    ensures survives { Survives (state S.Store tx.old.conn.now) (state S.Store tx.new.conn.now) (λ _. ⊥) }
+{
+    run(
+        tx,
+        "DELETE FROM alternate WHERE part = ?1 AND alternate = ?2",
+        params![part.as_str(), alternate.as_str()],
+    )?;
+    run(
+        tx,
+        "INSERT INTO alternate VALUES (?1, ?2)",
+        params![part.as_str(), alternate.as_str()],
+    )
+}
+
+/// Takes the row of a sheet at the place out, where there is one.
+pub fn take_sheet_row<S: Alter>(
+    tx: &mut Transaction<'_, S>,
+    product: &Id,
+    machine: &Id,
+    place: u64,
+) -> Result<(), Error>
+    ensures same_reference { tx.new.conn.ghost_name ≡ tx.old.conn.ghost_name }
+    ensures done { HasCleanDisk (state S.Store tx.new.conn.now) → OnOk result (WritesRow (RowEdit.TakeSheetRow product.now machine.now place) (state S.Store tx.old.conn.now) (state S.Store tx.new.conn.now)) }
+    ensures kept { HasCleanDisk (state S.Store tx.new.conn.now) → KeepsCommit (state S.Store tx.old.conn.now) (state S.Store tx.new.conn.now) }
+    ensures survives { Survives (state S.Store tx.old.conn.now) (state S.Store tx.new.conn.now) (λ _. ⊥) }
+{
+    run(
+        tx,
+        "DELETE FROM sheet_row WHERE product = ?1 AND machine = ?2 AND place = ?3",
+        &[
+            product.as_str().to_sql(),
+            machine.as_str().to_sql(),
+            int(place)?,
+        ],
+    )
+}
+
+/// A row of a sheet, where none has its key. Its designators are joined by one space.
+pub fn put_sheet_row<'x, S: Alter>(
+    alloc: Global,
+    tx: &mut Transaction<'_, S>,
+    product: &'x Id,
+    machine: &'x Id,
+    place: u64,
+    row: &'x SheetRow,
+) -> Result<(), Error>
+    ensures same_reference { tx.new.conn.ghost_name ≡ tx.old.conn.ghost_name }
+    ensures done { HasCleanDisk (state S.Store tx.new.conn.now) → OnOk result (WritesRow (RowEdit.PutSheetRow product.now machine.now place row.now) (state S.Store tx.old.conn.now) (state S.Store tx.new.conn.now)) }
+    ensures kept { HasCleanDisk (state S.Store tx.new.conn.now) → KeepsCommit (state S.Store tx.old.conn.now) (state S.Store tx.new.conn.now) }
+    ensures survives { Survives (state S.Store tx.old.conn.now) (state S.Store tx.new.conn.now) (λ _. ⊥) }
+{
+    let designators = spaced(alloc, row.designators.as_slice())?;
+    run(
+        tx,
+        "INSERT INTO sheet_row VALUES (?1, ?2, ?3, ?4, ?5, ?6)",
+        &[
+            product.as_str().to_sql(),
+            machine.as_str().to_sql(),
+            int(place)?,
+            row.slot.as_str().to_sql(),
+            row.part.as_str().to_sql(),
+            ValueRef::Text(designators.as_slice()),
+        ],
+    )
+}
+
+/// The product that a machine makes, in the place of the one before.
+pub fn put_selected<S: Alter>(
+    tx: &mut Transaction<'_, S>,
+    machine: &Id,
+    product: &Id,
+) -> Result<(), Error>
+    ensures same_reference { tx.new.conn.ghost_name ≡ tx.old.conn.ghost_name }
+    ensures done { HasCleanDisk (state S.Store tx.new.conn.now) → OnOk result (WritesRow (RowEdit.PutSelected machine.now product.now) (state S.Store tx.old.conn.now) (state S.Store tx.new.conn.now)) }
+    ensures kept { HasCleanDisk (state S.Store tx.new.conn.now) → KeepsCommit (state S.Store tx.old.conn.now) (state S.Store tx.new.conn.now) }
+    ensures survives { Survives (state S.Store tx.old.conn.now) (state S.Store tx.new.conn.now) (λ _. ⊥) }
+{
+    run(
+        tx,
+        "DELETE FROM selected WHERE machine = ?1",
+        params![machine.as_str()],
+    )?;
+    run(
+        tx,
+        "INSERT INTO selected VALUES (?1, ?2)",
+        params![machine.as_str(), product.as_str()],
+    )
+}

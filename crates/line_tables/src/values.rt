@@ -1,0 +1,81 @@
+//! Values as SQL keeps them.
+
+ghost use Rattle.std.specs.Prelude.{◌≡◌, unwrap_or, [], ◌∷◌, ◌++◌, pos, IfOk, OnOk};
+ghost use Rattle.std.specs.List.{flat_map, join_with_byte};
+ghost use Rattle.sqlite.specs.declared.types.Value.TheVariants.{Int};
+ghost use Rattle.sqlite_value.specs.Value.{owned};
+ghost use Rattle.line_tables.specs.Rowids.{placement_id};
+ghost use Rattle.line_tables.specs.StateRows.{since_or_none};
+
+use desk_types::{Designator, Id, Minute};
+use sqlite::Error;
+use sqlite::types::ValueRef;
+use std::alloc::{AllocError, Global};
+
+/// The number, where it is one of SQL's, which end at the greatest `i64`.
+pub fn int<'a>(n: u64) -> Result<ValueRef<'a>, Error>
+    ensures { IfOk result (λ value. owned value ≡ Int (pos n)) }
+{
+    match i64::try_from(n) {
+        Ok(i) => Ok(ValueRef::Int(i)),
+        Err(_) => Err(Error::IntegralValueOutOfRange(0)),
+    }
+}
+
+/// The minute, or -1 where there is none.
+pub fn since<'a>(minute: Option<Minute>) -> ValueRef<'a>
+    ensures { owned result ≡ Int (since_or_none minute) }
+{
+    match minute {
+        Some(minute) => ValueRef::Int(minute.get() as i64),
+        None => ValueRef::Int(-1),
+    }
+}
+
+/// The name, or the empty text.
+pub fn or_empty(name: &Option<Id>) -> &str
+    ensures { result.now ≡ unwrap_or name.now [] }
+{
+    match name {
+        Some(name) => name.as_str(),
+        None => "",
+    }
+}
+
+/// The rowid of a placement: rows in its order are in that of numbers and then of places, of which
+/// there are fewer than 65,536.
+pub fn placement_id<'a>(number: u64, place: u64) -> Result<ValueRef<'a>, Error>
+    ensures { IfOk result (λ value. owned value ≡ Int (pos (placement_id number place))) }
+{
+    let Some(first) = number.checked_mul(65_536) else {
+        return Err(Error::IntegralValueOutOfRange(0));
+    };
+    let Some(id) = first.checked_add(place) else {
+        return Err(Error::IntegralValueOutOfRange(0));
+    };
+    int(id)
+}
+
+/// The designators with one space between each and the next.
+pub fn spaced(alloc: Global, designators: &[Designator]) -> Result<Vec<u8>, AllocError>
+    ensures { IfOk result (λ text. text.items ≡ join_with_byte 0x20 designators.now) }
+{
+    let mut text = Vec::new(alloc);
+    let [first, others @ ..] = designators else {
+        return Ok(text);
+    };
+    text.extend_from_slice(first.as_bytes())?;
+    add_spaced(&mut text, others)?;
+    Ok(text)
+}
+
+/// Adds each designator with a space before it.
+fn add_spaced(text: &mut Vec<u8>, designators: &[Designator]) -> Result<(), AllocError>
+    ensures { OnOk result (text.new.items ≡ text.old.items ++ flat_map (λ d. 0x20 ∷ d) designators.now) }
+{
+    for designator in designators {
+        text.push(b' ')?;
+        text.extend_from_slice(designator.as_bytes())?;
+    }
+    Ok(())
+}

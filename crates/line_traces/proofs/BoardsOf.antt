@@ -1,0 +1,91 @@
+-- What the query of the boards of a lot finds.
+use Rattle.std.proofs.Common.{◌≡◌, ◌∙◌, Bool, List, [], ◌∷◌, map, filter, refl, sym, ap, subst, Less}
+use Rattle.std.specs.Prelude.{◌&&◌, if◌then◌else◌}
+use Rattle.std.specs.List.{flat_map, list_all}
+use Rattle.std.specs.List.Sorted.{IsPermutation, IsStrictlySortedBy}
+use Rattle.std.proofs.lemmas.List.Sorted.{IsPermutation-trans, IsPermutation-sym}
+use Rattle.sqlite_trees.specs.Tree.{IsAscending}
+use Rattle.sqlite_trees.proofs.ListLemmas.{flat_map-map, IsPermutation-flat_map}
+use Rattle.sqlite_keyed.proofs.ListLemmas.{all_weaker, map-map, ascending-map, ascending_weaker}
+use Rattle.sqlite_keyed.proofs.SortLemmas.{sorted_unique}
+use Rattle.sqlite.specs.declared.types.Value.TheVariants.{Text}
+use Rattle.sqlite_value.specs.Order.{Row, column}
+use Rattle.sqlite.specs.Term.{holds}
+use Rattle.sqlite.specs.Query.{IsAnswer, output, output_cmp, Output}
+use Rattle.sqlite.specs.Program.{overlay}
+use Rattle.sqlite.specs.Effect.{Database}
+use Rattle.sqlite_sql.proofs.QueryLemmas.{output_cmp_total}
+use Rattle.sqlite_trees.specs.declared.store.Store.{Ghosts}
+use Rattle.sqlite.specs.Held.{Held, state}
+use Rattle.desk_types.specs.Id.{Name, same, by_name}
+use Rattle.desk_types.specs.History.{History}
+use Rattle.desk_types.specs.Placements.{Placement, placements_of, boards_of}
+use Rattle.line_tables.specs.Line as line
+use Rattle.line_tables.specs.Calls.{Selects}
+use Rattle.line_tables.specs.StateRows.{columns, rows_in, reel_columns, has_text}
+use Rattle.line_tables.proofs.Finds.{answer_of, and_true}
+use Rattle.line_traces.specs.Committed.{HoldsList, Tells, name_row}
+use Rattle.line_traces.proofs.Columns.{equal-text}
+use Rattle.line_traces.proofs.Joins.{paired, pairing, pair-one, map-pair, swapped, found-of}
+use Rattle.line_traces.proofs.Known.{piece_row, pieces-listed, IsKnown, pieces-known}
+use Rattle.line_traces.proofs.Sets.{shown_name, by-shown, kept-set, set-sorted}
+use Rattle.line_traces.proofs.Texts.{select_names, names_query, select_names_is}
+use Rattle.line_traces.proofs.Traced.{is_reel}
+
+in-order : (names : List Name) → IsStrictlySortedBy by_name names → IsAscending (λ a b. by_name a b ≡ Less) names
+unfolding IsStrictlySortedBy
+in-order [] sorted = tt
+in-order (n ∷ names) (above, sorted) = (above, in-order names sorted)
+
+module _ (lot : Name) where
+  -- the reel is of the lot
+  abbrev is_its : Row → Row → Bool
+  is_its reel piece = has_text 2 lot reel
+
+  -- the board, as the key of the order and as what is shown
+  abbrev shown_board : Row → Row → Output
+  shown_board reel piece = (column piece 2 ∷ [], column piece 2 ∷ [])
+
+  -- the boards of the pieces of the lot
+  abbrev names_of : History → List Name
+  names_of H = map (λ (p : Placement). p.board) (filter (λ p. same p.lot lot) (placements_of H))
+
+  all-shown : (db : Database) (rows : List Row) (a : IsAnswer names_query (overlay db.trees []) (Text lot ∷ []) rows)
+      → map (output names_query) a.staged ≡ pairing is_reel is_its shown_board (rows_in line.reel db) (rows_in line.placement db)
+  all-shown db rows a =
+      ap (map (output names_query)) a.grouped
+      ∙ map-pair is_reel is_its shown_board (output names_query) (λ r p. list_all (holds ((Text lot ∷ []) ∷ r ∷ p ∷ [])) names_query.filter) (λ r p. (Text lot ∷ []) ∷ r ∷ p ∷ [])
+      (columns line.reel) (columns line.placement) (λ r p. ap (λ b. is_reel (columns line.placement p) (columns line.reel r) && b) (and_true _)) (λ r p. refl) (db.trees 11) (db.trees 17)
+
+  one-shown : (db : Database) (p : Placement) → IsKnown db p
+      → flat_map (λ r. paired is_reel is_its shown_board r (piece_row p)) (rows_in line.reel db) ≡ (if same p.lot lot then shown_name p.board ∷ [] else [])
+  one-shown db p known =
+      pair-one is_reel is_its shown_board (rows_in line.reel db) (piece_row p) (reel_columns known.reel) known.found
+      ∙ ap (λ b. if b then shown_name p.board ∷ [] else []) (equal-text known.reel.lot lot ∙ ap (λ n. same n lot) known.lot)
+
+  -- the boards of all rows that pass are those of the pieces, in some order
+  all-listed : (db : Database) (H : History) → HoldsList db H → IsPermutation (pairing is_reel is_its shown_board (rows_in line.reel db) (rows_in line.placement db)) (map shown_name (names_of H))
+  all-listed db H held =
+      let by_row : Row → List Output = λ p. flat_map (λ r. paired is_reel is_its shown_board r p) (rows_in line.reel db) in
+      let found : flat_map by_row (map piece_row (placements_of H)) ≡ map shown_name (names_of H) =
+      flat_map-map by_row piece_row (placements_of H)
+      ∙ found-of (λ p. by_row (piece_row p)) (λ p. same p.lot lot) (λ (p : Placement). shown_name p.board) (placements_of H) (all_weaker (IsKnown db) _ (one-shown db) (placements_of H) (pieces-known db H held))
+      ∙ sym (map-map shown_name (λ (p : Placement). p.board) (filter (λ p. same p.lot lot) (placements_of H))) in
+      subst (IsPermutation _) found (
+      IsPermutation-trans _ _ _ (swapped (paired is_reel is_its shown_board) (rows_in line.reel db) (rows_in line.placement db)) (IsPermutation-flat_map by_row _ _ (pieces-listed db H held)))
+
+  names-answer : (db : Database) (H : History) → HoldsList db H → (rows : List Row) → IsAnswer names_query (overlay db.trees []) (Text lot ∷ []) rows → rows ≡ map name_row (boards_of H lot)
+  names-answer db H held rows a =
+      let kept : IsPermutation a.kept (map shown_name (boards_of H lot)) =
+      kept-set (names_of H) (map (output names_query) a.staged) a.kept (subst (λ l. IsPermutation l (map shown_name (names_of H))) (sym (all-shown db rows a)) (all-listed db H held)) a.distinct in
+      let up : IsAscending (λ x y. output_cmp names_query x y ≡ Less) (map shown_name (boards_of H lot)) =
+      ascending-map (λ x y. output_cmp names_query x y ≡ Less) shown_name (boards_of H lot) (ascending_weaker (λ a b. by_name a b ≡ Less) _ (λ a b less. by-shown a b ∙ less) (boards_of H lot) (in-order (boards_of H lot) (set-sorted (names_of H)))) in
+      let ordered : a.ordered ≡ map shown_name (boards_of H lot) =
+      sorted_unique (output_cmp names_query) (output_cmp_total names_query) _ a.ordered up (IsPermutation-trans _ _ _ (IsPermutation-sym _ _ kept) a.same) a.sorted in
+      a.shown ∙ ap (map (λ (o : Output). o.1)) ordered ∙ map-map (λ (o : Output). o.1) shown_name (boards_of H lot)
+
+  pub finds-names : {S : Type 0} (g : Ghosts S) (old : Held S) (rows : List Row) → Selects g select_names (Text lot ∷ []) old rows → Tells (λ H. map name_row (boards_of H lot)) (state g old) rows
+  finds-names g old rows h = record {
+    was_open = h.was_open;
+    are = λ schema H held. names-answer (state g old).committed H held rows (answer_of g select_names names_query _ select_names_is (Text lot ∷ []) old rows h schema);
+  }

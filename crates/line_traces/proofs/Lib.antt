@@ -1,0 +1,13 @@
+pub mod Columns
+pub mod Joins
+pub mod Listed
+pub mod Texts
+pub mod Known
+pub mod Traced
+pub mod Named
+pub mod Asked
+pub mod Told
+pub mod Sets
+pub mod BoardsOf
+pub mod Converse
+pub mod Minutes

@@ -1,0 +1,82 @@
+-- The rows of `accepted` tell the minutes of the entries: how the premise of the calls is met.
+use Rattle.std.proofs.Common.{◌≡◌, ◌∙◌, ℕ, ◌<◌, ◌≤◌, pos, Bool, true, false, List, [], ◌∷◌, filter, length, refl, ap, subst, arith}
+use Rattle.std.specs.List.{AllByRecursion, AllZip}
+use Rattle.std.specs.List.Sorted.{IsPermutation}
+use Rattle.std.proofs.lemmas.List.Elements.{All-from_recursion}
+use Rattle.std.proofs.lemmas.List.Sorted.{IsPermutation-sym}
+use Rattle.sqlite.specs.declared.types.Value.TheVariants.{Int}
+use Rattle.sqlite.specs.Collation.TheVariants.{Binary}
+use Rattle.sqlite_value.specs.Order.{Row, column}
+use Rattle.sqlite_schema.specs.Rules.{equal}
+use Rattle.sqlite_trees.proofs.ListLemmas.{IsPermutation-filter}
+use Rattle.sqlite_keyed.proofs.ListLemmas.{all_both, all_weaker}
+use Rattle.sqlite.specs.Effect.{Database}
+use Rattle.sqlite.proofs.Callers.{one_permutation}
+use Rattle.desk_types.specs.declared.command.Entry.{Entry}
+use Rattle.desk_types.specs.declared.rules.Rules.TheVariants.{Two}
+use Rattle.desk_types.specs.History.{History}
+use Rattle.desk_types.specs.Judged.{IsJudged}
+use Rattle.state_rows.specs.Tables.{tables_of}
+use Rattle.line_tables.specs.Rows.{accepted_in}
+use Rattle.line_tables.specs.Calls.{has_number}
+use Rattle.line_tables.specs.StateRows.{HoldsState}
+use Rattle.line_traces.specs.Committed.{TellsMinute, HoldsList}
+use Rattle.line_traces.proofs.Columns.{one-int, equal-itself}
+
+-- the row has the entry's number and its effective minute
+abbrev pub IsRowOf : Entry → Row → Type 0
+IsRowOf e row = (column row 0 ≡ Int (pos e.number)) × (column row 4 ≡ Int (pos e.effective))
+
+-- one of the rows has the entry's number, and it is the entry's
+abbrev IsAmong : List Row → Entry → Type 0
+IsAmong rows e = (row : Row) × (filter (has_number e.number) rows ≡ row ∷ []) × (column row 4 ≡ Int (pos e.effective))
+
+-- another number
+other-number : (row : Row) (e : Entry) (n : ℕ) → IsRowOf e row → (e.number ≡ n → ⊥) → has_number n row ≡ false
+other-number row e n is other = by (has_number n row) refl
+  where
+    by : (b : Bool) → has_number n row ≡ b → has_number n row ≡ false
+    by true there = absurd (other (one-int (column row 0) e.number n (ap (λ v. equal Binary v (Int (pos e.number))) is.0 ∙ equal-itself e.number) there))
+    by false there = there
+
+-- no number is above that of the last entry
+none-above : (H : History) (rows : List Row) → IsJudged Two H → AllZip IsRowOf H rows → (n : ℕ) → length H < n → filter (has_number n) rows ≡ []
+none-above [] [] judged are n above = refl
+none-above [] (r ∷ rows) judged are n above = absurd are
+none-above (e ∷ H) [] judged are n above = absurd are
+none-above (e ∷ H) (r ∷ rows) (next, judged) (is, are) n above =
+    let at = next.number in
+    rw (other-number r e n is (λ same. omega (arith, same, at, above))) (none-above H rows judged are n (omega (arith, above)))
+
+-- the numbers of the entries are among those up to the length
+numbers-within : (H : History) → IsJudged Two H → AllByRecursion (λ (e : Entry). e.number ≤ length H) H
+numbers-within [] judged = tt
+numbers-within (e ∷ H) (next, judged) =
+    let at = next.number in (omega (arith, at), all_weaker (λ (x : Entry). x.number ≤ length H) (λ (x : Entry). x.number ≤ length (e ∷ H)) (λ x le. omega (arith, le)) H (numbers-within H judged))
+
+each-among : (H : History) (rows : List Row) → IsJudged Two H → AllZip IsRowOf H rows → AllByRecursion (IsAmong rows) H
+each-among [] rows judged are = tt
+each-among (e ∷ H) [] judged are = absurd are
+each-among (e ∷ H) (r ∷ rows) (next, judged) (is, are) =
+    let at = next.number in
+    let here : has_number e.number r ≡ true = ap (λ v. equal Binary v (Int (pos e.number))) is.0 ∙ equal-itself e.number in (
+      (r, rw here (ap (λ l. r ∷ l) (none-above H rows judged are e.number (omega (arith, at)))), is.1),
+      all_both (λ (x : Entry). x.number ≤ length H) (IsAmong rows) (IsAmong (r ∷ rows))
+          (λ x within among. (among.0, rw (other-number r e x.number is (λ same. omega (arith, same, at, within))) among.1, among.2))
+          H (numbers-within H judged) (each-among H rows judged are),
+    )
+
+-- A database holds a judged list where it has its state tables, and rows of `accepted` that are, in some order, those of its entries.
+pub list-held : (db : Database) (H : History) (rows : List Row) → IsJudged Two H → IsPermutation (accepted_in db) rows → AllZip IsRowOf H rows → HoldsState db (tables_of H) → HoldsList db H
+list-held db H rows judged same are state = record {
+  judged = judged;
+  minutes = All-from_recursion (TellsMinute db) H (all_weaker (IsAmong rows) (TellsMinute db) one H (each-among H rows judged are));
+  state = state;
+}
+  where
+    one : (e : Entry) → IsAmong rows e → TellsMinute db e
+    one e among = record {
+      row = among.0;
+      only = one_permutation among.0 _ (IsPermutation-sym _ _ (subst (IsPermutation (filter (has_number e.number) (accepted_in db))) among.1 (IsPermutation-filter (has_number e.number) _ _ same)));
+      minute = among.2;
+    }

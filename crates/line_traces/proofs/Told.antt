@@ -1,0 +1,87 @@
+-- What two calls tell together.
+use Rattle.std.proofs.Common.{◌≡◌, ◌∙◌, Bool, true, false, Some, None, List, [], ◌∷◌, map, refl, sym, ap, ap₂, subst}
+use Rattle.std.specs.Prelude.{if◌then◌else◌}
+use Rattle.sqlite_value.specs.Order.{Row}
+use Rattle.sqlite.specs.Effect.{Database}
+use Rattle.sqlite.specs.State.{State, KeepsCommit}
+use Rattle.desk_types.specs.Id.{Name}
+use Rattle.desk_types.specs.History.{History}
+use Rattle.line_tables.specs.StateRows.{flag}
+use Rattle.line_traces.specs.declared.row.PlacedRow.{PlacedRow}
+use Rattle.line_traces.specs.Committed.{HoldsList, Tells, shown, name_row}
+
+-- ---- rows
+
+one-flag : (b c : Bool) → flag b ≡ flag c → b ≡ c
+one-flag true true is = refl
+one-flag false false is = refl
+one-flag true false is = cc
+one-flag false true is = cc
+
+-- what is shown of a piece tells the piece
+shown-one : (p q : PlacedRow) → shown p ≡ shown q → p ≡ q
+shown-one p q is =
+    let number : p.number ≡ q.number = cc in
+    let place : p.place ≡ q.place = cc in
+    let board : p.board ≡ q.board = cc in
+    let designator : p.designator ≡ q.designator = cc in
+    let part : p.part ≡ q.part = cc in
+    let lot : p.lot ≡ q.lot = cc in
+    let reel : p.reel ≡ q.reel = cc in
+    let machine : p.machine ≡ q.machine = cc in
+    let slot : p.slot ≡ q.slot = cc in
+    let effective : p.effective ≡ q.effective = cc in
+    let late : flag p.overdue ≡ flag q.overdue = cc in
+    let overdue = one-flag p.overdue q.overdue late in
+    λ j. record {
+      number = number j;
+      place = place j;
+      board = board j;
+      designator = designator j;
+      part = part j;
+      lot = lot j;
+      reel = reel j;
+      machine = machine j;
+      slot = slot j;
+      effective = effective j;
+      overdue = overdue j;
+    }
+
+shown-name : (a b : Name) → name_row a ≡ name_row b → a ≡ b
+shown-name a b is = cc
+
+all-shown : {X : Type 0} (show : X → Row) → ((x y : X) → show x ≡ show y → x ≡ y) → (xs ys : List X) → map show xs ≡ map show ys → xs ≡ ys
+all-shown show one [] [] is = refl
+all-shown show one [] (y ∷ ys) is = cc
+all-shown show one (x ∷ xs) [] is = cc
+all-shown show one (x ∷ xs) (y ∷ ys) is =
+    let first : show x ≡ show y = cc in
+    let rest : map show xs ≡ map show ys = cc in
+    ap₂ (λ z zs. z ∷ zs) (one x y first) (all-shown show one xs ys rest)
+
+-- ---- calls
+
+-- what is told after a call that leaves the commit was so before it
+pub told-before : {X : Type 0} (of : History → X) (old new : State) (found : X) → KeepsCommit old new → Tells of new found → Tells of old found
+told-before of old new found kept told = record {
+  was_open = kept.was_open told.was_open;
+  are = λ schema H held. let same = kept.committed told.was_open in told.are (ap (λ (db : Database). db.schema) same ∙ schema) H (subst (λ db. HoldsList db H) (sym same) held);
+}
+
+-- what the rows show
+shown-told : {X : Type 0} (show : X → Row) → ((x y : X) → show x ≡ show y → x ≡ y) → (of : History → List X) (old : State) (rows : List Row) (found : List X) → Tells (λ H. map show (of H)) old rows
+    → rows ≡ map show found → Tells of old found
+shown-told show one of old rows found told is = record { was_open = told.was_open; are = λ schema H held. all-shown show one found (of H) (sym is ∙ told.are schema H held) }
+
+pub pieces-told : (of : History → List PlacedRow) (old : State) (rows : List Row) (pieces : List PlacedRow) → Tells (λ H. map shown (of H)) old rows → rows ≡ map shown pieces → Tells of old pieces
+pieces-told = shown-told shown shown-one
+
+pub names-told : (of : History → List Name) (old : State) (rows : List Row) (names : List Name) → Tells (λ H. map name_row (of H)) old rows → rows ≡ map name_row names → Tells of old names
+names-told = shown-told name_row shown-name
+
+-- what is there is told, where a test has held
+pub there-told : {X : Type 0} (test : History → Bool) (of : History → X) (old : State) (found : X) → Tells test old true → Tells of old found → Tells (λ H. if test H then Some (of H) else None) old (Some found)
+there-told test of old found holds told = record {
+  was_open = told.was_open;
+  are = λ schema H held. ap Some (told.are schema H held) ∙ ap (λ b. if b then Some (of H) else None) (holds.are schema H held);
+}

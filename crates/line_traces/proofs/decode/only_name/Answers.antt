@@ -1,0 +1,9 @@
+use Rattle.std.proofs.Common.{◌≡◌, ◌∙◌, [], ◌∷◌, length, ap, rules}
+use Rattle.std.proofs.lemmas.Result.{IfOk-weaker}
+use Rattle.line_traces.proofs.Columns.{all-columns}
+use Rattle.line_traces.proofs.decode.only_name.Goals as goal
+
+pub returns : goal.returns
+returns c =
+    let all : length c.args.row.now ≡ 1 = search rules in
+    IfOk-weaker c.name.result _ _ (λ id is. all-columns c.args.row.now 1 all ∙ ap (λ v. v ∷ []) is) c.name.ensures

@@ -1,0 +1,8 @@
+use Rattle.std.proofs.Common.{◌≡◌, ◌==◌, length, rules}
+use Rattle.line_traces.proofs.Asked.{asks-board}
+use Rattle.line_traces.proofs.pieces.has_board.Goals as goal
+
+pub returns-clause-found : goal.returns-clause-found
+returns-clause-found g c clean =
+    let is : c.is_empty.result ≡ (length c.in_ok-rows.rows.items == 0) = search rules in
+    asks-board g.S.Store c.args.conn.now _ c.is_empty.result c.args.board.now (rw c.as_bytes.ensures.value at (c.in_ok-rows.ensures.shown clean)) is

@@ -1,0 +1,42 @@
+-- What a database tells of a list.
+use Rattle.std.specs.Prelude.{◌≡◌, pos, All, [], ◌∷◌, filter}
+use Rattle.sqlite.specs.declared.types.Value.TheVariants.{Int, Text}
+use Rattle.sqlite_value.specs.Order.{Row, column}
+use Rattle.sqlite.specs.Effect.{Database}
+use Rattle.sqlite.specs.State.{State}
+use Rattle.desk_types.specs.declared.command.Entry.{Entry}
+use Rattle.desk_types.specs.declared.rules.Rules.TheVariants.{Two}
+use Rattle.desk_types.specs.Id.{Name}
+use Rattle.desk_types.specs.History.{History}
+use Rattle.desk_types.specs.Judged.{IsJudged}
+use Rattle.state_rows.specs.Tables.{tables_of}
+use Rattle.line_tables.specs.Rows.{accepted_in}
+use Rattle.line_tables.specs.Calls.{Reads, has_number}
+use Rattle.line_tables.specs.StateRows.{HoldsState, flag}
+use Rattle.line_traces.specs.declared.row.PlacedRow.{PlacedRow}
+
+-- one row of `accepted` has the entry's number, and it has the entry's effective minute
+pub record TellsMinute (db : Database) (e : Entry) : Type 0 where
+  pub row : Row
+  pub only : filter (has_number e.number) (accepted_in db) ≡ row ∷ []
+  pub minute : column row 4 ≡ Int (pos e.effective)
+
+-- The list is judged, the state tables are its tables, and `accepted` tells the minutes of its entries.
+pub record HoldsList (db : Database) (H : History) : Type 0 where
+  pub judged : IsJudged Two H
+  pub minutes : All (TellsMinute db) H
+  pub state : HoldsState db (tables_of H)
+
+-- the connection was open, and what was found is so of the list of which the tables are committed
+abbrev pub Tells : {X : Type 0} → (History → X) → State → X → Type 0
+Tells of old found = Reads old (λ db. (H : History) → HoldsList db H → found ≡ of H)
+
+-- the columns that a query shows of a placed piece
+abbrev pub shown : PlacedRow → Row
+shown p =
+    Int (pos p.number) ∷ Int (pos p.place) ∷ Text p.board ∷ Text p.designator ∷ Text p.part ∷ Text p.lot ∷ Text p.reel ∷ Text p.machine ∷ Text p.slot ∷ Int (pos p.effective)
+    ∷ Int (flag p.overdue) ∷ []
+
+-- a name that a query shows
+abbrev pub name_row : Name → Row
+name_row name = Text name ∷ []

@@ -1,0 +1,115 @@
+//! Rows of values as rows of pieces.
+
+ghost use Rattle.std.specs.Prelude.{◌≡◌, ℕ, ◌<◌, length, IfOk, map, pos};
+ghost use Rattle.sqlite.specs.declared.types.Value.TheVariants.{Int, Text};
+ghost use Rattle.sqlite_value.specs.Order.{column};
+ghost use Rattle.line_tables.specs.StateRows.{flag};
+ghost use Rattle.line_traces.specs.Committed.{shown, name_row};
+
+use crate::row::{PlacedRow, PlacedRows};
+use desk_types::{Designator, Id, IdList, Listing, Minute};
+use sqlite::types::{Type, ValueRef};
+use sqlite::{Error, Row};
+use std::alloc::Global;
+
+/// The name in a column.
+fn name(row: &Row, at: usize) -> Result<Id, Error>
+    ensures { IfOk result (λ id. column row.now at ≡ Text id) }
+{
+    let value = row.get_ref(at)?;
+    if let ValueRef::Text(bytes) = value {
+        if let Some(id) = Id::read(bytes) {
+            return Ok(id);
+        }
+    }
+    Err(Error::InvalidColumnType(at, Type::of(value)))
+}
+
+/// The designator in a column.
+fn designator(row: &Row, at: usize) -> Result<Designator, Error>
+    ensures { IfOk result (λ designator. column row.now at ≡ Text designator) }
+{
+    let value = row.get_ref(at)?;
+    if let ValueRef::Text(bytes) = value {
+        if let Some(designator) = Designator::read(bytes) {
+            return Ok(designator);
+        }
+    }
+    Err(Error::InvalidColumnType(at, Type::of(value)))
+}
+
+/// The minute in a column.
+fn minute(row: &Row, at: usize) -> Result<Minute, Error>
+    ensures { IfOk result (λ minute. column row.now at ≡ Int (pos minute)) }
+{
+    match Minute::new(row.get(at)?) {
+        Some(minute) => Ok(minute),
+        None => Err(Error::IntegralValueOutOfRange(at)),
+    }
+}
+
+/// The 1 or 0 in a column.
+fn yes_or_no(row: &Row, at: usize) -> Result<bool, Error>
+    ensures { IfOk result (λ b. column row.now at ≡ Int (flag b)) }
+{
+    let n: u64 = row.get(at)?;
+    match n {
+        0 => Ok(false),
+        1 => Ok(true),
+        _ => Err(Error::IntegralValueOutOfRange(at)),
+    }
+}
+
+fn piece(row: &Row) -> Result<PlacedRow, Error>
+    ensures { IfOk result (λ piece. row.now ≡ shown piece) }
+{
+    if row.column_count() != 11 {
+        return Err(Error::InvalidColumnIndex(11));
+    }
+    Ok(PlacedRow {
+        number: row.get(0)?,
+        place: row.get(1)?,
+        board: name(row, 2)?,
+        designator: designator(row, 3)?,
+        part: name(row, 4)?,
+        lot: name(row, 5)?,
+        reel: name(row, 6)?,
+        machine: name(row, 7)?,
+        slot: name(row, 8)?,
+        effective: minute(row, 9)?,
+        overdue: yes_or_no(row, 10)?,
+    })
+}
+
+/// The pieces of these rows, in their order. A value that is no name, number, minute or flag is an
+/// error, and so is a row of another length.
+pub fn pieces(alloc: Global, rows: &[Row]) -> Result<PlacedRows, Error>
+    ensures { IfOk result (λ pieces. rows.now ≡ map shown pieces) }
+{
+    let mut pieces = Vec::new(alloc);
+    for row in rows {
+        pieces.push(piece(row)?)?;
+    }
+    Ok(Listing::new(pieces))
+}
+
+fn only_name(row: &Row) -> Result<Id, Error>
+    ensures { IfOk result (λ id. row.now ≡ name_row id) }
+{
+    if row.column_count() != 1 {
+        return Err(Error::InvalidColumnIndex(1));
+    }
+    name(row, 0)
+}
+
+/// The names of these rows, in their order. A value that is no name is an error, and so is a row of
+/// another length.
+pub fn names(alloc: Global, rows: &[Row]) -> Result<IdList, Error>
+    ensures { IfOk result (λ names. rows.now ≡ map name_row names) }
+{
+    let mut names = Vec::new(alloc);
+    for row in rows {
+        names.push(only_name(row)?)?;
+    }
+    Ok(Listing::new(names))
+}
