@@ -12,18 +12,19 @@ use Rattle.sqlite.specs.Effect.{Database, IsDatabase}
 use Rattle.sqlite.specs.Files.{HoldsDatabase}
 use Rattle.sqlite.specs.Start.{FindsIn}
 use Rattle.sqlite.specs.State.{State, Opens, IsLive}
-use Rattle.desk_types.specs.declared.rules.Rules.TheVariants.{Two}
+use Rattle.desk_types.specs.declared.rules.Rules.TheVariants.{One, Two}
 use Rattle.desk_types.specs.History.{History}
 use Rattle.desk_types.specs.Judged.{IsJudged}
 use Rattle.line_tables.specs.Calls.{Reads}
-use Rattle.line_tables.specs.Line.{is_blank, is_ours, line_schema, no_schema}
+use Rattle.line_tables.specs.Line.{IsOurs, is_blank, is_ours, line_schema, no_schema}
 use Rattle.line_tables.specs.Names.{has_name, is_version}
 use Rattle.line_tables.specs.Rows.{Tables, Holds, HoldsAt}
 use Rattle.line_tables.proofs.Holding.{held_at}
 use Rattle.line_tables.proofs.Ours.{is_blank_of, is_ours_of, ours_named}
 use Rattle.line_rows.specs.Rows.{rows_of, tables_of}
 use Rattle.line_schema.specs.Opening.{IsNamed}
-use Rattle.desk_file.specs.Files.{IsFoundIn, HasLineAlone, HasTables, HasNoTable, Begins}
+use Rattle.line_schema.specs.Versions.{IsMigrated}
+use Rattle.desk_file.specs.Files.{IsFoundIn, IsOfOne, HasFirstAlone, HasLineAlone, HasTables, HasNoTable, Begins}
 
 module _ (image : Image) (s : State) (finds : FindsIn image s) (opens : Opens s) (live : IsLive s) where
   -- what is committed is what the files hold
@@ -45,9 +46,16 @@ module _ (image : Image) (s : State) (finds : FindsIn image s) (opens : Opens s)
   opened_begins make greatest H named reads alone =
       let seen : s.now.schema ≡ s.committed.schema = ap (λ (db : Database). db.schema) opens.clean in
       elim (alone s.committed found) [
-        | inl ours ↦ (inl (s.committed, found, reads.are ours), is_ours_of s.committed.schema ours)
+        | inl ours ↦ (inl (s.committed, found, reads.are (Two, ours)), is_ours_of s.committed.schema ours)
         | inr none ↦ absurd (true≢false (sym named.0 ∙ ap (λ (x : Schema). list_any is_version x.tables) (seen ∙ none)))
       ]
+
+  -- the desk of version 1 that was migrated
+  pub migrates : (new : State) (greatest : ℕ) (H : History) (n : ℕ) → IsMigrated s new greatest H n → HasFirstAlone image
+      → IsOfOne image greatest H × Holds new.committed (tables_of greatest H)
+  migrates new greatest H n m alone =
+      let ours : IsOurs s.committed.schema = (One, alone s.committed found) in
+      (record { tables = (s.committed, found, m.before.are ours); by_one = m.by_one ours; by_two = m.by_two ours }, m.after ours)
 
 module _ (image : Image) (trees : Trees) (t : Tables) (holds : ∥ HoldsDatabase image trees ∥₁) (tables : HoldsAt t trees) where
   -- whatever an open finds has these tables

@@ -16,18 +16,23 @@ use Rattle.line_tables.specs.Rows.{Holds}
 use Rattle.line_rows.specs.Rows.{tables_of}
 use Rattle.line_schema.specs.declared.store.LineStore.{LineStore}
 use Rattle.line_schema.specs.Stands.{conn_of}
-use Rattle.desk_file.specs.Files.{Closes}
+use Rattle.desk_file.specs.Files.{Closes, KeepsTables}
 
 alone_in : {D : Type 0} {g : disk.Ghosts D} (conn : Held (FileStore D g)) (files : Files D) (image : Image) → IsCopied conn files
     → (image ≡ image_of g files) ⊎ outcomes g files.log files.db image → HoldsAlone image (file_state conn).committed.trees
 alone_in conn files image copied (inl seen) = subst (λ (i : Image). HoldsAlone i (file_state conn).committed.trees) (sym seen) copied.seen
 alone_in conn files image copied (inr left) = copied.left image left
 
--- the files of the connection that the store gave back
-pub closes : {D E : Type 0} {g : disk.Ghosts D} (StandsFor : E → History → Type 0) (kept_rules : E → Rules) (desk : LineStore (FileStore D g) E) (conn : Held (FileStore D g)) (files : Files D)
-    → conn ≡ conn_of desk → IsLive (file_state conn) → (AreClean g files.log files.db → IsCopied conn files) → Closes StandsFor kept_rules desk files
-closes StandsFor kept_rules desk conn files same live copied L stands own clean image left =
+-- the files of a connection
+pub keeps : {D : Type 0} {g : disk.Ghosts D} (conn : Held (FileStore D g)) (files : Files D) → IsLive (file_state conn) → (AreClean g files.log files.db → IsCopied conn files) → KeepsTables conn files
+keeps conn files live copied tables holds clean image left =
     let c = copied clean in
+    ((file_state conn).committed.trees, ((file_state conn).committed, holds c.was_clean c.was_open, (live c.was_open).1, refl), alone_in conn files image c left)
+
+-- so do those of the connection that the store gave back
+pub closes : {D E : Type 0} {g : disk.Ghosts D} (StandsFor : E → History → Type 0) (kept_rules : E → Rules) (desk : LineStore (FileStore D g) E) (conn : Held (FileStore D g)) (files : Files D)
+    → conn ≡ conn_of desk → KeepsTables conn files → Closes StandsFor kept_rules desk files
+closes StandsFor kept_rules desk conn files same kept L stands own clean image left =
     let holds = subst (λ h. HasCleanDisk (file_state h) → IsTrue L.own → IsTrue (file_state h).is_open → Holds (file_state h).committed (tables_of L.greatest L.history))
-    (sym same) stands.tables c.was_clean own c.was_open in
-    ((file_state conn).committed.trees, ((file_state conn).committed, holds, (live c.was_open).1, refl), alone_in conn files image c left)
+    (sym same) stands.tables in
+    kept (tables_of L.greatest L.history) (λ was_clean was_open. holds was_clean own was_open) clean image left

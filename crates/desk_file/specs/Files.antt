@@ -9,11 +9,15 @@ use Rattle.sqlite_store.specs.declared.store.FileStore.{FileStore}
 use Rattle.sqlite_trees.specs.Tree.{Trees}
 use Rattle.sqlite.specs.Effect.{Database, IsDatabase}
 use Rattle.sqlite.specs.Closing.{HoldsAlone}
-use Rattle.sqlite.specs.Files.{HoldsDatabase, AreFoundIn, image_of, over_files}
+use Rattle.sqlite.specs.Files.{HoldsDatabase, AreFoundIn, file_state, image_of, over_files}
+use Rattle.sqlite.specs.Held.{Held}
+use Rattle.sqlite.specs.State.{HasCleanDisk}
 use Rattle.desk_types.specs.declared.rules.Rules.{Rules}
+use Rattle.desk_types.specs.declared.rules.Rules.TheVariants.{One, Two}
 use Rattle.desk_types.specs.History.{History}
-use Rattle.line_tables.specs.Line.{line_schema, no_schema}
-use Rattle.line_tables.specs.Rows.{Tables, Holds, HoldsAt}
+use Rattle.desk_types.specs.Judged.{IsLawful}
+use Rattle.line_tables.specs.Line.{line_schema, no_schema, schema_of}
+use Rattle.line_tables.specs.Rows.{Tables, Holds, HoldsAt, HoldsBy}
 use Rattle.line_rows.specs.Rows.{tables_of}
 use Rattle.line_schema.specs.declared.store.LineStore.{LineStore}
 use Rattle.line_schema.specs.Stands.{Kept, Stands}
@@ -40,9 +44,28 @@ HasNoTable image = (db : Database) × IsFoundIn image db × (db.schema ≡ no_sc
 abbrev pub Begins : Image → Option ℕ → ℕ → History → Type 0
 Begins image make greatest H = HasTables image (tables_of greatest H) ⊎ (HasNoTable image × (make ≡ Some greatest) × (H ≡ []))
 
+-- the files hold the tables of a line of version 1 with none beside them
+abbrev pub HasFirstAlone : Image → Type 0
+HasFirstAlone image = (db : Database) → IsFoundIn image db → db.schema ≡ schema_of One
+
+-- the files hold the tables of this list by version 1, and it is lawful by the rules of both versions
+pub record IsOfOne (image : Image) (greatest : ℕ) (H : History) : Type 0 where
+  pub tables : (db : Database) × IsFoundIn image db × HoldsBy One db (tables_of greatest H)
+  pub by_one : IsLawful One greatest H
+  pub by_two : IsLawful Two greatest H
+
+-- The files held the tables of a list by version 1, which is lawful by the rules of both versions, and the connection holds its tables by version 2.
+abbrev pub MigratedFrom : {D : Type 0} {g : disk.Ghosts D} → Image → Held (FileStore D g) → Type 0
+MigratedFrom image conn = (greatest : ℕ) × (H : History) × IsOfOne image greatest H × Holds (file_state conn).committed (tables_of greatest H)
+
 -- the two files hold these tables, and so does the database file with no log
 abbrev pub IsWhole : Tables → Image → Type 0
 IsWhole tables image = (trees : Trees) × HoldsAt tables trees × HoldsAlone image trees
+
+-- The files of a connection hold whatever tables it held, where it was sound and open: as they read now and, whatever a crash leaves of them, then too. That is, where the disk told the truth to the end.
+abbrev pub KeepsTables : {D : Type 0} {g : disk.Ghosts D} → Held (FileStore D g) → Files D → Type 0
+KeepsTables {g = g} conn files = (tables : Tables) → (HasCleanDisk (file_state conn) → IsTrue (file_state conn).is_open → Holds (file_state conn).committed tables) → AreClean g files.log files.db
+    → (image : Image) → (image ≡ image_of g files) ⊎ outcomes g files.log files.db image → IsWhole tables image
 
 -- The files of a desk that stood for a list, its tables being its own, hold the tables of that list: as they read now and, whatever a crash leaves of them, then too. That is, where the disk told the truth to the end.
 abbrev pub Closes : {D E : Type 0} {g : disk.Ghosts D} → (E → History → Type 0) → (E → Rules) → LineStore (FileStore D g) E → Files D → Type 0

@@ -5,4 +5,4 @@ mod law;
 mod opening;
 
 pub use law::next_run_goes_on;
-pub use opening::{FileDesk, close_desk, open_desk};
+pub use opening::{DeskFile, FileDesk, close_desk, close_file, migrate_desk, open_desk};

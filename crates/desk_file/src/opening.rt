@@ -1,4 +1,4 @@
-//! The file of a desk: it is made, opened and closed.
+//! The file of a desk: it is made, opened, migrated and closed.
 
 ghost use Rattle.std.specs.Prelude.{◌≡◌, ◌≢◌, ◌≤◌, [], true, false, Some, None, IfOk, IfErr, IfSome};
 ghost use Rattle.sqlite_wal.specs.Files.{image_at};
@@ -9,7 +9,7 @@ ghost use Rattle.desk_types.specs.declared.desk.TheConstants.{MOST_ENTRIES};
 ghost use Rattle.desk_types.specs.History.{History};
 ghost use Rattle.line_schema.specs.declared.fault.OpenFault.TheVariants as Fault;
 ghost use Rattle.line_schema.specs.Stands.{Kept, Stands, state_of};
-ghost use Rattle.desk_file.specs.Files.{Begins, Closes, HasLineAlone};
+ghost use Rattle.desk_file.specs.Files.{Begins, Closes, HasFirstAlone, HasLineAlone, KeepsTables, MigratedFrom};
 
 use desk_types::Desk;
 use line_schema::{LineStore, OpenFault};
@@ -19,6 +19,9 @@ use std::io::ErrorKind;
 
 /// The store of a desk in a file, of which `T` says what it held as it was opened.
 pub type FileDesk<T, D> = LineStore<FileStore<FileFrom<T>>, D>;
+
+/// The connection to the file of a desk.
+pub type DeskFile<T> = Connection<FileStore<FileFrom<T>>>;
 
 /// The desk that the file at a path keeps. Where there is no file, or one of no bytes, a desk of an
 /// empty list is made in it if `make` says up to which number, from 1 to 1,000,000,000; else it is
@@ -43,6 +46,31 @@ pub fn open_desk<T: Start, D: Desk + Drop>(
     }
 }
 
+/// Makes the file at a path, which keeps a desk in the tables of version 1, one of version 2: each of
+/// its commands is judged again by rules One, and its tables are compared, before it is written to.
+/// Where there is no file, or one of no bytes, it is NotADesk, and none is made. A fault leaves the
+/// file as it was; after Unavailable it may be of version 2.
+pub fn migrate_desk<T: Start, D: Desk + Drop>(
+    rt: &HostRuntime,
+    path: &str,
+    start: T,
+) -> Result<DeskFile<T>, OpenFault>
+    ensures migrated { IfOk result (λ conn. HasCleanDisk (file_state conn) → HasFirstAlone (image_at T.Start) → MigratedFrom (image_at T.Start) conn) }
+    ensures never { IfErr result (λ fault. fault ≢ Fault.NotBlank) }
+{
+    if is_blank(rt, path)? {
+        return Err(OpenFault::NotADesk);
+    }
+    let mut conn = connect(rt, path, start)?;
+    match LineStore::<FileStore<FileFrom<T>>, D>::migrate(rt.alloc(), &mut conn) {
+        Ok(_) => Ok(conn),
+        Err(fault) => {
+            let _ = conn.close();
+            Err(fault)
+        }
+    }
+}
+
 /// Closes the file of a desk: what was committed is in it then, without its log. The files come back
 /// for clauses to name; they are closed where they are dropped.
 pub fn close_desk<T: Start, D: Desk + Drop>(
@@ -52,6 +80,14 @@ pub fn close_desk<T: Start, D: Desk + Drop>(
     ensures err { IfErr result (λ fault. fault ≡ Fault.Unavailable) }
 {
     let conn = desk.into_connection();
+    close_file(conn)
+}
+
+/// Closes the file of a desk by its connection, as `close_desk` does.
+pub fn close_file<T: Start>(conn: DeskFile<T>) -> Result<Files<FileFrom<T>>, OpenFault>
+    ensures whole { IfOk result (KeepsTables conn) }
+    ensures err { IfErr result (λ fault. fault ≡ Fault.Unavailable) }
+{
     let _obeyed = conn.schema();
     match conn.close_files() {
         Ok(files) => Ok(files),

@@ -1,6 +1,5 @@
 -- A list of entries, each of whose rows stands alone under its key, and which are as many as the rows: these are the rows of the map.
-use Rattle.std.proofs.Common.{◌≡◌, ◌∙◌, ◌⊎◌, ◌↔◌, inl, inr, ◌+◌, Bool, true, false, not, IsTrue, Option, Some, None, List, [], ◌∷◌, length, filter, if◌then◌else◌, refl, sym, ap, subst, arith, true≢false}
-use Rattle.std.specs.Bool.{⊤}
+use Rattle.std.proofs.Common.{◌≡◌, ◌∙◌, ◌↔◌, inl, inr, ◌+◌, Bool, true, false, not, IsTrue, Option, Some, None, List, [], ◌∷◌, length, filter, if◌then◌else◌, refl, sym, ap, subst, arith, true≢false}
 use Rattle.std.specs.Option.{option_map, option_to_list}
 use Rattle.std.specs.List.{AllByRecursion}
 use Rattle.sqlite_value.specs.Order.{Row}

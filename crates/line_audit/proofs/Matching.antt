@@ -15,12 +15,13 @@ use Rattle.line_tables.specs.Calls.{Reads}
 use Rattle.line_tables.specs.StateRows.{AreRows, rows_in}
 use Rattle.line_audit.specs.Alone.{FindsAlone, AreAlone, Matched, Tells, Listed}
 use Rattle.line_audit.proofs.Alike.{same_rows}
+use Rattle.line_tables.specs.Line.{IsOurs}
 
 -- what is committed is read after calls that keep it
 pub reads_before : (old mid : State) → KeepsCommit old mid → (Is : Database → Type 0) → Reads mid Is → Reads old Is
 reads_before old mid kept Is r =
     let same = kept.committed r.was_open in
-    record { was_open = kept.was_open r.was_open; are = λ schema. subst Is same (r.are (ap (λ (db : Database). db.schema) same ∙ schema)) }
+    record { was_open = kept.was_open r.was_open; are = λ schema. subst Is same (r.are (subst (λ (db : Database). IsOurs db.schema) (sym same) schema)) }
 
 -- an iterator's items are those so far, the next one and others
 next_item : {A X : Type 0} (shows : A → X) (all : List X) (xs : List A) (s t u : List X) (r : Option A) (x : A) → s ≡ all → Yields (TakesFirst shows) s xs t → r ≡ Some x → TakesFirst shows t r u → all ≡ map shows xs ++ shows x ∷ u
@@ -103,7 +104,7 @@ module _ {A X K R : Type 0} (shows : A → X) (entry : X → K × R) (kind : Kin
       pub all_alone : r ≡ None → (left : ℕ) → Matched kind.table kind.has kind.columns old left (map given xs) → Tells Are old (left == 0)
       all_alone is left m =
           let whole : map given xs ≡ map entry all = sym (map_twice entry shows xs) ∙ ap (map entry) (iter_end shows all xs s t u r start yielded is step).0 in
-          let by = λ (schema : old.committed.schema ≡ Rattle.line_tables.specs.Line.line_schema). subst (λ (es : List (K × R)). (left + length es ≡ length (rows_in kind.table old.committed)) × AreAlone kind.has kind.columns (rows_in kind.table old.committed) es) whole (m.are schema) in
+          let by = λ (schema : IsOurs old.committed.schema). subst (λ (es : List (K × R)). (left + length es ≡ length (rows_in kind.table old.committed)) × AreAlone kind.has kind.columns (rows_in kind.table old.committed) es) whole (m.are schema) in
           record {
             was_open = m.was_open;
             are = λ schema. (

@@ -13,6 +13,7 @@ use Rattle.sqlite.specs.Effect.{Database}
 use Rattle.sqlite.specs.State.{State, KeepsCommit}
 use Rattle.state_rows.specs.declared.row.PlacementRow.{PlacementRow}
 use Rattle.line_tables.specs.Line as line
+use Rattle.line_tables.specs.Line.{IsOurs}
 use Rattle.line_tables.specs.StateRows.{rows_in, has_piece, placement_columns}
 use Rattle.line_audit.specs.Alone.{Counts, Tells, AreAlone}
 use Rattle.line_audit.specs.Audit.{Pieces, AreByPiece, ArePlaced, HasPlacements, IsExpected}
@@ -66,7 +67,7 @@ expected_after old mid kept all count es f e = record {
   counted = e.counted;
   placed = λ open_mid schema.
       let same = kept.committed open_mid in
-      subst (λ (db : Database). ArePlaced db all es) (sym same) (e.placed (kept.was_open open_mid) (sym (ap (λ (db : Database). db.schema) same) ∙ schema));
+      subst (λ (db : Database). ArePlaced db all es) (sym same) (e.placed (kept.was_open open_mid) (subst (λ (db : Database). IsOurs db.schema) same schema));
 }
 
 left : {X : Type 0} (P : X → Type 0) (xs ys : List X) → AllByRecursion P (xs ++ ys) → AllByRecursion P xs

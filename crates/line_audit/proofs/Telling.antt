@@ -1,16 +1,24 @@
 -- The verdict over all tables.
-use Rattle.std.proofs.Common.{◌≡◌, List, [], ◌∷◌, ◌++◌, ℕ, ◌+◌, ◌<◌, length, take, drop, get_or, zero, suc, refl, ap, arith}
+use Rattle.std.proofs.Common.{◌≡◌, None, List, [], ◌∷◌, ◌++◌, ℕ, ◌+◌, ◌<◌, length, take, drop, get_or, zero, suc, refl, ap, arith}
 use Rattle.std.specs.List.{AllByRecursion}
 use Rattle.std.proofs.lemmas.List.{take_more}
 use Rattle.sqlite_keyed.proofs.ListLemmas.{all-append}
 use Rattle.sqlite.specs.Effect.{Database}
+use Rattle.desk_types.specs.declared.rules.Rules.{Rules}
+use Rattle.desk_types.specs.declared.rules.Rules.TheVariants.{One, Two}
+use Rattle.desk_types.specs.Id.{Name}
 use Rattle.state_rows.specs.Tables.{Tables as StateTables}
-use Rattle.line_tables.specs.StateRows.{HoldsState}
-use Rattle.line_audit.specs.Audit.{state_tables, HoldsTable}
+use Rattle.line_tables.specs.StateRows.{HoldsStateBy, HoldsFoundBy}
+use Rattle.line_audit.specs.Audit.{state_tables, found_table, HoldsTable}
+
+-- what is found is right too: under rules One that is nothing
+pub found_right : (rules : Rules) (db : Database) (t : StateTables) → (rules ≡ One → (reel : Name) → t.found reel ≡ None) → AllByRecursion (HoldsTable db t) (found_table rules) → HoldsFoundBy rules db t
+found_right One db t none h = none refl
+found_right Two db t none h = h.0
 
 -- all tables are right
-pub all_right : (db : Database) (t : StateTables) → AllByRecursion (HoldsTable db t) state_tables → HoldsState db t
-all_right db t h = record {
+pub all_right : (rules : Rules) (db : Database) (t : StateTables) → (rules ≡ One → (reel : Name) → t.found reel ≡ None) → AllByRecursion (HoldsTable db t) (state_tables rules) → HoldsStateBy rules db t
+all_right rules db t none h = record {
   parts = h.0;
   alternates = h.1.0;
   sheets = h.1.1.0;
@@ -19,7 +27,7 @@ all_right db t h = record {
   mounts = h.1.1.1.1.1.0;
   boards = h.1.1.1.1.1.1.0;
   placements = h.1.1.1.1.1.1.1.0;
-  found = h.1.1.1.1.1.1.1.1.0;
+  found = found_right rules db t none h.1.1.1.1.1.1.1.1;
 }
 
 -- the elements before one, it and those after it

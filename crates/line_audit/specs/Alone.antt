@@ -1,5 +1,5 @@
 -- Rows that are looked up by their keys.
-use Rattle.std.specs.Prelude.{◌≡◌, ◌↔◌, ◌⊎◌, ◌<◌, ◌+◌, ⊤, ℕ, pos, length, Bool, true, IsTrue, Option, Some, List, [], ◌∷◌, map, filter}
+use Rattle.std.specs.Prelude.{◌≡◌, ◌↔◌, ◌⊎◌, ◌<◌, ◌+◌, ⊤, ℕ, pos, length, Bool, IsTrue, Option, Some, List, [], ◌∷◌, map, filter}
 use Rattle.std.specs.List.{AllByRecursion}
 use Rattle.sqlite_value.specs.declared.value.ValueRef.{ValueRef}
 use Rattle.sqlite.specs.declared.types.Value.TheVariants.{Int}

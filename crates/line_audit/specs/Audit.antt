@@ -4,18 +4,25 @@ use Rattle.std.specs.List.{AllByRecursion}
 use Rattle.sqlite_rules.specs.Lists.{Has}
 use Rattle.sqlite.specs.Effect.{Database}
 use Rattle.sqlite.specs.State.{State}
+use Rattle.desk_types.specs.declared.rules.Rules.{Rules}
+use Rattle.desk_types.specs.declared.rules.Rules.TheVariants.{One, Two}
 use Rattle.state_rows.specs.declared.row.PlacementRow.{PlacementRow}
 use Rattle.state_rows.specs.Tables.{Tables as StateTables}
 use Rattle.line_tables.specs.Line as line
-use Rattle.line_tables.specs.Line.{line_schema}
-use Rattle.line_tables.specs.StateRows.{AreRows, rows_in, has_piece, placement_columns, HoldsParts, HoldsAlternates, HoldsSheets, HoldsSelected, HoldsReels, HoldsMounts, HoldsBoards, HoldsPlacements, HoldsFound, HoldsState}
+use Rattle.line_tables.specs.Line.{IsOurs}
+use Rattle.line_tables.specs.StateRows.{AreRows, rows_in, has_piece, placement_columns, HoldsParts, HoldsAlternates, HoldsSheets, HoldsSelected, HoldsReels, HoldsMounts, HoldsBoards, HoldsPlacements, HoldsFound}
 use Rattle.line_audit.specs.declared.table.StateTable.{StateTable}
 use Rattle.line_audit.specs.declared.table.StateTable.TheVariants.{Part, Alternate, SheetRow, Selected, Reel, Mount, Board, Placement, Found}
 use Rattle.line_audit.specs.Alone.{Listed, AreAlone}
 
--- the order in which the tables are looked at
-abbrev pub state_tables : List StateTable
-state_tables = Part ∷ Alternate ∷ SheetRow ∷ Selected ∷ Reel ∷ Mount ∷ Board ∷ Placement ∷ Found ∷ []
+-- the table of found pieces is there under rules Two alone
+abbrev pub found_table : Rules → List StateTable
+found_table One = []
+found_table Two = Found ∷ []
+
+-- the tables that there are under the rules, in the order in which they are looked at
+abbrev pub state_tables : Rules → List StateTable
+state_tables rules = Part ∷ Alternate ∷ SheetRow ∷ Selected ∷ Reel ∷ Mount ∷ Board ∷ Placement ∷ found_table rules
 
 -- the rows of one table are those of its map
 abbrev pub HoldsTable : Database → StateTables → StateTable → Type 0
@@ -29,18 +36,18 @@ HoldsTable db t Board = HoldsBoards db t
 HoldsTable db t Placement = HoldsPlacements db t
 HoldsTable db t Found = HoldsFound db t
 
--- the rows of the table are not those of its map, and those of each table before it are
-pub record IsFirstWrong (db : Database) (t : StateTables) (table : StateTable) : Type 0 where
+-- of the tables that are looked at, the rows of this one are not those of its map, and those of each table before it are
+pub record IsFirstWrong (tables : List StateTable) (db : Database) (t : StateTables) (table : StateTable) : Type 0 where
   pub before : List StateTable
   pub after : List StateTable
-  pub place : state_tables ≡ before ++ table ∷ after
+  pub place : tables ≡ before ++ table ∷ after
   pub right : AllByRecursion (HoldsTable db t) before
   pub wrong : HoldsTable db t table → ⊥
 
--- the database has the rows of these tables, or this table is the first that has other rows
-abbrev pub IsVerdict : Database → StateTables → Option StateTable → Type 0
-IsVerdict db t None = HoldsState db t
-IsVerdict db t (Some table) = IsFirstWrong db t table
+-- the tables that are looked at have the rows of their maps, or this table is the first that has other rows
+abbrev pub IsVerdict : List StateTable → Database → StateTables → Option StateTable → Type 0
+IsVerdict tables db t None = AllByRecursion (HoldsTable db t) tables
+IsVerdict tables db t (Some table) = IsFirstWrong tables db t table
 
 -- placements, each with its number and its place
 abbrev pub Pieces : Type 0
@@ -68,7 +75,7 @@ pub record IsExpected (old : State) (all : Bool) (count : ℕ) (es : Pieces) (f 
   pub listed : Listed es f
   pub pieces : AreByPiece es
   pub counted : length es ≡ count
-  pub placed : IsTrue old.is_open → old.committed.schema ≡ line_schema → ArePlaced old.committed all es
+  pub placed : IsTrue old.is_open → IsOurs old.committed.schema → ArePlaced old.committed all es
 
 -- an entry for a row, by its number and its place
 abbrev pub piece_of : PlacementRow → (ℕ × ℕ) × PlacementRow

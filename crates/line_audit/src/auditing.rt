@@ -1,13 +1,13 @@
 //! The audit of all state tables.
 
-ghost use Rattle.std.specs.Prelude.{◌≡◌, ℕ, Option, false, IfOk};
+ghost use Rattle.std.specs.Prelude.{◌≡◌, ◌<◌, ℕ, Option, false, IfOk, length};
 ghost use Rattle.sqlite.specs.State.{HasCleanDisk, Survives, KeepsCommit};
 ghost use Rattle.sqlite.specs.Held.{state};
 ghost use Rattle.state_rows.specs.declared.row.PlacementRow.{PlacementRow as PlacedRow};
 ghost use Rattle.state_rows.specs.Kept.{tables_in};
 ghost use Rattle.line_tables.specs.Calls.{Reads};
 ghost use Rattle.line_audit.specs.Alone.{Tells};
-ghost use Rattle.line_audit.specs.Audit.{Pieces, IsExpected, HasPlacements, HoldsTable, IsVerdict, with_placements};
+ghost use Rattle.line_audit.specs.Audit.{Pieces, IsExpected, HasPlacements, HoldsTable, IsVerdict, state_tables, with_placements};
 
 use crate::compared::{
     are_alternates, are_boards, are_found, are_mounts, are_parts, are_reels, are_selected,
@@ -15,6 +15,7 @@ use crate::compared::{
 };
 use crate::placed::count_placements;
 use crate::table::StateTable;
+use desk_types::Rules;
 use sqlite::{Alter, Connection, Error};
 use state_rows::RowSet;
 use std::alloc::Global;
@@ -27,6 +28,7 @@ pub struct Placed {
     pub count: u64,
 }
 
+/// The order of an audit. Under rules One there is no table of found pieces, which is the last.
 const STATE_TABLES: [StateTable; 9] = [
     StateTable::Part,
     StateTable::Alternate,
@@ -39,20 +41,42 @@ const STATE_TABLES: [StateTable; 9] = [
     StateTable::Found,
 ];
 
-/// The first table whose rows are not those of the set, if there is one. What is said of placements
-/// goes by what was learnt of them, and not by those of the set.
+/// The first table whose rows are not those of the set, if there is one, among the tables that there
+/// are under the rules. What is said of placements goes by what was learnt of them, and not by those
+/// of the set.
 pub fn audit<S: Alter>(
     alloc: Global,
     conn: &mut Connection<S>,
+    rules: Rules,
     rows: &RowSet,
     placed: Placed,
 ) -> Result<Option<StateTable>, Error>
-    ensures verdict { HasCleanDisk (state S.Store conn.new) → IfOk result (λ verdict. (f : ℕ × ℕ → Option PlacedRow) → (es : Pieces) → IsExpected (state S.Store conn.old) placed.all placed.count es f → Reads (state S.Store conn.old) (λ db. IsVerdict db (with_placements f (tables_in rows.now)) verdict)) }
+    ensures verdict { HasCleanDisk (state S.Store conn.new) → IfOk result (λ verdict. (f : ℕ × ℕ → Option PlacedRow) → (es : Pieces) → IsExpected (state S.Store conn.old) placed.all placed.count es f → Reads (state S.Store conn.old) (λ db. IsVerdict (state_tables rules) db (with_placements f (tables_in rows.now)) verdict)) }
     ensures kept { HasCleanDisk (state S.Store conn.new) → KeepsCommit (state S.Store conn.old) (state S.Store conn.new) }
     ensures mode { conn.old.in_transaction ≡ false → conn.new.in_transaction ≡ false }
     ensures survives { Survives (state S.Store conn.old) (state S.Store conn.new) (λ _. ⊥) }
 {
-    for table in &STATE_TABLES {
+    match rules {
+        Rules::One => audit_tables(alloc, conn, rows, placed, &STATE_TABLES[..8]),
+        Rules::Two => audit_tables(alloc, conn, rows, placed, &STATE_TABLES),
+    }
+}
+
+/// The first of these tables whose rows are not those of the set, if there is one.
+fn audit_tables<S: Alter>(
+    alloc: Global,
+    conn: &mut Connection<S>,
+    rows: &RowSet,
+    placed: Placed,
+    tables: &[StateTable],
+) -> Result<Option<StateTable>, Error>
+    requires some { 0 < length tables.now }
+    ensures verdict { HasCleanDisk (state S.Store conn.new) → IfOk result (λ verdict. (f : ℕ × ℕ → Option PlacedRow) → (es : Pieces) → IsExpected (state S.Store conn.old) placed.all placed.count es f → Reads (state S.Store conn.old) (λ db. IsVerdict tables.now db (with_placements f (tables_in rows.now)) verdict)) }
+    ensures kept { HasCleanDisk (state S.Store conn.new) → KeepsCommit (state S.Store conn.old) (state S.Store conn.new) }
+    ensures mode { conn.old.in_transaction ≡ false → conn.new.in_transaction ≡ false }
+    ensures survives { Survives (state S.Store conn.old) (state S.Store conn.new) (λ _. ⊥) }
+{
+    for table in tables {
         if !is_same(alloc, conn, rows, placed, *table)? {
             return Ok(Some(*table));
         }

@@ -1,5 +1,5 @@
 -- The rows beside a list with one entry more.
-use Rattle.std.proofs.Common.{◌≡◌, ◌∙◌, ◌⊎◌, ◌↔◌, ◌+◌, inl, inr, IsTrue, ℕ, ◌<◌, take, get_or, sym, Bool, true, false, Option, Some, None, List, [], ◌∷◌, ◌++◌, length, map, refl, ap, ap₂, subst, subst₂, if◌then◌else◌, ◌==◌, ◌&&◌, arith}
+use Rattle.std.proofs.Common.{◌≡◌, ◌∙◌, ◌⊎◌, ◌↔◌, ◌+◌, inl, inr, ℕ, ◌<◌, take, get_or, sym, Bool, true, false, Option, Some, None, List, [], ◌∷◌, ◌++◌, length, map, refl, ap, ap₂, subst, if◌then◌else◌, ◌==◌, ◌&&◌, arith}
 use Rattle.std.specs.Bool.{⊤}
 use Rattle.std.specs.Option.{option_to_list}
 use Rattle.std.specs.List.{AllByRecursion, cons_option}
@@ -17,7 +17,7 @@ use Rattle.state_rows.specs.declared.row.PlacementRow.{PlacementRow}
 use Rattle.state_rows.specs.Tables.{Tables, tables_of as state_of, placement_row}
 use Rattle.state_rows.specs.Edits.{with_edit, with_edits, IsNew, AreNew}
 use Rattle.state_rows.specs.Kept.{but_placements}
-use Rattle.line_tables.specs.Line.{line_schema}
+use Rattle.line_tables.specs.Line.{IsOurs}
 use Rattle.line_tables.specs.Line as line
 use Rattle.line_tables.specs.StateRows.{has_piece, rows_in, placement_columns}
 use Rattle.line_audit.specs.Alone.{Listed, IsNamed, AreAlone, IsNew as IsNewPiece}
@@ -166,7 +166,7 @@ too_found db found b rows was placed = record {
   missing = λ not. inr (subst (λ c. ArePlaced db c (map piece_of rows)) not placed);
 }
 
-tells_first : (old mid : State) (P : Database → Type 0) → KeepsCommit old mid → Tells mid P → old.committed.schema ≡ line_schema → P old.committed
+tells_first : (old mid : State) (P : Database → Type 0) → KeepsCommit old mid → Tells mid P → IsOurs old.committed.schema → P old.committed
 tells_first old mid P kept (inl all) schema = all old.committed
 tells_first old mid P kept (inr r) schema = (reads_back old mid P kept r).are schema
 

@@ -1,5 +1,5 @@
 -- What was taken of the rows, told of the rows that were committed at first.
-use Rattle.std.proofs.Common.{◌≡◌, ◌∙◌, ◌==◌, ◌+◌, ◌≤◌, ◌⊎◌, inl, inr, IsTrue, ℕ, Bool, true, false, [], length, filter, sym, ap, subst, arith}
+use Rattle.std.proofs.Common.{◌≡◌, ◌∙◌, ◌==◌, ◌+◌, ◌≤◌, ◌⊎◌, inl, inr, IsTrue, ℕ, Bool, true, false, [], length, filter, sym, subst, arith}
 use Rattle.std.proofs.lemmas.Bool.{eqb-true, eq-eqb, true≢false}
 use Rattle.std.specs.List.Sorted.{IsPermutation}
 use Rattle.std.proofs.lemmas.List.Sorted.{IsPermutation-sym, IsPermutation-trans}
@@ -8,7 +8,7 @@ use Rattle.sqlite.specs.State.{State, KeepsCommit}
 use Rattle.desk_types.specs.declared.rules.Rules.{Rules}
 use Rattle.desk_types.specs.History.{History}
 use Rattle.desk_types.specs.Judged.{IsJudged}
-use Rattle.line_tables.specs.Line.{line_schema}
+use Rattle.line_tables.specs.Line.{IsOurs}
 use Rattle.line_tables.specs.Rows.{Holds, accepted_in}
 use Rattle.line_tables.specs.Calls.{Reads, has_number}
 use Rattle.line_tables.proofs.Keeps.{keeps_then}
@@ -22,6 +22,7 @@ use Rattle.line_replay.specs.Replay.{IsReplayed, IsFaultOf, IsNumbered, IsStuck,
 use Rattle.line_replay.proofs.Reading.{reads_two, reads_back}
 use Rattle.line_replay.proofs.Listing.{are_rows}
 use Rattle.line_replay.proofs.Stopping.{stops_stuck, stops_short}
+use Rattle.desk_types.specs.declared.rules.Rules.TheVariants.{Two}
 
 -- a place where the rows stop, told of the rows at first
 pub stops_before : (rules : Rules) (greatest : ℕ) (old mid : State) (n : ℕ) → KeepsCommit old mid → Reads old (λ db. IsNumbered (accepted_in db)) → IsStop rules greatest mid n → IsFaultOf rules greatest old (NotLawful n)
@@ -44,8 +45,8 @@ module _ {D : Type 0} (F : D → History → Type 0) (rules : Rules) (greatest :
   same : After → mid.committed ≡ first.committed
   same clean = (kept clean).committed ((kept_on clean).was_open (counted clean).was_open)
 
-  here : After → first.committed.schema ≡ line_schema → AreAt (accepted_in first.committed) H
-  here clean schema = subst (λ (db : Database). AreAt (accepted_in db) H) (same clean) (taken.rows (early clean) (ap (λ (db : Database). db.schema) (same clean) ∙ schema))
+  here : After → IsOurs first.committed.schema → AreAt (accepted_in first.committed) H
+  here clean schema = subst (λ (db : Database). AreAt (accepted_in db) H) (same clean) (taken.rows (early clean) (subst (λ (db : Database). IsOurs db.schema) (sym (same clean)) schema))
 
   counted_first : After → Reads first (λ db. are ≡ (n == length (accepted_in db)))
   counted_first clean = reads_back first last _ (keeps_then first mid last (kept clean) (kept_on clean)) (counted clean)
@@ -71,7 +72,7 @@ module _ {D : Type 0} (F : D → History → Type 0) (rules : Rules) (greatest :
       named = taken.others.named;
       counted = taken.others.counted;
       told = λ clean schema.
-          subst (λ (db : Database). ArePlaced db beside.placed.all taken.others.pieces) (same clean) (taken.others.told (early clean) (ap (λ (db : Database). db.schema) (same clean) ∙ schema));
+          subst (λ (db : Database). ArePlaced db beside.placed.all taken.others.pieces) (same clean) (taken.others.told (early clean) (subst (λ (db : Database). IsOurs db.schema) (sym (same clean)) schema));
     };
   }
 
@@ -79,7 +80,7 @@ module _ {D : Type 0} (F : D → History → Type 0) (rules : Rules) (greatest :
   apart : (long : ℕ) → are ≡ (n == long) → are ≡ false → length H ≡ long → ⊥
   apart long told not is = true≢false (sym (eq-eqb n long (sym taken.counted ∙ is)) ∙ sym told ∙ not)
 
-  end_of : After → IsEnd greatest mid n → first.committed.schema ≡ line_schema → (length H ≡ greatest) ⊎ (filter (has_number (length H + 1)) (accepted_in first.committed) ≡ [])
+  end_of : After → IsEnd greatest mid n → IsOurs first.committed.schema → (length H ≡ greatest) ⊎ (filter (has_number (length H + 1)) (accepted_in first.committed) ≡ [])
   end_of clean (inl full) schema = inl (taken.counted ∙ full)
   end_of clean (inr none) schema = inr (subst (λ m. filter (has_number (m + 1)) (accepted_in first.committed) ≡ []) (sym taken.counted) ((reads_back first mid _ (kept clean) none).are schema))
 
@@ -98,4 +99,4 @@ pub same_list : {D : Type 0} (F : D → History → Type 0) (rules : Rules) (gre
 same_list F rules greatest Clean old desk beside count H G tell all judged holds clean =
     let r = all.rows clean in
     let tables = holds r.was_open in
-    tell H G all.judged judged (IsPermutation-trans _ _ _ (IsPermutation-sym _ _ (r.are tables.schema).same) tables.accepted)
+    tell H G all.judged judged (IsPermutation-trans _ _ _ (IsPermutation-sym _ _ (r.are (Two, tables.schema)).same) tables.accepted)

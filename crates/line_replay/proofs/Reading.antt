@@ -1,8 +1,9 @@
 -- What is read, told of what was committed before.
-use Rattle.std.proofs.Common.{◌∙◌, ap, subst}
+use Rattle.std.proofs.Common.{subst, sym}
 use Rattle.sqlite.specs.Effect.{Database}
 use Rattle.sqlite.specs.State.{State, KeepsCommit}
 use Rattle.line_tables.specs.Calls.{Reads}
+use Rattle.line_tables.specs.Line.{IsOurs}
 
 pub reads_as : (old : State) (P Q : Database → Type 0) → ((db : Database) → P db → Q db) → Reads old P → Reads old Q
 reads_as old P Q f p = record { was_open = p.was_open; are = λ schema. f old.committed (p.are schema) }
@@ -14,4 +15,4 @@ reads_two old P Q R f p q = record { was_open = p.was_open; are = λ schema. f o
 pub reads_back : (old mid : State) (P : Database → Type 0) → KeepsCommit old mid → Reads mid P → Reads old P
 reads_back old mid P kept r =
     let same = kept.committed r.was_open in
-    record { was_open = kept.was_open r.was_open; are = λ schema. subst P same (r.are (ap (λ (db : Database). db.schema) same ∙ schema)) }
+    record { was_open = kept.was_open r.was_open; are = λ schema. subst P same (r.are (subst (λ (db : Database). IsOurs db.schema) (sym same) schema)) }

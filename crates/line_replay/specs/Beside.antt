@@ -1,5 +1,5 @@
 -- The rows of the state tables beside a list that is read again.
-use Rattle.std.specs.Prelude.{◌≡◌, ◌⊎◌, ◌+◌, Bool, true, false, IsTrue, map, Option, Some, None, List, [], ◌∷◌, length}
+use Rattle.std.specs.Prelude.{◌≡◌, ◌⊎◌, ◌+◌, Bool, true, false, IsTrue, map, Option, Some, None, List, [], length}
 use Rattle.std.specs.List.{filter_map}
 use Rattle.sqlite.specs.Effect.{Database}
 use Rattle.sqlite.specs.State.{State}
@@ -10,7 +10,7 @@ use Rattle.state_rows.specs.declared.row.PlacementRow.{PlacementRow}
 use Rattle.state_rows.specs.Tables.{tables_of as state_of, placement_row}
 use Rattle.state_rows.specs.Edits.{with_edits}
 use Rattle.state_rows.specs.Kept.{tables_in, but_placements}
-use Rattle.line_tables.specs.Line.{line_schema}
+use Rattle.line_tables.specs.Line.{IsOurs}
 use Rattle.line_tables.specs.Calls.{Reads}
 use Rattle.line_audit.specs.Alone.{Listed}
 use Rattle.line_audit.specs.Audit.{Pieces, AreByPiece, ArePlaced, piece_of}
@@ -32,7 +32,7 @@ pub record IsBeside (Clean : Type 0) (db : Database) (beside : Beside) (H : Hist
   pub listed : Listed pieces (λ key. placement_row H key.0 key.1)
   pub named : AreByPiece pieces
   pub counted : length pieces ≡ beside.placed.count
-  pub told : Clean → db.schema ≡ line_schema → ArePlaced db beside.placed.all pieces
+  pub told : Clean → IsOurs db.schema → ArePlaced db beside.placed.all pieces
 
 -- ---- on the way
 

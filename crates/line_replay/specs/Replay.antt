@@ -8,7 +8,7 @@ use Rattle.desk_types.specs.declared.command.Entry.{Entry}
 use Rattle.desk_types.specs.declared.rules.Rules.{Rules}
 use Rattle.desk_types.specs.History.{History}
 use Rattle.desk_types.specs.Judged.{IsJudged, IsNext}
-use Rattle.line_tables.specs.Line.{line_schema}
+use Rattle.line_tables.specs.Line.{IsOurs}
 use Rattle.line_tables.specs.Rows.{accepted_in}
 use Rattle.line_tables.specs.Calls.{Reads, has_number, is_before, IsLeast}
 use Rattle.line_replay.specs.declared.fault.ReplayFault.{ReplayFault}
@@ -73,7 +73,7 @@ pub record IsTaken {D : Type 0} (StandsFor : D → History → Type 0) (rules : 
   pub stands : StandsFor desk H
   pub judged : IsJudged rules H
   pub counted : length H ≡ count
-  pub rows : Clean → db.schema ≡ line_schema → AreAt (accepted_in db) H
+  pub rows : Clean → IsOurs db.schema → AreAt (accepted_in db) H
   pub others : IsBeside Clean db beside H
 
 -- all numbers are taken, or there is no row of the next one

@@ -4,3 +4,4 @@ pub mod Leaving
 pub mod Putting
 pub mod Reading
 pub mod Telling
+pub mod Versions

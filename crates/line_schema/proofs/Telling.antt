@@ -5,6 +5,7 @@ use Rattle.sqlite_trees.specs.declared.store.Store.{Ghosts}
 use Rattle.sqlite.specs.State.{State, HasCleanDisk, Survives}
 use Rattle.sqlite.specs.Held.{state}
 use Rattle.desk_types.specs.declared.rules.Rules.{Rules}
+use Rattle.desk_types.specs.declared.rules.Rules.TheVariants.{Two}
 use Rattle.desk_types.specs.History.{History}
 use Rattle.line_rows.specs.Rows.{rows_of}
 use Rattle.line_traces.specs.Committed.{Tells}
@@ -24,4 +25,4 @@ told-of g F K old new of found survives told L stands clean own =
     let tells = told clean in
     let early : HasCleanDisk (state g old.conn) = omega (arith, survives.clean, clean) in
     let held = stands.tables early own tells.was_open in
-    tells.are held.schema L.history (list-held (state g old.conn).committed L.history (rows_of L.history) stands.judged held.accepted (rows-are L.history) held.state)
+    tells.are (Two, held.schema) L.history (list-held (state g old.conn).committed L.history (rows_of L.history) stands.judged held.accepted (rows-are L.history) held.state)

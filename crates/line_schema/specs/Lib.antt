@@ -1,3 +1,4 @@
 pub mod Stands
 pub mod Opening
 pub mod Traces
+pub mod Versions

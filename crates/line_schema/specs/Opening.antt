@@ -1,5 +1,5 @@
 -- What is read when a store is opened, and what a fault says of what is committed.
-use Rattle.std.specs.Prelude.{◌≡◌, ◌≢◌, ◌⊎◌, ◌≤◌, ⊤, ℕ, ℤ, pos, Some, None, true, false, length, List, [], ◌∷◌, ◌++◌, codes, decimal}
+use Rattle.std.specs.Prelude.{◌≡◌, ◌≢◌, ◌⊎◌, ◌≤◌, ⊤, ℕ, ℤ, pos, true, false, length, List, [], ◌∷◌, ◌++◌, codes, decimal}
 use Rattle.std.specs.Fmt.{signed_decimal}
 use Rattle.std.specs.List.{list_any}
 use Rattle.sqlite.specs.declared.types.Value.TheVariants.{Int}
@@ -12,11 +12,11 @@ use Rattle.desk_types.specs.History.{History}
 use Rattle.desk_types.specs.Judged.{IsJudged}
 use Rattle.state_rows.specs.Tables.{tables_of as state_of}
 use Rattle.line_tables.specs.Names.{is_version, is_accepted, has_state}
-use Rattle.line_tables.specs.Rows.{version_in, accepted_in}
-use Rattle.line_tables.specs.StateRows.{HoldsState}
-use Rattle.line_tables.specs.Rowids.{AreAllApart}
+use Rattle.line_tables.specs.Rows.{version_in, accepted_in, version_of}
+use Rattle.line_tables.specs.StateRows.{HoldsStateBy}
+use Rattle.line_tables.specs.Rowids.{AreAllApartBy}
 use Rattle.line_tables.specs.Calls.{Reads}
-use Rattle.line_audit.specs.Audit.{IsFirstWrong}
+use Rattle.line_audit.specs.Audit.{IsFirstWrong, state_tables}
 use Rattle.line_audit.specs.TableNames.{name_of}
 use Rattle.line_replay.specs.declared.fault.ReplayFault.{ReplayFault}
 use Rattle.line_replay.specs.declared.fault.ReplayFault.TheVariants as replay
@@ -43,14 +43,17 @@ pub record IsVersion (db : Database) (number : ℤ) (greatest : ℕ) : Type 0 wh
   pub least : 1 ≤ greatest
   pub most : greatest ≤ MOST_ENTRIES
 
--- the tables are there, with their columns, by name
-abbrev pub IsNamed : State → Type 0
-IsNamed old = (list_any is_version old.now.schema.tables ≡ true) × (list_any is_accepted old.now.schema.tables ≡ true) × (has_state old.now.schema.tables ≡ true)
+-- the tables of the version are there, with their columns, by name: version 1 goes with rules One, version 2 with rules Two
+abbrev pub IsNamedBy : Rules → State → Type 0
+IsNamedBy rules old = (list_any is_version old.now.schema.tables ≡ true) × (list_any is_accepted old.now.schema.tables ≡ true) × (has_state rules old.now.schema.tables ≡ true)
 
--- a table or a column of it is missing, or `version` has no such row
-abbrev pub IsNoDesk : State → Type 0
-IsNoDesk old =
-    (list_any is_version old.now.schema.tables ≡ false) ⊎ (list_any is_accepted old.now.schema.tables ≡ false) ⊎ (has_state old.now.schema.tables ≡ false)
+abbrev pub IsNamed : State → Type 0
+IsNamed = IsNamedBy Two
+
+-- a table of the version or a column of it is missing, in version 1 there is one named `found`, or `version` has no such row
+abbrev pub IsNoDeskBy : Rules → State → Type 0
+IsNoDeskBy rules old =
+    (list_any is_version old.now.schema.tables ≡ false) ⊎ (list_any is_accepted old.now.schema.tables ≡ false) ⊎ (has_state rules old.now.schema.tables ≡ false)
     ⊎ Reads old (λ db. (number : ℤ) (greatest : ℕ) → IsVersion db number greatest → ⊥)
 
 -- the fault is not one of the list or of another table
@@ -59,29 +62,35 @@ IsOfVersion (NotLawful n) = ⊥
 IsOfVersion (TableDiffers table) = ⊥
 IsOfVersion _ = ⊤
 
--- a version is told of a file with the table `version`, and what is wrong with the rows of one with all tables
+-- a version is told of a file with the table `version`, and what is wrong with the rows of one with all tables of the version
+abbrev pub IsToldBy : Rules → State → OpenFault → Type 0
+IsToldBy rules old (OtherVersion n) = list_any is_version old.now.schema.tables ≡ true
+IsToldBy rules old (NotLawful n) = IsNamedBy rules old
+IsToldBy rules old (TableDiffers table) = IsNamedBy rules old
+IsToldBy rules old _ = ⊤
+
 abbrev pub IsToldOf : State → OpenFault → Type 0
-IsToldOf old (OtherVersion n) = list_any is_version old.now.schema.tables ≡ true
-IsToldOf old (NotLawful n) = IsNamed old
-IsToldOf old (TableDiffers table) = IsNamed old
-IsToldOf old _ = ⊤
+IsToldOf = IsToldBy Two
 
 -- the list is lawful and its rows are there, and of the other tables, in their order, this is the first whose rows are not the list's
-pub record IsTableFault (old : State) (table : StateTable) : Type 0 where
+pub record IsTableFault (rules : Rules) (old : State) (table : StateTable) : Type 0 where
   pub greatest : ℕ
   pub list : History
-  pub version : Reads old (λ db. IsVersion db (pos 2) greatest)
-  pub rows : Reads old (λ db. AreRowsOf Two greatest (accepted_in db) list)
-  pub first : Reads old (λ db. IsFirstWrong db (state_of list) table)
+  pub version : Reads old (λ db. IsVersion db (pos (version_of rules)) greatest)
+  pub rows : Reads old (λ db. AreRowsOf rules greatest (accepted_in db) list)
+  pub first : Reads old (λ db. IsFirstWrong (state_tables rules) db (state_of list) table)
 
--- what a fault says of what was committed
+-- what a fault says of what was committed, where the tables were to be those of the version
+abbrev pub IsFaultBy : Rules → State → OpenFault → Type 0
+IsFaultBy rules old NotADesk = IsNoDeskBy rules old
+IsFaultBy rules old (OtherVersion n) = (n ≢ pos (version_of rules)) × Reads old (λ db. (greatest : ℕ) × IsVersion db n greatest)
+IsFaultBy rules old (NotLawful n) = (greatest : ℕ) × Reads old (λ db. IsVersion db (pos (version_of rules)) greatest) × Reads old (λ db. StopsAt rules greatest (accepted_in db) n)
+IsFaultBy rules old (TableDiffers table) = IsTableFault rules old table
+IsFaultBy rules old NotBlank = ⊥
+IsFaultBy rules old Unavailable = ⊤
+
 abbrev pub IsFaultOf : State → OpenFault → Type 0
-IsFaultOf old NotADesk = IsNoDesk old
-IsFaultOf old (OtherVersion n) = (n ≢ pos 2) × Reads old (λ db. (greatest : ℕ) × IsVersion db n greatest)
-IsFaultOf old (NotLawful n) = (greatest : ℕ) × Reads old (λ db. IsVersion db (pos 2) greatest) × Reads old (λ db. StopsAt Two greatest (accepted_in db) n)
-IsFaultOf old (TableDiffers table) = IsTableFault old table
-IsFaultOf old NotBlank = ⊥
-IsFaultOf old Unavailable = ⊤
+IsFaultOf = IsFaultBy Two
 
 -- the name of a fault and, after a space, its number or its table
 abbrev pub fault_text : OpenFault → List ℕ
@@ -92,15 +101,15 @@ fault_text (TableDiffers table) = codes "TableDiffers " ++ name_of table
 fault_text NotBlank = codes "NotBlank"
 fault_text Unavailable = codes "Unavailable"
 
--- The desk stands by rules Two for a judged list of so many entries, no more than the greatest number. On a clean disk, where the schema is ours, that is the greatest number of `version`, the list is lawful, its rows are those that are committed, the other tables are the list's, and their rowids tell their rows apart.
-pub record IsOpened {D : Type 0} (StandsFor : D → History → Type 0) (kept_rules : D → Rules) (Clean : Type 0) (old : State) (opened : Opened D) (H : History) : Type 0 where
+-- The desk stands by the rules for a judged list of so many entries, no more than the greatest number. On a clean disk, where the schema is ours, that is the greatest number of `version`, the list is lawful, its rows are those that are committed, the other tables are the list's, and their rowids tell their rows apart.
+pub record IsOpened {D : Type 0} (StandsFor : D → History → Type 0) (kept_rules : D → Rules) (Clean : Type 0) (old : State) (by : Rules) (opened : Opened D) (H : History) : Type 0 where
   pub stands : StandsFor opened.desk H
-  pub rules : kept_rules opened.desk ≡ Two
-  pub judged : IsJudged Two H
+  pub rules : kept_rules opened.desk ≡ by
+  pub judged : IsJudged by H
   pub count : opened.count ≡ length H
   pub within : length H ≤ opened.greatest
   pub bound : opened.greatest ≤ MOST_ENTRIES
-  pub version : Clean → Reads old (λ db. IsVersion db (pos 2) opened.greatest)
-  pub rows : Clean → Reads old (λ db. AreRowsOf Two opened.greatest (accepted_in db) H)
-  pub state : Clean → Reads old (λ db. HoldsState db (state_of H))
-  pub apart : Clean → Reads old (λ db. AreAllApart db)
+  pub version : Clean → Reads old (λ db. IsVersion db (pos (version_of by)) opened.greatest)
+  pub rows : Clean → Reads old (λ db. AreRowsOf by opened.greatest (accepted_in db) H)
+  pub state : Clean → Reads old (λ db. HoldsStateBy by db (state_of H))
+  pub apart : Clean → Reads old (λ db. AreAllApartBy by db)

@@ -10,9 +10,10 @@ use std::fmt;
 pub enum OpenFault {
     /// `version` or a column of it is missing, or it has not just one row of three whole numbers, of
     /// which the first is 1 and the last 1 to 1,000,000,000; or, where the version is ours, another
-    /// table or a column of it is missing.
+    /// table or a column of it is missing. A file of version 1 that is to be migrated has no table
+    /// `found`.
     NotADesk,
-    /// The tables are of another version.
+    /// The tables are of another version than 2, or than 1 where they are to be migrated.
     OtherVersion(i64),
     /// The first place of the list, from 1, whose row is missing, can't be read, or isn't what judging
     /// it again gives.

@@ -22,6 +22,7 @@ ghost use Rattle.line_schema.specs.declared.fault.OpenFault.TheVariants as Fault
 ghost use Rattle.line_schema.specs.Opening.{IsFaultOf, IsNamed, IsToldOf};
 ghost use Rattle.line_schema.specs.Stands.{Kept, Stands, state_of, conn_of, has_desk, accepting, ledger, kept_after, answer_in, NewlyLeaves, Leaves};
 
+mod migration;
 mod traces;
 
 use crate::edits::{Acceptance, prepare};
@@ -115,7 +116,7 @@ impl<S: Alter, D: Desk + Drop> LineStore<S, D> {
         if !conn.is_autocommit() {
             return Err((OpenFault::Unavailable, conn));
         }
-        match read_tables(alloc, &mut conn) {
+        match read_tables(alloc, &mut conn, Rules::Two) {
             Ok(
                 Opened {
                     desk,

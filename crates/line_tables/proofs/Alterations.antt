@@ -78,7 +78,7 @@ one_length [] h = absurd (omega (arith, h))
 one_length (x ∷ []) h = (x, refl)
 one_length (x ∷ y ∷ xs) h = absurd (omega (arith, h))
 
-one_of_map : {X Y : Type 0} (f : X → Y) (xs : List X) (y : Y) → map f xs ≡ y ∷ [] → (x : X) × (xs ≡ x ∷ []) × (f x ≡ y)
+pub one_of_map : {X Y : Type 0} (f : X → Y) (xs : List X) (y : Y) → map f xs ≡ y ∷ [] → (x : X) × (xs ≡ x ∷ []) × (f x ≡ y)
 one_of_map f [] y h = absurd (cc)
 one_of_map f (x ∷ []) y h = let same : f x ≡ y = cc in (x, refl, same)
 one_of_map f (x ∷ z ∷ xs) y h = absurd (cc)

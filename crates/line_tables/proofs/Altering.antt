@@ -12,6 +12,7 @@ use Rattle.sqlite_trees.specs.Tree.{Trees}
 use Rattle.sqlite.specs.State.{State}
 use Rattle.desk_types.specs.Placements.{takes_of}
 use Rattle.desk_types.specs.Pieces.{found_of}
+use Rattle.desk_types.specs.declared.rules.Rules.TheVariants.{Two}
 use Rattle.state_rows.specs.declared.edit.RowEdit.{RowEdit}
 use Rattle.state_rows.specs.Tables.{Tables as StateTables}
 use Rattle.state_rows.specs.Edits.{with_edit as state_with, IsNew as IsNewRow}
@@ -75,10 +76,10 @@ pub other_tree : (a b : ℕ) → not (a == b) ≡ true → a ≢ b
 other_tree a b h e = let same : (a == b) ≡ true = eq-eqb a b e in cc
 
 module _ {K R : Type 0} {has : K → Row → Bool} {cols : K → R → Row} {f : K → Option R} (table : Table) where
-  stays : (old new : Database) → new.trees table.tree ≡ old.trees table.tree → AreRows has cols (rows_in table old) f → AreRows has cols (rows_in table new) f
+  pub stays : (old new : Database) → new.trees table.tree ≡ old.trees table.tree → AreRows has cols (rows_in table old) f → AreRows has cols (rows_in table new) f
   stays old new is h = subst (λ l. AreRows has cols (map (columns table) l) f) (sym is) h
 
-  nothing : (db : Database) → db.trees table.tree ≡ [] → ((key : K) → f key ≡ None) → AreRows has cols (rows_in table db) f
+  pub nothing : (db : Database) → db.trees table.tree ≡ [] → ((key : K) → f key ≡ None) → AreRows has cols (rows_in table db) f
   nothing db is none = subst (λ l. AreRows has cols (map (columns table) l) f) (sym is) (record { found = λ key. sym (ap (λ o. option_to_list (option_map (cols key) o)) (none key)); keyed = tt })
 
 -- each table but that with the tree is as it was
@@ -148,7 +149,7 @@ list_grows row old new t was has others list =
     }
 
 -- every table is empty but `version`
-pub holds_blank : (greatest : ℕ) (db : Database) → db.schema ≡ line_schema → rows_in version db ≡ version_row greatest ∷ [] → AllByRecursion (λ u. db.trees u.tree ≡ []) (accepted ∷ state_tables) → Holds db (blank greatest)
+pub holds_blank : (greatest : ℕ) (db : Database) → db.schema ≡ line_schema → rows_in version db ≡ version_row Two greatest ∷ [] → AllByRecursion (λ u. db.trees u.tree ≡ []) (accepted ∷ state_tables) → Holds db (blank greatest)
 unfolding takes_of found_of
 holds_blank greatest db has one empty = record {
   schema = has;

@@ -1,7 +1,7 @@
 -- What the texts that make the tables mean.
 use Rattle.std.proofs.Common.{◌≡◌, List, ℕ, [], ◌∷◌, codes, pos, Ok, refl}
 use Rattle.sqlite.specs.Compile.{table_defined_by, index_defined_by}
-use Rattle.sqlite.specs.Command.TheVariants.{CreateTable, CreateIndex, Insert}
+use Rattle.sqlite.specs.Command.TheVariants.{CreateTable, CreateIndex, Insert, Update}
 use Rattle.sqlite.specs.Source.TheVariants.{Values}
 use Rattle.sqlite.specs.Term.{Term, lit, col}
 use Rattle.sqlite.specs.declared.types.Value.TheVariants.{Null, Int}
@@ -11,6 +11,7 @@ use Rattle.sqlite.specs.Change.{created, indexed}
 use Rattle.sqlite.specs.Schema.{Schema}
 use Rattle.sqlite.specs.Table.{Table}
 use Rattle.sqlite.proofs.Callers.{IsPlain, command_of, statement_of}
+use Rattle.line_tables.proofs.FindTexts.{rows_from}
 use Rattle.line_tables.specs.Line.{version, accepted, part, alternate, sheet_row, selected, reel, mount, board, placement, placement_reel, found, first_of_line, line_schema}
 
 -- the text makes this table, but for its tree, in a database of the schema
@@ -147,3 +148,14 @@ version_terms = lit (Int (pos 1)) ∷ lit Null ∷ lit (Int (pos 2)) ∷ col 0 0
 pub insert_version_is : (command_of (understood line_schema insert_version) ≡ Insert 0 (Values version_terms 4)) × IsPlain (understood line_schema insert_version)
 unfolding understood everything
 insert_version_is = (refl, (refl, refl))
+
+abbrev pub update_version : List ℕ
+update_version = codes "UPDATE version SET number = 2"
+
+-- the rowid that it had, and then the row
+abbrev pub version_renewed : List Term
+version_renewed = col 1 0 ∷ col 1 0 ∷ lit Null ∷ lit (Int (pos 2)) ∷ col 1 3 ∷ []
+
+pub update_version_is : (command_of (understood line_schema update_version) ≡ Update 0 (record { lets = []; body = rows_from 0 [] version_renewed })) × IsPlain (understood line_schema update_version)
+unfolding understood everything
+update_version_is = (refl, (refl, refl))

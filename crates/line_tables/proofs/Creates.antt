@@ -22,9 +22,10 @@ use Rattle.sqlite_rules.specs.Edit.{with_rowid}
 use Rattle.sqlite.specs.Rowids.TheVariants.{Chosen}
 use Rattle.line_tables.proofs.Puts.{cast_int, cast_null, quiet}
 use Rattle.line_tables.proofs.CreateTexts.{IsCreate, version_text, version_is, accepted_text, accepted_is, part_text, part_is, alternate_text, alternate_is, sheet_row_text, sheet_row_is, selected_text, selected_is, reel_text, reel_is, mount_text, mount_is, board_text, board_is, placement_text, placement_is, index_text, index_is, found_text, found_is, insert_version, version_terms, insert_version_is}
-use Rattle.line_tables.specs.Line.{no_schema, line_schema, first_of_line, version, accepted, part, alternate, sheet_row, selected, reel, mount, board, placement, placement_reel, found}
+use Rattle.desk_types.specs.declared.rules.Rules.TheVariants.{One}
+use Rattle.line_tables.specs.Line.{no_schema, line_schema, schema_of, first_of_line, version, accepted, part, alternate, sheet_row, selected, reel, mount, board, placement, placement_reel, found}
 use Rattle.line_tables.specs.Rows.{Holds, blank, version_columns}
-use Rattle.line_tables.specs.Calls.{Runs, Makes, IsBare, Extends}
+use Rattle.line_tables.specs.Calls.{Runs, Makes, IsBare, Extends, Grows, AddsFound}
 
 pub extends_then : (a b c : Schema) (old mid new : State) → Extends a b old mid → Extends b c mid new → Extends a c old new
 extends_then a b c old mid new p q = record { was_open = p.was_open; bare = λ h. q.bare (p.bare h) }
@@ -38,26 +39,32 @@ still_empty [] old new kept empty = tt
 still_empty (t ∷ more) old new kept empty = (kept.0 ∙ empty.0, still_empty more old new kept.1 empty.1)
 
 -- there is one table more, which is empty
+pub creates : (sql : List ℕ) (old new : State) (schema : Schema) (table : Table) → IsCreate schema sql table → lacks_sequence (created schema (record table { tree = 0 })) ≡ false → Runs sql [] old new → old.now.schema ≡ schema
+    → Grows schema (created schema (record table { tree = 0 })) (next_tree schema) old.now new.now
+creates sql old new schema table is counts ran has =
+    let bare_table : Table = record table { tree = 0 } in
+    let w = subst (λ t. Writes old new None CreateTable t [] ran.count) is.1 (runs_as sql [] old new schema has CreateTable is.0 is.2 ran.count ran.executed) in
+    let all = went w.changed in
+    let first = went all.1 in
+    let made = first.1 in
+    let both : ◌≡◌ {A = Result Table _} (Ok made.table) (Ok bare_table) = sym made.defined ∙ is.3 in
+    let same : made.table ≡ bare_table = cc in
+    let after : first.0.schema ≡ created schema bare_table = made.is ∙ ap (λ s. created s made.table) has ∙ ap (created schema) same in
+    let none : lacks_sequence first.0.schema ≡ false = ap lacks_sequence after ∙ counts in
+    let now : new.now ≡ first.0 = ap (λ (p : Tally × Database). p.1) (same_value all.2) ∙ same_value (rw none at first.2) in
+    let kept = subst (λ (s : Schema). KeepsRows s.tables old.now.trees first.0.trees) has made.others in
+    subst (Grows schema (created schema bare_table) (next_tree schema) old.now) (sym now) (record { schema = after; kept = kept; empty = subst (λ s. first.0.trees (next_tree s) ≡ []) has made.empty })
+
+bare_more : (before after : Schema) (more : Table) (old new : Database) → Grows before after more.tree old new → IsBare before old → AllByRecursion (λ t. new.trees t.tree ≡ []) (before.tables ++ more ∷ [])
+bare_more before after more old new grows bare = all_push (λ t. new.trees t.tree ≡ []) before.tables more (still_empty before.tables old.trees new.trees grows.kept bare.empty) grows.empty
+
 pub creates_bare : (sql : List ℕ) (old new : State) (schema : Schema) (table : Table) → IsCreate schema sql table → lacks_sequence (created schema (record table { tree = 0 })) ≡ false → Runs sql [] old new
     → Extends schema (created schema (record table { tree = 0 })) old new
 creates_bare sql old new schema table is counts ran = record {
   was_open = ran.shown.was_open;
   bare = λ bare.
-      let has = bare.schema in
-      let bare_table : Table = record table { tree = 0 } in
-      let w = subst (λ t. Writes old new None CreateTable t [] ran.count) is.1 (runs_as sql [] old new schema has CreateTable is.0 is.2 ran.count ran.executed) in
-      let all = went w.changed in
-      let first = went all.1 in
-      let made = first.1 in
-      let both : ◌≡◌ {A = Result Table _} (Ok made.table) (Ok bare_table) = sym made.defined ∙ is.3 in
-      let same : made.table ≡ bare_table = cc in
-      let after : first.0.schema ≡ created schema bare_table = made.is ∙ ap (λ s. created s made.table) has ∙ ap (created schema) same in
-      let none : lacks_sequence first.0.schema ≡ false = ap lacks_sequence after ∙ counts in
-      let now : new.now ≡ first.0 = ap (λ (p : Tally × Database). p.1) (same_value all.2) ∙ same_value (rw none at first.2) in
-      let kept = subst (λ (s : Schema). KeepsRows s.tables old.now.trees first.0.trees) has made.others in
-      let rows : AllByRecursion (λ t. first.0.trees t.tree ≡ []) (created schema bare_table).tables =
-      all_push (λ t. first.0.trees t.tree ≡ []) schema.tables _ (still_empty schema.tables old.now.trees first.0.trees kept bare.empty) (subst (λ s. first.0.trees (next_tree s) ≡ []) has made.empty) in
-      subst (IsBare (created schema bare_table)) (sym now) (record { schema = after; empty = rows });
+      let grows = creates sql old new schema table is counts ran bare.schema in
+      record { schema = grows.schema; empty = bare_more schema _ (record table { tree = next_tree schema }) old.now new.now grows bare };
 }
 
 -- there is one index more
@@ -114,8 +121,11 @@ makes_placement old new = creates_bare placement_text old new (first_of_line 9 8
 makes_index : (old new : State) → Runs index_text [] old new → Extends (first_of_line 10 9) (first_of_line 10 10) old new
 makes_index old new = indexes_bare index_text old new (first_of_line 10 9) 9 placement (record placement_reel { tree = 0 }) refl index_is
 
-makes_found : (old new : State) → Runs found_text [] old new → Extends (first_of_line 10 10) (first_of_line 11 11) old new
-makes_found old new = creates_bare found_text old new (first_of_line 10 10) found found_is refl
+pub adds_found : (old new : State) → Runs found_text [] old new → AddsFound old new
+adds_found old new ran = record { was_open = ran.shown.was_open; added = creates found_text old new (schema_of One) found found_is refl ran }
+
+makes_found : (old new : State) → AddsFound old new → Extends (first_of_line 10 10) (first_of_line 11 11) old new
+makes_found old new h = record { was_open = h.was_open; bare = λ bare. let grows = h.added bare.schema in record { schema = grows.schema; empty = bare_more (schema_of One) line_schema found old.now new.now grows bare } }
 
 pub makes_list : (a b c : State) → Runs version_text [] a b → Runs accepted_text [] b c → Extends (first_of_line 0 0) (first_of_line 2 1) a c
 makes_list a b c r1 r2 = extends_then _ _ _ a b c (makes_version a b r1) (makes_accepted b c r2)
@@ -126,7 +136,7 @@ makes_setup a b c d e r1 r2 r3 r4 = extends_then _ _ _ a d e (extends_then _ _ _
 pub makes_floor : (a b c d : State) → Runs reel_text [] a b → Runs mount_text [] b c → Runs board_text [] c d → Extends (first_of_line 6 5) (first_of_line 9 8) a d
 makes_floor a b c d r1 r2 r3 = extends_then _ _ _ a c d (extends_then _ _ _ a b c (makes_reel a b r1) (makes_mount b c r2)) (makes_board c d r3)
 
-pub makes_pieces : (a b c d : State) → Runs placement_text [] a b → Runs index_text [] b c → Runs found_text [] c d → Extends (first_of_line 9 8) (first_of_line 11 11) a d
+pub makes_pieces : (a b c d : State) → Runs placement_text [] a b → Runs index_text [] b c → AddsFound c d → Extends (first_of_line 9 8) (first_of_line 11 11) a d
 makes_pieces a b c d r1 r2 r3 = extends_then _ _ _ a c d (extends_then _ _ _ a b c (makes_placement a b r1) (makes_index b c r2)) (makes_found c d r3)
 
 -- what was empty is so in the trees that stay
@@ -135,7 +145,7 @@ still_bare : (tree : ℕ) (tables : List Table) (old new : Trees) → list_all (
 still_bare tree [] old new apart others empty = tt
 still_bare tree (t ∷ ts) old new apart others empty = let is = and_parts _ _ apart in (others.0 (other_tree _ _ is.0) ∙ empty.0, still_bare tree ts old new is.1 others.1 empty.1)
 
-version_cast : (greatest : ℕ) → cast_row version (Int (pos 1) ∷ Null ∷ Int (pos 2) ∷ Int (pos greatest) ∷ []) ≡ Int (pos 1) ∷ Null ∷ Int (pos 2) ∷ Int (pos greatest) ∷ []
+pub version_cast : (greatest : ℕ) → cast_row version (Int (pos 1) ∷ Null ∷ Int (pos 2) ∷ Int (pos greatest) ∷ []) ≡ Int (pos 1) ∷ Null ∷ Int (pos 2) ∷ Int (pos greatest) ∷ []
 version_cast greatest = rw (cast_int (pos 1), cast_int (pos 2), cast_int (pos greatest), cast_null) refl
 
 -- the one row of `version` is put in

@@ -1,5 +1,5 @@
 -- What the texts that read mean.
-use Rattle.std.proofs.Common.{◌≡◌, List, ℕ, [], ◌∷◌, codes, refl, false, None, Some, pos, negsuc}
+use Rattle.std.proofs.Common.{◌≡◌, ◌⊎◌, inl, is_ok, List, ℕ, [], ◌∷◌, codes, refl, false, None, Some, pos, negsuc}
 use Rattle.sqlite.specs.Command.TheVariants.{Select}
 use Rattle.sqlite.specs.Term.{Term, lit, col, op2}
 use Rattle.sqlite.specs.Query.{Query, inner, end}
@@ -13,14 +13,21 @@ use Rattle.sqlite_value.specs.Keys.{ascending}
 use Rattle.sqlite.specs.Listing.{understood, reads_listing}
 use Rattle.sqlite_tied.specs.Compute.{everything}
 use Rattle.sqlite.proofs.Callers.{IsPlain, command_of}
-use Rattle.line_tables.specs.Line.{line_schema}
+use Rattle.sqlite.specs.Schema.{Schema}
+use Rattle.desk_types.specs.declared.rules.Rules.{Rules}
+use Rattle.line_tables.specs.Line.{schema_of}
 
 -- the rows of one table that pass the tests, as they come: no group, no DISTINCT, no ORDER BY, no LIMIT
 abbrev pub rows_from : ℕ → List Term → List Term → Query
 rows_from tree filter project = record { from = inner tree end; filter = filter; group = None; project = project; distinct = false; collations = []; order = []; limit = lit (Int (negsuc 0)); offset = lit (Int (pos 0)) }
 
+-- the text means the query in a database of the schema
+abbrev pub IsSelectIn : Schema → List ℕ → Query → List (List ℕ) → Type 0
+IsSelectIn schema sql q names = (command_of (understood schema sql) ≡ Select (record { lets = []; body = q }) names) × (reads_listing schema sql ≡ false) × IsPlain (understood schema sql)
+
+-- so it does in our schema of each version, or it is no statement there
 abbrev pub IsSelect : List ℕ → Query → List (List ℕ) → Type 0
-IsSelect sql q names = (command_of (understood line_schema sql) ≡ Select (record { lets = []; body = q }) names) × (reads_listing line_schema sql ≡ false) × IsPlain (understood line_schema sql)
+IsSelect sql q names = (rules : Rules) → IsSelectIn (schema_of rules) sql q names ⊎ (is_ok (understood (schema_of rules) sql) ≡ false)
 
 -- the places of the columns of `accepted` in a kept row
 abbrev pub accepted_places : List Term
@@ -37,7 +44,7 @@ uid_query = rows_from 1 (op2 (Compare Eq Binary) (col 1 2) (col 0 0) ∷ []) acc
 
 pub select_uid_is : IsSelect select_uid uid_query accepted_names
 unfolding understood everything
-select_uid_is = (refl, refl, (refl, refl))
+select_uid_is rules = inl (refl, refl, (refl, refl))
 
 abbrev pub select_number : List ℕ
 select_number = codes "SELECT number, uid, source, own, effective, command, detail FROM accepted WHERE number = ?1"
@@ -47,7 +54,7 @@ number_query = rows_from 1 (op2 (Compare Eq Binary) (col 1 0) (col 0 0) ∷ []) 
 
 pub select_number_is : IsSelect select_number number_query accepted_names
 unfolding understood everything
-select_number_is = (refl, refl, (refl, refl))
+select_number_is rules = inl (refl, refl, (refl, refl))
 
 abbrev pub select_before : List ℕ
 select_before = codes "SELECT number FROM accepted WHERE uid = ?1 AND number < ?2"
@@ -57,7 +64,7 @@ before_query = rows_from 1 (op2 (Compare Eq Binary) (col 1 2) (col 0 0) ∷ op2 
 
 pub select_before_is : IsSelect select_before before_query (codes "number" ∷ [])
 unfolding understood everything
-select_before_is = (refl, refl, (refl, refl))
+select_before_is rules = inl (refl, refl, (refl, refl))
 
 abbrev pub select_version : List ℕ
 select_version = codes "SELECT one, number, greatest FROM version"
@@ -67,7 +74,7 @@ version_query = rows_from 0 [] (col 1 0 ∷ col 1 2 ∷ col 1 3 ∷ [])
 
 pub select_version_is : IsSelect select_version version_query (codes "one" ∷ codes "number" ∷ codes "greatest" ∷ [])
 unfolding understood everything
-select_version_is = (refl, refl, (refl, refl))
+select_version_is rules = inl (refl, refl, (refl, refl))
 
 abbrev pub select_least : List ℕ
 select_least = codes "SELECT number FROM accepted ORDER BY number LIMIT 1"
@@ -77,7 +84,7 @@ least_query = record { from = inner 1 end; filter = []; group = None; project = 
 
 pub select_least_is : IsSelect select_least least_query (codes "number" ∷ [])
 unfolding understood everything
-select_least_is = (refl, refl, (refl, refl))
+select_least_is rules = inl (refl, refl, (refl, refl))
 
 abbrev pub select_count : List ℕ
 select_count = codes "SELECT count(*) FROM accepted"
@@ -94,4 +101,4 @@ count_query = count_from 1
 
 pub select_count_is : IsSelect select_count count_query (codes "count(*)" ∷ [])
 unfolding understood everything
-select_count_is = (refl, refl, (refl, refl))
+select_count_is rules = inl (refl, refl, (refl, refl))

@@ -1,5 +1,5 @@
 -- What the queries find.
-use Rattle.std.proofs.Common.{◌≡◌, ◌∙◌, IsTrue, Some, None, Option, Result, Ok, Err, IfOk, Vec, Global, ℕ, pos, List, [], ◌∷◌, ◌++◌, length, map, filter, Bool, true, false, not, ◌&&◌, ◌||◌, ◌==◌, if◌then◌else◌, unwrap_or, nat_le, ◌^◌, refl, sym, ap, ap₂, subst, subst₂, arith, true≢false}
+use Rattle.std.proofs.Common.{◌≡◌, ◌∙◌, inl, inr, is_ok, IsTrue, Some, None, Option, Result, Ok, Err, IfOk, Vec, Global, ℕ, pos, List, [], ◌∷◌, ◌++◌, length, map, filter, Bool, true, false, not, ◌&&◌, ◌||◌, ◌==◌, if◌then◌else◌, unwrap_or, nat_le, ◌^◌, refl, sym, ap, ap₂, subst, subst₂, arith, true≢false}
 use Rattle.std.specs.List.{flat_map, list_all, list_any}
 use Rattle.std.specs.List.Sorted.{IsPermutation}
 use Rattle.std.proofs.Math.Dec.{eqb-suc-zero}
@@ -11,6 +11,7 @@ use Rattle.sqlite_trees.specs.Tree.{Trees}
 use Rattle.sqlite.specs.Term.{Term, holds}
 use Rattle.sqlite.specs.Effect.{Database}
 use Rattle.sqlite.specs.Query.{Query, IsAnswer, output, Output}
+use Rattle.sqlite.specs.Listing.{understood}
 use Rattle.sqlite.specs.Program.{overlay}
 use Rattle.sqlite.specs.Command.TheVariants.{Select}
 use Rattle.sqlite_trees.specs.declared.store.Store.{Ghosts}
@@ -20,17 +21,31 @@ use Rattle.sqlite.specs.declared.error.Error.{Error}
 use Rattle.line_tables.proofs.Keeps.{shown_open}
 use Rattle.sqlite.proofs.Callers.{reads_as, one_permutation}
 use Rattle.line_tables.specs.declared.version.Version.{Version}
-use Rattle.line_tables.specs.Line.{line_schema}
+use Rattle.sqlite.specs.Schema.{Schema}
+use Rattle.line_tables.specs.Line.{IsOurs, schema_of}
 use Rattle.line_tables.specs.Rows.{accepted_columns, version_columns, accepted_in, version_in}
 use Rattle.line_tables.specs.Calls.{Selects, Reads, has_uid, has_number, is_before, only, IsVersionOf}
-use Rattle.line_tables.proofs.FindTexts.{IsSelect, rows_from, select_uid, uid_query, select_uid_is, select_number, number_query, select_number_is, select_before, before_query, select_before_is, select_version, version_query, select_version_is, accepted_names}
+use Rattle.line_tables.proofs.FindTexts.{IsSelect, IsSelectIn, rows_from, select_uid, uid_query, select_uid_is, select_number, number_query, select_number_is, select_before, before_query, select_before_is, select_version, version_query, select_version_is, accepted_names}
 
--- what a query of ours shows is its answer over what is committed
-pub answer_of : {S : Type 0} (g : Ghosts S) (sql : List ℕ) (q : Query) (names : List (List ℕ)) → IsSelect sql q names → (params : Row) (old : Held S) (rows : List Row) → Selects g sql params old rows → (state g old).committed.schema ≡ line_schema
+-- what a query shows is its answer over what is committed
+answer_in : {S : Type 0} (g : Ghosts S) (schema : Schema) (sql : List ℕ) (q : Query) (names : List (List ℕ)) → IsSelectIn schema sql q names → (params : Row) (old : Held S) (rows : List Row) → Selects g sql params old rows → (state g old).committed.schema ≡ schema
     → IsAnswer q (overlay (state g old).committed.trees []) params rows
-answer_of g sql q names is params old rows h schema =
-    let read = reads_as sql params (state g (record old { in_transaction = true })) (state g h.after) line_schema (ap (λ (db : Database). db.schema) h.settled ∙ schema) (Select (record { lets = []; body = q }) names) is.0 is.2 is.1 rows h.shown in
+answer_in g schema sql q names is params old rows h has =
+    let read = reads_as sql params (state g (record old { in_transaction = true })) (state g h.after) schema (ap (λ (db : Database). db.schema) h.settled ∙ has) (Select (record { lets = []; body = q }) names) is.0 is.2 is.1 rows h.shown in
     subst (λ (db : Database). IsAnswer q (overlay db.trees []) params rows) h.settled (read.answer Null)
+
+-- a text that is no statement shows nothing
+not_shown : (schema : Schema) (sql : List ℕ) (params : Row) (old new : State) (rows : List Row) → Shown sql params old new rows → old.now.schema ≡ schema → is_ok (understood schema sql) ≡ false → ⊥
+unfolding Shown
+not_shown schema sql params old new rows h has none = true≢false (ap is_ok (sym h.1.is ∙ ap (λ s. understood s sql) has) ∙ none)
+
+-- the same in our schema of each version
+pub answer_of : {S : Type 0} (g : Ghosts S) (sql : List ℕ) (q : Query) (names : List (List ℕ)) → IsSelect sql q names → (params : Row) (old : Held S) (rows : List Row) → Selects g sql params old rows → IsOurs (state g old).committed.schema
+    → IsAnswer q (overlay (state g old).committed.trees []) params rows
+answer_of g sql q names is params old rows h (rules, has) = elim (is rules) [
+  | inl means ↦ answer_in g (schema_of rules) sql q names means params old rows h has
+  | inr none ↦ absurd (not_shown (schema_of rules) sql params _ _ rows h.shown (ap (λ (db : Database). db.schema) h.settled ∙ has) none)
+]
 
 -- what is shown of the rows that pass
 abbrev pub shown_of : Query → Row → List Row → List Row

@@ -5,8 +5,14 @@ use Rattle.sqlite_trees.specs.declared.store.Store.{Ghosts}
 use Rattle.sqlite.specs.Effect.{Database}
 use Rattle.sqlite.specs.Held.{Held, state}
 use Rattle.line_tables.specs.declared.edit.Edit.{Edit}
-use Rattle.line_tables.specs.Rows.{Holds}
-use Rattle.line_tables.specs.Calls.{Writes, Makes, LeavesEdited, LeavesBlank}
+use Rattle.desk_types.specs.declared.rules.Rules.TheVariants.{One}
+use Rattle.line_tables.specs.Rows.{Holds, HoldsBy}
+use Rattle.line_tables.specs.Calls.{Writes, Makes, Migrated, Migrates, LeavesEdited, LeavesBlank, LeavesMigrated}
+
+-- what was committed is read in a transaction that has just begun
+pub settled_migrates : {S : Type 0} (g : Ghosts S) (old last : Held S) → (IsTrue (state g old).is_open → (state g old).now ≡ (state g old).committed) → Migrates (state g (record old { in_transaction = true })) (state g last) → (after : Database) → after ≡ (state g last).now
+    → Migrated (state g old).committed after
+settled_migrates g old last settled w after is = subst (λ (db : Database). Migrated db after) (settled w.was_open) (subst (Migrated (state g old).now) (sym is) w.done)
 
 module _ {S : Type 0} (g : Ghosts S) (old last : Held S) (trees : Trees) where
   pub leaves_edited : (edits : List Edit) → (IsTrue (state g old).is_open → (state g old).now ≡ (state g old).committed) → Writes edits (state g (record old { in_transaction = true })) (state g last) → trees ≡ (state g last).now.trees
@@ -18,3 +24,9 @@ module _ {S : Type 0} (g : Ghosts S) (old last : Held S) (trees : Trees) where
 
   pub leaves_blank : (greatest : ℕ) → Makes greatest (state g (record old { in_transaction = true })) (state g last) → trees ≡ (state g last).now.trees → LeavesBlank greatest (state g old) trees
   leaves_blank greatest w is = record { was_open = w.was_open; holds = λ blank. ((state g last).now, w.done blank, w.sound blank, is) }
+
+  pub leaves_migrated : (IsTrue (state g old).is_open → (state g old).now ≡ (state g old).committed) → Migrates (state g (record old { in_transaction = true })) (state g last) → trees ≡ (state g last).now.trees → LeavesMigrated (state g old) trees
+  leaves_migrated settled w is = record {
+    was_open = w.was_open;
+    holds = λ tables holds. let held = subst (λ (db : Database). HoldsBy One db tables) (sym (settled w.was_open)) holds in ((state g last).now, w.done.holds tables held, w.sound tables held, is);
+  }

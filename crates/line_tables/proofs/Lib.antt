@@ -18,6 +18,7 @@ pub mod RowTexts
 pub mod RowPuts
 pub mod Keyed
 pub mod Spaced
+pub mod Migration
 pub mod RowidTexts
 pub mod Rising
 pub mod Placing

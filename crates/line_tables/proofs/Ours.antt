@@ -6,7 +6,9 @@ use base.Stored.{Gv, gnil, gnum, gcons}
 use Rattle.sqlite.specs.Schema.{Schema}
 use Rattle.sqlite_schema.specs.Names.{same_name}
 use Rattle.sqlite_schema.specs.contracts.schema.Schema.{the_row}
-use Rattle.line_tables.specs.Line.{line_schema, no_schema, is_ours, is_blank, is_same_schema, is_same_code}
+use Rattle.desk_types.specs.declared.rules.Rules.{Rules}
+use Rattle.desk_types.specs.declared.rules.Rules.TheVariants.{One, Two}
+use Rattle.line_tables.specs.Line.{line_schema, schema_of, IsOurs, no_schema, is_ours, is_blank, is_same_schema, is_same_code}
 use Rattle.line_tables.specs.Names.{has_name, is_version, is_accepted, has_state}
 
 both : (a b : Bool) → (a && b) ≡ true → (a ≡ true) × (b ≡ true)
@@ -63,6 +65,15 @@ pub ours_listed : list_any is_accepted line_schema.tables ≡ true
 unfolding same_name
 ours_listed = refl
 
-pub ours_whole : has_state line_schema.tables ≡ true
+-- and those of one version are told from those of the other
+whole_of : (rules kept : Rules) → has_state rules (schema_of kept).tables ≡ true → rules ≡ kept
 unfolding same_name
-ours_whole = refl
+whole_of One One h = refl
+whole_of Two Two h = refl
+whole_of One Two h = absurd (true≢false (sym h))
+whole_of Two One h = absurd (true≢false (sym h))
+
+pub ours_whole : (rules : Rules) (schema : Schema) → IsOurs schema → has_state rules schema.tables ≡ true → schema ≡ schema_of rules
+ours_whole rules schema (kept, is) whole =
+    let same : rules ≡ kept = whole_of rules kept (subst (λ (s : Schema). has_state rules s.tables ≡ true) is whole) in
+    subst (λ r. schema ≡ schema_of r) (sym same) is

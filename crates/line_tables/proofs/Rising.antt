@@ -1,5 +1,5 @@
 -- Rowids that rise are each that of one row.
-use Rattle.std.proofs.Common.{◌≡◌, ◌∙◌, inl, inr, ℕ, ℤ, ◌≤◌, ◌<◌, ◌+◌, List, [], ◌∷◌, ◌++◌, map, filter, length, take, drop, get_or, Bool, true, false, ◌&&◌, if◌then◌else◌, IsTrue, Option, None, Some, Ordering, Less, Equal, Greater, is_eq, int_cmp, int_lt, cond, refl, sym, ap, subst, arith, true≢false}
+use Rattle.std.proofs.Common.{◌≡◌, ◌∙◌, inl, inr, ℕ, ℤ, ◌≤◌, ◌<◌, ◌+◌, List, [], ◌∷◌, ◌++◌, codes, map, filter, length, take, drop, get_or, Bool, true, false, ◌&&◌, if◌then◌else◌, IsTrue, Option, None, Some, Ordering, Less, Equal, Greater, is_eq, int_cmp, int_lt, cond, refl, sym, ap, subst, arith, true≢false}
 use Rattle.std.specs.List.{AllByRecursion}
 use Rattle.std.specs.List.Sorted.{IsPermutation}
 use Rattle.std.proofs.lemmas.Bool.{and_parts}
@@ -25,11 +25,14 @@ use Rattle.sqlite.specs.Held.{Held, state}
 use Rattle.sqlite.specs.Query.{IsAnswer, Output, output}
 use Rattle.sqlite.specs.State.{State, KeepsCommit}
 use Rattle.line_tables.specs.Calls.{Reads}
-use Rattle.line_tables.specs.Rowids.{AreApart, AreAllApart, changed_tables}
-use Rattle.line_tables.specs.Rising.{AreRising, IsBefore, IsPast, Shows, AreTold}
+use Rattle.desk_types.specs.declared.rules.Rules.{Rules}
+use Rattle.desk_types.specs.declared.rules.Rules.TheVariants.{One, Two}
+use Rattle.line_tables.specs.Line.{IsOurs, found, found_tables}
+use Rattle.line_tables.specs.Rowids.{AreApart, AreAllApartBy, changed_tables, changed_of}
+use Rattle.line_tables.specs.Rising.{AreRising, IsBefore, IsPast, Shows, AreTold, IsFoundTold}
 use Rattle.line_tables.proofs.Finds.{answer_of, shown_of, overlay_none}
-use Rattle.line_tables.proofs.Keeps.{keeps_same}
-use Rattle.line_tables.proofs.RowidTexts.{rowids_from, IsRowids}
+use Rattle.line_tables.proofs.Keeps.{keeps_same, keeps_then}
+use Rattle.line_tables.proofs.RowidTexts.{rowids_from, IsRowids, found_is}
 
 -- ---- one row more
 
@@ -151,11 +154,14 @@ module _ {S : Type 0} (g : Ghosts S) (old : Held S) where
     are = λ schema told. apart_shown ((state g old).committed.trees tree) h.0 (subst (λ l. IsPermutation (map id_of l) h.0) (overlay_none (state g old).committed.trees tree) (ids_answer tree _ h.0 (answer_of g sql (rowids_from tree) _ is [] old h.0 h.1 schema))) (h.2 told);
   }
 
+  pub tells_found : (b : Bool) → Shows g (codes "SELECT rowid FROM found ORDER BY rowid") old b → IsFoundTold Two b (state g old)
+  tells_found b h = let t = tells _ 20 _ found_is b h in record { was_open = t.was_open; are = λ ours told. (t.are ours told, tt) }
+
 -- what is committed is read after calls that keep it
 reads_before : (old mid : State) → KeepsCommit old mid → (Is : Database → Type 0) → Reads mid Is → Reads old Is
 reads_before old mid kept Is r =
     let same = kept.committed r.was_open in
-    record { was_open = kept.was_open r.was_open; are = λ schema. subst Is same (r.are (ap (λ (db : Database). db.schema) same ∙ schema)) }
+    record { was_open = kept.was_open r.was_open; are = λ ours. subst Is same (r.are (subst (λ (db : Database). IsOurs db.schema) (sym same) ours)) }
 
 -- what is told of one table and then of others
 told_more : (old mid : State) → KeepsCommit old mid → (table : Table) (tables : List Table) (a b : Bool) → Reads old (λ db. IsTrue a → AreApart (db.trees table.tree)) → Reads mid (AreTold b tables) → Reads old (AreTold (a && b) (table ∷ tables))
@@ -174,12 +180,32 @@ told_four s1 s2 s3 s4 k1 k2 k3 t1 t2 t3 t4 a b c d r1 r2 r3 r4 all is =
     subst (λ x. Reads s1 (AreTold x (t1 ∷ t2 ∷ t3 ∷ t4 ∷ []))) (sym is)
     (told_more s1 s2 k1 t1 (t2 ∷ t3 ∷ t4 ∷ []) a _ r1 (told_more s2 s3 k2 t2 (t3 ∷ t4 ∷ []) b _ r2 (told_more s3 s4 k3 t3 (t4 ∷ []) c _ r3 (told_more s4 s4 (keeps_same s4) t4 [] d true r4 (told_none s4 r4.was_open)))))
 
+-- what is told of what counts found
+found_told : (old mid : State) → KeepsCommit old mid → (rules : Rules) (b : Bool) → IsFoundTold rules b mid → IsOurs old.committed.schema → AreTold b (found_tables rules) old.committed
+found_told old mid kept One b told ours = λ is. tt
+found_told old mid kept Two b told ours = (reads_before old mid kept (AreTold b (found ∷ [])) told).are ours
+
+-- what is told of three tables, and then of what counts found
+pub told_three : (s1 s2 s3 s4 : State) → KeepsCommit s1 s2 → KeepsCommit s2 s3 → KeepsCommit s3 s4 → (t1 t2 t3 : Table) (rules : Rules) (a b c d : Bool) → Reads s1 (λ db. IsTrue a → AreApart (db.trees t1.tree)) → Reads s2 (λ db. IsTrue b → AreApart (db.trees t2.tree))
+    → Reads s3 (λ db. IsTrue c → AreApart (db.trees t3.tree)) → IsFoundTold rules d s4 → (all : Bool) → all ≡ (a && (b && (c && (d && true)))) → Reads s1 (AreTold all (t1 ∷ t2 ∷ t3 ∷ found_tables rules))
+told_three s1 s2 s3 s4 k1 k2 k3 t1 t2 t3 rules a b c d r1 r2 r3 last all is =
+    let k13 = keeps_then s1 s2 s3 k1 k2 in
+    record {
+      was_open = r1.was_open;
+      are = λ ours told.
+          let e1 = and_parts _ _ (sym is ∙ told) in
+          let e2 = and_parts _ _ e1.1 in
+          let e3 = and_parts _ _ e2.1 in
+          let e4 = and_parts _ _ e3.1 in
+          (r1.are ours e1.0, ((reads_before s1 s2 k1 (λ db. IsTrue b → AreApart (db.trees t2.tree)) r2).are ours e2.0, ((reads_before s1 s3 k13 (λ db. IsTrue c → AreApart (db.trees t3.tree)) r3).are ours e3.0, found_told s1 s4 (keeps_then s1 s3 s4 k13 k3) rules d last ours e4.0)));
+    }
+
 -- and of all of them
-pub told_all : (old mid : State) → KeepsCommit old mid → Reads old (AreTold true (take 4 changed_tables)) → (b : Bool) → Reads mid (AreTold b (drop 4 changed_tables)) → Reads old (λ db. IsTrue b → AreAllApart db)
-told_all old mid kept first b others = record {
+pub told_all : (old mid : State) → KeepsCommit old mid → Reads old (AreTold true (take 4 changed_tables)) → (rules : Rules) (b : Bool) → Reads mid (AreTold b (drop 4 (changed_of rules))) → Reads old (λ db. IsTrue b → AreAllApartBy rules db)
+told_all old mid kept first rules b others = record {
   was_open = first.was_open;
-  are = λ schema told. all-append (λ (table : Table). AreApart (old.committed.trees table.tree)) (take 4 changed_tables) (drop 4 changed_tables) (first.are schema refl) ((reads_before old mid kept (AreTold b (drop 4 changed_tables)) others).are schema told);
+  are = λ ours told. all-append (λ (table : Table). AreApart (old.committed.trees table.tree)) (take 4 changed_tables) (drop 4 (changed_of rules)) (first.are ours refl) ((reads_before old mid kept (AreTold b (drop 4 (changed_of rules))) others).are ours told);
 }
 
 pub told_false : (s : State) (Is : Database → Type 0) → IsTrue s.is_open → Reads s (λ db. IsTrue false → Is db)
-told_false s Is was_open = record { was_open = was_open; are = λ schema told. absurd (true≢false (sym told)) }
+told_false s Is was_open = record { was_open = was_open; are = λ ours told. absurd (true≢false (sym told)) }

@@ -1,5 +1,5 @@
 -- What the calls do to the tables, what they find in them, and what a crash may leave.
-use Rattle.std.specs.Prelude.{◌≡◌, ◌&&◌, IsTrue, ℕ, ℤ, pos, Bool, true, false, List, [], ◌∷◌, map, Ok, Option, Some, None}
+use Rattle.std.specs.Prelude.{◌≡◌, ◌&&◌, IsTrue, ℕ, ℤ, pos, Bool, true, false, List, [], ◌∷◌, map, Ok, Option, Some, None, drop}
 use Rattle.std.specs.List.{AllByRecursion}
 use Rattle.sqlite.specs.declared.types.Value.TheVariants.{Int, Text}
 use Rattle.std.specs.Ordering.{is_gt}
@@ -23,8 +23,10 @@ use Rattle.line_tables.specs.declared.edit.Edit.{Edit}
 use Rattle.line_tables.specs.declared.edit.Edit.TheVariants.{EditRow}
 use Rattle.state_rows.specs.declared.edit.RowEdit.{RowEdit}
 use Rattle.line_tables.specs.declared.version.Version.{Version}
-use Rattle.line_tables.specs.Line.{no_schema, line_schema}
-use Rattle.line_tables.specs.Rows.{Tables, Holds, HoldsAt, columns_of, blank, edited, AreNew}
+use Rattle.sqlite_catalog.specs.Change.{KeepsRows}
+use Rattle.desk_types.specs.declared.rules.Rules.TheVariants.{One}
+use Rattle.line_tables.specs.Line.{no_schema, IsOurs, schema_of, line_schema, found}
+use Rattle.line_tables.specs.Rows.{Tables, Holds, HoldsBy, HoldsAt, columns_of, blank, edited, AreNew}
 
 -- whatever tables the one database holds, the other holds them with the edits made
 abbrev pub Edits : List Edit → Database → Database → Type 0
@@ -56,6 +58,22 @@ pub record Makes (greatest : ℕ) (old new : State) : Type 0 where
   pub done : old.now.schema ≡ no_schema → Holds new.now (blank greatest)
   pub sound : old.now.schema ≡ no_schema → IsDatabase new.now
 
+-- Whatever tables the one database holds by version 1, the other holds by version 2, and no table but `version` has other rows.
+pub record Migrated (before after : Database) : Type 0 where
+  pub holds : (tables : Tables) → HoldsBy One before tables → Holds after tables
+  pub same : before.schema ≡ schema_of One → KeepsRows (drop 1 (schema_of One).tables) before.trees after.trees
+
+-- the connection was open, and a database of version 1 became one of version 2 inside its transaction, whose trees list its schema
+pub record Migrates (old new : State) : Type 0 where
+  pub was_open : IsTrue old.is_open
+  pub done : Migrated old.now new.now
+  pub sound : (tables : Tables) → HoldsBy One old.now tables → IsDatabase new.now
+
+-- a crash may leave the tables of the last commit, which was of version 1, as version 2 holds them
+pub record LeavesMigrated (old : State) (trees : Trees) : Type 0 where
+  pub was_open : IsTrue old.is_open
+  pub holds : (tables : Tables) → HoldsBy One old.committed tables → HoldsAt tables trees
+
 -- the database has this schema, and its tables have no row
 pub record IsBare (with : Schema) (db : Database) : Type 0 where
   pub schema : db.schema ≡ with
@@ -65,6 +83,17 @@ pub record IsBare (with : Schema) (db : Database) : Type 0 where
 pub record Extends (before after : Schema) (old new : State) : Type 0 where
   pub was_open : IsTrue old.is_open
   pub bare : IsBare before old.now → IsBare after new.now
+
+-- the database has one table more, with no row, and no other row changed
+pub record Grows (before after : Schema) (tree : ℕ) (old new : Database) : Type 0 where
+  pub schema : new.schema ≡ after
+  pub kept : KeepsRows before.tables old.trees new.trees
+  pub empty : new.trees tree ≡ []
+
+-- the connection was open, and a database of version 1 has the table `found` now
+pub record AddsFound (old new : State) : Type 0 where
+  pub was_open : IsTrue old.is_open
+  pub added : old.now.schema ≡ schema_of One → Grows (schema_of One) line_schema found.tree old.now new.now
 
 -- the statement ran inside a transaction, which goes on
 pub record Runs (sql : List ℕ) (params : Row) (old new : State) : Type 0 where
@@ -84,10 +113,10 @@ pub record Selects {S : Type 0} (g : Ghosts S) (sql : List ℕ) (params : Row) (
   pub after : Held S
   pub shown : Shown sql params (state g (record old { in_transaction = true })) (state g after) rows
 
--- the connection was open, and what is committed is so, where it has our schema
+-- the connection was open, and what is committed is so, where it has our schema, of one version or the other
 pub record Reads (old : State) (Is : Database → Type 0) : Type 0 where
   pub was_open : IsTrue old.is_open
-  pub are : old.committed.schema ≡ line_schema → Is old.committed
+  pub are : IsOurs old.committed.schema → Is old.committed
 
 -- the row has this UniqueID
 abbrev pub has_uid : List ℕ → Row → Bool

@@ -1,5 +1,5 @@
 -- The schema of the line's tables, written out: their columns, their keys, their rules and their indexes.
-use Rattle.std.specs.Prelude.{Bool, true, false, ◌&&◌, ◌==◌, [], ◌∷◌, Some, None, codes, List, ℕ, pos, take}
+use Rattle.std.specs.Prelude.{◌≡◌, Bool, true, false, ◌&&◌, ◌==◌, [], ◌∷◌, Some, None, codes, List, ℕ, pos, take}
 use base.Stored.{Gv, gnil, gnum, gcons}
 use Rattle.sqlite.specs.Collation.TheVariants.{Binary}
 use Rattle.sqlite_value.specs.declared.keys.Order.{Order}
@@ -18,6 +18,8 @@ use Rattle.sqlite_sql.specs.declared.ops.ArithOp.TheVariants.{Add}
 use Rattle.sqlite_sql.specs.declared.ops.CompareOp.TheVariants.{Eq, Ge}
 use Rattle.sqlite_schema.specs.contracts.schema.Schema.{the_row}
 use Rattle.sqlite_catalog.specs.Listing as listing
+use Rattle.desk_types.specs.declared.rules.Rules.{Rules}
+use Rattle.desk_types.specs.declared.rules.Rules.TheVariants.{One, Two}
 
 -- whether two codes of values are one
 abbrev pub is_same_code : Gv → Gv → Bool
@@ -132,20 +134,43 @@ found = record (by_columns (1 ∷ []) (table_of (codes "found") 20 (text (codes 
 abbrev pub no_schema : Schema
 no_schema = record { tables = []; indexes = []; views = [] }
 
--- all tables of the line in the order in which they are made: the trees count up over a table, its indexes and the next table
-abbrev pub line_tables : List Table
-line_tables = version ∷ accepted ∷ part ∷ alternate ∷ sheet_row ∷ selected ∷ reel ∷ mount ∷ board ∷ placement ∷ found ∷ []
+-- the table of what counts found, and its index: under rules One they find nothing
+abbrev pub found_tables : Rules → List Table
+found_tables One = []
+found_tables Two = found ∷ []
+
+abbrev pub found_indexes : Rules → List Index
+found_indexes One = []
+found_indexes Two = listing.automatic found 0 (1 ∷ []) 21 ∷ []
+
+-- all tables of the line under rules in the order in which they are made: the trees count up over a table, its indexes and the next table
+abbrev pub tables_of : Rules → List Table
+tables_of rules = version ∷ accepted ∷ part ∷ alternate ∷ sheet_row ∷ selected ∷ reel ∷ mount ∷ board ∷ placement ∷ found_tables rules
 
 -- the index of each PRIMARY KEY or UNIQUE, and that on the reels of placements
-abbrev pub line_indexes : List Index
-line_indexes =
+abbrev pub indexes_of : Rules → List Index
+indexes_of rules =
     listing.automatic accepted 0 (2 ∷ []) 2 ∷ listing.automatic part 0 (1 ∷ []) 4 ∷ listing.automatic alternate 0 (1 ∷ 2 ∷ []) 6 ∷ listing.automatic sheet_row 0 (1 ∷ 2 ∷ 3 ∷ []) 8
     ∷ listing.automatic selected 0 (1 ∷ []) 10 ∷ listing.automatic reel 0 (1 ∷ []) 12 ∷ listing.automatic mount 0 (4 ∷ []) 14 ∷ listing.automatic board 0 (1 ∷ []) 16
-    ∷ listing.automatic placement 0 (3 ∷ 4 ∷ []) 18 ∷ placement_reel ∷ listing.automatic found 0 (1 ∷ []) 21 ∷ []
+    ∷ listing.automatic placement 0 (3 ∷ 4 ∷ []) 18 ∷ placement_reel ∷ found_indexes rules
 
--- the tables of the line, and no other object
+-- the tables of the line under rules, and no other object: version 1 goes with rules One, version 2 with rules Two
+abbrev pub schema_of : Rules → Schema
+schema_of rules = record { tables = tables_of rules; indexes = indexes_of rules; views = [] }
+
+-- the schema is that of a version of the tables
+abbrev pub IsOurs : Schema → Type 0
+IsOurs schema = (rules : Rules) × (schema ≡ schema_of rules)
+
+-- as they are made
+abbrev pub line_tables : List Table
+line_tables = tables_of Two
+
+abbrev pub line_indexes : List Index
+line_indexes = indexes_of Two
+
 abbrev pub line_schema : Schema
-line_schema = record { tables = line_tables; indexes = line_indexes; views = [] }
+line_schema = schema_of Two
 
 -- the first of our tables and of our indexes
 abbrev pub first_of_line : ℕ → ℕ → Schema

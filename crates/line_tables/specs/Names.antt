@@ -1,8 +1,10 @@
 -- The names of the tables and of their columns. SQL reads names in any case.
-use Rattle.std.specs.Prelude.{Bool, ◌&&◌, ◌||◌, ℕ, List, [], ◌∷◌, codes}
+use Rattle.std.specs.Prelude.{Bool, not, ◌&&◌, ◌||◌, ℕ, List, [], ◌∷◌, codes}
 use Rattle.std.specs.List.{list_any, list_all}
 use Rattle.sqlite_schema.specs.Names.{same_name}
 use Rattle.sqlite_schema.specs.declared.schema.Table.{Table}
+use Rattle.desk_types.specs.declared.rules.Rules.{Rules}
+use Rattle.desk_types.specs.declared.rules.Rules.TheVariants.{One, Two}
 
 -- the table has a column of this name
 abbrev pub has_column : Table → List ℕ → Bool
@@ -43,12 +45,16 @@ has_floor tables =
     && has_table tables (codes "mount") (codes "since" ∷ codes "machine" ∷ codes "slot" ∷ codes "reel" ∷ [])
     && has_table tables (codes "board") (codes "board" ∷ codes "product" ∷ codes "machine" ∷ [])
 
--- there are the tables of what pieces went where and of what counts found, with their columns
-abbrev pub has_pieces : List Table → Bool
-has_pieces tables =
+-- the table of what pieces went where is there, with its columns
+abbrev pub has_placements : List Table → Bool
+has_placements tables =
     has_table tables (codes "placement") (codes "number" ∷ codes "place" ∷ codes "board" ∷ codes "designator" ∷ codes "machine" ∷ codes "slot" ∷ codes "reel" ∷ codes "overdue" ∷ [])
-    && has_table tables (codes "found") (codes "reel" ∷ codes "pieces" ∷ [])
+
+-- the table of found pieces is there, with its columns; under rules One no table has its name
+abbrev pub has_found : Rules → List Table → Bool
+has_found One tables = not (has_table tables (codes "found") [])
+has_found Two tables = has_table tables (codes "found") (codes "reel" ∷ codes "pieces" ∷ [])
 
 -- all tables but `version` and `accepted` are there, with their columns
-abbrev pub has_state : List Table → Bool
-has_state tables = has_setup tables && has_floor tables && has_pieces tables
+abbrev pub has_state : Rules → List Table → Bool
+has_state rules tables = has_setup tables && has_floor tables && has_placements tables && has_found rules tables

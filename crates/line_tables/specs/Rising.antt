@@ -1,5 +1,5 @@
 -- What queries tell of rowids.
-use Rattle.std.specs.Prelude.{◌≡◌, ⊤, ℕ, ℤ, Bool, IsTrue, Option, None, Some, List, []}
+use Rattle.std.specs.Prelude.{◌≡◌, ⊤, ℕ, ℤ, Bool, IsTrue, Option, None, Some, List, [], ◌∷◌}
 use Rattle.std.specs.List.{AllByRecursion}
 use Rattle.std.specs.Ordering.{int_cmp}
 use Rattle.std.specs.declared.cmp.Ordering.TheVariants.{Less}
@@ -12,7 +12,11 @@ use Rattle.sqlite_trees.specs.Tree.{IsAscending}
 use Rattle.sqlite_trees.specs.View.{is_int}
 use Rattle.sqlite_trees.specs.declared.store.Store.{Ghosts}
 use Rattle.line_tables.specs.Rowids.{AreApart}
-use Rattle.line_tables.specs.Calls.{Selects}
+use Rattle.sqlite.specs.State.{State}
+use Rattle.desk_types.specs.declared.rules.Rules.{Rules}
+use Rattle.desk_types.specs.declared.rules.Rules.TheVariants.{One, Two}
+use Rattle.line_tables.specs.Line.{found}
+use Rattle.line_tables.specs.Calls.{Reads, Selects}
 
 -- the number is above the last one, where there is one
 abbrev pub IsPast : Option ℤ → ℤ → Type 0
@@ -34,3 +38,8 @@ Shows g sql old rising = (rows : List Row) × Selects g sql [] old rows × (IsTr
 -- the rows of each of the tables are apart, where it is told so
 abbrev pub AreTold : Bool → List Table → Database → Type 0
 AreTold apart tables db = IsTrue apart → AllByRecursion (λ table. AreApart (db.trees table.tree)) tables
+
+-- so it is of the table of what counts found, where the rules have one
+abbrev pub IsFoundTold : Rules → Bool → State → Type 0
+IsFoundTold One apart s = ⊤
+IsFoundTold Two apart s = Reads s (AreTold apart (found ∷ []))

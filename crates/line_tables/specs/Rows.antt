@@ -10,17 +10,24 @@ use Rattle.line_tables.specs.declared.edit.Edit.{Edit}
 use Rattle.line_tables.specs.declared.edit.Edit.TheVariants.{PutAccepted, EditRow}
 use Rattle.state_rows.specs.Tables.{Tables as StateTables, tables_of as state_of}
 use Rattle.state_rows.specs.Edits.{with_edit as state_with, IsNew as IsNewRow}
-use Rattle.line_tables.specs.StateRows.{HoldsState}
-use Rattle.line_tables.specs.Rowids.{AreAllApart}
-use Rattle.line_tables.specs.Line.{line_schema}
+use Rattle.desk_types.specs.declared.rules.Rules.{Rules}
+use Rattle.desk_types.specs.declared.rules.Rules.TheVariants.{One, Two}
+use Rattle.line_tables.specs.StateRows.{HoldsStateBy}
+use Rattle.line_tables.specs.Rowids.{AreAllApartBy}
+use Rattle.line_tables.specs.Line.{schema_of}
 
 -- the columns of a row of `accepted`, in their order
 abbrev pub columns_of : Accepted → Row
 columns_of a = Int (pos a.number) ∷ Text (string_bytes a.uid) ∷ Text (string_bytes a.source) ∷ Int (pos a.own) ∷ Int (pos a.effective) ∷ Text (string_bytes a.command) ∷ Text (string_bytes a.detail) ∷ []
 
+-- the version of the tables
+abbrev pub version_of : Rules → ℕ
+version_of One = 1
+version_of Two = 2
+
 -- the row of `version`: 1, the version of the tables, and the greatest number
-abbrev pub version_row : ℕ → Row
-version_row greatest = Int (pos 1) ∷ Int (pos 2) ∷ Int (pos greatest) ∷ []
+abbrev pub version_row : Rules → ℕ → Row
+version_row rules greatest = Int (pos 1) ∷ Int (pos (version_of rules)) ∷ Int (pos greatest) ∷ []
 
 -- The columns of a kept row. It begins with its rowid, which is its first column, and has no value in that column's place.
 abbrev pub accepted_columns : Row → Row
@@ -42,13 +49,17 @@ pub record Tables : Type 0 where
   pub accepted : List Row
   pub state : StateTables
 
--- the database has our schema, and these tables, and a rowid is that of one row
-pub record Holds (db : Database) (tables : Tables) : Type 0 where
-  pub schema : db.schema ≡ line_schema
-  pub version : version_in db ≡ version_row tables.greatest ∷ []
+-- the database has the schema of the rules, and these tables, and a rowid is that of one row
+pub record HoldsBy (rules : Rules) (db : Database) (tables : Tables) : Type 0 where
+  pub schema : db.schema ≡ schema_of rules
+  pub version : version_in db ≡ version_row rules tables.greatest ∷ []
   pub accepted : IsPermutation (accepted_in db) tables.accepted
-  pub state : HoldsState db tables.state
-  pub apart : AreAllApart db
+  pub state : HoldsStateBy rules db tables.state
+  pub apart : AreAllApartBy rules db
+
+-- the tables as they are made
+abbrev pub Holds : Database → Tables → Type 0
+Holds = HoldsBy Two
 
 -- what a crash may leave is a database with these tables, whose schema the trees list
 abbrev pub HoldsAt : Tables → Trees → Type 0

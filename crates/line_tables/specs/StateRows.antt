@@ -12,6 +12,8 @@ use Rattle.sqlite.specs.Effect.{Database}
 use Rattle.desk_types.specs.declared.sheet.SheetRow.{SheetRow}
 use Rattle.desk_types.specs.Id.{Name}
 use Rattle.desk_types.specs.Level.{text_of}
+use Rattle.desk_types.specs.declared.rules.Rules.{Rules}
+use Rattle.desk_types.specs.declared.rules.Rules.TheVariants.{One, Two}
 use Rattle.state_rows.specs.declared.row.ReelRow.{ReelRow}
 use Rattle.state_rows.specs.declared.row.MountRow.{MountRow}
 use Rattle.state_rows.specs.declared.row.BoardRow.{BoardRow}
@@ -127,8 +129,13 @@ HoldsPlacements db t = AreRows has_piece (λ _ row. placement_columns row) (rows
 abbrev pub HoldsFound : Database → StateTables → Type 0
 HoldsFound db t = AreRows (has_text 0) found_columns (rows_in line.found db) t.found
 
--- The tables of the database are these: nine of them, each by its key.
-pub record HoldsState (db : Database) (t : StateTables) : Type 0 where
+-- under rules One nothing was found, and there is no table of it
+abbrev pub HoldsFoundBy : Rules → Database → StateTables → Type 0
+HoldsFoundBy One db t = (reel : Name) → t.found reel ≡ None
+HoldsFoundBy Two db t = HoldsFound db t
+
+-- The tables of the database are these, each by its key: nine of them under rules Two.
+pub record HoldsStateBy (rules : Rules) (db : Database) (t : StateTables) : Type 0 where
   pub parts : HoldsParts db t
   pub alternates : HoldsAlternates db t
   pub sheets : HoldsSheets db t
@@ -137,4 +144,7 @@ pub record HoldsState (db : Database) (t : StateTables) : Type 0 where
   pub mounts : HoldsMounts db t
   pub boards : HoldsBoards db t
   pub placements : HoldsPlacements db t
-  pub found : HoldsFound db t
+  pub found : HoldsFoundBy rules db t
+
+abbrev pub HoldsState : Database → StateTables → Type 0
+HoldsState = HoldsStateBy Two

@@ -8,7 +8,7 @@ ghost use Rattle.sqlite.specs.State.{HasCleanDisk, Survives, KeepsCommit};
 ghost use Rattle.sqlite.specs.Held.{state};
 ghost use Rattle.line_tables.specs.Line.{no_schema, line_schema, first_of_line};
 ghost use Rattle.line_tables.specs.Rows.{Holds, blank};
-ghost use Rattle.line_tables.specs.Calls.{Makes, LeavesBlank, Extends};
+ghost use Rattle.line_tables.specs.Calls.{Makes, LeavesBlank, Extends, AddsFound};
 
 use crate::statement::run;
 use sqlite::{Alter, Connection, Error, ErrorCode, Transaction, params};
@@ -145,6 +145,16 @@ fn make_pieces<S: Alter>(tx: &mut Transaction<'_, S>) -> Result<(), Error>
         &[],
     )?;
     run(tx, "CREATE INDEX placement_reel ON placement (reel)", &[])?;
+    make_found(tx)
+}
+
+/// The table of what counts found, which version 1 lacks.
+pub fn make_found<S: Alter>(tx: &mut Transaction<'_, S>) -> Result<(), Error>
+    ensures same_reference { tx.new.conn.ghost_name ≡ tx.old.conn.ghost_name }
+    ensures made { HasCleanDisk (state S.Store tx.new.conn.now) → OnOk result (AddsFound (state S.Store tx.old.conn.now) (state S.Store tx.new.conn.now)) }
+    ensures kept { HasCleanDisk (state S.Store tx.new.conn.now) → KeepsCommit (state S.Store tx.old.conn.now) (state S.Store tx.new.conn.now) }
+    ensures survives { Survives (state S.Store tx.old.conn.now) (state S.Store tx.new.conn.now) (λ _. ⊥) }
+{
     run(
         tx,
         "CREATE TABLE found (reel TEXT NOT NULL, pieces INTEGER NOT NULL, PRIMARY KEY (reel), CHECK (pieces >= 1)) STRICT",

@@ -4,9 +4,10 @@ ghost use Rattle.std.specs.Prelude.{◌≡◌, ◌↔◌, ◌&&◌, IsTrue};
 ghost use Rattle.std.specs.List.{list_any, list_all};
 ghost use Rattle.sqlite.specs.Held.{state};
 ghost use Rattle.line_tables.specs.Line.{no_schema};
-ghost use Rattle.line_tables.specs.Names.{has_name, is_version, is_accepted, has_column, has_setup, has_floor, has_pieces, has_state};
+ghost use Rattle.line_tables.specs.Names.{has_name, is_version, is_accepted, has_column, has_setup, has_floor, has_placements, has_found, has_state};
 ghost use Rattle.sqlite_schema.specs.Names.{same_name};
 
+use desk_types::Rules;
 use sqlite::{Alter, Connection};
 use sqlite_schema::names::same_name;
 use sqlite_schema::schema::Table;
@@ -40,12 +41,13 @@ pub fn has_accepted<S: Alter>(conn: &Connection<S>) -> bool
     any_accepted(conn.schema().tables.as_slice())
 }
 
-/// Whether all other tables of ours are there with their columns.
-pub fn has_state<S: Alter>(conn: &Connection<S>) -> bool
-    ensures { result ≡ has_state (state S.Store conn.now).now.schema.tables }
+/// Whether all other tables of ours are there with their columns. Under rules One there is none for
+/// what counts found.
+pub fn has_state<S: Alter>(conn: &Connection<S>, rules: Rules) -> bool
+    ensures { result ≡ has_state rules (state S.Store conn.now).now.schema.tables }
 {
     let tables = conn.schema().tables.as_slice();
-    has_setup(tables) && has_floor(tables) && has_pieces(tables)
+    has_setup(tables) && has_floor(tables) && has_placements(tables) && has_found(tables, rules)
 }
 
 #[tactic(auto, using(std::proofs::lemmas::List::Folds::list_any_more, std::proofs::lemmas::List::Folds::list_any_at))]
@@ -172,8 +174,8 @@ fn has_floor(tables: &[Table]) -> bool
         && has_table(tables, "board", &["board", "product", "machine"])
 }
 
-fn has_pieces(tables: &[Table]) -> bool
-    ensures { result ≡ has_pieces tables.now }
+fn has_placements(tables: &[Table]) -> bool
+    ensures { result ≡ has_placements tables.now }
 {
     has_table(
         tables,
@@ -188,7 +190,16 @@ fn has_pieces(tables: &[Table]) -> bool
             "reel",
             "overdue",
         ],
-    ) && has_table(tables, "found", &["reel", "pieces"])
+    )
+}
+
+fn has_found(tables: &[Table], rules: Rules) -> bool
+    ensures { result ≡ has_found rules tables.now }
+{
+    match rules {
+        Rules::One => !has_table(tables, "found", &[]),
+        Rules::Two => has_table(tables, "found", &["reel", "pieces"]),
+    }
 }
 
 fn has_table(tables: &[Table], name: &str, columns: &[&str]) -> bool

@@ -7,17 +7,18 @@ ghost use Rattle.sqlite.specs.declared.error.ErrorCode.TheVariants as code;
 ghost use Rattle.sqlite.specs.State.{HasCleanDisk, Survives, KeepsCommit};
 ghost use Rattle.sqlite.specs.Held.{state};
 ghost use Rattle.line_tables.specs.Calls.{Reads};
-ghost use Rattle.line_tables.specs.Rowids.{AreAllApart, changed_tables};
-ghost use Rattle.line_tables.specs.Rising.{AreTold, Shows, AreRising, IsPast};
+ghost use Rattle.line_tables.specs.Rowids.{AreAllApartBy, changed_tables, changed_of};
+ghost use Rattle.line_tables.specs.Rising.{AreTold, IsFoundTold, Shows, AreRising, IsPast};
 
 use crate::reading::number_of;
 use crate::select::select;
+use desk_types::Rules;
 use sqlite::{Alter, Connection, Error, Row};
 
 /// Whether in each state table but `placement` every row has an integer of its own as its rowid. SQL
-/// keeps it so in every file that it writes.
-pub fn are_apart<S: Alter>(conn: &mut Connection<S>) -> Result<bool, Error>
-    ensures apart { HasCleanDisk (state S.Store conn.new) → IfOk result (λ are. Reads (state S.Store conn.old) (λ db. IsTrue are → AreAllApart db)) }
+/// keeps it so in every file that it writes. Under rules One there is no table of what counts found.
+pub fn are_apart<S: Alter>(conn: &mut Connection<S>, rules: Rules) -> Result<bool, Error>
+    ensures apart { HasCleanDisk (state S.Store conn.new) → IfOk result (λ are. Reads (state S.Store conn.old) (λ db. IsTrue are → AreAllApartBy rules db)) }
     ensures kept { HasCleanDisk (state S.Store conn.new) → KeepsCommit (state S.Store conn.old) (state S.Store conn.new) }
     ensures inside { IsTrue conn.old.in_transaction → (result ≡ Err (Error.SqliteFailure code.TransactionState)) × (conn.new ≡ conn.old) }
     ensures mode { conn.old.in_transaction ≡ false → conn.new.in_transaction ≡ false }
@@ -26,7 +27,7 @@ pub fn are_apart<S: Alter>(conn: &mut Connection<S>) -> Result<bool, Error>
     if !is_setup_apart(conn)? {
         return Ok(false);
     }
-    is_floor_apart(conn)
+    is_floor_apart(conn, rules)
 }
 
 /// The tables of what is set up.
@@ -45,8 +46,8 @@ fn is_setup_apart<S: Alter>(conn: &mut Connection<S>) -> Result<bool, Error>
 }
 
 /// The tables of what is on the line, and of what counts found.
-fn is_floor_apart<S: Alter>(conn: &mut Connection<S>) -> Result<bool, Error>
-    ensures found { HasCleanDisk (state S.Store conn.new) → IfOk result (λ apart. Reads (state S.Store conn.old) (AreTold apart (drop 4 changed_tables))) }
+fn is_floor_apart<S: Alter>(conn: &mut Connection<S>, rules: Rules) -> Result<bool, Error>
+    ensures found { HasCleanDisk (state S.Store conn.new) → IfOk result (λ apart. Reads (state S.Store conn.old) (AreTold apart (drop 4 (changed_of rules)))) }
     ensures kept { HasCleanDisk (state S.Store conn.new) → KeepsCommit (state S.Store conn.old) (state S.Store conn.new) }
     ensures inside { IsTrue conn.old.in_transaction → (result ≡ Err (Error.SqliteFailure code.TransactionState)) × (conn.new ≡ conn.old) }
     ensures mode { conn.old.in_transaction ≡ false → conn.new.in_transaction ≡ false }
@@ -55,8 +56,21 @@ fn is_floor_apart<S: Alter>(conn: &mut Connection<S>) -> Result<bool, Error>
     let reel = shows_rising(conn, "SELECT rowid FROM reel ORDER BY rowid")?;
     let mount = shows_rising(conn, "SELECT rowid FROM mount ORDER BY rowid")?;
     let board = shows_rising(conn, "SELECT rowid FROM board ORDER BY rowid")?;
-    let found = shows_rising(conn, "SELECT rowid FROM found ORDER BY rowid")?;
+    let found = is_found_apart(conn, rules)?;
     Ok(are_true(reel, mount, board, found))
+}
+
+/// The table of what counts found, where there is one.
+fn is_found_apart<S: Alter>(conn: &mut Connection<S>, rules: Rules) -> Result<bool, Error>
+    ensures found { HasCleanDisk (state S.Store conn.new) → IfOk result (λ apart. IsFoundTold rules apart (state S.Store conn.old)) }
+    ensures kept { HasCleanDisk (state S.Store conn.new) → KeepsCommit (state S.Store conn.old) (state S.Store conn.new) }
+    ensures mode { conn.old.in_transaction ≡ false → conn.new.in_transaction ≡ false }
+    ensures survives { Survives (state S.Store conn.old) (state S.Store conn.new) (λ _. ⊥) }
+{
+    match rules {
+        Rules::One => Ok(true),
+        Rules::Two => shows_rising(conn, "SELECT rowid FROM found ORDER BY rowid"),
+    }
 }
 
 /// Whether the query shows numbers that rise.

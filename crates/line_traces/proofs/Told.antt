@@ -9,6 +9,7 @@ use Rattle.desk_types.specs.History.{History}
 use Rattle.line_tables.specs.StateRows.{flag}
 use Rattle.line_traces.specs.declared.row.PlacedRow.{PlacedRow}
 use Rattle.line_traces.specs.Committed.{HoldsList, Tells, shown, name_row}
+use Rattle.line_tables.specs.Line.{IsOurs}
 
 -- ---- rows
 
@@ -65,7 +66,7 @@ all-shown show one (x ∷ xs) (y ∷ ys) is =
 pub told-before : {X : Type 0} (of : History → X) (old new : State) (found : X) → KeepsCommit old new → Tells of new found → Tells of old found
 told-before of old new found kept told = record {
   was_open = kept.was_open told.was_open;
-  are = λ schema H held. let same = kept.committed told.was_open in told.are (ap (λ (db : Database). db.schema) same ∙ schema) H (subst (λ db. HoldsList db H) (sym same) held);
+  are = λ schema H held. let same = kept.committed told.was_open in told.are (subst (λ (db : Database). IsOurs db.schema) (sym same) schema) H (subst (λ db. HoldsList db H) (sym same) held);
 }
 
 -- what the rows show

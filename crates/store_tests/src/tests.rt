@@ -1,11 +1,11 @@
-//! A store in memory: repeats, a connection that is given back, tables of other names, and each
-//! allocation refused in turn by `tools/refuse-memory`.
+//! A store in memory: repeats, a connection that is given back, tables of other names, tables of
+//! version 1, and each allocation refused in turn by `tools/refuse-memory`.
 
 use desk_answers::{Answer, Line};
 use desk_types::{Command, Id, Minute, Stamped};
 use feeder_state::StateDesk;
 use line_schema::{LineStore, OpenFault, in_memory};
-use sqlite::{Alter, Connection};
+use sqlite::{Alter, Connection, MemStore};
 use std::alloc::{AllocError, Global};
 use std::process::Abort;
 use std::test::Fail;
@@ -254,5 +254,81 @@ fn refused_memory_is_made_good(rt: HostRuntime) -> Result<(), Fail> {
     let _conn = store.into_connection();
     outcome?;
     assert_eq!(rt; count, 5);
+    Ok(())
+}
+
+/// A database of version 1, in which as many parts are defined.
+fn of_version_one(
+    rt: &impl Abort,
+    alloc: Global,
+    parts: u32,
+) -> Result<Connection<MemStore>, Fail> {
+    let conn = Connection::open_in_memory(alloc)?;
+    let Made {
+        outcome,
+        count: _,
+        mut conn,
+    } = make(rt, alloc, conn, parts);
+    outcome?;
+    conn.execute_batch("DROP TABLE found; UPDATE version SET number = 1")?;
+    Ok(conn)
+}
+
+/// How many commands a migration counts.
+fn migrate(alloc: Global, conn: &mut Connection<MemStore>) -> Result<u32, OpenFault> {
+    LineStore::<MemStore, StateDesk>::migrate(alloc, conn)
+}
+
+/// Why a migration is refused, for want of memory aside.
+fn why_not_migrated(
+    alloc: Global,
+    conn: &mut Connection<MemStore>,
+) -> Result<Option<OpenFault>, Fail> {
+    match migrate(alloc, conn) {
+        Ok(_) => Ok(None),
+        Err(OpenFault::Unavailable) => Err(AllocError)?,
+        Err(fault) => Ok(Some(fault)),
+    }
+}
+
+/// The version of the tables.
+fn version_in(conn: &mut Connection<MemStore>) -> Result<i64, Fail> {
+    Ok(conn.query_row("SELECT number FROM version", &[])?.get(0)?)
+}
+
+/// Whichever allocation is refused: a migration that meets it leaves the tables of version 1, whole,
+/// so that the next one makes version 2 of them. Then each repeat has its first answer.
+#[test]
+fn refused_memory_migrates_all_or_nothing(rt: HostRuntime) -> Result<(), Fail> {
+    let mut conn = of_version_one(&rt, rt.alloc(), 3)?;
+    let migrated = match migrate(rt.alloc(), &mut conn) {
+        Err(OpenFault::Unavailable) => {
+            assert_eq!(rt; version_in(&mut conn)?, 1);
+            migrate(rt.alloc(), &mut conn)
+        }
+        migrated => migrated,
+    };
+    assert_eq!(rt; migrated.ok(), Some(3));
+    assert_eq!(rt; version_in(&mut conn)?, 2);
+    let Made {
+        outcome,
+        count,
+        conn: _conn,
+    } = open(&rt, rt.alloc(), conn, 3);
+    outcome?;
+    assert_eq!(rt; count, 3);
+    Ok(())
+}
+
+/// Tables of version 2 are not migrated, and no tables of version 1 beside one of the name `found`.
+#[test]
+fn other_tables_are_not_migrated(rt: HostRuntime) -> Result<(), Fail> {
+    let mut conn = of_version_one(&rt, rt.alloc(), 2)?;
+    conn.execute_batch("CREATE TABLE found (text TEXT NOT NULL) STRICT")?;
+    let fault = why_not_migrated(rt.alloc(), &mut conn)?;
+    assert_eq!(rt; fault, Some(OpenFault::NotADesk));
+    conn.execute_batch("UPDATE version SET number = 2")?;
+    let fault = why_not_migrated(rt.alloc(), &mut conn)?;
+    assert_eq!(rt; fault, Some(OpenFault::OtherVersion(2)));
     Ok(())
 }

@@ -8,7 +8,7 @@ use Rattle.clap.specs.declared.error.kind.ErrorKind.TheVariants.{DisplayHelp, Di
 use Rattle.clap.proofs.OnLiterals.{clap_on_literals}
 use Rattle.clap.proofs.ValueTestLemmas.{accepts-Accepts, Accepts-accepts}
 use Rattle.desk_types.specs.declared.desk.TheConstants.{MOST_ENTRIES}
-use Rattle.tracedesk.specs.CommandLine.{AsksForAudit, AsksForFeed, AsksForNothing, IsGreatest, named_by, told_of}
+use Rattle.tracedesk.specs.CommandLine.{AsksForAudit, AsksForFeed, AsksForMigration, AsksForNothing, IsGreatest, named_by, told_of}
 
 abbrev rows_in : List (List ℕ) → List Row
 rows_in words = option_map_or (λ (p : List ℕ × List Row). p.1) (named_by words) []
@@ -79,7 +79,21 @@ pub audit_makes_no_desk : told_of (codes "audit" ∷ codes "--db" ∷ codes "f" 
 unfolding told_of clap_on_literals
 audit_makes_no_desk = refl
 
--- ---- neither
+-- ---- migrate
+
+pub migrate_takes_a_file : AsksForMigration (codes "migrate" ∷ codes "--db" ∷ codes "f" ∷ []) (codes "f")
+unfolding told_of named_by clap_on_literals
+migrate_takes_a_file = (rows_in (codes "migrate" ∷ codes "--db" ∷ codes "f" ∷ []), (refl, refl), refl)
+
+pub migrate_wants_a_file : told_of (codes "migrate" ∷ []) ≡ MissingRequiredArgument ∷ []
+unfolding told_of clap_on_literals
+migrate_wants_a_file = refl
+
+pub migrate_takes_one_file : told_of (codes "migrate" ∷ codes "--db" ∷ codes "f" ∷ codes "--db" ∷ codes "g" ∷ []) ≡ ArgumentConflict ∷ []
+unfolding told_of clap_on_literals
+migrate_takes_one_file = refl
+
+-- ---- none of them
 
 pub help_is_told : told_of (codes "--help" ∷ []) ≡ DisplayHelp ∷ []
 unfolding told_of clap_on_literals

@@ -10,7 +10,7 @@ use Rattle.clap.specs.declared.error.kind.ErrorKind.{ErrorKind}
 use Rattle.clap.specs.declared.error.kind.ErrorKind.TheVariants.{DisplayHelp, DisplayVersion}
 use Rattle.desk_types.specs.declared.desk.TheConstants.{MOST_ENTRIES}
 use Rattle.tracedesk.specs.declared.command_line.Asked.{Asked}
-use Rattle.tracedesk.specs.declared.command_line.Asked.TheVariants.{Feed, Audit, Text, Bad}
+use Rattle.tracedesk.specs.declared.command_line.Asked.TheVariants.{Feed, Audit, Migrate, Text, Bad}
 
 -- ---- the grammar
 
@@ -30,13 +30,18 @@ feed_shape = record (new_shape (codes "feed")) { rules = file_rule ∷ greatest_
 abbrev pub audit_shape : Shape
 audit_shape = record (new_shape (codes "audit")) { rules = record file_rule { required = true } ∷ [] }
 
--- the program has a version, and wants one of its two commands
+-- so has `migrate`
+abbrev pub migrate_shape : Shape
+migrate_shape = record (new_shape (codes "migrate")) { rules = record file_rule { required = true } ∷ [] }
+
+-- the program has a version, and wants one of its three commands
 abbrev pub commands : App
 commands =
     with_subcommand
     (with_subcommand
+    (with_subcommand
     (on_top (λ s. record s { no_binary_name = true; disable_help_subcommand = true; subcommand_required = true; has_version = true }) (new_app (codes "tracedesk")))
-    feed_shape) audit_shape
+    feed_shape) audit_shape) migrate_shape
 
 -- what is told where the words are no command to be run: help, the version, or a mistake
 unfoldable pub told_of : List (List ℕ) → Kinds
@@ -78,6 +83,11 @@ abbrev pub AsksForAudit : List (List ℕ) → List ℕ → Type 0
 AsksForAudit words file =
     (rows : List Row) × Names words (codes "audit") rows × (first_of (codes "db") rows ≡ Some file)
 
+-- the words ask to migrate this file
+abbrev pub AsksForMigration : List (List ℕ) → List ℕ → Type 0
+AsksForMigration words file =
+    (rows : List Row) × Names words (codes "migrate") rows × (first_of (codes "db") rows ≡ Some file)
+
 abbrev pub IsText : ErrorKind → Type 0
 IsText kind = (kind ≡ DisplayHelp) ⊎ (kind ≡ DisplayVersion)
 
@@ -94,7 +104,8 @@ abbrev pub HasBadValue : List (List ℕ) → Type 0
 HasBadValue words =
     (rows : List Row)
     × ((Names words (codes "feed") rows × IsSomeAnd (first_of (codes "greatest") rows) (λ text. IsGreatest text → ⊥))
-    ⊎ (Names words (codes "audit") rows × (first_of (codes "db") rows ≡ None)))
+    ⊎ (Names words (codes "audit") rows × (first_of (codes "db") rows ≡ None))
+    ⊎ (Names words (codes "migrate") rows × (first_of (codes "db") rows ≡ None)))
 
 -- the words ask for nothing that the program does
 abbrev pub AsksForNothing : List (List ℕ) → Type 0
@@ -104,6 +115,7 @@ AsksForNothing words = IsMistaken words ⊎ HasBadValue words
 abbrev pub Asks : List (List ℕ) → Asked → Type 0
 Asks words (Feed file greatest) = AsksForFeed words (option_map string_bytes file) greatest
 Asks words (Audit file) = AsksForAudit words (string_bytes file)
+Asks words (Migrate file) = AsksForMigration words (string_bytes file)
 Asks words (Text text) = AsksForText words
 Asks words (Bad text) = AsksForNothing words
 

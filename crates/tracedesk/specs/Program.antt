@@ -6,7 +6,8 @@ use Rattle.sqlite_disk.specs.declared.start.Start as start
 use Rattle.sqlite_wal.specs.Files.{image_at}
 use Rattle.sqlite_store.specs.declared.store.FileStore.{FileStore}
 use Rattle.sqlite.specs.State.{HasCleanDisk}
-use Rattle.sqlite.specs.Files.{over_files}
+use Rattle.sqlite.specs.Files.{file_state, over_files}
+use Rattle.sqlite.specs.Held.{Held}
 use Rattle.desk_types.specs.declared.rules.Rules.TheVariants.{Two}
 use Rattle.desk_types.specs.declared.wire.Wire.{Wire}
 use Rattle.desk_types.specs.History.{History}
@@ -19,12 +20,12 @@ use Rattle.line_schema.specs.declared.fault.OpenFault.{OpenFault}
 use Rattle.line_schema.specs.declared.store.LineStore.{LineStore}
 use Rattle.line_schema.specs.Opening.{fault_text}
 use Rattle.line_schema.specs.Stands.{Kept, Stands, state_of}
-use Rattle.desk_file.specs.Files.{Begins, HasLineAlone}
+use Rattle.desk_file.specs.Files.{Begins, HasFirstAlone, HasLineAlone, MigratedFrom}
 use Rattle.tracedesk.specs.declared.feed.Served.{Served}
 use Rattle.tracedesk.specs.declared.feed.ServeFault.{ServeFault}
 use Rattle.tracedesk.specs.declared.feed.ServeFault.TheVariants.{Read, Write, TooManyReads}
 use Rattle.tracedesk.specs.declared.feed.TheConstants.{MOST_READS}
-use Rattle.tracedesk.specs.CommandLine.{AsksForAudit, AsksForFeed}
+use Rattle.tracedesk.specs.CommandLine.{AsksForAudit, AsksForFeed, AsksForMigration}
 use Rattle.tracedesk.specs.Sent.{SendsFront}
 use Rattle.tracedesk.specs.Stream.{AnsweredAll, AnsweredUpTo}
 
@@ -68,13 +69,21 @@ abbrev pub Audits : {T D : Type 0} {g : disk.Ghosts D} → start.Ghosts T → Op
 Audits first desk count = IsSomeAnd desk (λ d. (L : Kept) × Stands over_files state.Stands state.kept_rules d L × (count ≡ length L.history))
     × RunsOn first None desk (λ G H. (H ≡ G.history) × (count ≡ length H))
 
+-- A file was migrated: where its disk told the truth and no other table was beside the desk's, its connection holds by version 2 the tables with which the run began by version 1.
+abbrev pub Migrates : {T D : Type 0} {g : disk.Ghosts D} → start.Ghosts T → Option (Held (FileStore D g)) → Type 0
+Migrates first file = IsSomeAnd file (λ conn. HasCleanDisk (file_state conn) → HasFirstAlone (image_at first) → MigratedFrom (image_at first) conn)
+
 -- the words name a file that keeps a desk
 abbrev pub NamesFile : List (List ℕ) → Type 0
-NamesFile words = (file : List ℕ) × (AsksForAudit words file ⊎ ((greatest : ℕ) × AsksForFeed words (Some file) greatest))
+NamesFile words = (file : List ℕ) × (AsksForAudit words file ⊎ ((greatest : ℕ) × AsksForFeed words (Some file) greatest) ⊎ AsksForMigration words file)
 
 -- the line that tells of an audit: how many commands were accepted
 abbrev pub lawful_line : ℕ → List ℕ
 lawful_line count = codes "lawful " ++ decimal count ++ codes "\n"
+
+-- the line that tells of a migration
+abbrev pub version_line : List ℕ
+version_line = codes "version 2\n"
 
 -- the line that tells why the desk's file was refused
 abbrev pub refusal_line : OpenFault → List ℕ

@@ -6,7 +6,7 @@ ghost use Rattle.clap.specs.Matches.{found_of};
 ghost use Rattle.clap.specs.Simple.{app_of, shape_of, subcommand_rows_of};
 ghost use Rattle.clap.specs.Walk.{rows_of};
 ghost use Rattle.clap.specs.declared.builder.command.Command.TheViews.{out-Command};
-ghost use Rattle.tracedesk.specs.CommandLine.{audit_shape, commands, feed_shape, named_by, number_of, told_of, Asks, IsGreatest, IsInRange, Names};
+ghost use Rattle.tracedesk.specs.CommandLine.{audit_shape, commands, feed_shape, migrate_shape, named_by, number_of, told_of, Asks, IsGreatest, IsInRange, Names};
 
 use clap::error::ErrorKind;
 use clap::{Arg, ArgMatches};
@@ -28,6 +28,11 @@ pub enum Asked {
         /// The file.
         file: String,
     },
+    /// To make version 2 of the file of version 1 that keeps a desk.
+    Migrate {
+        /// The file.
+        file: String,
+    },
     /// This text, help or the version, for standard output.
     Text(String),
     /// Nothing that the program does: this text says why, for standard error.
@@ -37,7 +42,7 @@ pub enum Asked {
 /// How a run ends, for the help.
 const STATUSES: &str = "\
 Exit status:
-  0  Each line was Accepted or Ignored, the audit found nothing wrong, or help or the version was asked for
+  0  Each line was Accepted or Ignored, the audit found nothing wrong, the file was migrated, or help or the version was asked for
   1  Some line was answered otherwise
   2  The command line asks for nothing that the program does
   3  The desk's file was refused, or memory was, outside of a line
@@ -79,6 +84,7 @@ fn command_of(alloc: Global, matches: &ArgMatches<'_>) -> Result<Asked, AllocErr
 {
     match matches.subcommand() {
         Some((name, found)) if name == "audit" => audit_of(alloc, found),
+        Some((name, found)) if name == "migrate" => migrate_of(alloc, found),
         Some((_, found)) => feed_of(alloc, found),
         None => unreachable!(),
     }
@@ -112,11 +118,26 @@ fn audit_of(alloc: Global, found: &ArgMatches<'_>) -> Result<Asked, AllocError>
         Some(file) => Ok(Asked::Audit {
             file: String::from_str(alloc, file)?,
         }),
-        None => Ok(Asked::Bad(String::from_str(
-            alloc,
-            "error: a value is required for '--db <FILE>'\n",
-        )?)),
+        None => Ok(Asked::Bad(no_file(alloc)?)),
     }
+}
+
+/// What `migrate` asks for, with the options that were found.
+fn migrate_of(alloc: Global, found: &ArgMatches<'_>) -> Result<Asked, AllocError>
+    ensures asks { (words : List (List ℕ)) → Names words (codes "migrate") (rows_of (found_of found.now)) → IfOk result (Asks words) }
+    ensures range { IfOk result IsInRange }
+{
+    match found.get_str("db") {
+        Some(file) => Ok(Asked::Migrate {
+            file: String::from_str(alloc, file)?,
+        }),
+        None => Ok(Asked::Bad(no_file(alloc)?)),
+    }
+}
+
+/// Tells that there is no file, where a command is to have one.
+fn no_file(alloc: Global) -> Result<String, AllocError> {
+    String::from_str(alloc, "error: a value is required for '--db <FILE>'\n")
 }
 
 /// The greatest number of a desk, from 1 to 1,000,000,000, as a text shows it.
@@ -151,7 +172,8 @@ fn commands<'a>(alloc: Global) -> Result<clap::Command<'a>, AllocError>
         .disable_help_subcommand(true)
         .subcommand_required(true);
     let with_feed = tracedesk.subcommand(feed(alloc)?)?;
-    with_feed.subcommand(audit(alloc)?)
+    let with_audit = with_feed.subcommand(audit(alloc)?)?;
+    with_audit.subcommand(migrate(alloc)?)
 }
 
 /// The command `feed`.
@@ -185,6 +207,21 @@ fn audit<'a>(alloc: Global) -> Result<clap::Command<'a>, AllocError>
         .required(true);
     clap::Command::new(alloc, "audit")
         .about("Audit the desk in a file, and count its commands")
+        .after_help(STATUSES)
+        .arg(file)
+}
+
+/// The command `migrate`.
+fn migrate<'a>(alloc: Global) -> Result<clap::Command<'a>, AllocError>
+    ensures { IfOk result (λ command. (shape_of command ≡ migrate_shape) × ((out-Command command).has_globals ≡ false)) }
+{
+    let file = Arg::new(alloc, "db")
+        .long("db")
+        .value_name("FILE")
+        .help("The file of version 1 that keeps the desk")
+        .required(true);
+    clap::Command::new(alloc, "migrate")
+        .about("Audit the desk in a file of version 1, and make the file version 2")
         .after_help(STATUSES)
         .arg(file)
 }

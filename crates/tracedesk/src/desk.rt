@@ -13,13 +13,13 @@ ghost use Rattle.tracedesk.specs.declared.feed.ServeFault.TheVariants.{Write as 
 ghost use Rattle.tracedesk.specs.declared.feed.TheConstants.{MOST_READS};
 ghost use Rattle.tracedesk.specs.Sent.{SendsFront};
 ghost use Rattle.tracedesk.specs.Stream.{none_served};
-ghost use Rattle.tracedesk.specs.Program.{AnswersAll, AnswersUpTo, Audits, FailsNever, ForLists, IsShown, RunsOn, fault_line, fresh, lawful_line, refusal_line, TellsLine};
+ghost use Rattle.tracedesk.specs.Program.{AnswersAll, AnswersUpTo, Audits, FailsNever, ForLists, IsShown, Migrates, RunsOn, fault_line, fresh, lawful_line, refusal_line, version_line, TellsLine};
 
 use crate::exit::{Exit, failed, refused, tell_line, unavailable};
 use crate::feed::feed;
 use crate::send::send;
 use desk_answers::Line;
-use desk_file::{FileDesk, open_desk};
+use desk_file::{DeskFile, FileDesk, migrate_desk, open_desk};
 use desk_types::Wire;
 use feeder_state::StateDesk;
 use line_schema::in_memory;
@@ -160,6 +160,35 @@ pub fn audit_file<T: Start, W: Write, E: Write>(
         Ok(store) => {
             let status = tell_lawful(rt.alloc(), store.count(), output, errors);
             (status, Some(store))
+        }
+        Err(fault) => (refused(rt.alloc(), &fault, errors), None),
+    }
+}
+
+/// Makes the file of version 1 at a path one of version 2, and tells so: the exit status, and the
+/// file.
+pub fn migrate_file<T: Start, W: Write, E: Write>(
+    rt: &HostRuntime,
+    file: &str,
+    start: T,
+    output: &mut Wire<W>,
+    errors: &mut Wire<E>,
+) -> (u8, Option<DeskFile<T>>)
+    requires write_failures { failures_of output.old < 2 ^ 63 }
+    requires error_failures { failures_of errors.old < 2 ^ 63 }
+    ensures status { (result.0 ≡ 0) ⊎ (result.0 ≡ 3) ⊎ (result.0 ≡ 4) }
+    ensures done { result.0 ≡ 0 → Appends (W.contents (inner_of output.old)) (W.contents (inner_of output.new)) version_line × Migrates T.Start result.1 }
+    ensures no_desk { result.0 ≡ 3 → (told : OpenFault) × TellsLine E.contents errors.old errors.new (refusal_line told) }
+    ensures untouched { result.0 ≡ 3 → output.new ≡ output.old }
+    ensures failed { result.0 ≡ 4 → (failures_of output.new ≡ failures_of output.old + 1) × TellsLine E.contents errors.old errors.new (fault_line (WriteFault none_served))
+        × SendsFront (W.contents (inner_of output.old)) (W.contents (inner_of output.new)) version_line × Migrates T.Start result.1 }
+    ensures kept { result.0 ≡ 0 → failures_of output.new ≡ failures_of output.old }
+    ensures quiet { result.0 ≡ 0 → errors.new ≡ errors.old }
+{
+    match migrate_desk::<T, StateDesk>(rt, file, start) {
+        Ok(conn) => {
+            let status = send_text("version 2\n", output, errors);
+            (status, Some(conn))
         }
         Err(fault) => (refused(rt.alloc(), &fault, errors), None),
     }

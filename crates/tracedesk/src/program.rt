@@ -9,14 +9,14 @@ ghost use Rattle.line_schema.specs.declared.fault.OpenFault.TheVariants.{Unavail
 ghost use Rattle.tracedesk.specs.declared.feed.Served.{Served};
 ghost use Rattle.tracedesk.specs.declared.feed.ServeFault.{ServeFault};
 ghost use Rattle.tracedesk.specs.declared.feed.TheConstants.{MOST_READS};
-ghost use Rattle.tracedesk.specs.CommandLine.{AsksForAudit, AsksForFeed, AsksForText, AsksForNothing};
+ghost use Rattle.tracedesk.specs.CommandLine.{AsksForAudit, AsksForFeed, AsksForMigration, AsksForText, AsksForNothing};
 ghost use Rattle.tracedesk.specs.Sent.{SendsFront};
-ghost use Rattle.tracedesk.specs.Program.{AnswersAll, AnswersUpTo, Audits, FailsNever, IsShown, NamesFile, RunsAsked, fault_line, lawful_line, refusal_line, Tells, TellsLine};
+ghost use Rattle.tracedesk.specs.Program.{AnswersAll, AnswersUpTo, Audits, FailsNever, IsShown, Migrates, NamesFile, RunsAsked, fault_line, lawful_line, refusal_line, version_line, Tells, TellsLine};
 
 use crate::command_line::{Asked, read_words};
-use crate::desk::{audit_file, feed_in_file, feed_in_memory, send_text};
+use crate::desk::{audit_file, feed_in_file, feed_in_memory, migrate_file, send_text};
 use crate::exit::{Exit, tell, tell_line, unavailable};
-use desk_file::{FileDesk, close_desk};
+use desk_file::{DeskFile, FileDesk, close_desk, close_file};
 use desk_types::Wire;
 use feeder_state::StateDesk;
 use sqlite::{Start, Unknown};
@@ -33,7 +33,7 @@ pub fn run(rt: &HostRuntime) -> u8
     let mut errors = Wire::new(rt.stderr());
     match words(rt) {
         Ok(words) => {
-            let (status, desk) = program(
+            let (status, desk, migrated) = program(
                 rt,
                 words.as_slice(),
                 Unknown,
@@ -41,7 +41,8 @@ pub fn run(rt: &HostRuntime) -> u8
                 &mut output,
                 &mut errors,
             );
-            closed(rt, status, desk)
+            let status = closed(rt, status, desk);
+            file_closed(rt, status, migrated)
         }
         Err(error) => wordless(&error, &mut errors),
     }
@@ -67,8 +68,8 @@ fn wordless<E: Write>(error: &io::Error, errors: &mut Wire<E>) -> u8
     Exit::BadCommandLine as u8
 }
 
-/// A whole run after the program's name: its exit status and, where it kept one in a file, the desk,
-/// whose file is still to be closed.
+/// A whole run after the program's name: its exit status; where it kept one in a file, the desk; and
+/// the file that it migrated. The files are still to be closed.
 ///
 /// 0: done. 1: some line was answered by a refusal. 2: the command line is bad, and standard error
 /// says why. 3: the desk's file was refused, or memory was, outside of a message: `tracedesk: ` and
@@ -81,7 +82,7 @@ pub fn program<T: Start, R: Read, W: Write, E: Write>(
     input: &mut Wire<R>,
     output: &mut Wire<W>,
     errors: &mut Wire<E>,
-) -> (u8, Option<FileDesk<T, StateDesk>>)
+) -> (u8, Option<FileDesk<T, StateDesk>>, Option<DeskFile<T>>)
     requires reads { reads_of input.old < 2 ^ 63 }
     requires read_failures { failures_of input.old < 2 ^ 63 }
     requires write_failures { failures_of output.old < 2 ^ 63 }
@@ -91,6 +92,8 @@ pub fn program<T: Start, R: Read, W: Write, E: Write>(
         → ((served : Served) × (served.refused ≡ 0) × RunsAsked T.Start (map string_bytes words.now) result.1 (AnswersAll R.remaining W.contents input.old output.old output.new served))
         ⊎ ((file : List ℕ) × AsksForAudit (map string_bytes words.now) file × (count : ℕ) × Appends (W.contents (inner_of output.old)) (W.contents (inner_of output.new)) (lawful_line count)
         × Audits T.Start result.1 count)
+        ⊎ ((file : List ℕ) × AsksForMigration (map string_bytes words.now) file × Appends (W.contents (inner_of output.old)) (W.contents (inner_of output.new)) version_line
+        × Migrates T.Start result.2)
         ⊎ (AsksForText (map string_bytes words.now) × (text : List ℕ) × Appends (W.contents (inner_of output.old)) (W.contents (inner_of output.new)) text) }
     ensures refused { result.0 ≡ 1
         → (served : Served) × (0 < served.refused) × RunsAsked T.Start (map string_bytes words.now) result.1 (AnswersAll R.remaining W.contents input.old output.old output.new served) }
@@ -102,29 +105,51 @@ pub fn program<T: Start, R: Read, W: Write, E: Write>(
         × (RunsAsked T.Start (map string_bytes words.now) result.1 (AnswersUpTo R.remaining W.contents input.old output.old output.new fault)
         ⊎ ((file : List ℕ) × AsksForAudit (map string_bytes words.now) file × (count : ℕ) × SendsFront (W.contents (inner_of output.old)) (W.contents (inner_of output.new)) (lawful_line count)
         × Audits T.Start result.1 count)
+        ⊎ ((file : List ℕ) × AsksForMigration (map string_bytes words.now) file × SendsFront (W.contents (inner_of output.old)) (W.contents (inner_of output.new)) version_line
+        × Migrates T.Start result.2)
         ⊎ (AsksForText (map string_bytes words.now) × (text : List ℕ) × SendsFront (W.contents (inner_of output.old)) (W.contents (inner_of output.new)) text)) }
     ensures end { (result.0 ≡ 0) ⊎ (result.0 ≡ 1) → (file : _) (greatest : ℕ) → AsksForFeed (map string_bytes words.now) file greatest → IsAtEnd (R.remaining (inner_of input.new)) }
     ensures kept { (result.0 ≡ 0) ⊎ (result.0 ≡ 1) → FailsNever input.old input.new output.old output.new }
     ensures few_reads { reads_of input.new ≤ reads_of input.old + MOST_READS }
     ensures unread { AsksForText (map string_bytes words.now) → input.new ≡ input.old }
     ensures unread_by_audits { (file : List ℕ) → AsksForAudit (map string_bytes words.now) file → input.new ≡ input.old }
+    ensures unread_by_migrations { (file : List ℕ) → AsksForMigration (map string_bytes words.now) file → input.new ≡ input.old }
     ensures quiet { (result.0 ≡ 0) ⊎ (result.0 ≡ 1) → errors.new ≡ errors.old }
 {
     match read_words(rt.alloc(), words) {
         Ok(Asked::Feed { file, greatest }) => match file {
-            Some(file) => feed_in_file(rt, file.as_str(), start, greatest, input, output, errors),
+            Some(file) => {
+                let (status, desk) = feed_in_file(
+                    rt,
+                    file.as_str(),
+                    start,
+                    greatest,
+                    input,
+                    output,
+                    errors,
+                );
+                (status, desk, None)
+            }
             None => (
                 feed_in_memory(rt.alloc(), greatest, input, output, errors),
                 None,
+                None,
             ),
         },
-        Ok(Asked::Audit { file }) => audit_file(rt, file.as_str(), start, output, errors),
-        Ok(Asked::Text(text)) => (send_text(text.as_str(), output, errors), None),
+        Ok(Asked::Audit { file }) => {
+            let (status, desk) = audit_file(rt, file.as_str(), start, output, errors);
+            (status, desk, None)
+        }
+        Ok(Asked::Migrate { file }) => {
+            let (status, migrated) = migrate_file(rt, file.as_str(), start, output, errors);
+            (status, None, migrated)
+        }
+        Ok(Asked::Text(text)) => (send_text(text.as_str(), output, errors), None, None),
         Ok(Asked::Bad(text)) => {
             tell(errors, text.as_str());
-            (Exit::BadCommandLine as u8, None)
+            (Exit::BadCommandLine as u8, None, None)
         }
-        Err(AllocError) => (unavailable(errors), None),
+        Err(AllocError) => (unavailable(errors), None, None),
     }
 }
 
@@ -137,6 +162,20 @@ fn closed<T: Start>(rt: &HostRuntime, status: u8, desk: Option<FileDesk<T, State
     match desk {
         None => status,
         Some(desk) => match close_desk(desk) {
+            Ok(_) => status,
+            Err(_) => unavailable(&mut Wire::new(rt.stderr())),
+        },
+    }
+}
+
+/// The same for the file that was migrated.
+fn file_closed<T: Start>(rt: &HostRuntime, status: u8, file: Option<DeskFile<T>>) -> u8
+    ensures same { file ≡ None → result ≡ status }
+    ensures ends { (result ≡ status) ⊎ (result ≡ 3) }
+{
+    match file {
+        None => status,
+        Some(file) => match close_file(file) {
             Ok(_) => status,
             Err(_) => unavailable(&mut Wire::new(rt.stderr())),
         },

@@ -68,7 +68,14 @@ fn run_feed<R: Read + Drop>(rt: &HostRuntime, input: R, output: Taker) -> Result
     let mut input = Wire::new(input);
     let mut output = Wire::new(output);
     let mut errors = Wire::new(Taker::new(rt.alloc())?);
-    let (status, desk) = program(rt, &words, Unknown, &mut input, &mut output, &mut errors);
+    let (status, desk, _migrated) = program(
+        rt,
+        &words,
+        Unknown,
+        &mut input,
+        &mut output,
+        &mut errors,
+    );
     if let Some(desk) = desk {
         let _ = close_desk(desk);
     }

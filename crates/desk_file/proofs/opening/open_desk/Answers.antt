@@ -1,4 +1,4 @@
-use Rattle.std.proofs.Common.{Some, [], sym, subst}
+use Rattle.std.proofs.Common.{[], sym, subst}
 use Rattle.std.proofs.lemmas.Result.{IfOk-weaker}
 use Rattle.sqlite_wal.specs.Files.{image_at}
 use Rattle.desk_file.specs.Files.{Begins}

@@ -1,11 +1,12 @@
 use Rattle.std.proofs.Common.{List, subst, arith}
+use Rattle.std.proofs.lemmas.Result.{err_from_is_err_and}
 use Rattle.sqlite.specs.State.{HasCleanDisk, KeepsCommit}
 use Rattle.sqlite.specs.Held.{state}
 use Rattle.state_rows.specs.declared.edit.RowEdit.{RowEdit}
 use Rattle.line_tables.proofs.Keeps.{keeps_then}
 use Rattle.line_replay.specs.Beside.{Adds}
 use Rattle.line_replay.proofs.Adding.{adds_back}
-use Rattle.line_replay.proofs.Taken.{row_taken}
+use Rattle.line_replay.proofs.Taken.{row_taken, fault_stuck}
 use Rattle.line_replay.proofs.taking.take_row.Goals as goal
 
 pub returns-in_ok-add-in-Some-clause-ok : goal.returns-in_ok-add-in-Some-clause-ok
@@ -26,3 +27,12 @@ returns-in_ok-add-in-Some-clause-ok g c H stands numbered =
       lead = accepts.lead;
       adds = adds_back After old mid c.in_ok-edits-in-Some.edits c.args.beside.now c.add.new.self kept (subst (λ (xs : List RowEdit). Adds After mid xs c.args.beside.now c.add.new.self) c.as_slice.ensures c.in_ok-add-in-Some.ensures.ok);
     }
+
+pub returns-in_err-edits-in-Some-clause-err : goal.returns-in_err-edits-in-Some-clause-err
+returns-in_err-edits-in-Some-clause-err g c H stands numbered clean =
+    let old = state g.S.Store c.args.conn.now in
+    let first = state g.S.Store c.row_at.new.conn in
+    let early : HasCleanDisk first = omega (arith, c.accept_first.ensures.survives.clean, clean) in
+    let p = err_from_is_err_and c.from_residual-in_err-edits-in-Some.result c.from_residual-in_err-edits-in-Some.ensures.1 in
+    rw (p.1, p.2) (fault_stuck (g.D.Desk.kept_rules c.args.desk.now) old first c.in_ok-found.found c.in-Some.row H c.args.number (c.row_at.ensures.kept early) c.in-Some.is numbered (c.in_ok-found.ensures.found early)
+    c.in_err-edits-in-Some.field-0.0 (c.in_err-edits-in-Some.ensures.err H stands numbered clean))

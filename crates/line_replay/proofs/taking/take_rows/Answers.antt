@@ -1,12 +1,16 @@
-use Rattle.std.proofs.Common.{◌∙◌, Bool, [], refl, subst, rules, arith}
+use Rattle.std.proofs.Common.{◌≡◌, ◌∙◌, ◌⊎◌, ◌+◌, ◌≤◌, Bool, [], refl, subst, rules, arith}
+use Rattle.std.proofs.lemmas.Result.{err_from_is_err_and}
 use Rattle.sqlite.specs.State.{HasCleanDisk}
 use Rattle.sqlite.specs.Held.{state}
 use Rattle.sqlite.proofs.StateLemmas.{survives_then}
 use Rattle.desk_types.specs.declared.rules.Rules.{Rules}
 use Rattle.line_tables.proofs.Keeps.{keeps_then}
-use Rattle.line_replay.specs.Replay.{Goes}
+use Rattle.line_replay.specs.declared.fault.ReplayFault.TheVariants.{NotLawful, Unavailable}
+use Rattle.line_tables.specs.Calls.{Reads}
+use Rattle.line_tables.specs.Rows.{accepted_in}
+use Rattle.line_replay.specs.Replay.{Goes, IsStuck}
 use Rattle.line_replay.proofs.Adding.{beside_none}
-use Rattle.line_replay.proofs.Taken.{taken_more}
+use Rattle.line_replay.proofs.Taken.{taken_more, fault_taken}
 use Rattle.line_replay.proofs.taking.take_rows.Goals as goal
 
 pub loop-number-init : goal.loop-number-init
@@ -47,3 +51,19 @@ loop-number-preserved g c =
       mode = λ is. c.take_row.ensures.mode (was.mode is);
       survives = survives_then old mid new _ _ (λ _. ⊥) (λ _ db none. none) (λ _ db none. none) was.survives c.take_row.ensures.survives;
     }
+
+pub returns-in_err-taken-clause-err : goal.returns-in_err-taken-clause-err
+returns-in_err-taken-clause-err g c clean =
+    let old = state g.S.Store c.args.conn.now in
+    let mid = state g.S.Store c.loop-number.conn in
+    let was = c.loop-number.invariant in
+    let H = was.taken.0 in
+    let taken = was.taken.1 in
+    let n = c.loop-number.number in
+    let f = c.in_err-taken.field-0.0 in
+    let early : HasCleanDisk mid = omega (arith, c.take_row.ensures.survives.clean, clean) in
+    let low : n + 1 ≤ c.args.greatest = omega (arith, c.loop-number-test.true) in
+    let p = err_from_is_err_and c.from_residual.result c.from_residual.ensures.1 in
+    let stop = c.in_err-taken.ensures.err H taken.stands (omega (arith, taken.counted)) clean in
+    let again = subst (λ (r : Rules). (f ≡ Unavailable) ⊎ ((f ≡ NotLawful (n + 1)) × Reads mid (λ db. IsStuck r H (accepted_in db)))) was.rules stop in
+    rw (p.1, p.2) (fault_taken g.D.Desk.Stands (g.D.Desk.kept_rules c.args.desk.now) c.args.greatest old mid (HasCleanDisk mid) c.loop-number.desk c.loop-number.beside n H early (was.kept early) taken low f again)

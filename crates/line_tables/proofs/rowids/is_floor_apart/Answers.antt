@@ -1,9 +1,9 @@
 use Rattle.std.proofs.Common.{arith}
 use Rattle.sqlite.specs.State.{HasCleanDisk}
 use Rattle.sqlite.specs.Held.{state}
-use Rattle.line_tables.specs.Line.{reel, mount, board, found}
-use Rattle.line_tables.proofs.Rising.{tells, told_four}
-use Rattle.line_tables.proofs.RowidTexts.{reel_is, mount_is, board_is, found_is}
+use Rattle.line_tables.specs.Line.{reel, mount, board}
+use Rattle.line_tables.proofs.Rising.{tells, told_three}
+use Rattle.line_tables.proofs.RowidTexts.{reel_is, mount_is, board_is}
 use Rattle.line_tables.proofs.rowids.is_floor_apart.Goals as goal
 
 pub returns-clause-found : goal.returns-clause-found
@@ -12,9 +12,9 @@ returns-clause-found g c clean =
     let h2 = c.shows_rising.new.conn in
     let h3 = c.shows_rising-2.new.conn in
     let h4 = c.shows_rising-3.new.conn in
-    let clean_3 : HasCleanDisk (state g.S.Store h4) = omega (arith, c.shows_rising-4.ensures.survives.clean) in
+    let clean_3 : HasCleanDisk (state g.S.Store h4) = omega (arith, c.is_found_apart.ensures.survives.clean) in
     let clean_2 : HasCleanDisk (state g.S.Store h3) = omega (arith, c.shows_rising-3.ensures.survives.clean, clean_3) in
     let clean_1 : HasCleanDisk (state g.S.Store h2) = omega (arith, c.shows_rising-2.ensures.survives.clean, clean_2) in
-    told_four (state g.S.Store h1) (state g.S.Store h2) (state g.S.Store h3) (state g.S.Store h4) (c.shows_rising.ensures.kept clean_1) (c.shows_rising-2.ensures.kept clean_2) (c.shows_rising-3.ensures.kept clean_3) reel mount board found _ _ _ _
-    (tells g.S.Store h1 _ 11 _ reel_is _ (c.in_ok-reel.ensures.shown clean_1)) (tells g.S.Store h2 _ 13 _ mount_is _ (c.in_ok-mount.ensures.shown clean_2)) (tells g.S.Store h3 _ 15 _ board_is _ (c.in_ok-board.ensures.shown clean_3)) (tells g.S.Store h4 _ 20 _ found_is _ (c.in_ok-found.ensures.shown clean))
+    told_three (state g.S.Store h1) (state g.S.Store h2) (state g.S.Store h3) (state g.S.Store h4) (c.shows_rising.ensures.kept clean_1) (c.shows_rising-2.ensures.kept clean_2) (c.shows_rising-3.ensures.kept clean_3) reel mount board c.args.rules _ _ _ _
+    (tells g.S.Store h1 _ 11 _ reel_is _ (c.in_ok-reel.ensures.shown clean_1)) (tells g.S.Store h2 _ 13 _ mount_is _ (c.in_ok-mount.ensures.shown clean_2)) (tells g.S.Store h3 _ 15 _ board_is _ (c.in_ok-board.ensures.shown clean_3)) (c.in_ok-found.ensures.found clean)
     _ c.are_true.ensures

@@ -1,7 +1,7 @@
 use Rattle.std.proofs.Common.{rules, ◌≡◌, ◌∙◌, ap₂, codes, true}
 use Rattle.std.proofs.lemmas.Result.{IfOk-weaker}
 use Rattle.clap.specs.Simple.{App, app_of, new_app, on_top, with_subcommand}
-use Rattle.tracedesk.specs.CommandLine.{feed_shape}
+use Rattle.tracedesk.specs.CommandLine.{audit_shape, feed_shape}
 use Rattle.tracedesk.proofs.command_line.commands.Goals as goal
 
 abbrev top : App
@@ -13,4 +13,6 @@ returns c =
     let feed = c.in_ok-feed.ensures in
     let audit = c.in_ok-audit.ensures in
     let with_feed_is : app_of c.in_ok-with_feed.with_feed ≡ with_subcommand top feed_shape = c.in_ok-with_feed.ensures.shape feed.1 ∙ ap₂ with_subcommand top_is feed.0 in
-    IfOk-weaker c.subcommand-2.result _ _ (λ command added. added.shape audit.1 ∙ ap₂ with_subcommand with_feed_is audit.0) c.subcommand-2.ensures
+    let migrate = c.in_ok-migrate.ensures in
+    let with_audit_is : app_of c.in_ok-with_audit.with_audit ≡ with_subcommand (with_subcommand top feed_shape) audit_shape = c.in_ok-with_audit.ensures.shape audit.1 ∙ ap₂ with_subcommand with_feed_is audit.0 in
+    IfOk-weaker c.subcommand-3.result _ _ (λ command added. added.shape migrate.1 ∙ ap₂ with_subcommand with_audit_is migrate.0) c.subcommand-3.ensures

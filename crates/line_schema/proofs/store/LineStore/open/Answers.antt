@@ -1,11 +1,13 @@
-use Rattle.std.proofs.Common.{refl, sym, subst, rules}
+use Rattle.std.proofs.Common.{IsTrue, refl, sym, subst, rules}
 use Rattle.sqlite.specs.Effect.{Database}
 use Rattle.sqlite.specs.Held.{state}
+use Rattle.desk_types.specs.declared.rules.Rules.TheVariants.{Two}
 use Rattle.line_tables.specs.Line.{is_ours}
 use Rattle.line_tables.specs.Rows.{Holds}
+use Rattle.line_tables.proofs.Ours.{ours_is}
 use Rattle.line_rows.specs.Rows.{tables_of}
 use Rattle.line_schema.specs.Stands.{Kept}
-use Rattle.line_schema.proofs.Reading.{opened_tables, opened_lawful, opened_holds}
+use Rattle.line_schema.proofs.Reading.{opened_lawful, opened_holds}
 use Rattle.line_schema.proofs.store.LineStore.open.Goals as goal
 
 pub returns-in-Ok-clause-stands : goal.returns-in-Ok-clause-stands
@@ -15,6 +17,8 @@ returns-in-Ok-clause-stands g c =
     let K = g.D.Desk.kept_rules in
     let all = c.in-Ok.ensures.ok in
     let o = all.1 in
+    let auto : IsTrue c.is_autocommit.result = search rules in
+    let holds = opened_holds F K _ old Two c.in-Ok.field-0 all.0 o c.in-Ok.ensures.named (c.is_autocommit.ensures.settled auto) in
     let L : Kept = record { greatest = c.in-Ok.field-0.greatest; history = all.0; own = is_ours old.committed.schema } in (
       L,
       refl,
@@ -27,7 +31,7 @@ returns-in-Ok-clause-stands g c =
         desk = (o.stands, o.rules);
         mode = search rules;
         lawful = λ clean own. opened_lawful F K _ old c.in-Ok.field-0 all.0 o clean own;
-        tables = λ clean own is_open. subst (λ (db : Database). Holds db (tables_of L.greatest L.history)) (sym ((c.read_tables.ensures.kept clean).committed is_open)) (opened_tables F K _ old c.in-Ok.field-0 all.0 o clean own);
+        tables = λ clean own is_open. subst (λ (db : Database). Holds db (tables_of L.greatest L.history)) (sym ((c.read_tables.ensures.kept clean).committed is_open)) ((holds clean).are (Two, ours_is old.committed.schema own));
       },
-      opened_holds F K _ old c.in-Ok.field-0 all.0 o,
+      holds,
     )

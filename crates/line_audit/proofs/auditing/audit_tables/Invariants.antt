@@ -4,17 +4,17 @@ use Rattle.sqlite.specs.State.{HasCleanDisk, Survives, KeepsCommit}
 use Rattle.sqlite.specs.Held.{state}
 use Rattle.state_rows.specs.declared.row.PlacementRow.{PlacementRow}
 use Rattle.state_rows.specs.Kept.{tables_in}
-use Rattle.line_tables.specs.Line.{line_schema}
-use Rattle.line_audit.specs.Audit.{Pieces, IsExpected, HoldsTable, with_placements, state_tables}
-use Rattle.line_audit.proofs.auditing.audit.Given as goal
+use Rattle.line_tables.specs.Line.{IsOurs}
+use Rattle.line_audit.specs.Audit.{Pieces, IsExpected, HoldsTable, with_placements}
+use Rattle.line_audit.proofs.auditing.audit_tables.Given as goal
 
 abbrev pub invariant-loop-table : goal.invariant-loop-table
 invariant-loop-table g l =
     let old = state g.S.Store l.fn.conn in
     let now = state g.S.Store l.conn in record {
       opened : HasCleanDisk now → (f : ℕ × ℕ → Option PlacementRow) → (es : Pieces) → IsExpected old l.placed.all l.placed.count es f → 0 < l.table-index → IsTrue old.is_open;
-      right : HasCleanDisk now → (f : ℕ × ℕ → Option PlacementRow) → (es : Pieces) → IsExpected old l.placed.all l.placed.count es f → old.committed.schema ≡ line_schema
-          → AllByRecursion (HoldsTable old.committed (with_placements f (tables_in l.rows))) (take l.table-index state_tables);
+      right : HasCleanDisk now → (f : ℕ × ℕ → Option PlacementRow) → (es : Pieces) → IsExpected old l.placed.all l.placed.count es f → IsOurs old.committed.schema
+          → AllByRecursion (HoldsTable old.committed (with_placements f (tables_in l.rows))) (take l.table-index l.tables);
       kept : HasCleanDisk now → KeepsCommit old now;
       mode : l.fn.conn.in_transaction ≡ false → l.conn.in_transaction ≡ false;
       survives : Survives old now (λ _. ⊥);

@@ -7,11 +7,11 @@ use Rattle.sqlite.proofs.StateLemmas.{survives_then}
 use Rattle.state_rows.specs.declared.row.PlacementRow.{PlacementRow}
 use Rattle.state_rows.specs.Kept.{tables_in}
 use Rattle.line_tables.proofs.Keeps.{keeps_then}
-use Rattle.line_audit.specs.Audit.{Pieces, IsExpected, HoldsTable, with_placements, state_tables}
+use Rattle.line_audit.specs.Audit.{Pieces, IsExpected, HoldsTable, with_placements}
 use Rattle.line_audit.proofs.Matching.{reads_before}
 use Rattle.line_audit.proofs.Placing.{expected_after}
-use Rattle.line_audit.proofs.Telling.{all_right, split_at, right_more}
-use Rattle.line_audit.proofs.auditing.audit.Goals as goal
+use Rattle.line_audit.proofs.Telling.{split_at, right_more}
+use Rattle.line_audit.proofs.auditing.audit_tables.Goals as goal
 
 pub returns-then-not-branch-clause-verdict : goal.returns-then-not-branch-clause-verdict
 returns-then-not-branch-clause-verdict g c clean f es expected =
@@ -21,13 +21,13 @@ returns-then-not-branch-clause-verdict g c clean f es expected =
     let kept = c.loop-table.invariant.kept early in
     let told = reads_before old mid kept _ (c.in_ok-is_same.ensures.same clean f es (expected_after old mid kept c.args.placed.all c.args.placed.count es f expected)) in
     let i = c.loop-table.table-index in
-    let within : i < length state_tables = omega (arith, c.loop-table-test.true) in
+    let within : i < length c.args.tables.now = omega (arith, c.loop-table-test.true) in
     record {
       was_open = told.was_open;
       are = λ schema. record {
-        before = take i state_tables;
-        after = drop (i + 1) state_tables;
-        place = split_at state_tables i _ within;
+        before = take i c.args.tables.now;
+        after = drop (i + 1) c.args.tables.now;
+        place = split_at c.args.tables.now i _ within;
         right = c.loop-table.invariant.right early f es expected schema;
         wrong = λ holds. true≢false (sym ((told.are schema).1 holds) ∙ c.if-not-branch.true);
       };
@@ -40,13 +40,13 @@ loop-table-preserved g c =
     let new = state g.S.Store c.is_same.new.conn in
     let was = c.loop-table.invariant in
     let i = c.loop-table.table-index in
-    let within : i < length state_tables = omega (arith, c.loop-table-test.true) in
+    let within : i < length c.args.tables.now = omega (arith, c.loop-table-test.true) in
     let early : HasCleanDisk new → HasCleanDisk mid = λ clean. omega (arith, c.is_same.ensures.survives.clean) in
     let told = λ (clean : HasCleanDisk new) (f : ℕ × ℕ → Option PlacementRow) (es : Pieces) (expected : IsExpected old c.args.placed.all c.args.placed.count es f).
     reads_before old mid (was.kept (early clean)) _ (c.in_ok-is_same.ensures.same clean f es (expected_after old mid (was.kept (early clean)) c.args.placed.all c.args.placed.count es f expected)) in
     record {
       opened = λ clean f es expected some. (told clean f es expected).was_open;
-      right = λ clean f es expected schema. right_more _ state_tables i _ within (was.right (early clean) f es expected schema) (((told clean f es expected).are schema).0 c.if-not-branch.false);
+      right = λ clean f es expected schema. right_more _ c.args.tables.now i _ within (was.right (early clean) f es expected schema) (((told clean f es expected).are schema).0 c.if-not-branch.false);
       kept = λ clean. keeps_then old mid new (was.kept (early clean)) (c.is_same.ensures.kept clean);
       mode = λ is. c.is_same.ensures.mode (was.mode is);
       survives = survives_then old mid new _ _ (λ _. ⊥) (λ _ db none. none) (λ _ db none. none) was.survives c.is_same.ensures.survives;
@@ -56,9 +56,9 @@ pub returns-clause-verdict : goal.returns-clause-verdict
 returns-clause-verdict g c clean f es expected =
     let old = state g.S.Store c.args.conn.now in
     let i = c.loop-table.table-index in
-    let whole : length state_tables ≤ i = omega (arith, c.loop-table-test.false) in
+    let whole : length c.args.tables.now ≤ i = omega (arith, c.loop-table-test.false) in
     let was = c.loop-table.invariant in
     record {
-      was_open = was.opened clean f es expected (omega (arith, whole));
-      are = λ schema. all_right old.committed (with_placements f (tables_in c.args.rows.now)) (subst (AllByRecursion (HoldsTable old.committed (with_placements f (tables_in c.args.rows.now)))) (take_all i state_tables whole) (was.right clean f es expected schema));
+      was_open = was.opened clean f es expected (omega (arith, whole, c.requires));
+      are = λ schema. subst (AllByRecursion (HoldsTable old.committed (with_placements f (tables_in c.args.rows.now)))) (take_all i c.args.tables.now whole) (was.right clean f es expected schema);
     }

@@ -1,0 +1,15 @@
+use Rattle.std.proofs.Common.{arith}
+use Rattle.sqlite_wal.specs.Files.{image_at}
+use Rattle.sqlite.specs.Files.{file_state}
+use Rattle.sqlite.specs.State.{HasCleanDisk}
+use Rattle.desk_file.proofs.Beginning.{migrates}
+use Rattle.desk_file.proofs.opening.migrate_desk.Goals as goal
+
+pub returns-in-Ok-clause-migrated : goal.returns-in-Ok-clause-migrated
+returns-in-Ok-clause-migrated g c = λ clean alone.
+    let conn = c.in_ok-conn.conn in
+    let before : HasCleanDisk (file_state conn) = omega (arith, c.migrate.ensures.crash.clean, clean) in
+    let opened = c.in_ok-conn.ensures.opened before in
+    let m = c.in-Ok.ensures.migrated clean in
+    let told = migrates (image_at g.T.Start) (file_state conn) (c.in_ok-conn.ensures.found before) opened.0 opened.1 (file_state c.migrate.new.conn) m.0 m.1 _ m.2 alone in
+    (m.0, m.1, told.0, told.1)
