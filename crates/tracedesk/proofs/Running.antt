@@ -14,7 +14,8 @@ use Rattle.feeder_state.specs.contracts.desk.StateDeskDesk.TheImpl.{ghosts as st
 use Rattle.line_schema.specs.declared.store.LineStore.{LineStore}
 use Rattle.line_schema.specs.Stands.{Kept, Stands, state_of}
 use Rattle.desk_file.specs.Files.{Begins, HasLineAlone}
-use Rattle.tracedesk.specs.Program.{Audits, ForLists, RunsOn}
+use Rattle.desk_feed.specs.Owners.{ForLists}
+use Rattle.tracedesk.specs.Program.{Audits, RunsOn}
 
 -- the store of a file stands for the list by rules Two, its tables being its own
 abbrev pub IsKept : {D : Type 0} {g : disk.Ghosts D} → LineStore (FileStore D g) StateDesk → Ledger → Type 0

@@ -12,7 +12,7 @@ use Rattle.desk_types.specs.declared.rules.Rules.TheVariants.{Two}
 use Rattle.desk_types.specs.declared.wire.Wire.{Wire}
 use Rattle.desk_types.specs.History.{History}
 use Rattle.desk_types.specs.Judged.{IsLawful}
-use Rattle.desk_types.specs.Wire.{inner_of, reads_of, failures_of}
+use Rattle.desk_types.specs.Wire.{inner_of, failures_of}
 use Rattle.desk_answers.specs.Ledger.{Ledger}
 use Rattle.feeder_state.specs.declared.desk.StateDesk.{StateDesk}
 use Rattle.feeder_state.specs.contracts.desk.StateDeskDesk.TheImpl.{ghosts as state}
@@ -21,13 +21,12 @@ use Rattle.line_schema.specs.declared.store.LineStore.{LineStore}
 use Rattle.line_schema.specs.Opening.{fault_text}
 use Rattle.line_schema.specs.Stands.{Kept, Stands, state_of}
 use Rattle.desk_file.specs.Files.{Begins, HasFirstAlone, HasLineAlone, MigratedFrom}
-use Rattle.tracedesk.specs.declared.feed.Served.{Served}
-use Rattle.tracedesk.specs.declared.feed.ServeFault.{ServeFault}
-use Rattle.tracedesk.specs.declared.feed.ServeFault.TheVariants.{Read, Write, TooManyReads}
-use Rattle.tracedesk.specs.declared.feed.TheConstants.{MOST_READS}
+use Rattle.served.specs.declared.serving.Served.{Served}
+use Rattle.served.specs.declared.serving.ServeFault.{ServeFault}
+use Rattle.served.specs.declared.serving.ServeFault.TheVariants.{Read, Write, TooManyReads}
+use Rattle.served.specs.Sent.{SendsFront}
+use Rattle.desk_feed.specs.Stream.{AnsweredAll, AnsweredUpTo}
 use Rattle.tracedesk.specs.CommandLine.{AsksForAudit, AsksForFeed, AsksForMigration}
-use Rattle.tracedesk.specs.Sent.{SendsFront}
-use Rattle.tracedesk.specs.Stream.{AnsweredAll, AnsweredUpTo}
 
 -- ---- the answers
 
@@ -46,10 +45,6 @@ AnswersUpTo remaining contents input output output' fault G H =
     AnsweredUpTo G.rules G.greatest (remaining (inner_of input)) G.history (contents (inner_of output)) H (contents (inner_of output')) fault
 
 -- ---- the desk
-
--- What holds of each list for which the owner stood, where what it is kept in told the truth: the owner stands for a list that the fact tells.
-abbrev pub ForLists : {S : Type 0} → (S → Ledger → Type 0) → (S → Type 0) → S → S → (Ledger → History → Type 0) → Type 0
-ForLists Stands Trusts old new Fact = (G : Ledger) → Stands old G → Trusts new → (H : History) × Stands new (record G { history = H }) × Fact G H
 
 -- What holds of the list with which a run on the files begins, where the disk told the truth and no other table was beside the desk's: that list is lawful, and the desk stands for a list that the fact tells.
 abbrev pub RunsOn : {T D : Type 0} {g : disk.Ghosts D} → start.Ghosts T → Option ℕ → Option (LineStore (FileStore D g) StateDesk) → (Ledger → History → Type 0) → Type 0
@@ -90,16 +85,6 @@ abbrev pub refusal_line : OpenFault → List ℕ
 refusal_line fault = codes "tracedesk: " ++ fault_text fault
 
 -- ---- what failed
-
--- the failures are as they were
-abbrev pub FailsNever : {R W : Type 0} → Wire R → Wire R → Wire W → Wire W → Type 0
-FailsNever input input' output output' = (failures_of input' ≡ failures_of input) × (failures_of output' ≡ failures_of output)
-
--- the wires show the fault: one read failed and no write, one write and no read, or nothing failed and as many reads were made as may be
-abbrev pub IsShown : {R W : Type 0} → ServeFault → Wire R → Wire R → Wire W → Wire W → Type 0
-IsShown (Read served) input input' output output' = (failures_of input' ≡ failures_of input + 1) × (failures_of output' ≡ failures_of output)
-IsShown (Write served) input input' output output' = (failures_of output' ≡ failures_of output + 1) × (failures_of input' ≡ failures_of input)
-IsShown (TooManyReads served) input input' output output' = (reads_of input' ≡ reads_of input + MOST_READS) × FailsNever input input' output output'
 
 -- the line that tells of the fault
 abbrev pub fault_line : ServeFault → List ℕ

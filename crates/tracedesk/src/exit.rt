@@ -5,10 +5,9 @@ ghost use Rattle.desk_types.specs.Wire.{failures_of};
 ghost use Rattle.line_schema.specs.declared.fault.OpenFault.TheVariants.{Unavailable};
 ghost use Rattle.tracedesk.specs.Program.{fault_line, refusal_line, Tells, TellsLine};
 
-use crate::feed::ServeFault;
-use crate::send::{send, send_line};
 use desk_types::Wire;
 use line_schema::OpenFault;
+use served::{ServeFault, send, send_line};
 use std::alloc::Global;
 use std::io::Write;
 

@@ -6,12 +6,13 @@ ghost use Rattle.std.specs.Io.KnownBytes.{Appends, IsAtEnd};
 ghost use Rattle.desk_types.specs.Wire.{inner_of, reads_of, failures_of};
 ghost use Rattle.line_schema.specs.declared.fault.OpenFault.{OpenFault};
 ghost use Rattle.line_schema.specs.declared.fault.OpenFault.TheVariants.{Unavailable};
-ghost use Rattle.tracedesk.specs.declared.feed.Served.{Served};
-ghost use Rattle.tracedesk.specs.declared.feed.ServeFault.{ServeFault};
-ghost use Rattle.tracedesk.specs.declared.feed.TheConstants.{MOST_READS};
+ghost use Rattle.served.specs.declared.serving.Served.{Served};
+ghost use Rattle.served.specs.declared.serving.ServeFault.{ServeFault};
+ghost use Rattle.served.specs.declared.serving.TheConstants.{MOST_READS};
 ghost use Rattle.tracedesk.specs.CommandLine.{AsksForAudit, AsksForFeed, AsksForMigration, AsksForText, AsksForNothing};
-ghost use Rattle.tracedesk.specs.Sent.{SendsFront};
-ghost use Rattle.tracedesk.specs.Program.{AnswersAll, AnswersUpTo, Audits, FailsNever, IsShown, Migrates, NamesFile, RunsAsked, fault_line, lawful_line, refusal_line, version_line, Tells, TellsLine};
+ghost use Rattle.served.specs.Sent.{SendsFront};
+ghost use Rattle.served.specs.Shown.{FailsNever, IsShown};
+ghost use Rattle.tracedesk.specs.Program.{AnswersAll, AnswersUpTo, Audits, Migrates, NamesFile, RunsAsked, fault_line, lawful_line, refusal_line, version_line, Tells, TellsLine};
 
 use crate::command_line::{Asked, read_words};
 use crate::desk::{audit_file, feed_in_file, feed_in_memory, migrate_file, send_text};

@@ -3,9 +3,9 @@
 
 mod wires;
 
-use crate::feed::feed;
 use crate::program::program;
 use desk_answers::Line;
+use desk_feed::feed;
 use desk_file::close_desk;
 use desk_types::Wire;
 use feeder_state::StateDesk;

@@ -1,7 +1,7 @@
 use Rattle.std.proofs.Common.{rules, Some, map, string_bytes, refl, inl, inr}
 use Rattle.tracedesk.specs.CommandLine.{AsksForAudit, AsksForFeed, AsksForMigration, AsksForText}
-use Rattle.tracedesk.specs.declared.feed.ServeFault.TheVariants.{Write}
-use Rattle.tracedesk.specs.Stream.{none_served}
+use Rattle.served.specs.declared.serving.ServeFault.TheVariants.{Write}
+use Rattle.served.specs.Counts.{none_served}
 use Rattle.tracedesk.proofs.program.program.Goals as goal
 
 pub returns-in-Some-clause-done : goal.returns-in-Some-clause-done

@@ -1,0 +1,77 @@
+-- The lines of an input, one after another.
+use Rattle.std.proofs.Common.{◌≡◌, ◌∙◌, ℕ, Bool, true, false, not, cond, map, List, [], ◌∷◌, ◌++◌, sym, ap, refl, subst, Option, Some, None, IfSome, append_assoc, append-nil}
+use Rattle.std.proofs.lemmas.List.Splits.{slice_split_at, slice_split_none}
+use Rattle.std.specs.List.{filter}
+use Rattle.std.proofs.Common.{arith, take, drop}
+use Rattle.std.proofs.lemmas.List.{drop_all, length-take}
+use Rattle.std.specs.Io.KnownBytes.{IsAtEnd, prepend_known}
+use Rattle.desk_feed.specs.declared.inbox.Inbox.{Inbox}
+use Rattle.desk_feed.specs.Lines.{is_feed, is_empty, without_return, lines_in, lines_of}
+use Rattle.desk_feed.specs.Inbox.{HasNoFeed, TakesLine, LinesGone, source}
+use Rattle.desk_feed.specs.Stream.{IsFront}
+
+kept : (b : Bool) (x : List ℕ) (xs : List (List ℕ)) → cond (not b) (x ∷ xs) xs ≡ cond b [] (x ∷ []) ++ xs
+kept true x xs = refl
+kept false x xs = refl
+
+-- of the pieces between line feeds
+abbrev pub lines_among : List (List ℕ) → List (List ℕ)
+lines_among pieces = filter (λ line. not (is_empty line)) (map without_return pieces)
+
+-- the first line, and then the others
+pub lines_of-more : (raw rest : List ℕ) → HasNoFeed raw → lines_of (raw ++ 10 ∷ rest) ≡ lines_in raw ++ lines_of rest
+lines_of-more raw rest h =
+    ap lines_among (slice_split_at is_feed raw 10 rest h refl) ∙ kept (is_empty (without_return raw)) (without_return raw) (lines_of rest)
+
+pub lines_of-last : (raw : List ℕ) → HasNoFeed raw → lines_of raw ≡ lines_in raw
+lines_of-last raw h =
+    ap lines_among (slice_split_none is_feed raw h) ∙ kept (is_empty (without_return raw)) (without_return raw) [] ∙ append-nil (lines_in raw)
+
+-- one more line is gone
+pub lines_go : (a b c : Option (List ℕ)) (lines : List (List ℕ)) (raw : List ℕ) → LinesGone a lines b → TakesLine b raw false c → LinesGone a (lines ++ lines_in raw) c
+lines_go None b c lines raw p q = tt
+lines_go (Some xs) None c lines raw p q = absurd p
+lines_go (Some xs) (Some ys) None lines raw p q = absurd q.1
+lines_go (Some xs) (Some ys) (Some zs) lines raw p q =
+    let e : ys ≡ raw ++ 10 ∷ zs = q.1 ∙ append_assoc raw (10 ∷ []) zs in
+    p ∙ ap (λ l. lines ++ l) (ap lines_of e ∙ lines_of-more raw zs q.0) ∙ sym (append_assoc lines (lines_in raw) (lines_of zs))
+
+-- the last line is gone
+pub last_goes : (a b c : Option (List ℕ)) (lines : List (List ℕ)) (raw : List ℕ) → LinesGone a lines b → TakesLine b raw true c → IfSome a (λ bytes. lines ++ lines_in raw ≡ lines_of bytes)
+last_goes None b c lines raw p q = tt
+last_goes (Some xs) None c lines raw p q = absurd p
+last_goes (Some xs) (Some ys) None lines raw p q = absurd q.1
+last_goes (Some xs) (Some ys) (Some zs) lines raw p q =
+    let e : ys ≡ raw = q.1 ∙ ap (λ l. raw ++ l) q.2 ∙ append-nil raw in
+    sym (p ∙ ap (λ l. lines ++ l) (ap lines_of e ∙ lines_of-last raw q.0))
+
+-- the lines that are gone come first
+pub gone_first : (a b : Option (List ℕ)) (lines : List (List ℕ)) → LinesGone a lines b → IfSome a (λ bytes. IsFront lines (lines_of bytes))
+gone_first None b lines p = tt
+gone_first (Some xs) None lines p = absurd p
+gone_first (Some xs) (Some ys) lines p = (lines_of ys, p)
+
+whole_first : (a : Option (List ℕ)) (lines : List (List ℕ)) → IfSome a (λ bytes. lines ≡ lines_of bytes) → IfSome a (λ bytes. IsFront lines (lines_of bytes))
+whole_first None lines p = tt
+whole_first (Some xs) lines p = ([], sym p ∙ sym (append-nil lines))
+
+-- so does the next one
+pub next_first : (a b c : Option (List ℕ)) (lines : List (List ℕ)) (raw line : List ℕ) (last : Bool) → LinesGone a lines b → TakesLine b raw last c → lines_in raw ≡ line ∷ []
+    → IfSome a (λ bytes. IsFront (lines ++ line ∷ []) (lines_of bytes))
+next_first a b c lines raw line true p q e =
+    subst (λ l. IfSome a (λ bytes. IsFront (lines ++ l) (lines_of bytes))) e (whole_first a (lines ++ lines_in raw) (last_goes a b c lines raw p q))
+next_first a b c lines raw line false p q e =
+    subst (λ l. IfSome a (λ bytes. IsFront (lines ++ l) (lines_of bytes))) e (gone_first a c (lines ++ lines_in raw) (lines_go a b c lines raw p q))
+
+-- at the start none is gone
+pub start_gone : (b : Inbox) (a : Option (List ℕ)) → b.at ≡ 0 → b.end ≡ 0 → LinesGone a [] (source b a)
+start_gone b None p q = tt
+start_gone b (Some xs) p q =
+    let none : drop b.at (take b.end b.block) ≡ [] = drop_all b.at (take b.end b.block) (omega (arith, length-take {A = ℕ} b.end b.block, p, q)) in
+    ap (λ l. lines_of (l ++ xs)) (sym none)
+
+-- where nothing is left to give, the reader is at its end
+pub end_behind : (xs : List ℕ) (known : Option (List ℕ)) → IsAtEnd (prepend_known xs known) → IsAtEnd known
+end_behind xs None p = tt
+end_behind [] (Some ys) p = p
+end_behind (x ∷ xs) (Some ys) p = cc

@@ -1,0 +1,48 @@
+-- A law of inputs: where no line is answered Unavailable, the list after an input is the list after that input without its repeats.
+use Rattle.std.proofs.Common.{◌≡◌, ◌∙◌, ◌||◌, ℕ, List, [], ◌∷◌, length, Bool, true, false, if◌then◌else◌, nat_lt, Option, Some, None, is_some, Result, Ok, Err, refl, sym, ap}
+use Rattle.cfx_profile.specs.declared.fault.MessageFault.{MessageFault}
+use Rattle.cfx_profile.specs.declared.message.Said.{Said}
+use Rattle.cfx_profile.specs.declared.message.Said.TheVariants.{Asked, Ignored}
+use Rattle.cfx_profile.specs.Message.{said}
+use Rattle.desk_types.specs.declared.rules.Rules.{Rules}
+use Rattle.desk_types.specs.History.{History}
+use Rattle.desk_types.specs.Outcome.{after_command}
+use Rattle.desk_answers.specs.declared.answer.Answer.{Answer}
+use Rattle.desk_answers.specs.Commands.{earlier_answer, is_full}
+use Rattle.desk_feed.specs.declared.inbox.TheConstants.{LONGEST_LINE}
+use Rattle.desk_feed.specs.Messages.{after_heard, list_after}
+use Rattle.desk_feed.specs.Repeats.{is_again, repeats, is_repeat, without_repeats, after_all}
+use Rattle.desk_feed.specs.Stream.{line_after}
+
+is_earlier : (o : Option Answer) → is_again o ≡ true → is_some o ≡ true
+is_earlier (Some a) again = refl
+is_earlier None again = absurd (cc)
+
+heard_leaves : (rules : Rules) (greatest : ℕ) (H : History) (heard : Result Said MessageFault) → repeats H heard ≡ true → after_heard rules greatest H heard ≡ H
+heard_leaves rules greatest H (Ok (Asked s)) again =
+    ap (λ (b : Bool). if b || is_full greatest H then H else after_command rules H s) (is_earlier (earlier_answer H s) again)
+heard_leaves rules greatest H (Ok (Ignored name)) again = refl
+heard_leaves rules greatest H (Err fault) again = refl
+
+short_leaves : (long again : Bool) (H after : History) → (if long then false else again) ≡ true → (again ≡ true → after ≡ H) → (if long then H else after) ≡ H
+short_leaves true again H after is leaves = refl
+short_leaves false again H after is leaves = leaves is
+
+-- a repeat leaves the list
+pub repeat_leaves : (rules : Rules) (greatest : ℕ) (H : History) (line : List ℕ) → is_repeat H line ≡ true → line_after rules greatest false H line ≡ H
+repeat_leaves rules greatest H line again =
+    short_leaves (nat_lt LONGEST_LINE (length line)) (repeats H (said line)) H (list_after rules greatest H line) again (heard_leaves rules greatest H (said line))
+
+line_more : (rules : Rules) (greatest : ℕ) (H after : History) (line : List ℕ) (lines fewer more : List (List ℕ)) (again : Bool) → line_after rules greatest false H line ≡ after
+    → (again ≡ true → after ≡ H) → after_all rules greatest H lines ≡ after_all rules greatest H fewer → after_all rules greatest after lines ≡ after_all rules greatest after more
+    → after_all rules greatest after lines ≡ after_all rules greatest H (if again then fewer else line ∷ more)
+line_more rules greatest H after line lines fewer more true is leaves same rest = ap (λ (G : History). after_all rules greatest G lines) (leaves refl) ∙ same
+line_more rules greatest H after line lines fewer more false is leaves same rest = rest ∙ ap (λ (G : History). after_all rules greatest G more) (sym is)
+
+-- the law
+pub repeats_leave_the_list : (rules : Rules) (greatest : ℕ) (H : History) (lines : List (List ℕ)) → after_all rules greatest H lines ≡ after_all rules greatest H (without_repeats rules greatest H lines)
+repeats_leave_the_list rules greatest H [] = refl
+repeats_leave_the_list rules greatest H (line ∷ lines) =
+    let after = line_after rules greatest false H line in
+    line_more rules greatest H after line lines (without_repeats rules greatest H lines) (without_repeats rules greatest after lines) (is_repeat H line) refl
+    (repeat_leaves rules greatest H line) (repeats_leave_the_list rules greatest H lines) (repeats_leave_the_list rules greatest after lines)

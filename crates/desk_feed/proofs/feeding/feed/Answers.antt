@@ -1,0 +1,106 @@
+use Rattle.std.proofs.Common.{◌≡◌, ◌∙◌, ◌++◌, true, false, subst, arith, [], refl, Bool, drop, take}
+use Rattle.desk_types.specs.Wire.{inner_of}
+use Rattle.desk_feed.proofs.Answering.{same_write}
+use Rattle.desk_feed.specs.Owners.{ForLists}
+use Rattle.desk_feed.proofs.Going.{goes_none, goes_on, stops_into}
+use Rattle.desk_feed.proofs.Lining.{start_gone, lines_go, last_goes, next_first, end_behind}
+use Rattle.desk_feed.specs.Inbox.{TakesLine, source}
+use Rattle.desk_feed.specs.Lines.{lines_in}
+use Rattle.served.specs.Counts.{none_served}
+use Rattle.desk_feed.specs.Stream.{AnsweredInto}
+use Rattle.served.specs.declared.serving.Served.{Served}
+use Rattle.desk_feed.proofs.feeding.feed.Goals as goal
+
+pub lines-init : goal.lines-init
+lines-init g c =
+    let e = c.new-inbox.ensures.empty in
+    let r = c.reads-most_reads.ensures in record {
+      inbox = c.new-inbox.ensures.valid;
+      reads = omega (arith, r);
+      read_failures = refl;
+      write_failures = refl;
+      counted = omega (arith, e.0, e.1, r);
+      refused = omega arith;
+      ready = c.requires.ready;
+      trusts = λ trusts. trusts;
+      lines = [];
+      gone = start_gone c.new-inbox.result (g.R.Read.remaining (inner_of c.args.input.now)) e.0 e.1;
+      answered = goes_none g.L.Line.Stands g.L.Line.Trusts c.args.line.now (g.W.Write.contents (inner_of c.args.output.now));
+    }
+
+pub returns-in-Ok-serve_line-clause-end : goal.returns-in-Ok-serve_line-clause-end
+returns-in-Ok-serve_line-clause-end g c =
+    let got = c.in-Ok.ensures.line in
+    let inbox = c.next_line.new.self in
+    let known = g.R.Read.remaining (inner_of c.next_line.new.wire) in
+    let before = source c.lines.inbox (g.R.Read.remaining (inner_of c.lines.input)) in
+    let took : TakesLine before got.0 c.in-Ok.field-0.last (source inbox known) = got.2 in
+    let is_last : c.in-Ok.field-0.last ≡ true = cc in
+    let took = subst (λ (b : Bool). TakesLine before got.0 b (source inbox known)) is_last took in
+    end_behind (drop inbox.at (take inbox.end inbox.block)) known took.2
+
+pub returns-in-Ok-serve_line-clause-ok : goal.returns-in-Ok-serve_line-clause-ok
+returns-in-Ok-serve_line-clause-ok g c = λ G stands trusts.
+    let inv = c.lines.invariant in
+    let got = c.in-Ok.ensures.line in
+    let raw = got.0 in
+    let asked = g.R.Read.remaining (inner_of c.args.input.now) in
+    let before = source c.lines.inbox (g.R.Read.remaining (inner_of c.lines.input)) in
+    let behind = source c.next_line.new.self (g.R.Read.remaining (inner_of c.next_line.new.wire)) in
+    let took : TakesLine before raw c.in-Ok.field-0.last behind = got.2 in
+    let is_last : c.in-Ok.field-0.last ≡ true = cc in
+    let took = subst (λ (b : Bool). TakesLine before raw b behind) is_last took in
+    let contents = g.W.Write.contents in
+    let all = goes_on g.L.Line.Stands g.L.Line.Trusts inv.lines (lines_in raw) c.args.line.now c.lines.line c.serve_line.new.line
+    (contents (inner_of c.args.output.now)) (contents (inner_of c.lines.output)) (contents (inner_of c.serve_line.new.output)) none_served c.lines.served c.serve_line.new.served
+    c.serve_line.ensures.trusts inv.answered (λ G stands trusts. c.in-Ok-serve_line.ensures.ok G stands trusts raw got.1) G stands trusts in
+    (all.0, all.1, (inv.lines ++ lines_in raw, all.2.0, last_goes asked before behind inv.lines raw inv.gone took, all.2.1))
+
+pub lines-preserved : goal.lines-preserved
+lines-preserved g c =
+    let inv = c.lines.invariant in
+    let got = c.in-Ok.ensures.line in
+    let raw = got.0 in
+    let asked = g.R.Read.remaining (inner_of c.args.input.now) in
+    let before = source c.lines.inbox (g.R.Read.remaining (inner_of c.lines.input)) in
+    let behind = source c.next_line.new.self (g.R.Read.remaining (inner_of c.next_line.new.wire)) in
+    let took : TakesLine before raw c.in-Ok.field-0.last behind = got.2 in
+    let not_last : c.in-Ok.field-0.last ≡ false = cc in
+    let took = subst (λ (b : Bool). TakesLine before raw b behind) not_last took in
+    let contents = g.W.Write.contents in
+    let falls = c.in-Ok.ensures.falls in
+    let few = c.in-Ok-serve_line.ensures.few_answers in record {
+      inbox = c.next_line.ensures.valid;
+      reads = c.next_line.ensures.few_reads;
+      read_failures = c.in-Ok.ensures.kept ∙ inv.read_failures;
+      write_failures = c.in-Ok-serve_line.ensures.kept ∙ inv.write_failures;
+      counted = omega (arith, inv.counted, falls, few);
+      refused = c.serve_line.ensures.refused;
+      ready = c.serve_line.ensures.ready;
+      trusts = λ trusts. inv.trusts (c.serve_line.ensures.trusts trusts);
+      lines = inv.lines ++ lines_in raw;
+      gone = lines_go asked before behind inv.lines raw inv.gone took;
+      answered = goes_on g.L.Line.Stands g.L.Line.Trusts inv.lines (lines_in raw) c.args.line.now c.lines.line c.serve_line.new.line
+          (contents (inner_of c.args.output.now)) (contents (inner_of c.lines.output)) (contents (inner_of c.serve_line.new.output)) none_served c.lines.served c.serve_line.new.served
+          c.serve_line.ensures.trusts inv.answered (λ G stands trusts. c.in-Ok-serve_line.ensures.ok G stands trusts raw got.1);
+    }
+
+pub returns-in-Err-clause-write : goal.returns-in-Err-clause-write
+returns-in-Err-clause-write g c = λ served e.
+    let inv = c.lines.invariant in
+    let got = c.in-Ok.ensures.line in
+    let raw = got.0 in
+    let asked = g.R.Read.remaining (inner_of c.args.input.now) in
+    let before = source c.lines.inbox (g.R.Read.remaining (inner_of c.lines.input)) in
+    let behind = source c.next_line.new.self (g.R.Read.remaining (inner_of c.next_line.new.wire)) in
+    let took : TakesLine before raw c.in-Ok.field-0.last behind = got.2 in
+    let contents = g.W.Write.contents in
+    let out₀ = contents (inner_of c.args.output.now) in
+    let out₂ = contents (inner_of c.serve_line.new.output) in
+    let failed = c.in-Err.ensures.failed in
+    let into = stops_into g.L.Line.Stands g.L.Line.Trusts inv.lines (lines_in raw) asked c.args.line.now c.lines.line c.serve_line.new.line out₀ (contents (inner_of c.lines.output)) out₂ c.lines.served c.serve_line.new.served
+    c.serve_line.ensures.trusts (λ line is. next_first asked before behind inv.lines raw line c.in-Ok.field-0.last inv.gone took is) inv.answered (λ G stands trusts. c.in-Err.ensures.err G stands trusts raw got.1) in (
+      (omega (arith, failed, inv.write_failures), c.in-Ok.ensures.kept ∙ inv.read_failures),
+      subst (λ (s : Served). ForLists g.L.Line.Stands g.L.Line.Trusts c.args.line.now c.serve_line.new.line (λ G H. AnsweredInto G.rules G.greatest asked G.history out₀ H out₂ s))
+          (same_write c.serve_line.new.served served e) into,
+    )

@@ -1,0 +1,26 @@
+use Rattle.std.proofs.Common.{◌≡◌, ◌≤◌, ◌+◌, ◌*◌, ℕ, List}
+use Rattle.desk_types.specs.Wire.{inner_of, reads_of, failures_of}
+use Rattle.served.specs.declared.serving.TheConstants.{MOST_READS}
+use Rattle.desk_feed.specs.declared.inbox.TheConstants.{BLOCK}
+use Rattle.desk_feed.specs.Inbox.{IsInbox, source, fuel, LinesGone}
+use Rattle.served.specs.Counts.{none_served}
+use Rattle.desk_feed.proofs.Going.{Goes}
+use Rattle.desk_feed.proofs.feeding.feed.Given as goal
+
+abbrev pub invariant-lines : goal.invariant-lines
+invariant-lines g l = record {
+  inbox : IsInbox l.inbox;
+  reads : reads_of l.input ≤ l.most_reads;
+  read_failures : failures_of l.input ≡ failures_of l.fn.input;
+  write_failures : failures_of l.output ≡ failures_of l.fn.output;
+  counted : l.served.answered + fuel l.most_reads (reads_of l.input) l.inbox ≤ MOST_READS * (BLOCK + 1);
+  refused : l.served.refused ≤ l.served.answered;
+  ready : g.L.Line.Ready l.line;
+  trusts : g.L.Line.Trusts l.line → g.L.Line.Trusts l.fn.line;
+  lines : List (List ℕ);
+  gone : LinesGone (g.R.Read.remaining (inner_of l.fn.input)) lines (source l.inbox (g.R.Read.remaining (inner_of l.input)));
+  answered : Goes g.L.Line.Stands g.L.Line.Trusts lines l.fn.line (g.W.Write.contents (inner_of l.fn.output)) none_served l.line (g.W.Write.contents (inner_of l.output)) l.served;
+}
+
+abbrev pub decreases-lines : goal.decreases-lines
+decreases-lines g l = fuel l.most_reads (reads_of l.input) l.inbox

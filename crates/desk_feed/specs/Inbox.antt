@@ -1,0 +1,46 @@
+-- What a reader's lines are taken from, and what is taken.
+use Rattle.std.specs.Prelude.{◌≡◌, ℕ, ◌+◌, ◌-◌, ◌*◌, ◌<◌, ◌≤◌, Bool, true, false, All, List, [], ◌∷◌, ◌++◌, length, take, drop, get_or, Option, Some, None}
+use Rattle.std.specs.Io.KnownBytes.{prepend_known, Consumes, IsAtEnd}
+use Rattle.desk_feed.specs.Lines.{is_feed, is_empty, without_return, lines_of}
+use Rattle.desk_feed.specs.declared.inbox.Inbox.{Inbox}
+use Rattle.desk_feed.specs.declared.inbox.TheConstants.{BLOCK, LONGEST_RAW}
+use Rattle.desk_feed.specs.declared.inbox.RawLine.{RawLine}
+use Rattle.desk_feed.specs.declared.inbox.RawLine.TheVariants.{Whole, Over, NoMemory, NoMemoryReturn}
+
+-- the bytes from `at` to `end` were read and not given
+abbrev pub IsInbox : Inbox → Type 0
+IsInbox inbox = (inbox.at ≤ inbox.end) × (inbox.end ≤ BLOCK)
+
+-- what is still to be given: the bytes that were read, and then those that the reader has left, where they are known
+abbrev pub source : Inbox → Option (List ℕ) → Option (List ℕ)
+source inbox known = prepend_known (drop inbox.at (take inbox.end inbox.block)) known
+
+-- how far a reading can go on: the bytes of the reads that may still be made, and those that were read
+abbrev pub fuel : ℕ → ℕ → Inbox → ℕ
+fuel most_reads reads inbox = (most_reads - reads) * (BLOCK + 1) + (inbox.end - inbox.at)
+
+abbrev pub HasNoFeed : List ℕ → Type 0
+HasNoFeed bytes = All (λ b. is_feed b ≡ false) bytes
+
+-- where the first line feed is
+abbrev pub IsFirstFeed : List ℕ → Option ℕ → Type 0
+IsFirstFeed block None = HasNoFeed block
+IsFirstFeed block (Some n) = (n < length block) × HasNoFeed (take n block) × (get_or block n 0 ≡ 10)
+
+-- what is kept of these bytes of a line
+abbrev pub HoldsLine : RawLine → List ℕ → Type 0
+HoldsLine (Whole kept) raw = (kept.items ≡ raw) × (length raw ≤ LONGEST_RAW)
+HoldsLine Over raw = LONGEST_RAW < length raw
+HoldsLine NoMemory raw = (0 < length raw) × (is_empty (without_return raw) ≡ false)
+HoldsLine NoMemoryReturn raw = (0 < length raw) × (is_empty (without_return raw) ≡ true)
+
+-- these bytes went out, as the last ones to the end, and else with the line feed that ends them
+abbrev pub TakesLine : Option (List ℕ) → List ℕ → Bool → Option (List ℕ) → Type 0
+TakesLine old raw true new = HasNoFeed raw × Consumes old new raw × IsAtEnd new
+TakesLine old raw false new = HasNoFeed raw × Consumes old new (raw ++ 10 ∷ [])
+
+-- of a reader's known bytes these lines are gone
+abbrev pub LinesGone : Option (List ℕ) → List (List ℕ) → Option (List ℕ) → Type 0
+LinesGone None lines new = Unit {0}
+LinesGone (Some before) lines None = ⊥
+LinesGone (Some before) lines (Some left) = lines_of before ≡ lines ++ lines_of left

@@ -1,0 +1,7 @@
+pub mod Inbox
+pub mod LineAnswers
+pub mod Lines
+pub mod Messages
+pub mod Owners
+pub mod Repeats
+pub mod Stream

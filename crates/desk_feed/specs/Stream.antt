@@ -1,0 +1,89 @@
+-- What the lines of an input are answered.
+use Rattle.std.specs.Prelude.{◌≡◌, ℕ, ◌+◌, Bool, true, false, nat_lt, List, [], ◌∷◌, ◌++◌, length, Option, IfSome, count_by, codes, if◌then◌else◌}
+use Rattle.std.specs.List.{flat_map}
+use Rattle.std.specs.Io.KnownBytes.{Appends}
+use Rattle.serde_json.specs.Written.{compact_text}
+use Rattle.cfx_profile.specs.Answer.{faulty, unavailable_text}
+use Rattle.desk_types.specs.declared.rules.Rules.{Rules}
+use Rattle.desk_types.specs.History.{History}
+use Rattle.served.specs.declared.serving.Served.{Served}
+use Rattle.served.specs.declared.serving.ServeFault.{ServeFault}
+use Rattle.served.specs.declared.serving.ServeFault.TheVariants.{Read, Write, TooManyReads}
+use Rattle.desk_feed.specs.declared.inbox.TheConstants.{LONGEST_LINE}
+use Rattle.desk_feed.specs.declared.message.Told.{Told}
+use Rattle.desk_feed.specs.Lines.{lines_of}
+use Rattle.desk_feed.specs.Messages.{answer_to, list_after}
+use Rattle.served.specs.Counts.{none_served}
+use Rattle.served.specs.Sent.{SendsFront}
+
+-- ---- one line
+
+-- the text of the answer to a line that is too long
+abbrev pub too_long_text : List ℕ
+too_long_text = compact_text (faulty (codes "LineTooLong"))
+
+-- the answer to a line after H: Unavailable where it is marked, LineTooLong where it is longer than the longest line, and else as the message that it is
+abbrev pub line_answer : Rules → ℕ → Bool → History → List ℕ → Told
+line_answer rules greatest true H line = record { text = unavailable_text; refused = true }
+line_answer rules greatest false H line = if nat_lt LONGEST_LINE (length line) then record { text = too_long_text; refused = true } else answer_to rules greatest H line
+
+-- the list after the line: only a message changes it
+abbrev pub line_after : Rules → ℕ → Bool → History → List ℕ → History
+line_after rules greatest true H line = H
+line_after rules greatest false H line = if nat_lt LONGEST_LINE (length line) then H else list_after rules greatest H line
+
+-- ---- lines one after the other
+
+-- Each line has a mark: whether it was answered Unavailable.
+
+-- the answers to the lines, each by the list before it
+abbrev pub answers_to : Rules → ℕ → List Bool → History → List (List ℕ) → List Told
+answers_to rules greatest [] H lines = []
+answers_to rules greatest (m ∷ ms) H [] = []
+answers_to rules greatest (m ∷ ms) H (line ∷ lines) = line_answer rules greatest m H line ∷ answers_to rules greatest ms (line_after rules greatest m H line) lines
+
+-- the list after them all
+abbrev pub after_lines : Rules → ℕ → List Bool → History → List (List ℕ) → History
+after_lines rules greatest [] H lines = H
+after_lines rules greatest (m ∷ ms) H [] = H
+after_lines rules greatest (m ∷ ms) H (line ∷ lines) = after_lines rules greatest ms (line_after rules greatest m H line) lines
+
+-- an answer as it goes out: its text and a line feed
+abbrev pub sent : Told → List ℕ
+sent told = told.text ++ 10 ∷ []
+
+-- ---- a run
+
+-- the lines were answered, each as its mark says: so many bytes went out, so the list went on, and so many were counted
+pub record Answered (rules : Rules) (greatest : ℕ) (lines : List (List ℕ)) (marks : List Bool) (H : History) (out : Option (List ℕ)) (before : Served) (H' : History) (out' : Option (List ℕ)) (after : Served) : Type 0 where
+  pub each : length marks ≡ length lines
+  pub bytes : Appends out out' (flat_map sent (answers_to rules greatest marks H lines))
+  pub history : H' ≡ after_lines rules greatest marks H lines
+  pub answered : after.answered ≡ before.answered + length lines
+  pub refused : after.refused ≡ before.refused + count_by (λ (told : Told). told.refused) (answers_to rules greatest marks H lines)
+
+-- the first lines of a list
+abbrev pub IsFront : List (List ℕ) → List (List ℕ) → Type 0
+IsFront lines all = (rest : List (List ℕ)) × (all ≡ lines ++ rest)
+
+-- all lines of the reader's bytes, where they are known, were answered
+abbrev pub AnsweredAll : Rules → ℕ → Option (List ℕ) → History → Option (List ℕ) → History → Option (List ℕ) → Served → Type 0
+AnsweredAll rules greatest input H out H' out' served = (lines : List (List ℕ)) × (marks : List Bool)
+    × IfSome input (λ bytes. lines ≡ lines_of bytes) × Answered rules greatest lines marks H out none_served H' out' served
+
+-- the first lines of them were answered, each whole, and nothing else went out
+abbrev pub AnsweredFront : Rules → ℕ → Option (List ℕ) → History → Option (List ℕ) → History → Option (List ℕ) → Served → Type 0
+AnsweredFront rules greatest input H out H' out' served = (lines : List (List ℕ)) × (marks : List Bool)
+    × IfSome input (λ bytes. IsFront lines (lines_of bytes)) × Answered rules greatest lines marks H out none_served H' out' served
+
+-- the first lines of them were answered, each whole; then one more was answered, and of that answer only the first bytes went out
+abbrev pub AnsweredInto : Rules → ℕ → Option (List ℕ) → History → Option (List ℕ) → History → Option (List ℕ) → Served → Type 0
+AnsweredInto rules greatest input H out H' out' served = (lines : List (List ℕ)) × (marks : List Bool) × (line : List ℕ) × (mark : Bool) × (H₁ : History) × (out₁ : Option (List ℕ))
+    × IfSome input (λ bytes. IsFront (lines ++ line ∷ []) (lines_of bytes)) × Answered rules greatest lines marks H out none_served H₁ out₁ served
+    × (H' ≡ line_after rules greatest mark H₁ line) × SendsFront out₁ out' (sent (line_answer rules greatest mark H₁ line))
+
+-- what was answered before a fault: after a failed read, or as many reads as may be, the first lines alone; after a failed write one more in part
+abbrev pub AnsweredUpTo : Rules → ℕ → Option (List ℕ) → History → Option (List ℕ) → History → Option (List ℕ) → ServeFault → Type 0
+AnsweredUpTo rules greatest input H out H' out' (Read served) = AnsweredFront rules greatest input H out H' out' served
+AnsweredUpTo rules greatest input H out H' out' (TooManyReads served) = AnsweredFront rules greatest input H out H' out' served
+AnsweredUpTo rules greatest input H out H' out' (Write served) = AnsweredInto rules greatest input H out H' out' served

@@ -1,0 +1,84 @@
+//! What one line is answered.
+
+ghost use Rattle.std.specs.Prelude.{◌≡◌, ℕ, List};
+ghost use Rattle.desk_types.specs.History.{History};
+ghost use Rattle.desk_answers.specs.Ledger.{Ledger};
+ghost use Rattle.desk_feed.specs.Inbox.{HoldsLine};
+ghost use Rattle.desk_feed.specs.LineAnswers.{told_by, AnswersRaw};
+ghost use Rattle.desk_feed.specs.Stream.{too_long_text};
+
+use crate::inbox::{LONGEST_LINE, RawLine, without_return};
+use crate::message::{Told, answer_message};
+use cfx_profile::unavailable_text;
+use desk_answers::Line;
+use std::alloc::Global;
+
+/// What one line is answered.
+#[derive(Drop)]
+pub enum LineAnswer {
+    /// The answer to the message in it.
+    Made(Told),
+    /// The line is longer than the longest line.
+    TooLong,
+    /// Memory was refused.
+    Unavailable,
+}
+
+impl LineAnswer {
+    /// The text of the answer. Takes no memory.
+    pub fn text(&self) -> &[u8]
+        ensures { result.now ≡ (told_by self.now).text }
+    {
+        match self {
+            LineAnswer::Made(told) => told.text.as_slice(),
+            LineAnswer::TooLong => too_long_text().as_bytes(),
+            LineAnswer::Unavailable => unavailable_text().as_bytes(),
+        }
+    }
+
+    /// Whether it counts as refused.
+    pub fn is_refused(&self) -> bool
+        ensures { result ≡ (told_by self.now).refused }
+    {
+        match self {
+            LineAnswer::Made(told) => told.refused,
+            LineAnswer::TooLong | LineAnswer::Unavailable => true,
+        }
+    }
+}
+
+/// The text of the answer to a line that is too long. Takes no memory.
+fn too_long_text() -> &'static str
+    ensures { result.now ≡ too_long_text }
+{
+    "{\"Answer\":\"Faulty\",\"Fault\":\"LineTooLong\"}"
+}
+
+/// Answers what is kept of a line; an empty line has no answer.
+pub fn answer_line<L: Line>(alloc: Global, line: &mut L, raw: RawLine) -> Option<LineAnswer>
+    requires ready { L.Ready line.old }
+    ensures ready { L.Ready line.new }
+    ensures trusts { L.Trusts line.new → L.Trusts line.old }
+    ensures answer { (G : Ledger) → L.Stands line.old G → L.Trusts line.new → (bytes : List ℕ) → HoldsLine raw bytes
+        → (H : History) × L.Stands line.new (record G { history = H }) × AnswersRaw G.rules G.greatest G.history bytes result H }
+{
+    match raw {
+        RawLine::NoMemoryReturn => None,
+        RawLine::NoMemory => Some(LineAnswer::Unavailable),
+        RawLine::Over => Some(LineAnswer::TooLong),
+        RawLine::Whole(bytes) => {
+            let bytes = without_return(&bytes);
+            let too_long = bytes.len() > LONGEST_LINE;
+            if bytes.is_empty() {
+                None
+            } else if too_long {
+                Some(LineAnswer::TooLong)
+            } else {
+                match answer_message(alloc, line, bytes) {
+                    Ok(told) => Some(LineAnswer::Made(told)),
+                    Err(_) => Some(LineAnswer::Unavailable),
+                }
+            }
+        }
+    }
+}

@@ -1,0 +1,42 @@
+-- Values under a name, line by line, and the number that digits write.
+use Rattle.std.proofs.Common.{◌≡◌, ◌∙◌, ◌+◌, ◌*◌, ◌-◌, ◌≤◌, ℕ, Bool, true, false, ◌||◌, ◌&&◌, codes, cond, List, [], ◌∷◌, ◌++◌, refl, sym, ap, arith}
+use Rattle.std.specs.List.{list_any}
+use Rattle.std.proofs.lemmas.Bool.Decides.{nat_tests}
+use Rattle.std.proofs.lemmas.List.Folds.{list_any-append}
+use Rattle.std.proofs.lemmas.Grind.{common_steps}
+use Rattle.std.specs.Char.{digit_value}
+use Rattle.std.specs.Str.{str_eq_ignore_ascii_case}
+use Rattle.std.specs.Str.Parse.{digits_value_after}
+use Rattle.http_stream.specs.Heads.{values_of, has_close}
+use Rattle.http_stream.specs.Looks.{after_header, closes_by}
+
+cond_cons : (b : Bool) (v : List ℕ) (us vs : List (List ℕ)) (c : Bool) (w : List ℕ)
+    → cond b (v ∷ cond c (us ++ w ∷ []) us) (cond c (us ++ w ∷ []) us) ≡ cond c (cond b (v ∷ us) us ++ w ∷ []) (cond b (v ∷ us) us)
+cond_cons true v us vs true w = refl
+cond_cons true v us vs false w = refl
+cond_cons false v us vs true w = refl
+cond_cons false v us vs false w = refl
+
+pub values_of-more : (name : List ℕ) (fs : List (List ℕ × List ℕ)) (f : List ℕ × List ℕ) → values_of name (fs ++ f ∷ []) ≡ after_header name (values_of name fs) f
+values_of-more name [] f = refl
+values_of-more name (g ∷ gs) f =
+    ap (λ us. cond (str_eq_ignore_ascii_case g.0 name) (g.1 ∷ us) us) (values_of-more name gs f)
+    ∙ cond_cons (str_eq_ignore_ascii_case g.0 name) g.1 (values_of name gs) [] (str_eq_ignore_ascii_case f.0 name) f.1
+
+pub digits_value_after-more : (n : ℕ) (ds : List ℕ) (d : ℕ) → digits_value_after 10 n (ds ++ d ∷ []) ≡ digits_value_after 10 n ds * 10 + digit_value d
+digits_value_after-more n [] d = refl
+digits_value_after-more n (e ∷ es) d = digits_value_after-more (n * 10 + digit_value e) es d
+
+any_more : (a : Bool) (vs : List (List ℕ)) (c : Bool) (v : List ℕ) → a ≡ list_any has_close vs
+    → (a || (c && has_close v)) ≡ list_any has_close (cond c (vs ++ v ∷ []) vs)
+any_more a vs true v e = grind (arith, common_steps, e, list_any-append has_close vs (v ∷ []))
+any_more a vs false v e = grind (arith, common_steps, e)
+
+pub any_close-more : (a : Bool) (fs : List (List ℕ × List ℕ)) (f : List ℕ × List ℕ) → a ≡ list_any has_close (values_of (codes "Connection") fs)
+    → (a || closes_by f) ≡ list_any has_close (values_of (codes "Connection") (fs ++ f ∷ []))
+any_close-more a fs f e =
+    any_more a (values_of (codes "Connection") fs) (str_eq_ignore_ascii_case f.0 (codes "Connection")) f.1 e
+    ∙ ap (list_any has_close) (sym (values_of-more (codes "Connection") fs f))
+
+pub digit_is : (d : ℕ) → 48 ≤ d → d ≤ 57 → digit_value d ≡ d - 48
+digit_is d low high = grind (arith, nat_tests)

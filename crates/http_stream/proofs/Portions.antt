@@ -1,0 +1,198 @@
+-- What stands at the front of a stream, from what was seen of it.
+use Rattle.std.proofs.Common.{◌≡◌, ◌∙◌, ◌<◌, ◌≤◌, ◌+◌, ◌-◌, ℕ, true, false, List, [], ◌∷◌, ◌++◌, sym, ap, refl, subst, take, drop, length, length-append, Option, Some, None, IfSome, Ok, Err, arith, inl, inr, append_assoc, append-nil}
+use Rattle.std.proofs.lemmas.List.{length-take, take-append-drop, take-append-le, take-take, take_min, drop_all, drop-drop, drop-append-le}
+use Rattle.std.specs.List.{slice_range}
+use Rattle.http_stream.proofs.Sources.{split_pending}
+use Rattle.std.specs.Io.KnownBytes.{prepend_known, Consumes, Keeps, IsAtEnd}
+use Rattle.httparse.specs.Grammar.{RequestHead, ReadsRequest, HasNoRequest, NeverHasRequest, print_request}
+use Rattle.httparse.specs.Spans.{RequestOverflows, RequestExceeds}
+use Rattle.http_stream.specs.declared.head.Head.{Head}
+use Rattle.http_stream.specs.declared.head.LengthFault.{LengthFault}
+use Rattle.http_stream.specs.declared.head.TheConstants.{HEAD_LIMIT, MOST_HEADERS}
+use Rattle.http_stream.specs.Heads.{window, TakesHead, IsBadHead, IsUnfinished}
+use Rattle.http_stream.specs.Looks.{IsHeadOf}
+use Rattle.http_stream.specs.Cut.{Portion, whole, bad_head, head_too_large, unread, starved, IsPortion, EndsInside, TakesPortion, PortionsGone, Leads, IsCut, is_last}
+use Rattle.httparse.specs.Spans.{span_bytes}
+
+-- ---- what is known of the bytes at hand stays known of more bytes
+
+never-more : (p q : List ℕ) → NeverHasRequest p → NeverHasRequest (p ++ q)
+never-more p q never more = subst HasNoRequest (sym (append_assoc p q more)) (never (q ++ more))
+
+overflows-more : (n : ℕ) (p q : List ℕ) → RequestOverflows n p → RequestOverflows n (p ++ q)
+overflows-more n p q over more h rest reads =
+    over (q ++ more) h rest (subst (λ b. ReadsRequest b h rest) (append_assoc p q more) reads)
+
+exceeds-more : (n : ℕ) (p q : List ℕ) → RequestExceeds n p → RequestExceeds n (p ++ q)
+exceeds-more n p q (front, rest, split, h, reads, many) = (front, rest ++ q, rw split (append_assoc front rest q), h, reads, many)
+
+bad-more : (p q : List ℕ) → IsBadHead p → IsBadHead (p ++ q)
+bad-more p q (inl never) = inl (never-more p q never)
+bad-more p q (inr e) = inr (exceeds-more MOST_HEADERS p q e.0, overflows-more MOST_HEADERS p q e.1)
+
+-- the window of more bytes is the window, and maybe more
+window-more : (n : ℕ) (p q : List ℕ) → take n (p ++ q) ≡ take n p ++ drop (length (take n p)) (take n (p ++ q))
+window-more n p q =
+    let m = length (take n p) in
+    let few : m ≤ length p = omega (arith, length-take n p) in
+    let least : m ≤ n = omega (arith, length-take n p) in
+    let e : take m (take n (p ++ q)) ≡ take n p =
+    take-take m n (p ++ q) least ∙ take-append-le m p q few ∙ sym (take_min_of n p) in
+    sym (take-append-drop m (take n (p ++ q))) ∙ ap (λ l. l ++ drop m (take n (p ++ q))) e
+  where
+    take_min_of : (n : ℕ) (p : List ℕ) → take n p ≡ take (length (take n p)) p
+    take_min_of n p = sym (ap (λ k. take k p) (length-take n p) ∙ take_min n p)
+
+bad_window : (p q : List ℕ) → IsBadHead (window p) → IsBadHead (window (p ++ q))
+bad_window p q bad = subst IsBadHead (sym (window-more HEAD_LIMIT p q)) (bad-more (window p) _ bad)
+
+keeps_takes : (a b c : Option (List ℕ)) (p : Portion) → Keeps a b → TakesPortion b p c → TakesPortion a p c
+keeps_takes None b c p k t = tt
+keeps_takes (Some xs) None c p k t = absurd k
+keeps_takes (Some xs) (Some ys) None p k t = absurd t
+keeps_takes (Some xs) (Some ys) (Some zs) p k t = subst (λ l. IsPortion l p zs) k t
+
+keeps_ends : (a b : Option (List ℕ)) → Keeps a b → IfSome b EndsInside → IfSome a EndsInside
+keeps_ends None b k t = tt
+keeps_ends (Some xs) None k t = absurd k
+keeps_ends (Some xs) (Some ys) k t = subst EndsInside k t
+
+pub takes_bad : (a : Option (List ℕ)) (pend : List ℕ) (known : Option (List ℕ)) → Keeps a (prepend_known pend known) → IsBadHead (window pend)
+    → TakesPortion a bad_head (prepend_known pend known)
+takes_bad a pend None k bad = keeps_takes a None None bad_head k tt
+takes_bad a pend (Some us) k bad = keeps_takes a (Some (pend ++ us)) (Some (pend ++ us)) bad_head k (bad_window pend us bad)
+
+pub takes_large : (a : Option (List ℕ)) (pend : List ℕ) (known : Option (List ℕ)) → Keeps a (prepend_known pend known) → HEAD_LIMIT ≤ length pend → IsUnfinished (window pend)
+    → TakesPortion a head_too_large (prepend_known pend known)
+takes_large a pend None k long un = keeps_takes a None None head_too_large k tt
+takes_large a pend (Some us) k long un =
+    keeps_takes a (Some (pend ++ us)) (Some (pend ++ us)) head_too_large k
+    (omega (arith, long, length-append pend us), subst IsUnfinished (sym (take-append-le HEAD_LIMIT pend us long)) un)
+
+pub ends_here : (a : Option (List ℕ)) (pend : List ℕ) (known : Option (List ℕ)) → Keeps a (prepend_known pend known) → length pend < HEAD_LIMIT → IsUnfinished pend → IsAtEnd known
+    → IfSome a EndsInside
+ends_here a pend None k short un end = keeps_ends a None k tt
+ends_here a pend (Some us) k short un end =
+    let e : pend ++ us ≡ pend = ap (λ l. pend ++ l) end ∙ append-nil pend in
+    keeps_ends a (Some (pend ++ us)) k (inl (omega (arith, short, ap length e), subst IsUnfinished (sym e) un))
+
+-- ---- behind a head
+
+-- the stream begins with the head that was seen
+takes_head : (bytes more us : List ℕ) (head : Head) (h : RequestHead) → IsHeadOf bytes head h → length bytes ≤ HEAD_LIMIT
+    → TakesHead ((bytes ++ more) ++ us) h ((drop head.len bytes ++ more) ++ us)
+takes_head bytes more us head h is few =
+    let e : (bytes ++ more) ++ us ≡ print_request h ++ ((drop head.len bytes ++ more) ++ us) =
+    ap (λ l. (l ++ more) ++ us) is.reads.1 ∙ simp append_assoc in
+    ((is.reads.0, e), omega (arith, is.len, is.in_bytes, few), is.few)
+
+-- what was seen of the stream, whose pending bytes are at hand: those that were looked at, and more
+pub record Sees (pend bytes more behind : List ℕ) (head : Head) (h : RequestHead) : Type 0 where
+  pub is : IsHeadOf bytes head h
+  pub few : length bytes ≤ HEAD_LIMIT
+  pub split : pend ≡ bytes ++ more
+  pub left : behind ≡ drop head.len bytes ++ more
+
+pub sees : (block : List ℕ) (at end from to : ℕ) (head : Head) (h : RequestHead) → IsHeadOf (slice_range block from to) head h → from ≡ at → from ≤ to → to ≤ end → to - from ≤ HEAD_LIMIT
+    → Sees (drop at (take end block)) (slice_range block from to) (drop to (take end block)) (drop (at + head.len) (take end block)) head h
+sees block at end from to head h is same le fits few =
+    let bytes = slice_range block from to in
+    let more = drop to (take end block) in
+    let e : from + (to - from) ≡ to = omega arith in
+    let cut = subst (λ (n : ℕ). drop from (take end block) ≡ slice_range block from n ++ drop n (take end block)) e (split_pending block from (to - from) end (omega (arith, fits, e))) in
+    let split = ap (λ n. drop n (take end block)) (sym same) ∙ cut in record {
+      is = is;
+      few = omega (arith, few, length-take (to - from) (drop from block));
+      split = split;
+      left = sym (drop-drop head.len at (take end block)) ∙ ap (drop head.len) split ∙ drop-append-le head.len bytes more is.in_bytes;
+    }
+
+head_of : (pend bytes more behind us : List ℕ) (head : Head) (h : RequestHead) → Sees pend bytes more behind head h → TakesHead (pend ++ us) h (behind ++ us)
+head_of pend bytes more behind us head h s =
+    subst (λ l. TakesHead (l ++ us) h (behind ++ us)) (sym s.split)
+    (subst (λ l. TakesHead ((bytes ++ more) ++ us) h (l ++ us)) (sym s.left) (takes_head bytes more us head h s.is s.few))
+
+pub takes_whole : (pend bytes more behind : List ℕ) (head : Head) (h : RequestHead) (known new : Option (List ℕ)) (body : List ℕ) → Sees pend bytes more behind head h
+    → head.body ≡ Ok (length body) → Consumes (prepend_known behind known) new body
+    → TakesPortion (prepend_known pend known) (whole (record { method = span_bytes bytes head.method; target = span_bytes bytes head.target; body = body }) head.closes) new
+takes_whole pend bytes more behind head h None new body s n p = tt
+takes_whole pend bytes more behind head h (Some us) None body s n p = absurd p
+takes_whole pend bytes more behind head h (Some us) (Some zs) body s n p =
+    (h, (subst (TakesHead (pend ++ us) h) p (head_of pend bytes more behind us head h s), sym s.is.body ∙ n), s.is.method, s.is.target, s.is.closes)
+
+pub takes_starved : (pend bytes more behind : List ℕ) (head : Head) (h : RequestHead) (known new : Option (List ℕ)) (n : ℕ) → Sees pend bytes more behind head h
+    → head.body ≡ Ok n → 0 < n → Keeps (prepend_known behind known) new
+    → TakesPortion (prepend_known pend known) starved new
+takes_starved pend bytes more behind head h None new n s e some k = tt
+takes_starved pend bytes more behind head h (Some us) None n s e some k = absurd k
+takes_starved pend bytes more behind head h (Some us) (Some vs) n s e some k =
+    (h, behind ++ us, n, (head_of pend bytes more behind us head h s, sym s.is.body ∙ e), some)
+
+pub takes_unread : (pend bytes more behind : List ℕ) (head : Head) (h : RequestHead) (known : Option (List ℕ)) (fault : LengthFault) → Sees pend bytes more behind head h
+    → head.body ≡ Err fault
+    → TakesPortion (prepend_known pend known) (unread (span_bytes bytes head.method) fault) (prepend_known pend known)
+takes_unread pend bytes more behind head h None fault s e = tt
+takes_unread pend bytes more behind head h (Some us) fault s e =
+    (h, behind ++ us, head_of pend bytes more behind us head h s, sym s.is.body ∙ e, s.is.method)
+
+pub ends_in_body : (pend bytes more behind : List ℕ) (head : Head) (h : RequestHead) (known new : Option (List ℕ)) (n : ℕ) (gone : List ℕ) → Sees pend bytes more behind head h
+    → head.body ≡ Ok n → length gone < n → Consumes (prepend_known behind known) new gone → IsAtEnd new
+    → IfSome (prepend_known pend known) EndsInside
+ends_in_body pend bytes more behind head h None new n gone s e few p end = tt
+ends_in_body pend bytes more behind head h (Some us) None n gone s e few p end = absurd p
+ends_in_body pend bytes more behind head h (Some us) (Some zs) n gone s e few p end =
+    let all : behind ++ us ≡ gone = p ∙ ap (λ l. gone ++ l) end ∙ append-nil gone in
+    inr (h, behind ++ us, n, (head_of pend bytes more behind us head h s, sym s.is.body ∙ e), omega (arith, few, ap length all))
+
+-- ---- portions one after another
+
+leads_more : (a b c : List ℕ) (ps : List Portion) (p : Portion) → Leads a ps b → IsPortion b p c → is_last p ≡ false → Leads a (ps ++ p ∷ []) c
+leads_more a b c [] p e is going = (c, subst (λ l. IsPortion l p c) e is, going, refl)
+leads_more a b c (q ∷ qs) p w is going = (w.0, w.1, w.2, leads_more w.0 b c qs p w.3 is going)
+
+cut_last : (a b c : List ℕ) (ps : List Portion) (p : Portion) → Leads a ps b → IsPortion b p c → is_last p ≡ true → IsCut a (ps ++ p ∷ [])
+cut_last a b c [] p e is ends = (c, subst (λ l. IsPortion l p c) e is, inl (ends, refl))
+cut_last a b c (q ∷ qs) p w is ends = (w.0, w.1, inr (w.2, cut_last w.0 b c qs p w.3 is ends))
+
+cut_end : (a b : List ℕ) (ps : List Portion) → Leads a ps b → EndsInside b → IsCut a ps
+cut_end a b [] e end = subst EndsInside e end
+cut_end a b (q ∷ qs) w end = (w.0, w.1, inr (w.2, cut_end w.0 b qs w.3 end))
+
+-- one portion more is gone
+pub portions_go : (a b c : Option (List ℕ)) (ps : List Portion) (p : Portion) → PortionsGone a ps b → TakesPortion b p c → is_last p ≡ false → PortionsGone a (ps ++ p ∷ []) c
+portions_go None b c ps p g t going = tt
+portions_go (Some xs) None c ps p g t going = absurd g
+portions_go (Some xs) (Some ys) None ps p g t going = absurd t
+portions_go (Some xs) (Some ys) (Some zs) ps p g t going = leads_more xs ys zs ps p g t going
+
+-- the last portion is gone
+pub last_goes : (a b c : Option (List ℕ)) (ps : List Portion) (p : Portion) → PortionsGone a ps b → TakesPortion b p c → is_last p ≡ true → IfSome a (λ bytes. IsCut bytes (ps ++ p ∷ []))
+last_goes None b c ps p g t ends = tt
+last_goes (Some xs) None c ps p g t ends = absurd g
+last_goes (Some xs) (Some ys) None ps p g t ends = absurd t
+last_goes (Some xs) (Some ys) (Some zs) ps p g t ends = cut_last xs ys zs ps p g t ends
+
+-- the stream ends
+pub end_comes : (a b : Option (List ℕ)) (ps : List Portion) → PortionsGone a ps b → IfSome b EndsInside → IfSome a (λ bytes. IsCut bytes ps)
+end_comes None b ps g end = tt
+end_comes (Some xs) None ps g end = absurd g
+end_comes (Some xs) (Some ys) ps g end = cut_end xs ys ps g end
+
+pub gone_first : (a b : Option (List ℕ)) (ps : List Portion) → PortionsGone a ps b → IfSome a (λ bytes. (left : List ℕ) × Leads bytes ps left)
+gone_first None b ps g = tt
+gone_first (Some xs) None ps g = absurd g
+gone_first (Some xs) (Some ys) ps g = (ys, g)
+
+pub next_first : (a b c : Option (List ℕ)) (ps : List Portion) (p : Portion) → PortionsGone a ps b → TakesPortion b p c
+    → IfSome a (λ bytes. (left : List ℕ) × (rest : List ℕ) × Leads bytes ps left × IsPortion left p rest)
+next_first None b c ps p g t = tt
+next_first (Some xs) None c ps p g t = absurd g
+next_first (Some xs) (Some ys) None ps p g t = absurd t
+next_first (Some xs) (Some ys) (Some zs) ps p g t = (ys, zs, g, t)
+
+-- at the start none is gone
+pub start_gone : (at end : ℕ) (block : List ℕ) (a : Option (List ℕ)) → at ≡ 0 → end ≡ 0 → PortionsGone a [] (prepend_known (drop at (take end block)) a)
+start_gone at end block None p q = tt
+start_gone at end block (Some xs) p q =
+    let none : drop at (take end block) ≡ [] = drop_all at (take end block) (omega (arith, length-take end block, p, q)) in
+    ap (λ l. l ++ xs) none

@@ -1,0 +1,95 @@
+-- Where no portion is marked and no repeat ends its connection, the list after a stream is that after the stream without its repeats.
+use Rattle.std.proofs.Common.{◌≡◌, ◌∙◌, ◌⊎◌, ℕ, Bool, true, false, if◌then◌else◌, List, [], ◌∷◌, ◌++◌, refl, sym, ap, subst, inl, inr, append_assoc}
+use Rattle.std.proofs.lemmas.List.{append_cancel_right}
+use Rattle.desk_types.specs.History.{History}
+use Rattle.httparse.specs.Grammar.{print_request}
+use Rattle.http_stream.specs.Cut.{Portion, whole, bad_head, head_too_large, unread, starved, is_last, IsPortion, IsCut, EndsInside}
+use Rattle.http_stream.specs.Repeats.{Repeats, LeavesTheList, NoRepeatEnds, IsCutWithout, is_repeat, after_portion, after_all, without_repeats}
+use Rattle.http_stream.specs.Stream.{Rule}
+
+-- ---- the list
+
+-- a repeat leaves the list
+repeat_leaves : (rule : Rule) (again : Repeats) → LeavesTheList rule again → (H : History) (p : Portion) → is_repeat again H p ≡ true → after_portion rule H p ≡ H
+repeat_leaves rule again leaves H (whole r ends) is = leaves H r is
+repeat_leaves rule again leaves H bad_head is = refl
+repeat_leaves rule again leaves H head_too_large is = refl
+repeat_leaves rule again leaves H (unread method fault) is = refl
+repeat_leaves rule again leaves H starved is = refl
+
+list_more : (rule : Rule) (H : History) (p : Portion) (ps fewer : List Portion) (repeats : Bool) → (repeats ≡ true → after_portion rule H p ≡ H)
+    → after_all rule (after_portion rule H p) ps ≡ after_all rule (after_portion rule H p) fewer
+    → after_all rule (after_portion rule H p) ps ≡ after_all rule H (if repeats then fewer else p ∷ fewer)
+list_more rule H p ps fewer true leaves same = same ∙ ap (λ (G : History). after_all rule G fewer) (leaves refl)
+list_more rule H p ps fewer false leaves same = same
+
+pub same_list : (rule : Rule) (again : Repeats) → LeavesTheList rule again → (H : History) (ps : List Portion) → after_all rule H ps ≡ after_all rule H (without_repeats rule again H ps)
+same_list rule again leaves H [] = refl
+same_list rule again leaves H (p ∷ ps) =
+    let after = after_portion rule H p in
+    list_more rule H p ps (without_repeats rule again after ps) (is_repeat again H p) (repeat_leaves rule again leaves H p) (same_list rule again leaves after ps)
+
+-- ---- the bytes
+
+-- a portion that isn't the last may be followed by anything
+other_rest : (input bytes rest other : List ℕ) (p : Portion) → IsPortion input p rest → is_last p ≡ false → input ≡ bytes ++ rest → IsPortion (bytes ++ other) p other
+other_rest input bytes rest other (whole r ends) is going cut =
+    let h = is.0 in
+    let t = is.1 in
+    let all : (print_request h ++ r.body) ++ rest ≡ bytes ++ rest = append_assoc (print_request h) r.body rest ∙ sym t.0.0.1 ∙ cut in
+    let own : print_request h ++ r.body ≡ bytes = append_cancel_right (print_request h ++ r.body) bytes rest all in
+    let begins : bytes ++ other ≡ print_request h ++ (r.body ++ other) = ap (λ l. l ++ other) (sym own) ∙ append_assoc (print_request h) r.body other in
+    (h, (((t.0.0.0, begins), t.0.1, t.0.2), t.1), is.2, is.3, is.4)
+other_rest input bytes rest other bad_head is going cut = cc
+other_rest input bytes rest other head_too_large is going cut = cc
+other_rest input bytes rest other (unread method fault) is going cut = cc
+other_rest input bytes rest other starved is going cut = cc
+
+pub cut_without : (rule : Rule) (again : Repeats) (H : History) (input fewer : List ℕ) (ps : List Portion) → IsCutWithout rule again H input ps fewer → IsCut fewer (without_repeats rule again H ps)
+cut_without rule again H input fewer [] w = subst EndsInside (sym w.1) w.0
+cut_without rule again H input fewer (p ∷ ps) w = by (λ left k. cut_without rule again (after_portion rule H p) w.0 left ps k) w.2
+  where
+    after : History
+    after = after_portion rule H p
+
+    by : ((left : List ℕ) → IsCutWithout rule again after w.0 ps left → IsCut left (without_repeats rule again after ps))
+        → ((is_last p ≡ true) × (is_repeat again H p ≡ false) × (ps ≡ []) × (fewer ≡ input))
+        ⊎ ((is_last p ≡ false) × (bytes : List ℕ) × (input ≡ bytes ++ w.0) × (
+        ((is_repeat again H p ≡ true) × IsCutWithout rule again after w.0 ps fewer)
+        ⊎ ((is_repeat again H p ≡ false) × (left : List ℕ) × (fewer ≡ bytes ++ left) × IsCutWithout rule again after w.0 ps left)))
+        → IsCut fewer (without_repeats rule again H (p ∷ ps))
+    by later (inl l) = rw (l.1, l.2, l.3) (w.0, w.1, inl (l.0, refl))
+    by later (inr (going, bytes, cut, inl r)) = rw r.0 (later fewer r.1)
+    by later (inr (going, bytes, cut, inr k)) = rw (k.0, k.2) (k.1, other_rest input bytes w.0 k.1 p w.1 going cut, inr (going, later k.1 k.3))
+
+-- ---- there is such a stream
+
+own_bytes : (input rest : List ℕ) (p : Portion) → IsPortion input p rest → is_last p ≡ false → (bytes : List ℕ) × (input ≡ bytes ++ rest)
+own_bytes input rest (whole r ends) is going = (print_request is.0 ++ r.body, is.1.0.0.1 ∙ sym (append_assoc (print_request is.0) r.body rest))
+own_bytes input rest bad_head is going = cc
+own_bytes input rest head_too_large is going = cc
+own_bytes input rest (unread method fault) is going = cc
+own_bytes input rest starved is going = cc
+
+pub left_out : (rule : Rule) (again : Repeats) (H : History) (input : List ℕ) (ps : List Portion) → IsCut input ps → NoRepeatEnds rule again H ps → (fewer : List ℕ) × IsCutWithout rule again H input ps fewer
+left_out rule again H input [] cut none = (input, (cut, refl))
+left_out rule again H input (p ∷ ps) cut none = by (λ k. left_out rule again (after_portion rule H p) cut.0 ps k none.1) cut.2
+  where
+    after : History
+    after = after_portion rule H p
+
+    no_repeat : (b : Bool) → (b ≡ true → is_last p ≡ false) → is_last p ≡ true → b ≡ false
+    no_repeat true ends last = cc (ends refl, last)
+    no_repeat false ends last = refl
+
+    with_it : (bytes : List ℕ) → input ≡ bytes ++ cut.0 → is_last p ≡ false → (fewer : List ℕ) × IsCutWithout rule again after cut.0 ps fewer
+        → (b : Bool) → is_repeat again H p ≡ b → (fewer : List ℕ) × IsCutWithout rule again H input (p ∷ ps) fewer
+    with_it bytes own going later true is = (later.0, (cut.0, cut.1, inr (going, bytes, own, inl (is, later.1))))
+    with_it bytes own going later false is = (bytes ++ later.0, (cut.0, cut.1, inr (going, bytes, own, inr (is, later.0, refl, later.1))))
+
+    by : (IsCut cut.0 ps → (fewer : List ℕ) × IsCutWithout rule again after cut.0 ps fewer) → ((is_last p ≡ true) × (ps ≡ [])) ⊎ ((is_last p ≡ false) × IsCut cut.0 ps)
+        → (fewer : List ℕ) × IsCutWithout rule again H input (p ∷ ps) fewer
+    by later (inl l) = (input, (cut.0, cut.1, inl (l.0, no_repeat (is_repeat again H p) none.0 l.0, l.1, refl)))
+    by later (inr l) =
+        let own = own_bytes input cut.0 p cut.1 l.0 in
+        with_it own.0 own.1 l.0 (later l.1) (is_repeat again H p) refl

@@ -1,0 +1,36 @@
+use Rattle.std.proofs.Common.{◌≡◌, ◌∙◌, ◌≤◌, ◌-◌, ℕ, take, length, subst, sym, arith, append-nil}
+use Rattle.std.proofs.lemmas.List.{length-take}
+use Rattle.std.specs.Io.KnownBytes.{Consumes}
+use Rattle.std.proofs.KnownBytes.{Consumes-trans}
+use Rattle.desk_types.specs.Wire.{inner_of}
+use Rattle.http_stream.proofs.Sources.{take-put_mid_some, put_mid_room}
+use Rattle.http_stream.proofs.inbox.read_whole.Goals as goal
+
+pub returns-in-Ok-eq0-clause-end : goal.returns-in-Ok-eq0-clause-end
+returns-in-Ok-eq0-clause-end g c = λ _.
+    let inv = c.loop-got.invariant in
+    let e : c.in-Ok-eq0.field-0 ≡ 0 = cc in
+    let read = c.in-Ok-eq0.ensures.bytes in
+    let room = c.loop-got.room in
+    let all = Consumes-trans _ _ _ _ _ inv.bytes (subst (λ (n : ℕ). Consumes (g.R.Read.remaining (inner_of c.loop-got.wire)) (g.R.Read.remaining (inner_of c.read.new.self)) (take n c.read.new.buf)) e read.0) in (
+      take c.loop-got.got room,
+      omega (arith, length-take c.loop-got.got room, c.loop-got.auto.room, c.loop-got-test.true),
+      subst (Consumes _ _) (append-nil (take c.loop-got.got room)) all,
+      read.1 e (omega (arith, c.read.auto.buf, c.loop-got-test.true)),
+    )
+
+pub loop-got-preserved : goal.loop-got-preserved
+loop-got-preserved g c =
+    let inv = c.loop-got.invariant in
+    let room = c.loop-got.room in
+    let buf = c.read.new.buf in
+    let got = c.loop-got.got in
+    let n = c.in-Ok.count in
+    let fits : n ≤ length buf = c.in-Ok.ensures.bound.0 in
+    let all = Consumes-trans _ _ _ _ _ inv.bytes c.in-Ok.ensures.bytes.0 in record {
+      within = put_mid_room room buf got (length room - got) n inv.within fits;
+      bytes = subst (Consumes _ _) (sym (take-put_mid_some room buf got (length room - got) n inv.within fits)) all;
+      reads = omega (arith, c.read.ensures.reads, c.if-reads-most_reads.false, c.reads.ensures, c.ranges.most_reads.fits);
+      more_reads = omega (arith, c.read.ensures.reads, inv.more_reads, c.if-reads-most_reads.false, c.reads.ensures, c.ranges.most_reads.fits);
+      failures = c.in-Ok.ensures.kept ∙ inv.failures;
+    }

@@ -1,0 +1,11 @@
+use Rattle.http_stream.proofs.WithoutRepeats.{left_out, cut_without, same_list}
+use Rattle.http_stream.proofs.law.repeats_act_once.Goals as goal
+
+pub returns-clause-left_out : goal.returns-clause-left_out
+returns-clause-left_out c = left_out
+
+pub returns-clause-cut : goal.returns-clause-cut
+returns-clause-cut c = cut_without
+
+pub returns-clause-list : goal.returns-clause-list
+returns-clause-list c = same_list

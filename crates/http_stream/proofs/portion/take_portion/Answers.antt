@@ -1,0 +1,17 @@
+use Rattle.std.proofs.Common.{subst}
+use Rattle.desk_types.specs.Wire.{inner_of}
+use Rattle.http_stream.specs.Inbox.{source, pending, IsFront}
+use Rattle.http_stream.proofs.Portions.{takes_bad, takes_large}
+use Rattle.http_stream.proofs.portion.take_portion.Goals as goal
+
+pub returns-in-Bad-clause-portion : goal.returns-in-Bad-clause-portion
+returns-in-Bad-clause-portion g c =
+    let known = g.R.Read.remaining (inner_of c.front.new.wire) in
+    let told = subst (IsFront c.front.new.self known) c.in-Bad.is c.in_ok-front.ensures.front in
+    takes_bad (source c.args.inbox.now (g.R.Read.remaining (inner_of c.args.input.now))) (pending c.front.new.self) known c.in_ok-front.ensures.source told
+
+pub returns-in-TooLarge-clause-portion : goal.returns-in-TooLarge-clause-portion
+returns-in-TooLarge-clause-portion g c =
+    let known = g.R.Read.remaining (inner_of c.front.new.wire) in
+    let told = subst (IsFront c.front.new.self known) c.in-TooLarge.is c.in_ok-front.ensures.front in
+    takes_large (source c.args.inbox.now (g.R.Read.remaining (inner_of c.args.input.now))) (pending c.front.new.self) known c.in_ok-front.ensures.source told.0 told.1

@@ -1,0 +1,9 @@
+pub mod Answers
+pub mod Cut
+pub mod Heads
+pub mod Inbox
+pub mod Looks
+pub mod Portions
+pub mod Repeats
+pub mod Stream
+pub mod Unique

@@ -1,0 +1,119 @@
+-- What a stream of requests is answered.
+use Rattle.std.specs.Prelude.{◌≡◌, ℕ, ◌+◌, Bool, true, false, not, List, [], ◌∷◌, length, Option, IfSome, count_by}
+use Rattle.std.specs.List.{flat_map}
+use Rattle.std.specs.Io.KnownBytes.{Appends}
+use Rattle.desk_types.specs.History.{History}
+use Rattle.served.specs.Counts.{none_served}
+use Rattle.served.specs.Sent.{SendsFront}
+use Rattle.served.specs.declared.serving.Served.{Served}
+use Rattle.http_stream.specs.Answers.{Told, unavailable, told_bad_head, told_head_too_large, told_length, is_refused, written}
+use Rattle.http_stream.specs.Cut.{Request, Portion, whole, bad_head, head_too_large, unread, starved, is_last, is_head, IsPortion, Leads, IsCut}
+
+-- ---- one portion
+
+-- what a request is answered, and the list after it
+pub record Outcome : Type 0 where
+  pub told : Told
+  pub after : History
+
+-- what each whole request is answered after each list
+abbrev pub Rule : Type 0
+Rule = History → Request → Outcome
+
+-- the outcome of a whole request: where it is marked it is answered Unavailable and leaves the list, and else it is by the rule
+abbrev pub request_outcome : Rule → Bool → History → Request → Outcome
+request_outcome rule true H r = record { told = unavailable; after = H }
+request_outcome rule false H r = rule H r
+
+-- the outcome of a portion: only a whole request changes the list
+abbrev pub outcome : Rule → Bool → History → Portion → Outcome
+outcome rule mark H (whole r ends) = request_outcome rule mark H r
+outcome rule mark H bad_head = record { told = told_bad_head; after = H }
+outcome rule mark H head_too_large = record { told = told_head_too_large; after = H }
+outcome rule mark H (unread method fault) = record { told = told_length fault; after = H }
+outcome rule mark H starved = record { told = unavailable; after = H }
+
+-- its answer has its body: an answer to the method HEAD has none, where the method is known
+abbrev pub has_body : Portion → Bool
+has_body (whole r ends) = not (is_head r.method)
+has_body (unread method fault) = not (is_head method)
+has_body bad_head = true
+has_body head_too_large = true
+has_body starved = true
+
+-- the bytes of an answer, whether it counts as refused, and the list after it
+pub record Answer : Type 0 where
+  pub bytes : List ℕ
+  pub refused : Bool
+  pub after : History
+
+abbrev pub answer : Rule → Bool → History → Portion → Answer
+answer rule mark H p = record {
+  bytes = written (is_last p) (has_body p) (outcome rule mark H p).told;
+  refused = is_refused (outcome rule mark H p).told.status;
+  after = (outcome rule mark H p).after;
+}
+
+-- ---- portions one after the other
+
+-- Each portion has a mark: whether it was answered Unavailable after it was read.
+
+-- the answers to the portions, each by the list before it
+abbrev pub answers : Rule → List Bool → History → List Portion → List Answer
+answers rule [] H ps = []
+answers rule (m ∷ ms) H [] = []
+answers rule (m ∷ ms) H (p ∷ ps) = answer rule m H p ∷ answers rule ms (answer rule m H p).after ps
+
+-- the list after them all
+abbrev pub list_after : Rule → List Bool → History → List Portion → History
+list_after rule [] H ps = H
+list_after rule (m ∷ ms) H [] = H
+list_after rule (m ∷ ms) H (p ∷ ps) = list_after rule ms (answer rule m H p).after ps
+
+-- ---- a run
+
+-- the portions were answered, each as its mark says: so many bytes went out, so the list went on, and so many were counted
+pub record Answered (rule : Rule) (ps : List Portion) (marks : List Bool) (H : History) (out : Option (List ℕ)) (before : Served) (H' : History) (out' : Option (List ℕ)) (after : Served) : Type 0 where
+  pub each : length marks ≡ length ps
+  pub bytes : Appends out out' (flat_map (λ a. a.bytes) (answers rule marks H ps))
+  pub history : H' ≡ list_after rule marks H ps
+  pub answered : after.answered ≡ before.answered + length ps
+  pub refused : after.refused ≡ before.refused + count_by (λ (a : Answer). a.refused) (answers rule marks H ps)
+
+-- all that the reader's bytes, where they are known, are cut into was answered
+abbrev pub AnsweredAll : Rule → Option (List ℕ) → History → Option (List ℕ) → History → Option (List ℕ) → Served → Type 0
+AnsweredAll rule input H out H' out' served = (ps : List Portion) × (marks : List Bool)
+    × IfSome input (λ bytes. IsCut bytes ps) × Answered rule ps marks H out none_served H' out' served
+
+-- the first portions of them were answered, each whole, and nothing else went out
+abbrev pub AnsweredFront : Rule → Option (List ℕ) → History → Option (List ℕ) → History → Option (List ℕ) → Served → Type 0
+AnsweredFront rule input H out H' out' served = (ps : List Portion) × (marks : List Bool)
+    × IfSome input (λ bytes. (left : List ℕ) × Leads bytes ps left) × Answered rule ps marks H out none_served H' out' served
+
+-- the first portions of them were answered, each whole; then one more was answered, and of that answer only the first bytes went out
+abbrev pub AnsweredInto : Rule → Option (List ℕ) → History → Option (List ℕ) → History → Option (List ℕ) → Served → Type 0
+AnsweredInto rule input H out H' out' served = (ps : List Portion) × (marks : List Bool) × (p : Portion) × (mark : Bool) × (H₁ : History) × (out₁ : Option (List ℕ))
+    × IfSome input (λ bytes. (left : List ℕ) × (rest : List ℕ) × Leads bytes ps left × IsPortion left p rest) × Answered rule ps marks H out none_served H₁ out₁ served
+    × (H' ≡ (answer rule mark H₁ p).after) × SendsFront out₁ out' (answer rule mark H₁ p).bytes
+
+-- ---- a handler
+
+-- What holds of each rule and list for which a handler stood, where what it keeps the list in told the truth: it stands for that rule still, and for a list that the fact tells.
+abbrev pub ForLists : {S : Type 0} → (S → Rule → History → Type 0) → (S → Type 0) → S → S → (Rule → History → History → Type 0) → Type 0
+ForLists Stands Trusts old new Fact = (rule : Rule) (H : History) → Stands old rule H → Trusts new → (H' : History) × Stands new rule H' × Fact rule H H'
+
+-- the request is answered so, as some mark says
+abbrev pub TellsRequest : Rule → Request → History → Told → History → Type 0
+TellsRequest rule r H told H' = (mark : Bool) × (told ≡ (request_outcome rule mark H r).told) × (H' ≡ (request_outcome rule mark H r).after)
+
+-- the portion is answered so, as some mark says
+abbrev pub TellsPortion : Rule → Portion → History → Told → History → Type 0
+TellsPortion rule p H told H' = (mark : Bool) × (told ≡ (outcome rule mark H p).told) × (H' ≡ (outcome rule mark H p).after)
+
+-- the portions were answered
+abbrev pub Serves : Rule → List Portion → History → Option (List ℕ) → Served → History → Option (List ℕ) → Served → Type 0
+Serves rule ps H out s H' out' s' = (marks : List Bool) × Answered rule ps marks H out s H' out' s'
+
+-- only the first bytes of the answer to the portion went out
+abbrev pub Breaks : Rule → Portion → History → Option (List ℕ) → Served → History → Option (List ℕ) → Served → Type 0
+Breaks rule p H out s H' out' s' = (mark : Bool) × (s' ≡ s) × (H' ≡ (answer rule mark H p).after) × SendsFront out out' (answer rule mark H p).bytes

@@ -1,0 +1,130 @@
+//! The bytes of an answer, and how they go out.
+
+ghost use Rattle.std.specs.Prelude.{◌≡◌, ◌<◌, ◌≤◌, ◌+◌, ◌^◌, ◌++◌, take, length, OnOk, OnErr};
+ghost use Rattle.std.specs.Io.KnownBytes.{Appends};
+ghost use Rattle.desk_types.specs.Wire.{inner_of, failures_of};
+ghost use Rattle.served.specs.Sent.{SendsFront};
+ghost use Rattle.http_stream.specs.Answers.{type_line, allow_line, close_line, head_bytes, reply_told, written};
+
+use crate::reply::Reply;
+use crate::response::{Allow, Kind, Status};
+use desk_types::Wire;
+use itoa::Buffer;
+use served::{WriteFailed, send};
+use std::io::Write;
+
+/// The bytes that go out in one write: the head of an answer, and its body where it fits.
+const BLOCK: usize = 4096;
+
+/// The bytes of an answer so far.
+#[derive(Drop)]
+struct Letter {
+    block: [u8; BLOCK],
+    end: usize,
+}
+
+/// Writes an answer: all of it but a body that isn't sent, whose length is told all the same. Takes
+/// no memory.
+#[tactic(auto, unfolding(crate::specs::Answers::written))]
+pub fn send_answer<W: Write>(
+    wire: &mut Wire<W>,
+    reply: &Reply,
+    closes: bool,
+    has_body: bool,
+) -> Result<(), WriteFailed>
+    requires few_failures { failures_of wire.old < 2 ^ 63 }
+    ensures ok { OnOk result (Appends (W.contents (inner_of wire.old)) (W.contents (inner_of wire.new)) (written closes has_body (reply_told reply.now))) }
+    ensures kept { OnOk result (failures_of wire.new ≡ failures_of wire.old) }
+    ensures failed { OnErr result (failures_of wire.new ≡ failures_of wire.old + 1) }
+    ensures front { OnErr result (SendsFront (W.contents (inner_of wire.old)) (W.contents (inner_of wire.new)) (written closes has_body (reply_told reply.now))) }
+{
+    let mut letter = Letter::new();
+    letter.put_head(reply, closes);
+    letter.send_with(wire, reply.sent_body(has_body))
+}
+
+impl Letter {
+    fn new() -> Letter
+        ensures { result.end ≡ 0 }
+    {
+        Letter {
+            block: [0; BLOCK],
+            end: 0,
+        }
+    }
+
+    /// Joins a text to its end.
+    fn put(&mut self, text: &[u8])
+        requires room { self.old.end + length text.now ≤ BLOCK }
+        ensures bytes { take self.new.end self.new.block ≡ take self.old.end self.old.block ++ text.now }
+        ensures end { self.new.end ≡ self.old.end + length text.now }
+    {
+        self.block[self.end..self.end + text.len()].copy_from_slice(text);
+        self.end += text.len();
+    }
+
+    /// All but the body.
+    fn put_head(&mut self, reply: &Reply, closes: bool)
+        requires empty { self.old.end ≡ 0 }
+        ensures bytes { take self.new.end self.new.block ≡ head_bytes closes (reply_told reply.now) }
+        ensures short { self.new.end ≤ BLOCK }
+    {
+        let mut digits = Buffer::new();
+        self.put(reply.status().line().as_bytes());
+        self.put(type_line(reply.kind()).as_bytes());
+        self.put(b"Content-Length: ");
+        self.put(digits.format(reply.body().len()).as_bytes());
+        self.put(b"\r\n");
+        self.put(allow_line(reply.status()).as_bytes());
+        self.put(close_line(closes).as_bytes());
+        self.put(b"\r\n");
+    }
+
+    /// Writes what is there and a body: in one write where both fit, which is most of the speed.
+    fn send_with<W: Write>(&mut self, wire: &mut Wire<W>, body: &[u8]) -> Result<(), WriteFailed>
+        requires short { self.old.end ≤ BLOCK }
+        requires few_failures { failures_of wire.old < 2 ^ 63 }
+        ensures ok { OnOk result (Appends (W.contents (inner_of wire.old)) (W.contents (inner_of wire.new)) (take self.old.end self.old.block ++ body.now)) }
+        ensures kept { OnOk result (failures_of wire.new ≡ failures_of wire.old) }
+        ensures failed { OnErr result (failures_of wire.new ≡ failures_of wire.old + 1) }
+        ensures front { OnErr result (SendsFront (W.contents (inner_of wire.old)) (W.contents (inner_of wire.new)) (take self.old.end self.old.block ++ body.now)) }
+    {
+        if body.len() <= BLOCK - self.end {
+            self.put(body);
+            return send(wire, &self.block[..self.end]);
+        }
+        send(wire, &self.block[..self.end])?;
+        send(wire, body)
+    }
+}
+
+#[tactic(auto, unfolding(crate::specs::Answers::type_line))]
+fn type_line(kind: Kind) -> &'static str
+    ensures line { result.now ≡ type_line kind }
+    ensures short { length result.now ≤ 64 }
+{
+    match kind {
+        Kind::Json => "Content-Type: application/json\r\n",
+        Kind::Csv => "Content-Type: text/csv\r\n",
+    }
+}
+
+#[tactic(auto, unfolding(crate::specs::Answers::allow_line))]
+fn allow_line(status: Status) -> &'static str
+    ensures line { result.now ≡ allow_line status }
+    ensures short { length result.now ≤ 64 }
+{
+    match status {
+        Status::MethodNotAllowed(Allow::Get) => "Allow: GET\r\n",
+        Status::MethodNotAllowed(Allow::Post) => "Allow: POST\r\n",
+        _ => "",
+    }
+}
+
+#[tactic(auto, unfolding(crate::specs::Answers::close_line))]
+fn close_line(closes: bool) -> &'static str
+    ensures line { result.now ≡ close_line closes }
+    ensures short { length result.now ≤ 64 }
+{
+    if closes { "Connection: close\r\n" } else { "" }
+}

@@ -1,0 +1,127 @@
+//! What a request is answered.
+
+ghost use Rattle.std.specs.Prelude.{◌≡◌, ◌≤◌, length};
+ghost use Rattle.http_stream.specs.Answers.{code_of, is_refused, status_line, body_of, told_by, unavailable};
+
+use desk_types::Text;
+
+/// The statuses that an answer may have.
+#[derive(Clone, Copy, Debug, PartialEq, Eq, Drop)]
+pub enum Status {
+    Ok,
+    Accepted,
+    BadRequest,
+    NotFound,
+    /// The path has another method: this one alone.
+    MethodNotAllowed(Allow),
+    Conflict,
+    LengthRequired,
+    PayloadTooLarge,
+    UnprocessableEntity,
+    HeaderFieldsTooLarge,
+    ServiceUnavailable,
+}
+
+/// The one method that a path has.
+#[derive(Clone, Copy, Debug, PartialEq, Eq, Drop)]
+pub enum Allow {
+    Get,
+    Post,
+}
+
+/// What the bytes of a body are.
+#[derive(Clone, Copy, Debug, PartialEq, Eq, Drop)]
+pub enum Kind {
+    Json,
+    Csv,
+}
+
+/// The body of an answer.
+#[derive(Drop)]
+pub enum Body {
+    /// A text that took memory.
+    Made(Text),
+    /// The text of an answer for want of memory. It takes none.
+    Fixed,
+}
+
+/// What a request is answered: the status, and the body with its kind.
+#[derive(Drop)]
+pub struct Response {
+    pub status: Status,
+    pub kind: Kind,
+    pub body: Body,
+}
+
+impl Response {
+    /// The answer for want of memory, or where a store failed. Takes no memory.
+    pub fn unavailable() -> Response
+        ensures { told_by result ≡ unavailable }
+    {
+        Response {
+            status: Status::ServiceUnavailable,
+            kind: Kind::Json,
+            body: Body::Fixed,
+        }
+    }
+}
+
+impl Body {
+    /// The bytes.
+    pub fn as_slice(&self) -> &[u8]
+        ensures { result.now ≡ body_of self.now }
+    {
+        match self {
+            Body::Made(text) => text.as_slice(),
+            Body::Fixed => b"{\"Answer\":\"Unavailable\"}",
+        }
+    }
+}
+
+impl Status {
+    /// The number of the status.
+    pub fn code(self) -> u16
+        ensures { result ≡ code_of self }
+    {
+        match self {
+            Status::Ok => 200,
+            Status::Accepted => 202,
+            Status::BadRequest => 400,
+            Status::NotFound => 404,
+            Status::MethodNotAllowed(_) => 405,
+            Status::Conflict => 409,
+            Status::LengthRequired => 411,
+            Status::PayloadTooLarge => 413,
+            Status::UnprocessableEntity => 422,
+            Status::HeaderFieldsTooLarge => 431,
+            Status::ServiceUnavailable => 503,
+        }
+    }
+
+    /// Whether an answer with it counts as refused: every one does but 200 and 202.
+    pub fn is_refused(self) -> bool
+        ensures { result ≡ is_refused self }
+    {
+        !matches!(self, Status::Ok | Status::Accepted)
+    }
+
+    /// The first line of an answer.
+    pub fn line(self) -> &'static str
+        ensures line { result.now ≡ status_line self }
+        ensures short { length result.now ≤ 64 }
+    {
+        match self {
+            Status::Ok => "HTTP/1.1 200 OK\r\n",
+            Status::Accepted => "HTTP/1.1 202 Accepted\r\n",
+            Status::BadRequest => "HTTP/1.1 400 Bad Request\r\n",
+            Status::NotFound => "HTTP/1.1 404 Not Found\r\n",
+            Status::MethodNotAllowed(_) => "HTTP/1.1 405 Method Not Allowed\r\n",
+            Status::Conflict => "HTTP/1.1 409 Conflict\r\n",
+            Status::LengthRequired => "HTTP/1.1 411 Length Required\r\n",
+            Status::PayloadTooLarge => "HTTP/1.1 413 Payload Too Large\r\n",
+            Status::UnprocessableEntity => "HTTP/1.1 422 Unprocessable Entity\r\n",
+            Status::HeaderFieldsTooLarge => "HTTP/1.1 431 Request Header Fields Too Large\r\n",
+            Status::ServiceUnavailable => "HTTP/1.1 503 Service Unavailable\r\n",
+        }
+    }
+}

@@ -1,0 +1,190 @@
+//! Requests in, answers out.
+
+ghost use Rattle.std.specs.Prelude.{◌≡◌, ◌+◌, ◌^◌, ◌<◌, ◌≤◌, ◌∷◌, [], true, IfOk, OnOk, OnErr, Err};
+ghost use Rattle.desk_types.specs.Wire.{inner_of, reads_of, failures_of};
+ghost use Rattle.served.specs.Shown.{FailsNever, IsShown};
+ghost use Rattle.http_stream.specs.Answers.{reply_told};
+ghost use Rattle.http_stream.specs.Cut.{is_head, is_last};
+ghost use Rattle.http_stream.specs.Portions.{IsTaken, portion_of};
+ghost use Rattle.http_stream.specs.Stream.{AnsweredAll, AnsweredFront, AnsweredInto, Breaks, ForLists, Serves, TellsPortion, has_body};
+
+use crate::answer::send_answer;
+use crate::inbox::{Inbox, InboxFault};
+use crate::portion::{Taken, method_of, take_portion, target_of};
+use crate::reply::Reply;
+use crate::response::Response;
+use desk_types::Wire;
+use served::{MOST_READS, ServeFault, Served, WriteFailed};
+use std::alloc::Global;
+use std::io::{Read, Write};
+
+/// What answers whole requests, by a list that it keeps and may change.
+pub trait Handler {
+    ghost use Rattle.std.specs.Prelude.{◌≡◌};
+    ghost use Rattle.desk_types.specs.History.{History};
+    ghost use Rattle.http_stream.specs.Answers.{told_by};
+    ghost use Rattle.http_stream.specs.Stream.{ForLists, Rule, TellsRequest};
+
+    /// The rule by which it answers, and the list for which it stands.
+    ghost Stands: { Self → Rule → History → Type 0 };
+
+    /// What is asked at each call, and holds again after it.
+    ghost Ready: { Self → Type 0 };
+
+    /// What it keeps the list in told the truth so far, as an honest disk does.
+    ghost Trusts: { Self → Type 0 };
+
+    /// Answers a request. Unavailable may stand in the place of any answer, and then the list stays.
+    fn handle(&mut self, alloc: Global, method: &[u8], target: &[u8], body: &[u8]) -> Response
+        requires ready { Ready self.old }
+        ensures ready { Ready self.new }
+        ensures trusts { Trusts self.new → Trusts self.old }
+        ensures told { ForLists Stands Trusts self.old self.new (λ rule H H'. TellsRequest rule (record { method = method.now; target = target.now; body = body.now }) H (told_by result) H') };
+}
+
+/// What a portion is answered, and how the answer is written.
+#[derive(Drop)]
+struct Told {
+    reply: Reply,
+    closes: bool,
+    has_body: bool,
+}
+
+/// Serves a connection: answers its requests, each before the next is read, to the end of the input
+/// or up to the one that ends the connection.
+///
+/// A request that the input doesn't hold whole has no answer. Where memory is refused for a body,
+/// its request is answered 503 and ends the connection. After Write a prefix of the next answer may
+/// have gone out, and what its request asked may be done.
+pub fn serve<R: Read, W: Write, A: Handler>(
+    alloc: Global,
+    input: &mut Wire<R>,
+    output: &mut Wire<W>,
+    handler: &mut A,
+) -> Result<Served, ServeFault>
+    requires read_failures { failures_of input.old < 2 ^ 63 }
+    requires reads { reads_of input.old < 2 ^ 63 }
+    requires write_failures { failures_of output.old < 2 ^ 63 }
+    requires ready { A.Ready handler.old }
+    ensures ready { A.Ready handler.new }
+    ensures trusts { A.Trusts handler.new → A.Trusts handler.old }
+    ensures ok { IfOk result (λ served. ForLists A.Stands A.Trusts handler.old handler.new (λ rule H H'. AnsweredAll rule (R.remaining (inner_of input.old))
+        H (W.contents (inner_of output.old)) H' (W.contents (inner_of output.new)) served)) }
+    ensures kept { OnOk result (FailsNever input.old input.new output.old output.new) }
+    ensures few_reads { reads_of input.new ≤ reads_of input.old + MOST_READS }
+    ensures read { (served : Served) → result ≡ Err (ServeFault.Read served) → IsShown (ServeFault.Read served) input.old input.new output.old output.new
+        × ForLists A.Stands A.Trusts handler.old handler.new (λ rule H H'. AnsweredFront rule (R.remaining (inner_of input.old))
+        H (W.contents (inner_of output.old)) H' (W.contents (inner_of output.new)) served) }
+    ensures too_many { (served : Served) → result ≡ Err (ServeFault.TooManyReads served) → IsShown (ServeFault.TooManyReads served) input.old input.new output.old output.new
+        × ForLists A.Stands A.Trusts handler.old handler.new (λ rule H H'. AnsweredFront rule (R.remaining (inner_of input.old))
+        H (W.contents (inner_of output.old)) H' (W.contents (inner_of output.new)) served) }
+    ensures write { (served : Served) → result ≡ Err (ServeFault.Write served) → IsShown (ServeFault.Write served) input.old input.new output.old output.new
+        × ForLists A.Stands A.Trusts handler.old handler.new (λ rule H H'. AnsweredInto rule (R.remaining (inner_of input.old))
+        H (W.contents (inner_of output.old)) H' (W.contents (inner_of output.new)) served) }
+{
+    let most_reads = input.reads() + MOST_READS;
+    let mut inbox = Inbox::new();
+    let mut served = Served {
+        answered: 0,
+        refused: 0,
+    };
+    'portions: loop {
+        match take_portion(alloc, &mut inbox, input, most_reads) {
+            Ok(Some(taken)) => {
+                match serve_portion(alloc, output, handler, &inbox.block, taken, &mut served) {
+                    Ok(true) => return Ok(served),
+                    Ok(false) => {}
+                    Err(WriteFailed) => return Err(ServeFault::Write(served)),
+                }
+            }
+            Ok(None) => return Ok(served),
+            Err(InboxFault::Read) => return Err(ServeFault::Read(served)),
+            Err(InboxFault::TooManyReads) => return Err(ServeFault::TooManyReads(served)),
+        }
+    }
+}
+
+/// Answers a portion, writes the answer, and says whether it is the last.
+fn serve_portion<W: Write, A: Handler>(
+    alloc: Global,
+    output: &mut Wire<W>,
+    handler: &mut A,
+    block: &[u8],
+    taken: Taken,
+    served: &mut Served,
+) -> Result<bool, WriteFailed>
+    requires taken { IsTaken block.now taken }
+    requires few_failures { failures_of output.old < 2 ^ 63 }
+    requires few_answers { served.old.answered < 2 ^ 63 }
+    requires refused { served.old.refused ≤ served.old.answered }
+    requires ready { A.Ready handler.old }
+    ensures ready { A.Ready handler.new }
+    ensures trusts { A.Trusts handler.new → A.Trusts handler.old }
+    ensures ok { OnOk result (ForLists A.Stands A.Trusts handler.old handler.new (λ rule H H'. Serves rule (portion_of block.now taken ∷ [])
+        H (W.contents (inner_of output.old)) served.old H' (W.contents (inner_of output.new)) served.new)) }
+    ensures last { IfOk result (λ last. last ≡ is_last (portion_of block.now taken)) }
+    ensures err { OnErr result (ForLists A.Stands A.Trusts handler.old handler.new (λ rule H H'. Breaks rule (portion_of block.now taken)
+        H (W.contents (inner_of output.old)) served.old H' (W.contents (inner_of output.new)) served.new)) }
+    ensures few_answers { OnOk result (served.new.answered ≤ served.old.answered + 1) }
+    ensures refused { served.new.refused ≤ served.new.answered }
+    ensures kept { OnOk result (failures_of output.new ≡ failures_of output.old) }
+    ensures failed { OnErr result (failures_of output.new ≡ failures_of output.old + 1) }
+{
+    let told = answer_portion(alloc, handler, block, taken);
+    send_answer(output, &told.reply, told.closes, told.has_body)?;
+    served.count(told.reply.status().is_refused());
+    Ok(told.closes)
+}
+
+/// What a portion is answered.
+fn answer_portion<A: Handler>(alloc: Global, handler: &mut A, block: &[u8], taken: Taken) -> Told
+    requires taken { IsTaken block.now taken }
+    requires ready { A.Ready handler.old }
+    ensures ready { A.Ready handler.new }
+    ensures trusts { A.Trusts handler.new → A.Trusts handler.old }
+    ensures told { ForLists A.Stands A.Trusts handler.old handler.new (λ rule H H'. TellsPortion rule (portion_of block.now taken) H (reply_told result.reply) H') }
+    ensures closes { result.closes ≡ is_last (portion_of block.now taken) }
+    ensures has_body { result.has_body ≡ has_body (portion_of block.now taken) }
+{
+    match taken {
+        Taken::Whole(seen, body) => {
+            let method = method_of(block, seen);
+            Told {
+                reply: Reply::Response(handler.handle(
+                    alloc,
+                    method,
+                    target_of(block, seen),
+                    &body,
+                )),
+                closes: seen.head.closes,
+                has_body: !is_head(method),
+            }
+        }
+        Taken::BadHead => last(Reply::BadHead),
+        Taken::HeadTooLarge => last(Reply::HeadTooLarge),
+        Taken::Unread(seen, fault) => Told {
+            reply: Reply::Length(fault),
+            closes: true,
+            has_body: !is_head(method_of(block, seen)),
+        },
+        Taken::Starved => last(Reply::Response(Response::unavailable())),
+    }
+}
+
+/// The last answer of a connection, with its body.
+fn last(reply: Reply) -> Told
+    ensures { result ≡ record { reply = reply; closes = true; has_body = true } }
+{
+    Told {
+        reply,
+        closes: true,
+        has_body: true,
+    }
+}
+
+/// Whether answers to a method have no body.
+fn is_head(method: &[u8]) -> bool
+    ensures { result ≡ is_head method.now }
+{
+    method == b"HEAD".as_slice()
+}

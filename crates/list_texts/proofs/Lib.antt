@@ -1,0 +1,3 @@
+mod Kitting
+mod Once
+mod Prefixes

@@ -1,0 +1,62 @@
+//! Whole pieces to a writer.
+
+ghost use Rattle.std.specs.Prelude.{take, ◌≡◌, ◌+◌, ◌^◌, ◌<◌, ◌++◌, ◌∷◌, [], length, OnOk, OnErr};
+ghost use Rattle.std.specs.Io.KnownBytes.{Appends};
+ghost use Rattle.desk_types.specs.Wire.{inner_of, failures_of};
+ghost use Rattle.served.specs.Sent.{SendsFront};
+
+use desk_types::Wire;
+use std::io::Write;
+
+/// A write failed, or took nothing.
+#[derive(Drop)]
+pub struct WriteFailed;
+
+/// The longest text that goes out with its line feed in one write, and one more.
+const SHORT: usize = 4096;
+
+/// Writes a text and a line feed: in one write where the text is short, which is most of the speed.
+pub fn send_line<W: Write>(wire: &mut Wire<W>, text: &[u8]) -> Result<(), WriteFailed>
+    requires few_failures { failures_of wire.old < 2 ^ 63 }
+    ensures ok { OnOk result (Appends (W.contents (inner_of wire.old)) (W.contents (inner_of wire.new)) (text.now ++ 10 ∷ [])) }
+    ensures kept { OnOk result (failures_of wire.new ≡ failures_of wire.old) }
+    ensures failed { OnErr result (failures_of wire.new ≡ failures_of wire.old + 1) }
+    ensures front { OnErr result (SendsFront (W.contents (inner_of wire.old)) (W.contents (inner_of wire.new)) (text.now ++ 10 ∷ [])) }
+{
+    if text.len() < SHORT {
+        let line = ended(text);
+        return send(wire, &line[..text.len() + 1]);
+    }
+    send(wire, text)?;
+    send(wire, b"\n")
+}
+
+/// The text with a line feed, in a block.
+fn ended(text: &[u8]) -> [u8; SHORT]
+    requires { length text.now < SHORT }
+    ensures { take (length text.now + 1) result ≡ text.now ++ 10 ∷ [] }
+{
+    let mut line = [0u8; SHORT];
+    line[..text.len()].copy_from_slice(text);
+    line[text.len()] = b'\n';
+    line
+}
+
+/// Writes all the bytes.
+pub fn send<W: Write>(wire: &mut Wire<W>, bytes: &[u8]) -> Result<(), WriteFailed>
+    requires few_failures { failures_of wire.old < 2 ^ 63 }
+    ensures ok { OnOk result (Appends (W.contents (inner_of wire.old)) (W.contents (inner_of wire.new)) bytes.now) }
+    ensures kept { OnOk result (failures_of wire.new ≡ failures_of wire.old) }
+    ensures failed { OnErr result (failures_of wire.new ≡ failures_of wire.old + 1) }
+    ensures front { OnErr result (SendsFront (W.contents (inner_of wire.old)) (W.contents (inner_of wire.new)) bytes.now) }
+{
+    let mut at = 0;
+    while at < bytes.len() {
+        match wire.write(&bytes[at..]) {
+            Ok(0) => return Err(WriteFailed),
+            Ok(count) => at += count,
+            Err(_) => return Err(WriteFailed),
+        }
+    }
+    Ok(())
+}

@@ -1,0 +1,3 @@
+mod Sets
+mod Wholes
+mod Writings
