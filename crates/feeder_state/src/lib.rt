@@ -13,8 +13,6 @@ mod placed;
 mod same_state;
 mod setup;
 mod tapes;
-#[cfg(test)]
-mod tests;
 mod views;
 mod work;
 

@@ -2,7 +2,9 @@
 use Rattle.std.specs.Prelude.{◌≡◌, ℕ, ◌+◌, Bool, true, false, not, List, [], ◌∷◌, length, Option, IfSome, count_by}
 use Rattle.std.specs.List.{flat_map}
 use Rattle.std.specs.Io.KnownBytes.{Appends}
+use Rattle.desk_answers.specs.Ledger.{Ledger}
 use Rattle.desk_types.specs.History.{History}
+use Rattle.desk_types.specs.declared.rules.Rules.{Rules}
 use Rattle.served.specs.Counts.{none_served}
 use Rattle.served.specs.Sent.{SendsFront}
 use Rattle.served.specs.declared.serving.Served.{Served}
@@ -98,9 +100,13 @@ AnsweredInto rule input H out H' out' served = (ps : List Portion) × (marks : L
 
 -- ---- a handler
 
--- What holds of each rule and list for which a handler stood, where what it keeps the list in told the truth: it stands for that rule still, and for a list that the fact tells.
-abbrev pub ForLists : {S : Type 0} → (S → Rule → History → Type 0) → (S → Type 0) → S → S → (Rule → History → History → Type 0) → Type 0
-ForLists Stands Trusts old new Fact = (rule : Rule) (H : History) → Stands old rule H → Trusts new → (H' : History) × Stands new rule H' × Fact rule H H'
+-- the rule of a handler by the rules and the greatest number of its list
+abbrev pub RuleBy : Type 0
+RuleBy = Rules → ℕ → Rule
+
+-- What holds of each list for which a handler stood, where what it keeps the list in told the truth: by the same rules and greatest number it stands for a list that the fact tells.
+abbrev pub ForLists : {S : Type 0} → (S → Ledger → Type 0) → (S → Type 0) → S → S → (Ledger → History → Type 0) → Type 0
+ForLists Stands Trusts old new Fact = (G : Ledger) → Stands old G → Trusts new → (H : History) × Stands new (record G { history = H }) × Fact G H
 
 -- the request is answered so, as some mark says
 abbrev pub TellsRequest : Rule → Request → History → Told → History → Type 0

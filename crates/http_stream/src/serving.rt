@@ -21,12 +21,15 @@ use std::io::{Read, Write};
 /// What answers whole requests, by a list that it keeps and may change.
 pub trait Handler {
     ghost use Rattle.std.specs.Prelude.{◌≡◌};
-    ghost use Rattle.desk_types.specs.History.{History};
+    ghost use Rattle.desk_answers.specs.Ledger.{Ledger};
     ghost use Rattle.http_stream.specs.Answers.{told_by};
-    ghost use Rattle.http_stream.specs.Stream.{ForLists, Rule, TellsRequest};
+    ghost use Rattle.http_stream.specs.Stream.{ForLists, RuleBy, TellsRequest};
 
-    /// The rule by which it answers, and the list for which it stands.
-    ghost Stands: { Self → Rule → History → Type 0 };
+    /// The rule by which it answers after each list, by the rules and the greatest number.
+    ghost rule: { RuleBy };
+
+    /// The rules, the greatest number and the list for which it stands.
+    ghost Stands: { Self → Ledger → Type 0 };
 
     /// What is asked at each call, and holds again after it.
     ghost Ready: { Self → Type 0 };
@@ -39,7 +42,7 @@ pub trait Handler {
         requires ready { Ready self.old }
         ensures ready { Ready self.new }
         ensures trusts { Trusts self.new → Trusts self.old }
-        ensures told { ForLists Stands Trusts self.old self.new (λ rule H H'. TellsRequest rule (record { method = method.now; target = target.now; body = body.now }) H (told_by result) H') };
+        ensures told { ForLists Stands Trusts self.old self.new (λ G H. TellsRequest (rule G.rules G.greatest) (record { method = method.now; target = target.now; body = body.now }) G.history (told_by result) H) };
 }
 
 /// What a portion is answered, and how the answer is written.
@@ -68,19 +71,19 @@ pub fn serve<R: Read, W: Write, A: Handler>(
     requires ready { A.Ready handler.old }
     ensures ready { A.Ready handler.new }
     ensures trusts { A.Trusts handler.new → A.Trusts handler.old }
-    ensures ok { IfOk result (λ served. ForLists A.Stands A.Trusts handler.old handler.new (λ rule H H'. AnsweredAll rule (R.remaining (inner_of input.old))
-        H (W.contents (inner_of output.old)) H' (W.contents (inner_of output.new)) served)) }
+    ensures ok { IfOk result (λ served. ForLists A.Stands A.Trusts handler.old handler.new (λ G H. AnsweredAll (A.rule G.rules G.greatest) (R.remaining (inner_of input.old))
+        G.history (W.contents (inner_of output.old)) H (W.contents (inner_of output.new)) served)) }
     ensures kept { OnOk result (FailsNever input.old input.new output.old output.new) }
     ensures few_reads { reads_of input.new ≤ reads_of input.old + MOST_READS }
     ensures read { (served : Served) → result ≡ Err (ServeFault.Read served) → IsShown (ServeFault.Read served) input.old input.new output.old output.new
-        × ForLists A.Stands A.Trusts handler.old handler.new (λ rule H H'. AnsweredFront rule (R.remaining (inner_of input.old))
-        H (W.contents (inner_of output.old)) H' (W.contents (inner_of output.new)) served) }
+        × ForLists A.Stands A.Trusts handler.old handler.new (λ G H. AnsweredFront (A.rule G.rules G.greatest) (R.remaining (inner_of input.old))
+        G.history (W.contents (inner_of output.old)) H (W.contents (inner_of output.new)) served) }
     ensures too_many { (served : Served) → result ≡ Err (ServeFault.TooManyReads served) → IsShown (ServeFault.TooManyReads served) input.old input.new output.old output.new
-        × ForLists A.Stands A.Trusts handler.old handler.new (λ rule H H'. AnsweredFront rule (R.remaining (inner_of input.old))
-        H (W.contents (inner_of output.old)) H' (W.contents (inner_of output.new)) served) }
+        × ForLists A.Stands A.Trusts handler.old handler.new (λ G H. AnsweredFront (A.rule G.rules G.greatest) (R.remaining (inner_of input.old))
+        G.history (W.contents (inner_of output.old)) H (W.contents (inner_of output.new)) served) }
     ensures write { (served : Served) → result ≡ Err (ServeFault.Write served) → IsShown (ServeFault.Write served) input.old input.new output.old output.new
-        × ForLists A.Stands A.Trusts handler.old handler.new (λ rule H H'. AnsweredInto rule (R.remaining (inner_of input.old))
-        H (W.contents (inner_of output.old)) H' (W.contents (inner_of output.new)) served) }
+        × ForLists A.Stands A.Trusts handler.old handler.new (λ G H. AnsweredInto (A.rule G.rules G.greatest) (R.remaining (inner_of input.old))
+        G.history (W.contents (inner_of output.old)) H (W.contents (inner_of output.new)) served) }
 {
     let most_reads = input.reads() + MOST_READS;
     let mut inbox = Inbox::new();
@@ -120,11 +123,11 @@ fn serve_portion<W: Write, A: Handler>(
     requires ready { A.Ready handler.old }
     ensures ready { A.Ready handler.new }
     ensures trusts { A.Trusts handler.new → A.Trusts handler.old }
-    ensures ok { OnOk result (ForLists A.Stands A.Trusts handler.old handler.new (λ rule H H'. Serves rule (portion_of block.now taken ∷ [])
-        H (W.contents (inner_of output.old)) served.old H' (W.contents (inner_of output.new)) served.new)) }
+    ensures ok { OnOk result (ForLists A.Stands A.Trusts handler.old handler.new (λ G H. Serves (A.rule G.rules G.greatest) (portion_of block.now taken ∷ [])
+        G.history (W.contents (inner_of output.old)) served.old H (W.contents (inner_of output.new)) served.new)) }
     ensures last { IfOk result (λ last. last ≡ is_last (portion_of block.now taken)) }
-    ensures err { OnErr result (ForLists A.Stands A.Trusts handler.old handler.new (λ rule H H'. Breaks rule (portion_of block.now taken)
-        H (W.contents (inner_of output.old)) served.old H' (W.contents (inner_of output.new)) served.new)) }
+    ensures err { OnErr result (ForLists A.Stands A.Trusts handler.old handler.new (λ G H. Breaks (A.rule G.rules G.greatest) (portion_of block.now taken)
+        G.history (W.contents (inner_of output.old)) served.old H (W.contents (inner_of output.new)) served.new)) }
     ensures few_answers { OnOk result (served.new.answered ≤ served.old.answered + 1) }
     ensures refused { served.new.refused ≤ served.new.answered }
     ensures kept { OnOk result (failures_of output.new ≡ failures_of output.old) }
@@ -142,7 +145,7 @@ fn answer_portion<A: Handler>(alloc: Global, handler: &mut A, block: &[u8], take
     requires ready { A.Ready handler.old }
     ensures ready { A.Ready handler.new }
     ensures trusts { A.Trusts handler.new → A.Trusts handler.old }
-    ensures told { ForLists A.Stands A.Trusts handler.old handler.new (λ rule H H'. TellsPortion rule (portion_of block.now taken) H (reply_told result.reply) H') }
+    ensures told { ForLists A.Stands A.Trusts handler.old handler.new (λ G H. TellsPortion (A.rule G.rules G.greatest) (portion_of block.now taken) G.history (reply_told result.reply) H) }
     ensures closes { result.closes ≡ is_last (portion_of block.now taken) }
     ensures has_body { result.has_body ≡ has_body (portion_of block.now taken) }
 {

@@ -2,13 +2,9 @@
 #![tactic(auto)]
 
 mod alternates;
-#[cfg(test)]
-mod desks;
 mod installs;
 mod parts;
 mod plain;
 mod searched;
-#[cfg(test)]
-mod tests;
 
 pub use plain::PlainDesk;

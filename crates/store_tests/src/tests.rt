@@ -1,6 +1,8 @@
 //! A store in memory: repeats, a connection that is given back, tables of other names, tables of
 //! version 1, and each allocation refused in turn by `tools/refuse-memory`.
 
+mod feeding;
+
 use desk_answers::{Answer, Line};
 use desk_types::{Command, Id, Minute, Stamped};
 use feeder_state::StateDesk;
@@ -153,20 +155,6 @@ fn why_not<S: Alter>(alloc: Global, conn: Connection<S>) -> (Option<OpenFault>, 
     }
 }
 
-/// 500 commands and the same once more: each is accepted, and its repeat gets the same answer.
-#[test]
-fn five_hundred_commands_twice(rt: HostRuntime) -> Result<(), Fail> {
-    let conn = Connection::open_in_memory(rt.alloc())?;
-    let Made {
-        outcome,
-        count,
-        conn: _conn,
-    } = make(&rt, rt.alloc(), conn, 500);
-    outcome?;
-    assert_eq!(rt; count, 500);
-    Ok(())
-}
-
 /// The tables of a store are no blank for another one. They are opened with all that was accepted, and
 /// each repeat still gets its first answer.
 #[test]
@@ -279,18 +267,6 @@ fn migrate(alloc: Global, conn: &mut Connection<MemStore>) -> Result<u32, OpenFa
     LineStore::<MemStore, StateDesk>::migrate(alloc, conn)
 }
 
-/// Why a migration is refused, for want of memory aside.
-fn why_not_migrated(
-    alloc: Global,
-    conn: &mut Connection<MemStore>,
-) -> Result<Option<OpenFault>, Fail> {
-    match migrate(alloc, conn) {
-        Ok(_) => Ok(None),
-        Err(OpenFault::Unavailable) => Err(AllocError)?,
-        Err(fault) => Ok(Some(fault)),
-    }
-}
-
 /// The version of the tables.
 fn version_in(conn: &mut Connection<MemStore>) -> Result<i64, Fail> {
     Ok(conn.query_row("SELECT number FROM version", &[])?.get(0)?)
@@ -317,18 +293,5 @@ fn refused_memory_migrates_all_or_nothing(rt: HostRuntime) -> Result<(), Fail> {
     } = open(&rt, rt.alloc(), conn, 3);
     outcome?;
     assert_eq!(rt; count, 3);
-    Ok(())
-}
-
-/// Tables of version 2 are not migrated, and no tables of version 1 beside one of the name `found`.
-#[test]
-fn other_tables_are_not_migrated(rt: HostRuntime) -> Result<(), Fail> {
-    let mut conn = of_version_one(&rt, rt.alloc(), 2)?;
-    conn.execute_batch("CREATE TABLE found (text TEXT NOT NULL) STRICT")?;
-    let fault = why_not_migrated(rt.alloc(), &mut conn)?;
-    assert_eq!(rt; fault, Some(OpenFault::NotADesk));
-    conn.execute_batch("UPDATE version SET number = 2")?;
-    let fault = why_not_migrated(rt.alloc(), &mut conn)?;
-    assert_eq!(rt; fault, Some(OpenFault::OtherVersion(2)));
     Ok(())
 }

@@ -6,8 +6,6 @@ mod command_line;
 mod desk;
 mod exit;
 mod program;
-#[cfg(test)]
-mod tests;
 
 use std::process::ExitCode;
 

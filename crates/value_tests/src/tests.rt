@@ -2,6 +2,7 @@
 
 mod counters;
 mod files;
+mod lines;
 mod messages;
 mod parts_desk;
 mod sheets;

@@ -1,9 +1,8 @@
 //! The fields of a stored text, one after another.
 
-ghost use Rattle.std.specs.Prelude.{◌≡◌, ◌∷◌, [], ◌<◌, ◌^◌, ℕ, decimal, IfSome, IfNone, IsTrue, ◌↔◌, MatchOption, position, ◌==◌};
+ghost use Rattle.std.specs.Prelude.{◌≡◌, ◌∷◌, [], IsTrue, ◌↔◌, MatchOption, position, ◌==◌};
 ghost use Rattle.desk_types.specs.Fields.{fields_in};
 
-use itoa::Buffer;
 use std::alloc::AllocError;
 use std::marker::Model;
 
@@ -85,21 +84,4 @@ fn first_tab(text: &[u8]) -> Option<usize>
     ensures { result ≡ position (λ byte. byte == 0x09) text.now }
 {
     text.iter().position(|byte| *byte == TAB)
-}
-
-/// The number that a field is in decimal, with no leading zero and no sign.
-pub fn number(field: &[u8]) -> Option<u64>
-    ensures read { IfSome result (λ n. field.now ≡ decimal n) }
-    ensures refused { IfNone result ((n : ℕ) → n < 2 ^ 64 → ¬ (field.now ≡ decimal n)) }
-{
-    let Ok(text) = str::from_utf8(field) else {
-        return None;
-    };
-    let Ok(n) = text.parse::<u64>() else {
-        return None;
-    };
-    if Buffer::new().format(n).as_bytes() != field {
-        return None;
-    }
-    Some(n)
 }

@@ -13,7 +13,8 @@ use crate::designator::Designator;
 use crate::id::Id;
 use crate::level::Level;
 use crate::number::{CountedQuantity, Quantity};
-use crate::stored::fields::{Fields, TAB, Unread, number};
+use crate::stored::fields::{Fields, TAB, Unread};
+use decimals::number;
 use itoa::Buffer;
 use std::alloc::{AllocError, Global};
 

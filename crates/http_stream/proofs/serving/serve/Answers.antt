@@ -28,11 +28,11 @@ portions-init g c =
       trusts = λ trusts. trusts;
       portions = [];
       gone = start_gone box.at box.end box.block (g.R.Read.remaining (inner_of c.args.input.now)) e.0 e.1;
-      answered = goes_none g.A.Handler.Stands g.A.Handler.Trusts c.args.handler.now (g.W.Write.contents (inner_of c.args.output.now));
+      answered = goes_none g.A.Handler.rule g.A.Handler.Stands g.A.Handler.Trusts c.args.handler.now (g.W.Write.contents (inner_of c.args.output.now));
     }
 
 pub returns-in-Ok-true-clause-ok : goal.returns-in-Ok-true-clause-ok
-returns-in-Ok-true-clause-ok g c = λ rule H stands trusts.
+returns-in-Ok-true-clause-ok g c = λ G stands trusts.
     let inv = c.portions.invariant in
     let asked = g.R.Read.remaining (inner_of c.args.input.now) in
     let before = source c.portions.inbox (g.R.Read.remaining (inner_of c.portions.input)) in
@@ -41,20 +41,20 @@ returns-in-Ok-true-clause-ok g c = λ rule H stands trusts.
     let is : c.in-Ok-Some.field-0 ≡ Some c.in-Ok-Some.taken = c.in-Ok-Some.field-0-is in
     let took = subst (λ (o : Option Taken). MatchOption o (IfSome before EndsInside) (λ t. TakesPortion before (portion_of c.take_portion.new.inbox.block t) behind)) is c.in-Ok-Some.ensures.portion in
     let contents = g.W.Write.contents in
-    let all = goes_on g.A.Handler.Stands g.A.Handler.Trusts inv.portions (p ∷ []) c.args.handler.now c.portions.handler c.serve_portion.new.handler
+    let all = goes_on g.A.Handler.rule g.A.Handler.Stands g.A.Handler.Trusts inv.portions (p ∷ []) c.args.handler.now c.portions.handler c.serve_portion.new.handler
     (contents (inner_of c.args.output.now)) (contents (inner_of c.portions.output)) (contents (inner_of c.serve_portion.new.output)) none_served c.portions.served c.serve_portion.new.served
-    c.serve_portion.ensures.trusts inv.answered c.in-Ok-true.ensures.ok rule H stands trusts in
+    c.serve_portion.ensures.trusts inv.answered c.in-Ok-true.ensures.ok G stands trusts in
     let last : is_last p ≡ true = sym c.in-Ok-true.ensures.last ∙ c.in-Ok-true.field-0-test in
     (all.0, all.1, (inv.portions ++ p ∷ [], all.2.0, last_goes asked before behind inv.portions p inv.gone took last, all.2.1))
 
 pub returns-in-Ok-None-clause-ok : goal.returns-in-Ok-None-clause-ok
-returns-in-Ok-None-clause-ok g c = λ rule H stands trusts.
+returns-in-Ok-None-clause-ok g c = λ G stands trusts.
     let inv = c.portions.invariant in
     let asked = g.R.Read.remaining (inner_of c.args.input.now) in
     let before = source c.portions.inbox (g.R.Read.remaining (inner_of c.portions.input)) in
     let behind = source c.take_portion.new.inbox (g.R.Read.remaining (inner_of c.take_portion.new.input)) in
     let ends = subst (λ (o : Option Taken). MatchOption o (IfSome before EndsInside) (λ t. TakesPortion before (portion_of c.take_portion.new.inbox.block t) behind)) c.in-Ok-None.field-0-is c.in-Ok-None.ensures.portion in
-    let all = inv.answered rule H stands trusts in
+    let all = inv.answered G stands trusts in
     (all.0, all.1, (inv.portions, all.2.0, end_comes asked before inv.portions inv.gone ends, all.2.1))
 
 pub portions-preserved : goal.portions-preserved
@@ -83,7 +83,7 @@ portions-preserved g c =
       trusts = λ trusts. inv.trusts (c.serve_portion.ensures.trusts trusts);
       portions = inv.portions ++ p ∷ [];
       gone = portions_go asked before behind inv.portions p inv.gone took last;
-      answered = goes_on g.A.Handler.Stands g.A.Handler.Trusts inv.portions (p ∷ []) c.args.handler.now c.portions.handler c.serve_portion.new.handler
+      answered = goes_on g.A.Handler.rule g.A.Handler.Stands g.A.Handler.Trusts inv.portions (p ∷ []) c.args.handler.now c.portions.handler c.serve_portion.new.handler
           (contents (inner_of c.args.output.now)) (contents (inner_of c.portions.output)) (contents (inner_of c.serve_portion.new.output)) none_served c.portions.served c.serve_portion.new.served
           c.serve_portion.ensures.trusts inv.answered c.in-Ok-false.ensures.ok;
     }
@@ -101,9 +101,9 @@ returns-in-Err-clause-write g c = λ served e.
     let out₀ = contents (inner_of c.args.output.now) in
     let out₂ = contents (inner_of c.serve_portion.new.output) in
     let failed = c.in-Err.ensures.failed in
-    let into = stops_into g.A.Handler.Stands g.A.Handler.Trusts inv.portions p asked c.args.handler.now c.portions.handler c.serve_portion.new.handler out₀ (contents (inner_of c.portions.output)) out₂ c.portions.served c.serve_portion.new.served
+    let into = stops_into g.A.Handler.rule g.A.Handler.Stands g.A.Handler.Trusts inv.portions p asked c.args.handler.now c.portions.handler c.serve_portion.new.handler out₀ (contents (inner_of c.portions.output)) out₂ c.portions.served c.serve_portion.new.served
     c.serve_portion.ensures.trusts (next_first asked before behind inv.portions p inv.gone took) inv.answered c.in-Err.ensures.err in (
       (omega (arith, failed, inv.write_failures), c.in-Ok-Some.ensures.kept ∙ inv.read_failures),
-      subst (λ (s : Served). ForLists g.A.Handler.Stands g.A.Handler.Trusts c.args.handler.now c.serve_portion.new.handler (λ rule H H'. AnsweredInto rule asked H out₀ H' out₂ s))
+      subst (λ (s : Served). ForLists g.A.Handler.Stands g.A.Handler.Trusts c.args.handler.now c.serve_portion.new.handler (λ G H. AnsweredInto (g.A.Handler.rule G.rules G.greatest) asked G.history out₀ H out₂ s))
           (same_write c.serve_portion.new.served served e) into,
     )

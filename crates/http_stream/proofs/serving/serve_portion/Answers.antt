@@ -9,9 +9,10 @@ use Rattle.http_stream.proofs.Answering.{one_answered}
 use Rattle.http_stream.proofs.serving.serve_portion.Goals as goal
 
 pub returns-clause-ok : goal.returns-clause-ok
-returns-clause-ok g c = λ rule H stands trusts.
+returns-clause-ok g c = λ G stands trusts.
+    let rule = g.A.Handler.rule G.rules G.greatest in
     let p = portion_of c.args.block.now c.args.taken in
-    let a = c.answer_portion-told.ensures.told rule H stands trusts in
+    let a = c.answer_portion-told.ensures.told G stands trusts in
     let mark = a.2.0 in
     let out = g.W.Write.contents (inner_of c.args.output.now) in
     let out' = g.W.Write.contents (inner_of c.send_answer.new.wire) in
@@ -20,6 +21,6 @@ returns-clause-ok g c = λ rule H stands trusts.
     let went = subst (λ (b : Bool). Appends out out' (written (is_last p) b (reply_told told.reply))) c.answer_portion-told.ensures.has_body went in
     let went = subst (λ (t : Told). Appends out out' (written (is_last p) (has_body p) t)) a.2.1 went in
     let s = c.args.served.now in
-    let counts : c.is_refused.result ≡ is_refused (outcome rule mark H p).told.status = c.is_refused.ensures ∙ ap is_refused c.status.ensures ∙ ap (λ (t : Told). is_refused t.status) a.2.1 in
+    let counts : c.is_refused.result ≡ is_refused (outcome rule mark G.history p).told.status = c.is_refused.ensures ∙ ap is_refused c.status.ensures ∙ ap (λ (t : Told). is_refused t.status) a.2.1 in
     let counted = subst (λ (b : Bool). c.count.new.self.refused ≡ cond b (s.refused + 1) s.refused) counts c.count.ensures.refused in
-    (a.0, a.1, (mark ∷ [], one_answered rule mark H a.0 p out out' s c.count.new.self a.2.2 went c.count.ensures.answered counted))
+    (a.0, a.1, (mark ∷ [], one_answered rule mark G.history a.0 p out out' s c.count.new.self a.2.2 went c.count.ensures.answered counted))

@@ -1,0 +1,11 @@
+//! The plain desk by itself, and both desks side by side.
+
+mod answers;
+mod desks;
+
+use desk_types::Id;
+use std::test::Fail;
+
+fn id(text: &str) -> Result<Id, Fail> {
+    Ok(Id::read(text.as_bytes()).ok_or("no id")?)
+}

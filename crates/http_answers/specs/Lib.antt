@@ -1,0 +1,4 @@
+pub mod Gateways
+pub mod Repeats
+pub mod Requests
+pub mod Statuses

@@ -1,0 +1,56 @@
+-- Requests whose command was accepted before, and requests that are questions.
+use Rattle.std.specs.Prelude.{Bool, false, not, ℕ, List, [], Option, Some, None, Result, Ok, Err, codes}
+use Rattle.std.specs.Option.{option_map_or}
+use Rattle.cfx_profile.specs.Message.{said}
+use Rattle.cfx_profile.specs.declared.fault.MessageFault.{MessageFault}
+use Rattle.cfx_profile.specs.declared.message.Said.{Said}
+use Rattle.cfx_profile.specs.declared.message.Said.TheVariants as says
+use Rattle.desk_answers.specs.Commands.{earlier_answer, is_refused}
+use Rattle.desk_types.specs.History.{History}
+use Rattle.desk_types.specs.declared.command.Command.{Command}
+use Rattle.desk_types.specs.declared.command.Stamped.{Stamped}
+use Rattle.http_routes.specs.Asked.{asked}
+use Rattle.http_routes.specs.declared.asked.Asked.{Asked}
+use Rattle.http_routes.specs.declared.asked.Asked.TheVariants as asks
+use Rattle.http_routes.specs.declared.asked.Stamp.{Stamp}
+use Rattle.http_routes.specs.declared.fault.AskFault.{AskFault}
+use Rattle.http_stream.specs.Cut.{Request}
+use Rattle.http_stream.specs.Repeats.{Repeats}
+use Rattle.imports.specs.File.{setup_said, counts_said}
+use Rattle.imports.specs.declared.fault.ImportFault.{ImportFault}
+use Rattle.http_answers.specs.Requests.{stamped_by}
+
+-- ---- repeats
+
+-- the command of a message
+abbrev pub message_command : Result Said MessageFault → Option Stamped
+message_command (Ok (says.Ignored name)) = None
+message_command (Ok (says.Asked s)) = Some s
+message_command (Err fault) = None
+
+-- the command of a file
+abbrev pub file_command : Stamp → Result Command ImportFault → Option Stamped
+file_command stamp (Ok command) = Some (stamped_by stamp command)
+file_command stamp (Err fault) = None
+
+-- the command that a request with this body asks, where it asks one
+abbrev pub command_asked : List ℕ → Result Asked AskFault → Option Stamped
+command_asked body (Ok asks.Message) = message_command (said body)
+command_asked body (Ok (asks.ImportSetup stamp product machine)) = file_command stamp (setup_said product machine body)
+command_asked body (Ok (asks.ImportCounts stamp)) = file_command stamp (counts_said body)
+command_asked body (Ok (asks.Report report)) = None
+command_asked body (Err fault) = None
+
+-- the command was accepted before, in the same message
+abbrev pub is_known : History → Stamped → Bool
+is_known H s = option_map_or (λ answer. not (is_refused answer)) (earlier_answer H s) false
+
+-- the request is a repeat: it asks a command that was accepted before, in the same message or file
+abbrev pub is_repeat : Repeats
+is_repeat H r = option_map_or (is_known H) (command_asked r.body (asked r.method r.target)) false
+
+-- ---- questions
+
+-- a GET of a target, which has no body
+abbrev pub get_of : List ℕ → Request
+get_of target = record { method = codes "GET"; target = target; body = [] }

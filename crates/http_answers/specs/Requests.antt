@@ -1,0 +1,106 @@
+-- What a request is answered by the list of the commands accepted before it, and the list after it.
+use Rattle.std.specs.Prelude.{ℕ, List, Option, Some, None, Result, Ok, Err, codes}
+use Rattle.serde_json.specs.Written.{compact_text}
+use Rattle.cfx_profile.specs.Answer.{ignored_text}
+use Rattle.cfx_profile.specs.Answer as message
+use Rattle.cfx_profile.specs.Message.{said}
+use Rattle.cfx_profile.specs.declared.fault.MessageFault.{MessageFault}
+use Rattle.cfx_profile.specs.declared.message.Said.{Said}
+use Rattle.cfx_profile.specs.declared.message.Said.TheVariants as says
+use Rattle.desk_answers.specs.Commands.{command_answer, command_after, answer_text}
+use Rattle.desk_answers.specs.Ledger.{Ledger}
+use Rattle.desk_types.specs.History.{History}
+use Rattle.desk_types.specs.declared.command.Command.{Command}
+use Rattle.desk_types.specs.declared.command.Stamped.{Stamped}
+use Rattle.desk_types.specs.declared.rules.Rules.{Rules}
+use Rattle.http_routes.specs.Answer.{not_found}
+use Rattle.http_routes.specs.Answer as request
+use Rattle.http_routes.specs.Asked.{asked}
+use Rattle.http_routes.specs.declared.asked.Asked.{Asked}
+use Rattle.http_routes.specs.declared.asked.Asked.TheVariants as asks
+use Rattle.http_routes.specs.declared.asked.Report.{Report}
+use Rattle.http_routes.specs.declared.asked.Report.TheVariants as report
+use Rattle.http_routes.specs.declared.asked.Stamp.{Stamp}
+use Rattle.http_routes.specs.declared.fault.AskFault.{AskFault}
+use Rattle.http_stream.specs.Answers.{Told}
+use Rattle.http_stream.specs.Cut.{Request}
+use Rattle.http_stream.specs.Stream.{Outcome, Rule}
+use Rattle.http_stream.specs.declared.response.Kind.TheVariants.{Json, Csv}
+use Rattle.http_stream.specs.declared.response.Status.{Status}
+use Rattle.http_stream.specs.declared.response.Status.TheVariants as status
+use Rattle.imports.specs.Answer as file
+use Rattle.imports.specs.File.{setup_said, counts_said}
+use Rattle.imports.specs.declared.fault.ImportFault.{ImportFault}
+use Rattle.http_answers.specs.Statuses.{command_status, message_fault_status, import_fault_status, request_fault_status}
+
+-- ---- reports
+
+-- the text that each report has of a list; none where what it is about isn't found
+abbrev pub Reports : Type 0
+Reports = Report → History → Option (List ℕ)
+
+-- what isn't found; there is an overdue list of each line
+abbrev pub kind_word : Report → List ℕ
+kind_word (report.BoardTrace board detail) = codes "Board"
+kind_word (report.LotTrace lot detail) = codes "Lot"
+kind_word (report.ReelCard reel) = codes "Reel"
+kind_word (report.SlotList machine) = codes "Machine"
+kind_word (report.KitList product machine boards) = codes "Sheet"
+kind_word report.OverdueList = codes "Line"
+
+-- the text of the answer where it isn't found
+unfoldable pub not_found_text : Report → List ℕ
+not_found_text asked = compact_text (not_found (kind_word asked))
+
+-- ---- answers
+
+-- an answer that is one JSON object
+abbrev pub json : Status → List ℕ → Told
+json s text = record { status = s; kind = Json; body = text }
+
+-- a report, or that it isn't found
+abbrev pub report_told : Report → Option (List ℕ) → Told
+report_told asked (Some text) = record { status = status.Ok; kind = Csv; body = text }
+report_told asked None = json status.NotFound (not_found_text asked)
+
+-- an answer that leaves the list
+abbrev pub leaving : Ledger → Told → Outcome
+leaving L told = record { told = told; after = L.history }
+
+-- a command
+abbrev pub command_outcome : Ledger → Stamped → Outcome
+command_outcome L s = record {
+  told = json (command_status (command_answer L.rules L.greatest L.history s)) (answer_text s.uid (command_answer L.rules L.greatest L.history s));
+  after = command_after L.rules L.greatest L.history s;
+}
+
+-- what a message says
+abbrev pub message_outcome : Ledger → Result Said MessageFault → Outcome
+message_outcome L (Ok (says.Ignored name)) = leaving L (json status.Accepted (ignored_text name))
+message_outcome L (Ok (says.Asked s)) = command_outcome L s
+message_outcome L (Err fault) = leaving L (json (message_fault_status fault) (message.fault_text fault))
+
+-- the command that a file says, with the stamp of its request
+abbrev pub stamped_by : Stamp → Command → Stamped
+stamped_by stamp command = record { uid = stamp.uid; source = stamp.source; minute = stamp.minute; command = command }
+
+-- what a file says
+abbrev pub file_outcome : Ledger → Stamp → Result Command ImportFault → Outcome
+file_outcome L stamp (Ok command) = command_outcome L (stamped_by stamp command)
+file_outcome L stamp (Err fault) = leaving L (json (import_fault_status fault) (file.fault_text fault))
+
+-- what a request with this body asks
+abbrev pub asked_outcome : Reports → Ledger → List ℕ → Result Asked AskFault → Outcome
+asked_outcome reports L body (Ok asks.Message) = message_outcome L (said body)
+asked_outcome reports L body (Ok (asks.ImportSetup stamp product machine)) = file_outcome L stamp (setup_said product machine body)
+asked_outcome reports L body (Ok (asks.ImportCounts stamp)) = file_outcome L stamp (counts_said body)
+asked_outcome reports L body (Ok (asks.Report asked)) = leaving L (report_told asked (reports asked L.history))
+asked_outcome reports L body (Err fault) = leaving L (json (request_fault_status fault) (request.fault_text fault))
+
+-- a request
+abbrev pub outcome_of : Reports → Ledger → Request → Outcome
+outcome_of reports L r = asked_outcome reports L r.body (asked r.method r.target)
+
+-- the rule of the gateway: what a request is answered after each list, by these reports and rules, where commands are numbered up to the greatest
+abbrev pub request_rule : Reports → Rules → ℕ → Rule
+request_rule reports rules greatest H r = outcome_of reports (record { rules = rules; greatest = greatest; history = H }) r

@@ -1,0 +1,212 @@
+//! What each request is answered.
+
+ghost use Rattle.std.specs.Prelude.{◌≡◌, false, IfOk};
+ghost use Rattle.serde_json.specs.View.{view};
+ghost use Rattle.serde_json.specs.Written.{has_float};
+ghost use Rattle.cfx_profile.specs.Message.{said};
+ghost use Rattle.http_routes.specs.Answer.{not_found, fault_text};
+ghost use Rattle.http_routes.specs.Asked.{asked};
+ghost use Rattle.http_stream.specs.Answers.{told_by};
+ghost use Rattle.imports.specs.File.{setup_said, counts_said};
+ghost use Rattle.http_answers.specs.Gateways.{Meets};
+ghost use Rattle.http_answers.specs.Requests.{kind_word, not_found_text, json, report_told, leaving, command_outcome, message_outcome, stamped_by, file_outcome, asked_outcome};
+ghost use Rattle.http_answers.specs.Statuses.{request_fault_status};
+
+use crate::line::{ReportedLine, Unavailable};
+use crate::statuses::{import_fault_status, message_fault_status, request_fault_status};
+use cfx_profile::{MessageFault, Said, ignored_text, read_message};
+use desk_answers::{Answer, Line};
+use desk_types::{Command, Id, Listing, Stamped, Text};
+use http_routes::{AskFault, Asked, Report, RouteTable, Stamp};
+use http_stream::{Body, Kind, Response, Status};
+use imports::{ImportFault, read_counts, read_setup};
+use serde_json::{Value, json};
+use std::alloc::{AllocError, Global};
+
+/// An answer in JSON.
+fn json(status: Status, text: Text) -> Response
+    ensures { told_by result ≡ json status text }
+{
+    Response {
+        status,
+        kind: Kind::Json,
+        body: Body::Made(text),
+    }
+}
+
+/// The answer to a request.
+pub fn answer_request<L: ReportedLine>(
+    alloc: Global,
+    line: &mut L,
+    routes: &RouteTable,
+    method: &[u8],
+    target: &[u8],
+    body: &[u8],
+) -> Result<Response, Unavailable>
+    requires ready { L.Ready line.old }
+    ensures ready { L.Ready line.new }
+    ensures trusts { L.Trusts line.new → L.Trusts line.old }
+    ensures told { Meets L.Stands L.Trusts line.old line.new result (λ G. asked_outcome L.reports G body.now (asked method.now target.now)) }
+{
+    match routes.read_request(alloc, method, target) {
+        Ok(Asked::Message) => answer_message(alloc, line, body),
+        Ok(
+            Asked::ImportSetup {
+                stamp,
+                product,
+                machine,
+            },
+        ) => answer_setup(alloc, line, stamp, product, machine, body),
+        Ok(Asked::ImportCounts { stamp }) => answer_counts(alloc, line, stamp, body),
+        Ok(Asked::Report(report)) => answer_report(alloc, line, report),
+        Err(AskFault::NoMemory) => Err(Unavailable),
+        Err(fault) => answer_fault(alloc, fault),
+    }
+}
+
+/// The answer to a request that asks nothing.
+fn answer_fault(alloc: Global, fault: AskFault) -> Result<Response, Unavailable>
+    ensures { IfOk result (λ response. told_by response ≡ json (request_fault_status fault) (fault_text fault)) }
+{
+    Ok(json(request_fault_status(fault), fault.write_text(alloc)?))
+}
+
+/// The answer to a message.
+fn answer_message<L: Line>(
+    alloc: Global,
+    line: &mut L,
+    body: &[u8],
+) -> Result<Response, Unavailable>
+    requires ready { L.Ready line.old }
+    ensures ready { L.Ready line.new }
+    ensures trusts { L.Trusts line.new → L.Trusts line.old }
+    ensures told { Meets L.Stands L.Trusts line.old line.new result (λ G. message_outcome G (said body.now)) }
+{
+    match read_message(alloc, body) {
+        Ok(Said::Ignored(name)) => Ok(json(Status::Accepted, ignored_text(alloc, &name)?)),
+        Ok(Said::Asked(stamped)) => answer_command(alloc, line, &stamped),
+        Err(MessageFault::NoMemory) => Err(Unavailable),
+        Err(fault) => Ok(json(message_fault_status(&fault), fault.write_text(alloc)?)),
+    }
+}
+
+/// The answer to a setup file.
+fn answer_setup<L: Line>(
+    alloc: Global,
+    line: &mut L,
+    stamp: Stamp,
+    product: Id,
+    machine: Id,
+    body: &[u8],
+) -> Result<Response, Unavailable>
+    requires ready { L.Ready line.old }
+    ensures ready { L.Ready line.new }
+    ensures trusts { L.Trusts line.new → L.Trusts line.old }
+    ensures told { Meets L.Stands L.Trusts line.old line.new result (λ G. file_outcome G stamp (setup_said product machine body.now)) }
+{
+    match read_setup(alloc, body, product, machine) {
+        Ok(command) => answer_command(alloc, line, &stamped_by(stamp, command)),
+        Err(ImportFault::NoMemory) => Err(Unavailable),
+        Err(fault) => Ok(json(import_fault_status(&fault), fault.write_text(alloc)?)),
+    }
+}
+
+/// The answer to a count file.
+fn answer_counts<L: Line>(
+    alloc: Global,
+    line: &mut L,
+    stamp: Stamp,
+    body: &[u8],
+) -> Result<Response, Unavailable>
+    requires ready { L.Ready line.old }
+    ensures ready { L.Ready line.new }
+    ensures trusts { L.Trusts line.new → L.Trusts line.old }
+    ensures told { Meets L.Stands L.Trusts line.old line.new result (λ G. file_outcome G stamp (counts_said body.now)) }
+{
+    match read_counts(alloc, body) {
+        Ok(command) => answer_command(alloc, line, &stamped_by(stamp, command)),
+        Err(ImportFault::NoMemory) => Err(Unavailable),
+        Err(fault) => Ok(json(import_fault_status(&fault), fault.write_text(alloc)?)),
+    }
+}
+
+fn stamped_by(stamp: Stamp, command: Command) -> Stamped
+    ensures { result ≡ stamped_by stamp command }
+{
+    Stamped {
+        uid: stamp.uid,
+        source: stamp.source,
+        minute: stamp.minute,
+        command,
+    }
+}
+
+/// The answer to a command. Of an accepted one it takes no memory beyond that of its judgement.
+#[tactic(auto, using(desk_answers::proofs::Refusing::refused_leaves))]
+fn answer_command<L: Line>(
+    alloc: Global,
+    line: &mut L,
+    stamped: &Stamped,
+) -> Result<Response, Unavailable>
+    requires ready { L.Ready line.old }
+    ensures ready { L.Ready line.new }
+    ensures trusts { L.Trusts line.new → L.Trusts line.old }
+    ensures told { Meets L.Stands L.Trusts line.old line.new result (λ G. command_outcome G stamped.now) }
+{
+    match line.command(stamped) {
+        Answer::Accepted(_, text) => Ok(json(Status::Ok, text)),
+        Answer::Unavailable => Err(Unavailable),
+        answer => Ok(json(Status::Conflict, answer.into_text(alloc, &stamped.uid)?)),
+    }
+}
+
+/// A report, or that it is not found.
+fn answer_report<L: ReportedLine>(
+    alloc: Global,
+    line: &mut L,
+    report: Report,
+) -> Result<Response, Unavailable>
+    requires ready { L.Ready line.old }
+    ensures ready { L.Ready line.new }
+    ensures trusts { L.Trusts line.new → L.Trusts line.old }
+    ensures told { Meets L.Stands L.Trusts line.old line.new result (λ G. leaving G (report_told report (L.reports report G.history))) }
+{
+    match line.report(alloc, report)? {
+        Some(text) => Ok(Response {
+            status: Status::Ok,
+            kind: Kind::Csv,
+            body: Body::Made(text),
+        }),
+        None => Ok(json(Status::NotFound, not_found_text(alloc, report)?)),
+    }
+}
+
+/// The text of the answer where a report is not found, as `{"Answer":"NotFound","Kind":"Lot"}`.
+#[tactic(auto, unfolding(crate::specs::Requests::not_found_text))]
+fn not_found_text(alloc: Global, report: Report) -> Result<Text, AllocError>
+    ensures { IfOk result (λ text. text ≡ not_found_text report) }
+{
+    let answer = not_found(alloc, kind_word(report))?;
+    Ok(Listing::new(answer.to_string(alloc)?.into_bytes()))
+}
+
+fn not_found(alloc: Global, kind: &str) -> Result<Value, AllocError>
+    ensures value { IfOk result (λ answer. view answer ≡ not_found kind.now) }
+    ensures whole { IfOk result (λ answer. has_float (view answer) ≡ false) }
+{
+    json!(in alloc; {"Answer": "NotFound", "Kind": kind})
+}
+
+/// What is not found.
+fn kind_word(report: Report) -> &'static str
+    ensures { result.now ≡ kind_word report }
+{
+    match report {
+        Report::BoardTrace { .. } => "Board",
+        Report::LotTrace { .. } => "Lot",
+        Report::ReelCard { .. } => "Reel",
+        Report::SlotList { .. } => "Machine",
+        Report::KitList { .. } => "Sheet",
+        Report::OverdueList => "Line",
+    }
+}

@@ -1,0 +1,4 @@
+pub mod Cuts
+pub mod Literals
+pub mod NoText
+pub mod Numerals

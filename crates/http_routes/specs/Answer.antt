@@ -1,0 +1,25 @@
+-- The answers to requests that ask nothing: one compact JSON object each, its members in byte order of their names.
+use Rattle.std.specs.Prelude.{ℕ, List, codes}
+use Rattle.serde_json.specs.Data.{Data, string, object, member, no_members}
+use Rattle.serde_json.specs.Written.{compact_text}
+use Rattle.cfx_profile.specs.Answer.{faulty, faulty_at, unavailable}
+use Rattle.http_routes.specs.declared.fault.AskFault.{AskFault}
+use Rattle.http_routes.specs.declared.fault.AskFault.TheVariants.{NoPath, BadMethod, BadQuery, NoMemory}
+use Rattle.http_routes.specs.Parameter.{parameter_text}
+
+-- nothing of this kind is found
+abbrev pub not_found : List ℕ → Data
+not_found kind =
+    object (member (codes "Answer") (string (codes "NotFound"))
+    (member (codes "Kind") (string kind) no_members))
+
+-- the answer to a fault of what is asked
+abbrev pub fault_answer : AskFault → Data
+fault_answer NoPath = not_found (codes "Path")
+fault_answer (BadMethod method) = faulty (codes "BadMethod")
+fault_answer (BadQuery p) = faulty_at (codes "BadQuery") (parameter_text p)
+fault_answer NoMemory = unavailable
+
+-- its text
+unfoldable pub fault_text : AskFault → List ℕ
+fault_text fault = compact_text (fault_answer fault)

@@ -1,0 +1,121 @@
+-- What a request asks, by its method and its target.
+use Rattle.std.specs.Prelude.{ℕ, ◌+◌, ◌==◌, Bool, List, take, drop, Result, Ok, Err, ok_or, if◌then◌else◌}
+use Rattle.std.specs.List.{position_or_len}
+use Rattle.cfx_profile.specs.Fault.{◌>>=◌}
+use Rattle.cfx_profile.specs.Forms.{id_of}
+use Rattle.cfx_profile.specs.Minute.{minute_of}
+use Rattle.desk_types.specs.Id.{Name, same}
+use Rattle.trace_texts.specs.declared.detail.TraceDetail.{TraceDetail}
+use Rattle.http_routes.specs.declared.asked.Asked.{Asked}
+use Rattle.http_routes.specs.declared.asked.Asked.TheVariants as asks
+use Rattle.http_routes.specs.declared.asked.Report.TheVariants as report
+use Rattle.http_routes.specs.declared.asked.Stamp.{Stamp}
+use Rattle.http_routes.specs.declared.fault.AskFault.{AskFault}
+use Rattle.http_routes.specs.declared.fault.AskFault.TheVariants.{NoPath, BadMethod, BadQuery}
+use Rattle.http_routes.specs.declared.parameter.Parameter.{Parameter}
+use Rattle.http_routes.specs.declared.parameter.Parameter.TheVariants as parameter
+use Rattle.http_routes.specs.declared.routes.Route.{Route}
+use Rattle.http_routes.specs.declared.routes.Route.TheVariants as route
+use Rattle.http_routes.specs.Parameter.{parameter_text}
+use Rattle.http_routes.specs.Query.{value_of}
+use Rattle.http_routes.specs.Routes.{method_text, route_method, route_of}
+use Rattle.http_routes.specs.Values.{detail_of, boards_of}
+
+-- ---- the target
+
+-- whether a byte is `?`
+abbrev pub is_mark : ℕ → Bool
+is_mark byte = byte == 0x3f
+
+-- the target up to the first `?`, as it is written
+unfoldable pub path_of : List ℕ → List ℕ
+path_of target = take (position_or_len is_mark target) target
+
+-- the rest after it
+unfoldable pub query_of : List ℕ → List ℕ
+query_of target = drop (position_or_len is_mark target + 1) target
+
+-- ---- one parameter
+
+-- its value, where it stands just once
+unfoldable pub given : Parameter → List ℕ → Result (List ℕ) AskFault
+given p query = ok_or (value_of (parameter_text p) query) (BadQuery p)
+
+-- an id
+unfoldable pub id_in : Parameter → List ℕ → Result Name AskFault
+id_in p query = do
+  text ← given p query
+  ok_or (id_of text) (BadQuery p)
+
+-- the minute of a time text
+unfoldable pub minute_in : List ℕ → Result ℕ AskFault
+minute_in query = do
+  text ← given parameter.Time query
+  ok_or (minute_of text) (BadQuery parameter.Time)
+
+-- one digit, 1 to 4
+unfoldable pub detail_in : List ℕ → Result TraceDetail AskFault
+detail_in query = do
+  text ← given parameter.Detail query
+  ok_or (detail_of text) (BadQuery parameter.Detail)
+
+-- 1 to 6 digits, 1 to 100,000
+unfoldable pub boards_in : List ℕ → Result ℕ AskFault
+boards_in query = do
+  text ← given parameter.Boards query
+  ok_or (boards_of text) (BadQuery parameter.Boards)
+
+-- ---- the parameters of each route, in their order
+
+-- what stands on the command of a file
+unfoldable pub stamp_in : List ℕ → Result Stamp AskFault
+stamp_in query = do
+  uid ← id_in parameter.Id query
+  source ← id_in parameter.Source query
+  minute ← minute_in query
+  Ok (record { uid = uid; source = source; minute = minute })
+
+-- what is asked of a route; the first parameter that is missing, stands twice or is not of its form is the fault
+unfoldable pub asked_at : Route → List ℕ → Result Asked AskFault
+asked_at route.Messages query = Ok asks.Message
+asked_at route.ImportSetup query = do
+  stamp ← stamp_in query
+  product ← id_in parameter.Product query
+  machine ← id_in parameter.Machine query
+  Ok (asks.ImportSetup stamp product machine)
+asked_at route.ImportCounts query = do
+  stamp ← stamp_in query
+  Ok (asks.ImportCounts stamp)
+asked_at route.TraceBoard query = do
+  board ← id_in parameter.Board query
+  detail ← detail_in query
+  Ok (asks.Report (report.BoardTrace board detail))
+asked_at route.TraceLot query = do
+  lot ← id_in parameter.Lot query
+  detail ← detail_in query
+  Ok (asks.Report (report.LotTrace lot detail))
+asked_at route.Reel query = do
+  reel ← id_in parameter.Reel query
+  Ok (asks.Report (report.ReelCard reel))
+asked_at route.Slots query = do
+  machine ← id_in parameter.Machine query
+  Ok (asks.Report (report.SlotList machine))
+asked_at route.Kit query = do
+  product ← id_in parameter.Product query
+  machine ← id_in parameter.Machine query
+  boards ← boards_in query
+  Ok (asks.Report (report.KitList product machine boards))
+asked_at route.Overdue query = Ok (asks.Report report.OverdueList)
+
+-- ---- a request
+
+-- the route, where this is its method
+abbrev pub by_method : List ℕ → Route → Result Route AskFault
+by_method method route = if same method (method_text (route_method route)) then Ok route else Err (BadMethod (route_method route))
+
+-- what a request asks, or the first fault: of its path, of its method, of a parameter
+unfoldable pub asked : List ℕ → List ℕ → Result Asked AskFault
+asked method target = do
+  found ← ok_or (route_of (path_of target)) NoPath
+  allowed ← by_method method found
+  asked_at allowed (query_of target)

@@ -1,0 +1,57 @@
+-- The routes that are served.
+use Rattle.std.specs.Prelude.{ℕ, List, [], ◌∷◌, Option, codes, map}
+use Rattle.std.specs.List.{find}
+use Rattle.matchit.specs.Rows.{RowsOf}
+use Rattle.matchit.specs.Router.{RouteOf}
+use Rattle.desk_types.specs.Id.{same}
+use Rattle.http_routes.specs.declared.routes.Method.{Method}
+use Rattle.http_routes.specs.declared.routes.Method.TheVariants.{Get, Post}
+use Rattle.http_routes.specs.declared.routes.Route.{Route}
+use Rattle.http_routes.specs.declared.routes.Route.TheVariants.{Messages, ImportSetup, ImportCounts, TraceBoard, TraceLot, Reel, Slots, Kit, Overdue}
+
+-- a method as a request spells it
+abbrev pub method_text : Method → List ℕ
+method_text Get = codes "GET"
+method_text Post = codes "POST"
+
+-- the path of a route
+abbrev pub route_path : Route → List ℕ
+route_path Messages = codes "/messages"
+route_path ImportSetup = codes "/imports/setup"
+route_path ImportCounts = codes "/imports/counts"
+route_path TraceBoard = codes "/trace/board"
+route_path TraceLot = codes "/trace/lot"
+route_path Reel = codes "/reel"
+route_path Slots = codes "/slots"
+route_path Kit = codes "/kit"
+route_path Overdue = codes "/overdue"
+
+-- the one method by which a route is asked
+abbrev pub route_method : Route → Method
+route_method Messages = Post
+route_method ImportSetup = Post
+route_method ImportCounts = Post
+route_method TraceBoard = Get
+route_method TraceLot = Get
+route_method Reel = Get
+route_method Slots = Get
+route_method Kit = Get
+route_method Overdue = Get
+
+-- all routes, by their paths in byte order
+abbrev pub routes : List Route
+routes = ImportCounts ∷ ImportSetup ∷ Kit ∷ Messages ∷ Overdue ∷ Reel ∷ Slots ∷ TraceBoard ∷ TraceLot ∷ []
+
+-- the route whose path this is, byte by byte
+unfoldable pub route_of : List ℕ → Option Route
+route_of path = find (λ route. same (route_path route) path) routes
+
+-- ---- as `matchit` has them
+
+-- a route: a path with no parameter in it
+abbrev pub row : Route → List ℕ × RouteOf Route
+row route = (route_path route, record { pattern = route_path route; text = route_path route; names = []; value = route })
+
+-- a router of all routes
+abbrev pub table : RowsOf (RouteOf Route)
+table = map row routes

@@ -1,0 +1,245 @@
+//! What a request asks.
+
+ghost use Rattle.std.specs.Prelude.{◌≡◌, ◌≢◌, Ok, Err, IfOk, IfErr};
+ghost use Rattle.std.specs.Cow.{cow_str_bytes};
+ghost use Rattle.std.specs.List.{position};
+ghost use Rattle.cfx_profile.specs.Forms.{id_of};
+ghost use Rattle.http_routes.specs.Asked.{is_mark, path_of, query_of, given, id_in, minute_in, detail_in, boards_in, stamp_in, asked_at, by_method, asked};
+ghost use Rattle.http_routes.specs.Fault.{IsAsked};
+
+use crate::fault::AskFault;
+use crate::parameter::Parameter;
+use crate::query::value_of;
+use crate::routes::{Route, RouteTable};
+use crate::values::{boards_of, detail_of};
+use cfx_profile::read_minute;
+use desk_types::{Id, Minute};
+use list_texts::Boards;
+use std::alloc::Global;
+use std::borrow::CowStr;
+use trace_texts::TraceDetail;
+
+/// What stands on the command of a file, as the envelope's members on that of a message.
+#[derive(Clone, Copy, Debug, PartialEq, Eq)]
+pub struct Stamp {
+    /// The UniqueID.
+    pub uid: Id,
+    pub source: Id,
+    /// The own minute.
+    pub minute: Minute,
+}
+
+/// What a request asks, with its parameters.
+#[derive(Clone, Copy, Debug, PartialEq, Eq)]
+pub enum Asked {
+    /// `POST /messages`: the body is a message.
+    Message,
+    /// `POST /imports/setup`: the body is the setup file of a product on a machine.
+    ImportSetup {
+        stamp: Stamp,
+        product: Id,
+        machine: Id,
+    },
+    /// `POST /imports/counts`: the body is a count file.
+    ImportCounts {
+        stamp: Stamp,
+    },
+    /// A report.
+    Report(Report),
+}
+
+/// What a report is asked about: one variant a route, with its parameters.
+#[derive(Clone, Copy, Debug, PartialEq, Eq)]
+pub enum Report {
+    /// `GET /trace/board`: what is on a board.
+    BoardTrace {
+        board: Id,
+        detail: TraceDetail,
+    },
+    /// `GET /trace/lot`: which boards hold a piece of a lot.
+    LotTrace {
+        lot: Id,
+        detail: TraceDetail,
+    },
+    /// `GET /reel`: a reel's card.
+    ReelCard {
+        reel: Id,
+    },
+    /// `GET /slots`: what is mounted on a machine.
+    SlotList {
+        machine: Id,
+    },
+    /// `GET /kit`: the reels for so many boards of a product.
+    KitList {
+        product: Id,
+        machine: Id,
+        boards: Boards,
+    },
+    /// `GET /overdue`: the pieces that were placed past their floor life.
+    OverdueList,
+}
+
+impl RouteTable {
+    /// What a request of this method asks with its target.
+    ///
+    /// The path is looked at before the method, and the method before the parameters; they are read
+    /// in the order of the route, and others are skipped.
+    #[tactic(auto, unfolding(crate::specs::Asked::asked))]
+    pub fn read_request(
+        &self,
+        alloc: Global,
+        method: &[u8],
+        target: &[u8],
+    ) -> Result<Asked, AskFault>
+        ensures { IsAsked (asked method.now target.now) result }
+    {
+        let (path, query) = cut(target);
+        let route = self.route_of(path).ok_or(AskFault::NoPath)?;
+        let route = by_method(route, method)?;
+        read_parameters(alloc, route, query)
+    }
+}
+
+/// The path and the query.
+fn cut(target: &[u8]) -> (&[u8], &[u8])
+    ensures path { result.0.now ≡ path_of target.now }
+    ensures query { result.1.now ≡ query_of target.now }
+{
+    match first_mark(target) {
+        Some(at) => (&target[..at], &target[at + 1..]),
+        None => (target, &[]),
+    }
+}
+
+/// Where the first `?` is.
+fn first_mark(target: &[u8]) -> Option<usize>
+    ensures { result ≡ position is_mark target.now }
+{
+    target.iter().position(|byte| *byte == b'?')
+}
+
+/// The route, where this is its method.
+fn by_method(route: Route, method: &[u8]) -> Result<Route, AskFault>
+    ensures { result ≡ by_method method.now route }
+{
+    let wanted = route.method();
+    if method == wanted.as_str().as_bytes() {
+        Ok(route)
+    } else {
+        Err(AskFault::BadMethod(wanted))
+    }
+}
+
+/// The parameters of a route, in their order.
+#[tactic(auto, unfolding(crate::specs::Asked::asked_at))]
+fn read_parameters(alloc: Global, route: Route, query: &[u8]) -> Result<Asked, AskFault>
+    ensures { IsAsked (asked_at route query.now) result }
+{
+    match route {
+        Route::Messages => Ok(Asked::Message),
+        Route::ImportSetup => {
+            let stamp = stamp_in(alloc, query)?;
+            let product = id_in(alloc, query, Parameter::Product)?;
+            let machine = id_in(alloc, query, Parameter::Machine)?;
+            Ok(Asked::ImportSetup {
+                stamp,
+                product,
+                machine,
+            })
+        }
+        Route::ImportCounts => {
+            let stamp = stamp_in(alloc, query)?;
+            Ok(Asked::ImportCounts { stamp })
+        }
+        Route::TraceBoard => {
+            let board = id_in(alloc, query, Parameter::Board)?;
+            let detail = detail_in(alloc, query)?;
+            Ok(Asked::Report(Report::BoardTrace { board, detail }))
+        }
+        Route::TraceLot => {
+            let lot = id_in(alloc, query, Parameter::Lot)?;
+            let detail = detail_in(alloc, query)?;
+            Ok(Asked::Report(Report::LotTrace { lot, detail }))
+        }
+        Route::Reel => {
+            let reel = id_in(alloc, query, Parameter::Reel)?;
+            Ok(Asked::Report(Report::ReelCard { reel }))
+        }
+        Route::Slots => {
+            let machine = id_in(alloc, query, Parameter::Machine)?;
+            Ok(Asked::Report(Report::SlotList { machine }))
+        }
+        Route::Kit => {
+            let product = id_in(alloc, query, Parameter::Product)?;
+            let machine = id_in(alloc, query, Parameter::Machine)?;
+            let boards = boards_in(alloc, query)?;
+            Ok(Asked::Report(Report::KitList {
+                product,
+                machine,
+                boards,
+            }))
+        }
+        Route::Overdue => Ok(Asked::Report(Report::OverdueList)),
+    }
+}
+
+#[tactic(auto, unfolding(crate::specs::Asked::stamp_in))]
+fn stamp_in(alloc: Global, query: &[u8]) -> Result<Stamp, AskFault>
+    ensures { IsAsked (stamp_in query.now) result }
+{
+    let uid = id_in(alloc, query, Parameter::Id)?;
+    let source = id_in(alloc, query, Parameter::Source)?;
+    let minute = minute_in(alloc, query)?;
+    Ok(Stamp {
+        uid,
+        source,
+        minute,
+    })
+}
+
+#[tactic(auto, unfolding(crate::specs::Asked::id_in))]
+fn id_in(alloc: Global, query: &[u8], parameter: Parameter) -> Result<Id, AskFault>
+    ensures { IsAsked (id_in parameter query.now) result }
+{
+    let text = given(alloc, query, parameter)?;
+    id_of(text.as_str()).ok_or(AskFault::BadQuery(parameter))
+}
+
+fn id_of(text: &str) -> Option<Id>
+    ensures { result ≡ id_of text.now }
+{
+    Id::read(text.as_bytes())
+}
+
+#[tactic(auto, unfolding(crate::specs::Asked::minute_in, cfx_profile::specs::Minute::minute_said))]
+fn minute_in(alloc: Global, query: &[u8]) -> Result<Minute, AskFault>
+    ensures { IsAsked (minute_in query.now) result }
+{
+    let text = given(alloc, query, Parameter::Time)?;
+    read_minute(text.as_str()).map_err(|_| AskFault::BadQuery(Parameter::Time))
+}
+
+#[tactic(auto, unfolding(crate::specs::Asked::detail_in))]
+fn detail_in(alloc: Global, query: &[u8]) -> Result<TraceDetail, AskFault>
+    ensures { IsAsked (detail_in query.now) result }
+{
+    let text = given(alloc, query, Parameter::Detail)?;
+    detail_of(text.as_str()).ok_or(AskFault::BadQuery(Parameter::Detail))
+}
+
+#[tactic(auto, unfolding(crate::specs::Asked::boards_in))]
+fn boards_in(alloc: Global, query: &[u8]) -> Result<Boards, AskFault>
+    ensures { IsAsked (boards_in query.now) result }
+{
+    let text = given(alloc, query, Parameter::Boards)?;
+    boards_of(text.as_str()).ok_or(AskFault::BadQuery(Parameter::Boards))
+}
+
+/// The value of a parameter, where it stands just once.
+#[tactic(auto, unfolding(crate::specs::Asked::given))]
+fn given<'a>(alloc: Global, query: &'a [u8], parameter: Parameter) -> Result<CowStr<'a>, AskFault>
+    ensures ok { IfOk result (λ text. given parameter query.now ≡ Ok (cow_str_bytes text)) }
+    ensures err { IfErr result (λ fault. fault ≢ AskFault.NoMemory → given parameter query.now ≡ Err fault) }
+{
+    value_of(alloc, query, parameter.as_str())?.ok_or(AskFault::BadQuery(parameter))
+}

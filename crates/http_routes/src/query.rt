@@ -1,0 +1,33 @@
+//! The values in a query.
+
+ghost use Rattle.std.specs.Prelude.{◌≡◌, option_map, IfOk};
+ghost use Rattle.std.specs.Cow.{cow_str_bytes};
+ghost use Rattle.http_routes.specs.Query.{value_of};
+
+use std::alloc::{AllocError, Global};
+use std::borrow::CowStr;
+
+/// The value of this name, where the name stands just once in the query.
+///
+/// The query is pairs between `&`, as a web form is written (URL Standard, section 5): in names and
+/// values `+` is a space, and `%` with two digits a byte. For bytes that are no UTF-8 stands U+FFFD.
+#[tactic(auto, unfolding(crate::specs::Query::value_of))]
+pub fn value_of<'a>(
+    alloc: Global,
+    query: &'a [u8],
+    name: &str,
+) -> Result<Option<CowStr<'a>>, AllocError>
+    ensures { IfOk result (λ value. option_map cow_str_bytes value ≡ value_of name.now query.now) }
+{
+    let mut found: Option<CowStr<'a>> = None;
+    for pair in form_urlencoded::parse(alloc, query) {
+        let (key, value) = pair?;
+        if key.as_str() == name {
+            if found.is_some() {
+                return Ok(None);
+            }
+            found = Some(value);
+        }
+    }
+    Ok(found)
+}

@@ -1,0 +1,21 @@
+//! A law of the reports. It is for proofs, and does nothing when it runs.
+
+ghost use Rattle.std.specs.Prelude.{◌≡◌, ◌↔◌, ◌∷◌, [], Contains, Some, List, ℕ};
+ghost use Rattle.desk_types.specs.Id.{Name};
+ghost use Rattle.desk_types.specs.History.{History};
+ghost use Rattle.trace_texts.specs.declared.detail.TraceDetail.TheVariants.{One, Two, Three};
+ghost use Rattle.trace_reports.specs.Reports.{board_trace, lot_trace, rows_below};
+
+/// The traces of one list are converse on paper. Of a board and a lot that are found, what `csv` reads of
+/// detail 2 of the board has a row with the lot exactly where that of detail 1 of the lot has the board, and
+/// detail 3 of the one has a reel of a part exactly where detail 3 of the other has it. This holds of every
+/// list.
+pub fn reports_are_converse()
+    ensures lots { (H : History) (board lot : Name) (on of : List ℕ) → board_trace Two H board ≡ Some on → lot_trace One H lot ≡ Some of
+        → ((part : Name) × Contains (rows_below on) (part ∷ lot ∷ [])) ↔ Contains (rows_below of) (board ∷ []) }
+    ensures reels { (H : History) (board part lot reel : Name) (on of : List ℕ) → board_trace Three H board ≡ Some on → lot_trace Three H lot ≡ Some of
+        → Contains (rows_below on) (part ∷ lot ∷ reel ∷ []) ↔ Contains (rows_below of) (board ∷ part ∷ reel ∷ []) }
+{
+    trace_texts::reports_read_back();
+    trace_texts::traces_are_converse();
+}

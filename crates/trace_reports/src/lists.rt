@@ -1,0 +1,94 @@
+//! The lists of a desk: the card of a reel, the slot list of a machine, the kit of a product.
+
+ghost use Rattle.std.specs.Prelude.{◌≡◌, IsTrue, Option, List, ℕ};
+ghost use Rattle.sqlite.specs.State.{HasCleanDisk, Survives};
+ghost use Rattle.line_schema.specs.Stands.{Kept, Stands, state_of, has_desk};
+ghost use Rattle.list_texts.specs.Card.{reel_card};
+ghost use Rattle.list_texts.specs.Slots.{slot_list};
+ghost use Rattle.list_texts.specs.Kit.{kit_list};
+ghost use Rattle.trace_reports.specs.declared.fault.Kind.TheVariants as Kind;
+ghost use Rattle.trace_reports.specs.Reports.{Answers};
+
+use crate::fault::{Kind, ReportFault};
+use desk_types::{Desk, Id, Text};
+use line_schema::LineStore;
+use list_texts::Boards;
+use sqlite::Alter;
+use std::alloc::Global;
+
+fn found(text: Option<Text>, kind: Kind) -> Result<Text, ReportFault>
+    ensures { Answers kind text result }
+{
+    match text {
+        Some(text) => Ok(text),
+        None => Err(ReportFault::NotFound(kind)),
+    }
+}
+
+/// The card of a reel: what was received of it, where its pieces went, and its floor life at the desk
+/// minute. It is not found where no such reel was received.
+pub fn reel_card<S: Alter, D: Desk + Drop>(
+    alloc: Global,
+    store: &mut LineStore<S, D>,
+    reel: &Id,
+) -> Result<Text, ReportFault>
+    requires stands { (L : Kept) × Stands S.Store D.Stands D.kept_rules store.old L }
+    ensures card { (L : Kept) → Stands S.Store D.Stands D.kept_rules store.old L → HasCleanDisk (state_of S.Store store.new) → IsTrue L.own → Answers Kind.Reel (reel_card L.history reel.now) result }
+    ensures at_hand { IsTrue (has_desk store.old) → store.new ≡ store.old }
+    ensures kept { (L : Kept) × Stands S.Store D.Stands D.kept_rules store.new L }
+    ensures stands { (L : Kept) → Stands S.Store D.Stands D.kept_rules store.old L → HasCleanDisk (state_of S.Store store.new) → IsTrue L.own → Stands S.Store D.Stands D.kept_rules store.new L }
+    ensures survives { Survives (state_of S.Store store.old) (state_of S.Store store.new) (λ _. ⊥) }
+{
+    store.ready()?;
+    let Some(desk) = store.desk() else {
+        unreachable!()
+    };
+    found(list_texts::reel_card(alloc, desk, reel)?, Kind::Reel)
+}
+
+/// The live reels of a machine's slots, by slot and then by position. It is not found where no sheet
+/// names the machine.
+pub fn slot_list<S: Alter, D: Desk + Drop>(
+    alloc: Global,
+    store: &mut LineStore<S, D>,
+    machine: &Id,
+) -> Result<Text, ReportFault>
+    requires stands { (L : Kept) × Stands S.Store D.Stands D.kept_rules store.old L }
+    ensures list { (L : Kept) → Stands S.Store D.Stands D.kept_rules store.old L → HasCleanDisk (state_of S.Store store.new) → IsTrue L.own → Answers Kind.Machine (slot_list L.history machine.now) result }
+    ensures at_hand { IsTrue (has_desk store.old) → store.new ≡ store.old }
+    ensures kept { (L : Kept) × Stands S.Store D.Stands D.kept_rules store.new L }
+    ensures stands { (L : Kept) → Stands S.Store D.Stands D.kept_rules store.old L → HasCleanDisk (state_of S.Store store.new) → IsTrue L.own → Stands S.Store D.Stands D.kept_rules store.new L }
+    ensures survives { Survives (state_of S.Store store.old) (state_of S.Store store.new) (λ _. ⊥) }
+{
+    store.ready()?;
+    let Some(desk) = store.desk() else {
+        unreachable!()
+    };
+    found(list_texts::slot_list(alloc, desk, machine)?, Kind::Machine)
+}
+
+/// The reels to bring for so many boards of a product on a machine. It is not found where the product
+/// has no sheet there.
+pub fn kit_list<S: Alter, D: Desk + Drop>(
+    alloc: Global,
+    store: &mut LineStore<S, D>,
+    product: &Id,
+    machine: &Id,
+    boards: Boards,
+) -> Result<Text, ReportFault>
+    requires stands { (L : Kept) × Stands S.Store D.Stands D.kept_rules store.old L }
+    ensures list { (L : Kept) → Stands S.Store D.Stands D.kept_rules store.old L → HasCleanDisk (state_of S.Store store.new) → IsTrue L.own → Answers Kind.Sheet (kit_list L.history product.now machine.now boards) result }
+    ensures at_hand { IsTrue (has_desk store.old) → store.new ≡ store.old }
+    ensures kept { (L : Kept) × Stands S.Store D.Stands D.kept_rules store.new L }
+    ensures stands { (L : Kept) → Stands S.Store D.Stands D.kept_rules store.old L → HasCleanDisk (state_of S.Store store.new) → IsTrue L.own → Stands S.Store D.Stands D.kept_rules store.new L }
+    ensures survives { Survives (state_of S.Store store.old) (state_of S.Store store.new) (λ _. ⊥) }
+{
+    store.ready()?;
+    let Some(desk) = store.desk() else {
+        unreachable!()
+    };
+    found(
+        list_texts::kit_list(alloc, desk, product, machine, boards)?,
+        Kind::Sheet,
+    )
+}

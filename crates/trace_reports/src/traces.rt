@@ -1,0 +1,74 @@
+//! Traces of boards and lots, and the overdue list, from the tables of a store.
+
+ghost use Rattle.std.specs.Prelude.{◌≡◌, IsTrue};
+ghost use Rattle.sqlite.specs.State.{HasCleanDisk, KeepsCommit, Survives};
+ghost use Rattle.line_schema.specs.Stands.{Kept, Stands, state_of};
+ghost use Rattle.line_schema.specs.Traces.{desk_of};
+ghost use Rattle.trace_reports.specs.declared.fault.Kind.TheVariants as Kind;
+ghost use Rattle.trace_reports.specs.Reports.{board_trace, lot_trace, overdue_list, Answers, AnswersAlways};
+
+use crate::fault::{Kind, ReportFault};
+use crate::pieces::pieces_of;
+use desk_types::{Desk, Id, Text};
+use line_schema::LineStore;
+use sqlite::Alter;
+use std::alloc::Global;
+use trace_texts::{TraceDetail, board_text, lot_text, overdue_text};
+
+/// The trace of a board: what is on it. It is not found where no accepted command started the board.
+pub fn board_trace<S: Alter, D: Desk + Drop>(
+    alloc: Global,
+    store: &mut LineStore<S, D>,
+    board: &Id,
+    detail: TraceDetail,
+) -> Result<Text, ReportFault>
+    ensures trace { (L : Kept) → Stands S.Store D.Stands D.kept_rules store.old L → HasCleanDisk (state_of S.Store store.new) → IsTrue L.own → Answers Kind.Board (board_trace detail L.history board.now) result }
+    ensures stands { (L : Kept) → Stands S.Store D.Stands D.kept_rules store.old L → Stands S.Store D.Stands D.kept_rules store.new L }
+    ensures desk { desk_of store.new ≡ desk_of store.old }
+    ensures unchanged { HasCleanDisk (state_of S.Store store.new) → KeepsCommit (state_of S.Store store.old) (state_of S.Store store.new) }
+    ensures survives { Survives (state_of S.Store store.old) (state_of S.Store store.new) (λ _. ⊥) }
+{
+    let Some(rows) = store.board_rows(board)? else {
+        return Err(ReportFault::NotFound(Kind::Board));
+    };
+    let pieces = pieces_of(alloc, rows.as_slice())?;
+    Ok(board_text(alloc, detail, pieces.as_slice())?)
+}
+
+/// The trace of a lot: which boards hold its pieces. It is not found where no accepted command received
+/// a reel of the lot.
+pub fn lot_trace<S: Alter, D: Desk + Drop>(
+    alloc: Global,
+    store: &mut LineStore<S, D>,
+    lot: &Id,
+    detail: TraceDetail,
+) -> Result<Text, ReportFault>
+    ensures trace { (L : Kept) → Stands S.Store D.Stands D.kept_rules store.old L → HasCleanDisk (state_of S.Store store.new) → IsTrue L.own → Answers Kind.Lot (lot_trace detail L.history lot.now) result }
+    ensures stands { (L : Kept) → Stands S.Store D.Stands D.kept_rules store.old L → Stands S.Store D.Stands D.kept_rules store.new L }
+    ensures desk { desk_of store.new ≡ desk_of store.old }
+    ensures unchanged { HasCleanDisk (state_of S.Store store.new) → KeepsCommit (state_of S.Store store.old) (state_of S.Store store.new) }
+    ensures survives { Survives (state_of S.Store store.old) (state_of S.Store store.new) (λ _. ⊥) }
+{
+    let Some(rows) = store.lot_rows(lot)? else {
+        return Err(ReportFault::NotFound(Kind::Lot));
+    };
+    let pieces = pieces_of(alloc, rows.as_slice())?;
+    Ok(lot_text(alloc, detail, pieces.as_slice())?)
+}
+
+/// The pieces that were placed off reels whose floor life was used up, by number, then place, with the
+/// effective minutes of their installs.
+pub fn overdue_list<S: Alter, D: Desk + Drop>(
+    alloc: Global,
+    store: &mut LineStore<S, D>,
+) -> Result<Text, ReportFault>
+    ensures list { (L : Kept) → Stands S.Store D.Stands D.kept_rules store.old L → HasCleanDisk (state_of S.Store store.new) → IsTrue L.own → AnswersAlways (overdue_list L.history) result }
+    ensures stands { (L : Kept) → Stands S.Store D.Stands D.kept_rules store.old L → Stands S.Store D.Stands D.kept_rules store.new L }
+    ensures desk { desk_of store.new ≡ desk_of store.old }
+    ensures unchanged { HasCleanDisk (state_of S.Store store.new) → KeepsCommit (state_of S.Store store.old) (state_of S.Store store.new) }
+    ensures survives { Survives (state_of S.Store store.old) (state_of S.Store store.new) (λ _. ⊥) }
+{
+    let rows = store.overdue_rows()?;
+    let pieces = pieces_of(alloc, rows.as_slice())?;
+    Ok(overdue_text(alloc, pieces.as_slice())?)
+}
