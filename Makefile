@@ -15,3 +15,28 @@ test:
 .PHONY: wrong-bodies
 wrong-bodies:
 	@tools/wrong-bodies
+
+# None of these is in the gate. Each needs the program (make build) and what stands beside it, all of Debian.
+# make day             feeds a made-up shift to a desk, and prints what is asked of it: docs/day.md
+# make plant-recall    three lines in one PostgreSQL, and a recall over them: docs/plant.md   (postgresql)
+# make torture         kills the program 200 times, fails its disk, looks at its order of calls   (strace)
+# make damage          cuts and zeroes a desk's file page by page
+# make bench           what a day costs, beside stock SQLite   (time)
+# make pictures        docs/crates.svg and docs/splice.svg
+# make docs            out/docs: the documents and the definitions as HTML and one PDF   (pandoc weasyprint)
+.PHONY: day plant-recall torture damage bench pictures docs
+day:
+	@examples/day
+plant-recall:
+	@examples/plant/try
+torture:
+	@tools/torture
+	@tools/torture --planted --kills 20
+damage:
+	@tools/damage
+bench:
+	@tools/bench
+pictures:
+	@tools/pictures
+docs:
+	@tools/print-docs

@@ -65,6 +65,28 @@ pub feed_takes_no_word : told_of (codes "feed" ∷ codes "more" ∷ []) ≡ Unkn
 unfolding told_of clap_on_literals
 feed_takes_no_word = refl
 
+-- ---- imports
+
+pub import_setup_is_taken : told_of (codes "import-setup" ∷ codes "--db" ∷ codes "d" ∷ codes "--id" ∷ codes "i" ∷ codes "--source" ∷ codes "s" ∷ codes "--time" ∷ codes "t" ∷ codes "--product" ∷ codes "p" ∷ codes "--machine" ∷ codes "m" ∷ codes "--file" ∷ codes "f" ∷ []) ≡ []
+unfolding told_of clap_on_literals
+import_setup_is_taken = refl
+
+pub import_counts_is_taken : told_of (codes "import-counts" ∷ codes "--db" ∷ codes "d" ∷ codes "--id" ∷ codes "i" ∷ codes "--source" ∷ codes "s" ∷ codes "--time" ∷ codes "t" ∷ codes "--file" ∷ codes "f" ∷ []) ≡ []
+unfolding told_of clap_on_literals
+import_counts_is_taken = refl
+
+pub an_import_wants_a_time : told_of (codes "import-counts" ∷ codes "--db" ∷ codes "d" ∷ codes "--id" ∷ codes "i" ∷ codes "--source" ∷ codes "s" ∷ codes "--file" ∷ codes "f" ∷ []) ≡ MissingRequiredArgument ∷ []
+unfolding told_of clap_on_literals
+an_import_wants_a_time = refl
+
+pub a_count_has_no_product : told_of (codes "import-counts" ∷ codes "--db" ∷ codes "d" ∷ codes "--id" ∷ codes "i" ∷ codes "--source" ∷ codes "s" ∷ codes "--time" ∷ codes "t" ∷ codes "--file" ∷ codes "f" ∷ codes "--product" ∷ codes "p" ∷ []) ≡ UnknownArgument ∷ []
+unfolding told_of clap_on_literals
+a_count_has_no_product = refl
+
+pub an_import_has_one_id : told_of (codes "import-counts" ∷ codes "--db" ∷ codes "d" ∷ codes "--id" ∷ codes "i" ∷ codes "--source" ∷ codes "s" ∷ codes "--time" ∷ codes "t" ∷ codes "--file" ∷ codes "f" ∷ codes "--id" ∷ codes "j" ∷ []) ≡ ArgumentConflict ∷ []
+unfolding told_of clap_on_literals
+an_import_has_one_id = refl
+
 -- ---- audit
 
 pub audit_takes_a_file : AsksForAudit (codes "audit" ∷ codes "--db" ∷ codes "f" ∷ []) (codes "f")

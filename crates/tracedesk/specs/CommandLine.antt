@@ -1,16 +1,19 @@
 -- What the words of a command line ask for, by the grammar of `clap`.
-use Rattle.std.specs.Prelude.{◌≡◌, ◌≤◌, ◌⊎◌, ⊤, true, codes, ℕ, List, [], ◌∷◌, Option, Some, None, IsSomeAnd, option_map, string_bytes}
+use Rattle.std.specs.Prelude.{◌≡◌, ◌≤◌, ◌⊎◌, ⊤, true, codes, ℕ, List, [], ◌∷◌, Option, Some, None, IsSomeAnd, option_map, unwrap_or, Result, Ok, Err, string_bytes}
 use Rattle.std.specs.Str.Parse.{digits_value, without_leading_plus}
 use Rattle.clap.specs.Faults.{fault_of}
 use Rattle.clap.specs.Kinds.{Kinds, IsAmong}
-use Rattle.clap.specs.Simple.{App, Shape, new_app, new_rule, new_shape, on_top, subcommand_of, with_subcommand}
+use Rattle.clap.specs.Simple.{App, Shape, new_app, new_rule, new_shape, on_top, subcommand_of, with_rule, with_subcommand}
 use Rattle.clap.specs.Values.{IsUnsignedIn}
 use Rattle.clap.specs.Walk.{Row, Rule, first_of}
 use Rattle.clap.specs.declared.error.kind.ErrorKind.{ErrorKind}
 use Rattle.clap.specs.declared.error.kind.ErrorKind.TheVariants.{DisplayHelp, DisplayVersion}
 use Rattle.desk_types.specs.declared.desk.TheConstants.{MOST_ENTRIES}
+use Rattle.desk_import.specs.declared.options.BadOption.{BadOption}
+use Rattle.desk_import.specs.declared.options.Import.{Import}
+use Rattle.desk_import.specs.Options.{counts_import, setup_import}
 use Rattle.tracedesk.specs.declared.command_line.Asked.{Asked}
-use Rattle.tracedesk.specs.declared.command_line.Asked.TheVariants.{Feed, Audit, Migrate, Text, Bad}
+use Rattle.tracedesk.specs.declared.command_line.Asked.TheVariants.{Feed, Audit, Migrate, Import as ToImport, BadOption as OfBadOption, Text, Bad}
 
 -- ---- the grammar
 
@@ -34,14 +37,36 @@ audit_shape = record (new_shape (codes "audit")) { rules = record file_rule { re
 abbrev pub migrate_shape : Shape
 migrate_shape = record (new_shape (codes "migrate")) { rules = record file_rule { required = true } ∷ [] }
 
--- the program has a version, and wants one of its three commands
+-- an option of this name with a value, which has to be there
+abbrev pub wanted : List ℕ → Rule
+wanted name = record (new_rule name) { long = Some name; value_names = 1; required = true }
+
+-- a command with the options of both imports: a desk's file, the UniqueID of the command, its source and its time
+abbrev pub with_stamp : App → App
+with_stamp command = with_rule (with_rule (with_rule (with_rule command (wanted (codes "db"))) (wanted (codes "id"))) (wanted (codes "source"))) (wanted (codes "time"))
+
+-- `import-setup` has a desk's file, the UniqueID, the source and the time of its command, a product, a machine, and the file that is read
+abbrev pub import_setup_shape : Shape
+import_setup_shape =
+    record (new_shape (codes "import-setup")) {
+      rules = wanted (codes "db") ∷ wanted (codes "id") ∷ wanted (codes "source") ∷ wanted (codes "time")
+          ∷ wanted (codes "product") ∷ wanted (codes "machine") ∷ wanted (codes "file") ∷ [];
+    }
+
+-- so has `import-counts`, without a product and a machine
+abbrev pub import_counts_shape : Shape
+import_counts_shape =
+    record (new_shape (codes "import-counts")) {
+      rules = wanted (codes "db") ∷ wanted (codes "id") ∷ wanted (codes "source") ∷ wanted (codes "time") ∷ wanted (codes "file") ∷ [];
+    }
+
+-- the program has a version, and wants a command
+abbrev pub bare : App
+bare = on_top (λ s. record s { no_binary_name = true; disable_help_subcommand = true; subcommand_required = true; has_version = true }) (new_app (codes "tracedesk"))
+
+-- it has five
 abbrev pub commands : App
-commands =
-    with_subcommand
-    (with_subcommand
-    (with_subcommand
-    (on_top (λ s. record s { no_binary_name = true; disable_help_subcommand = true; subcommand_required = true; has_version = true }) (new_app (codes "tracedesk")))
-    feed_shape) audit_shape) migrate_shape
+commands = with_subcommand (with_subcommand (with_subcommand (with_subcommand (with_subcommand bare feed_shape) import_setup_shape) import_counts_shape) audit_shape) migrate_shape
 
 -- what is told where the words are no command to be run: help, the version, or a mistake
 unfoldable pub told_of : List (List ℕ) → Kinds
@@ -88,6 +113,33 @@ abbrev pub AsksForMigration : List (List ℕ) → List ℕ → Type 0
 AsksForMigration words file =
     (rows : List Row) × Names words (codes "migrate") rows × (first_of (codes "db") rows ≡ Some file)
 
+-- the text of an option that the grammar wants to be there
+abbrev pub text_of : List Row → List ℕ → List ℕ
+text_of rows name = unwrap_or (first_of name rows) []
+
+-- the import that the options of `import-setup` say
+abbrev pub setup_in : List Row → Result Import BadOption
+setup_in rows = setup_import (text_of rows (codes "id")) (text_of rows (codes "source")) (text_of rows (codes "time")) (text_of rows (codes "product")) (text_of rows (codes "machine"))
+
+-- and those of `import-counts`
+abbrev pub counts_in : List Row → Result Import BadOption
+counts_in rows = counts_import (text_of rows (codes "id")) (text_of rows (codes "source")) (text_of rows (codes "time"))
+
+-- the words are those of an import, whose options say this
+abbrev pub NamesImport : List (List ℕ) → List Row → Result Import BadOption → Type 0
+NamesImport words rows said =
+    (Names words (codes "import-setup") rows × (said ≡ setup_in rows)) ⊎ (Names words (codes "import-counts") rows × (said ≡ counts_in rows))
+
+-- the words ask to answer, by the desk of this file, this import with the rows of that file
+abbrev pub AsksForImport : List (List ℕ) → List ℕ → Import → List ℕ → Type 0
+AsksForImport words file import from =
+    (rows : List Row) × NamesImport words rows (Ok import)
+    × (first_of (codes "db") rows ≡ Some file) × (first_of (codes "file") rows ≡ Some from)
+
+-- the words are those of an import, and this is the first of its options that can't be read
+abbrev pub HasBadOption : List (List ℕ) → BadOption → Type 0
+HasBadOption words option = (rows : List Row) × NamesImport words rows (Err option)
+
 abbrev pub IsText : ErrorKind → Type 0
 IsText kind = (kind ≡ DisplayHelp) ⊎ (kind ≡ DisplayVersion)
 
@@ -105,7 +157,8 @@ HasBadValue words =
     (rows : List Row)
     × ((Names words (codes "feed") rows × IsSomeAnd (first_of (codes "greatest") rows) (λ text. IsGreatest text → ⊥))
     ⊎ (Names words (codes "audit") rows × (first_of (codes "db") rows ≡ None))
-    ⊎ (Names words (codes "migrate") rows × (first_of (codes "db") rows ≡ None)))
+    ⊎ (Names words (codes "migrate") rows × (first_of (codes "db") rows ≡ None))
+    ⊎ ((import : Import) × NamesImport words rows (Ok import) × ((first_of (codes "db") rows ≡ None) ⊎ (first_of (codes "file") rows ≡ None))))
 
 -- the words ask for nothing that the program does
 abbrev pub AsksForNothing : List (List ℕ) → Type 0
@@ -116,6 +169,8 @@ abbrev pub Asks : List (List ℕ) → Asked → Type 0
 Asks words (Feed file greatest) = AsksForFeed words (option_map string_bytes file) greatest
 Asks words (Audit file) = AsksForAudit words (string_bytes file)
 Asks words (Migrate file) = AsksForMigration words (string_bytes file)
+Asks words (ToImport file import from) = AsksForImport words (string_bytes file) import (string_bytes from)
+Asks words (OfBadOption option) = HasBadOption words option
 Asks words (Text text) = AsksForText words
 Asks words (Bad text) = AsksForNothing words
 

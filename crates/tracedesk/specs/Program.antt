@@ -1,5 +1,5 @@
 -- What a run of the program does.
-use Rattle.std.specs.Prelude.{◌≡◌, ℕ, ◌+◌, ◌<◌, ◌⊎◌, List, [], ◌∷◌, ◌++◌, Option, Some, None, IsSomeAnd, true, length, codes, decimal}
+use Rattle.std.specs.Prelude.{◌≡◌, ℕ, ◌+◌, ◌<◌, ◌⊎◌, List, [], ◌∷◌, ◌++◌, Bool, Result, Option, Some, None, IsSomeAnd, true, length, codes, decimal}
 use Rattle.std.specs.Io.KnownBytes.{Appends}
 use Rattle.sqlite_disk.specs.declared.Disk as disk
 use Rattle.sqlite_disk.specs.declared.start.Start as start
@@ -8,6 +8,7 @@ use Rattle.sqlite_store.specs.declared.store.FileStore.{FileStore}
 use Rattle.sqlite.specs.State.{HasCleanDisk}
 use Rattle.sqlite.specs.Files.{file_state, over_files}
 use Rattle.sqlite.specs.Held.{Held}
+use Rattle.desk_types.specs.declared.command.Stamped.{Stamped}
 use Rattle.desk_types.specs.declared.rules.Rules.TheVariants.{Two}
 use Rattle.desk_types.specs.declared.wire.Wire.{Wire}
 use Rattle.desk_types.specs.History.{History}
@@ -26,7 +27,12 @@ use Rattle.served.specs.declared.serving.ServeFault.{ServeFault}
 use Rattle.served.specs.declared.serving.ServeFault.TheVariants.{Read, Write, TooManyReads}
 use Rattle.served.specs.Sent.{SendsFront}
 use Rattle.desk_feed.specs.Stream.{AnsweredAll, AnsweredUpTo}
-use Rattle.tracedesk.specs.CommandLine.{AsksForAudit, AsksForFeed, AsksForMigration}
+use Rattle.imports.specs.declared.fault.ImportFault.{ImportFault}
+use Rattle.desk_import.specs.declared.options.BadOption.{BadOption}
+use Rattle.desk_import.specs.declared.options.BadOption.TheVariants as option
+use Rattle.desk_import.specs.declared.options.Import.{Import}
+use Rattle.desk_import.specs.Import.{IsAnswered, IsCutOff, IsSaidBy}
+use Rattle.tracedesk.specs.CommandLine.{AsksForAudit, AsksForFeed, AsksForImport, AsksForMigration}
 
 -- ---- the answers
 
@@ -44,6 +50,20 @@ abbrev pub AnswersUpTo : {R W : Type 0} → (R → Option (List ℕ)) → (W →
 AnswersUpTo remaining contents input output output' fault G H =
     AnsweredUpTo G.rules G.greatest (remaining (inner_of input)) G.history (contents (inner_of output)) H (contents (inner_of output')) fault
 
+-- the command of an import and of its file, as far as that is known, was answered by the list of this desk, and the answer counts as refused or doesn't
+abbrev pub AnswersImport : {W : Type 0} → (W → Option (List ℕ)) → Wire W → Wire W → Bool → Import → Option (List ℕ) → Ledger → History → Type 0
+AnswersImport contents output output' refused import file G H =
+    (said : Result Stamped ImportFault) × IsSaidBy import file said × IsAnswered said (contents (inner_of output)) (contents (inner_of output')) refused G H
+
+-- it was, and only the first bytes of the answer went out
+abbrev pub CutsImport : {W : Type 0} → (W → Option (List ℕ)) → Wire W → Wire W → Import → Option (List ℕ) → Ledger → History → Type 0
+CutsImport contents output output' import file G H =
+    (said : Result Stamped ImportFault) × IsSaidBy import file said × IsCutOff said (contents (inner_of output)) (contents (inner_of output')) G H
+
+-- the list is as it was
+abbrev pub StaysSame : Ledger → History → Type 0
+StaysSame G H = H ≡ G.history
+
 -- ---- the desk
 
 -- What holds of the list with which a run on the files begins, where the disk told the truth and no other table was beside the desk's: that list is lawful, and the desk stands for a list that the fact tells.
@@ -59,6 +79,12 @@ RunsAsked first words desk Fact =
     ((greatest : ℕ) × AsksForFeed words None greatest × (H : History) × Fact (fresh greatest) H)
     ⊎ ((file : List ℕ) × (greatest : ℕ) × AsksForFeed words (Some file) greatest × RunsOn first (Some greatest) desk Fact)
 
+-- the words ask for an import, and this was done of it, on the desk of the file that they name
+abbrev pub RunsImport : {T D : Type 0} {g : disk.Ghosts D} → start.Ghosts T → (List ℕ → Option (List ℕ)) → List (List ℕ) → Option (LineStore (FileStore D g) StateDesk)
+    → (Import → Option (List ℕ) → Ledger → History → Type 0) → Type 0
+RunsImport first holds words desk Fact =
+    (file : List ℕ) × (import : Import) × (from : List ℕ) × AsksForImport words file import from × RunsOn first None desk (Fact import (holds from))
+
 -- An audit found so many commands: the desk stands for a judged list of them, whatever its disk did. Where that told the truth and no other table was beside the desk's, it is the list with which the run began.
 abbrev pub Audits : {T D : Type 0} {g : disk.Ghosts D} → start.Ghosts T → Option (LineStore (FileStore D g) StateDesk) → ℕ → Type 0
 Audits first desk count = IsSomeAnd desk (λ d. (L : Kept) × Stands over_files state.Stands state.kept_rules d L × (count ≡ length L.history))
@@ -70,7 +96,8 @@ Migrates first file = IsSomeAnd file (λ conn. HasCleanDisk (file_state conn) �
 
 -- the words name a file that keeps a desk
 abbrev pub NamesFile : List (List ℕ) → Type 0
-NamesFile words = (file : List ℕ) × (AsksForAudit words file ⊎ ((greatest : ℕ) × AsksForFeed words (Some file) greatest) ⊎ AsksForMigration words file)
+NamesFile words = (file : List ℕ) × (AsksForAudit words file ⊎ ((greatest : ℕ) × AsksForFeed words (Some file) greatest) ⊎ AsksForMigration words file
+    ⊎ ((import : Import) × (from : List ℕ) × AsksForImport words file import from))
 
 -- the line that tells of an audit: how many commands were accepted
 abbrev pub lawful_line : ℕ → List ℕ
@@ -91,6 +118,14 @@ abbrev pub fault_line : ServeFault → List ℕ
 fault_line (Read served) = codes "tracedesk: Read"
 fault_line (Write served) = codes "tracedesk: Write"
 fault_line (TooManyReads served) = codes "tracedesk: TooManyReads"
+
+-- the line that tells of an option that can't be read
+abbrev pub option_line : BadOption → List ℕ
+option_line option.Id = codes "tracedesk: Bad id"
+option_line option.Source = codes "tracedesk: Bad source"
+option_line option.Time = codes "tracedesk: Bad time"
+option_line option.Product = codes "tracedesk: Bad product"
+option_line option.Machine = codes "tracedesk: Bad machine"
 
 -- ---- standard error
 

@@ -3,13 +3,14 @@
 ghost use Rattle.std.specs.Prelude.{◌≡◌, false, map, string_bytes, List, [], ℕ, IfOk, IfSome, IsNone, codes};
 ghost use Rattle.clap.specs.Kinds.{HasKind};
 ghost use Rattle.clap.specs.Matches.{found_of};
-ghost use Rattle.clap.specs.Simple.{app_of, shape_of, subcommand_rows_of};
+ghost use Rattle.clap.specs.Simple.{app_of, shape_of, subcommand_rows_of, with_rule};
 ghost use Rattle.clap.specs.Walk.{rows_of};
 ghost use Rattle.clap.specs.declared.builder.command.Command.TheViews.{out-Command};
-ghost use Rattle.tracedesk.specs.CommandLine.{audit_shape, commands, feed_shape, migrate_shape, named_by, number_of, told_of, Asks, IsGreatest, IsInRange, Names};
+ghost use Rattle.tracedesk.specs.CommandLine.{audit_shape, bare, commands, counts_in, feed_shape, import_counts_shape, import_setup_shape, migrate_shape, named_by, number_of, setup_in, text_of, told_of, wanted, with_stamp, Asks, IsGreatest, IsInRange, Names, NamesImport};
 
 use clap::error::ErrorKind;
 use clap::{Arg, ArgMatches};
+use desk_import::{BadOption, Import, counts_import, setup_import};
 use desk_types::MOST_ENTRIES;
 use std::alloc::{AllocError, Global};
 
@@ -33,6 +34,17 @@ pub enum Asked {
         /// The file.
         file: String,
     },
+    /// To answer an import.
+    Import {
+        /// The file that keeps the desk.
+        file: String,
+        /// The import.
+        import: Import,
+        /// The file that has its rows.
+        from: String,
+    },
+    /// To answer an import of which this option can't be read.
+    BadOption(BadOption),
     /// This text, help or the version, for standard output.
     Text(String),
     /// Nothing that the program does: this text says why, for standard error.
@@ -42,11 +54,11 @@ pub enum Asked {
 /// How a run ends, for the help.
 const STATUSES: &str = "\
 Exit status:
-  0  Each line was Accepted or Ignored, the audit found nothing wrong, the file was migrated, or help or the version was asked for
-  1  Some line was answered otherwise
+  0  Each line was Accepted or Ignored, the import was Accepted, the audit found nothing wrong, the file was migrated, or help or the version was asked for
+  1  Some line, or the import, was answered otherwise
   2  The command line asks for nothing that the program does
   3  The desk's file was refused, or memory was, outside of a line
-  4  Input or output failed";
+  4  Input or output failed, or the import's file can't be read";
 
 /// Reads the words after the program's name.
 pub fn read_words(alloc: Global, words: &[String]) -> Result<Asked, AllocError>
@@ -85,6 +97,14 @@ fn command_of(alloc: Global, matches: &ArgMatches<'_>) -> Result<Asked, AllocErr
     match matches.subcommand() {
         Some((name, found)) if name == "audit" => audit_of(alloc, found),
         Some((name, found)) if name == "migrate" => migrate_of(alloc, found),
+        Some((name, found)) if name == "import-setup" => {
+            let said = setup_in(found);
+            import_of(alloc, found, said)
+        }
+        Some((name, found)) if name == "import-counts" => {
+            let said = counts_in(found);
+            import_of(alloc, found, said)
+        }
         Some((_, found)) => feed_of(alloc, found),
         None => unreachable!(),
     }
@@ -135,6 +155,61 @@ fn migrate_of(alloc: Global, found: &ArgMatches<'_>) -> Result<Asked, AllocError
     }
 }
 
+/// What an import asks for, whose options say this.
+fn import_of(
+    alloc: Global,
+    found: &ArgMatches<'_>,
+    said: Result<Import, BadOption>,
+) -> Result<Asked, AllocError>
+    ensures asks { (words : List (List ℕ)) → NamesImport words (rows_of (found_of found.now)) said → IfOk result (Asks words) }
+    ensures range { IfOk result IsInRange }
+{
+    let import = match said {
+        Ok(import) => import,
+        Err(option) => return Ok(Asked::BadOption(option)),
+    };
+    match (found.get_str("db"), found.get_str("file")) {
+        (Some(file), Some(from)) => Ok(Asked::Import {
+            file: String::from_str(alloc, file)?,
+            import,
+            from: String::from_str(alloc, from)?,
+        }),
+        _ => Ok(Asked::Bad(no_file(alloc)?)),
+    }
+}
+
+/// What the options of `import-setup` say.
+fn setup_in(found: &ArgMatches<'_>) -> Result<Import, BadOption>
+    ensures { result ≡ setup_in (rows_of (found_of found.now)) }
+{
+    let id = text_of(found, "id");
+    let source = text_of(found, "source");
+    let time = text_of(found, "time");
+    let product = text_of(found, "product");
+    let machine = text_of(found, "machine");
+    setup_import(id, source, time, product, machine)
+}
+
+/// What the options of `import-counts` say.
+fn counts_in(found: &ArgMatches<'_>) -> Result<Import, BadOption>
+    ensures { result ≡ counts_in (rows_of (found_of found.now)) }
+{
+    let id = text_of(found, "id");
+    let source = text_of(found, "source");
+    let time = text_of(found, "time");
+    counts_import(id, source, time)
+}
+
+/// The text of an option, which the grammar wants to be there.
+fn text_of<'m>(found: &'m ArgMatches<'_>, name: &str) -> &'m str
+    ensures { result.now ≡ text_of (rows_of (found_of found.now)) name.now }
+{
+    match found.get_str(name) {
+        Some(text) => text,
+        None => "",
+    }
+}
+
 /// Tells that there is no file, where a command is to have one.
 fn no_file(alloc: Global) -> Result<String, AllocError> {
     String::from_str(alloc, "error: a value is required for '--db <FILE>'\n")
@@ -163,6 +238,18 @@ fn no_number(alloc: Global, text: &str) -> Result<String, AllocError> {
 fn commands<'a>(alloc: Global) -> Result<clap::Command<'a>, AllocError>
     ensures { IfOk result (λ command. app_of command ≡ commands) }
 {
+    let tracedesk = bare(alloc)?;
+    let with_feed = tracedesk.subcommand(feed(alloc)?)?;
+    let with_setup = with_feed.subcommand(import_setup(alloc)?)?;
+    let with_counts = with_setup.subcommand(import_counts(alloc)?)?;
+    let with_audit = with_counts.subcommand(audit(alloc)?)?;
+    with_audit.subcommand(migrate(alloc)?)
+}
+
+/// The program without its commands.
+fn bare<'a>(alloc: Global) -> Result<clap::Command<'a>, AllocError>
+    ensures { IfOk result (λ command. app_of command ≡ bare) }
+{
     let tracedesk = clap::Command::new(alloc, "tracedesk")
         .about("Verify feeders and trace boards to lots and back")
         .version("0.1.0")
@@ -171,9 +258,7 @@ fn commands<'a>(alloc: Global) -> Result<clap::Command<'a>, AllocError>
         .no_binary_name(true)
         .disable_help_subcommand(true)
         .subcommand_required(true);
-    let with_feed = tracedesk.subcommand(feed(alloc)?)?;
-    let with_audit = with_feed.subcommand(audit(alloc)?)?;
-    with_audit.subcommand(migrate(alloc)?)
+    Ok(tracedesk)
 }
 
 /// The command `feed`.
@@ -194,6 +279,91 @@ fn feed<'a>(alloc: Global) -> Result<clap::Command<'a>, AllocError>
         .after_help(STATUSES)
         .arg(file)?
         .arg(greatest)
+}
+
+/// The command `import-setup`.
+fn import_setup<'a>(alloc: Global) -> Result<clap::Command<'a>, AllocError>
+    ensures shape { IfOk result (λ command. shape_of command ≡ import_setup_shape) }
+    ensures local { IfOk result (λ command. (out-Command command).has_globals ≡ false) }
+{
+    let start = clap::Command::new(alloc, "import-setup")
+        .about("Answer a setup file: the sheet of a product on a machine")
+        .after_help(STATUSES);
+    let stamped = with_stamp(alloc, start)?;
+    let made = with_wanted(alloc, stamped, "product", "NAME", "The product")?;
+    let placed = with_wanted(alloc, made, "machine", "NAME", "The machine")?;
+    with_wanted(
+        alloc,
+        placed,
+        "file",
+        "CSV",
+        "The setup file: a header slot,part,designators and a row for each slot",
+    )
+}
+
+/// The command `import-counts`.
+fn import_counts<'a>(alloc: Global) -> Result<clap::Command<'a>, AllocError>
+    ensures shape { IfOk result (λ command. shape_of command ≡ import_counts_shape) }
+    ensures local { IfOk result (λ command. (out-Command command).has_globals ≡ false) }
+{
+    let start = clap::Command::new(alloc, "import-counts")
+        .about("Answer a count file: the pieces of reels that were counted")
+        .after_help(STATUSES);
+    let stamped = with_stamp(alloc, start)?;
+    with_wanted(
+        alloc,
+        stamped,
+        "file",
+        "CSV",
+        "The count file: a header reel,quantity and a row for each reel",
+    )
+}
+
+/// The command with the options of both imports: the desk's file, and whose command it is.
+fn with_stamp<'a>(
+    alloc: Global,
+    command: clap::Command<'a>,
+) -> Result<clap::Command<'a>, AllocError>
+    requires local { (out-Command command).has_globals ≡ false }
+    ensures shape { IfOk result (λ new. app_of new ≡ with_stamp (app_of command.entry)) }
+    ensures local { IfOk result (λ new. (out-Command new).has_globals ≡ false) }
+{
+    let kept = with_wanted(alloc, command, "db", "FILE", "The file that keeps the desk")?;
+    let named = with_wanted(
+        alloc,
+        kept,
+        "id",
+        "ID",
+        "The UniqueID of the command; a repeat keeps it",
+    )?;
+    let said = with_wanted(alloc, named, "source", "NAME", "Who sends it")?;
+    with_wanted(
+        alloc,
+        said,
+        "time",
+        "TIME",
+        "When it happened, as 2026-03-02T06:00:00Z",
+    )
+}
+
+/// The command with one more option, which has to be there.
+fn with_wanted<'a>(
+    alloc: Global,
+    command: clap::Command<'a>,
+    name: &'a str,
+    value: &'a str,
+    help: &'a str,
+) -> Result<clap::Command<'a>, AllocError>
+    requires local { (out-Command command).has_globals ≡ false }
+    ensures shape { IfOk result (λ new. app_of new ≡ with_rule (app_of command.entry) (wanted name.now)) }
+    ensures local { IfOk result (λ new. (out-Command new).has_globals ≡ false) }
+{
+    let option = Arg::new(alloc, name)
+        .long(name)
+        .value_name(value)
+        .help(help)
+        .required(true);
+    command.arg(option)
 }
 
 /// The command `audit`.

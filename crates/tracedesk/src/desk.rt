@@ -1,6 +1,6 @@
 //! The commands of the program, each on a desk in memory or in a file.
 
-ghost use Rattle.std.specs.Prelude.{◌≡◌, ◌⊎◌, ◌+◌, ◌^◌, ◌<◌, ◌≤◌, None, Some, ℕ};
+ghost use Rattle.std.specs.Prelude.{◌≡◌, ◌⊎◌, ◌+◌, ◌^◌, ◌<◌, ◌≤◌, true, false, None, Some, ℕ};
 ghost use Rattle.std.specs.Io.KnownBytes.{Appends, IsAtEnd};
 ghost use Rattle.desk_types.specs.declared.desk.TheConstants.{MOST_ENTRIES};
 ghost use Rattle.desk_types.specs.History.{History};
@@ -9,18 +9,19 @@ ghost use Rattle.line_schema.specs.declared.fault.OpenFault.{OpenFault};
 ghost use Rattle.line_schema.specs.declared.fault.OpenFault.TheVariants.{Unavailable};
 ghost use Rattle.served.specs.declared.serving.Served.{Served};
 ghost use Rattle.served.specs.declared.serving.ServeFault.{ServeFault};
-ghost use Rattle.served.specs.declared.serving.ServeFault.TheVariants.{Write as WriteFault};
+ghost use Rattle.served.specs.declared.serving.ServeFault.TheVariants.{Read as ReadFault, Write as WriteFault};
 ghost use Rattle.served.specs.declared.serving.TheConstants.{MOST_READS};
 ghost use Rattle.served.specs.Sent.{SendsFront};
 ghost use Rattle.served.specs.Counts.{none_served};
 ghost use Rattle.served.specs.Shown.{FailsNever, IsShown};
 ghost use Rattle.desk_feed.specs.Owners.{ForLists};
-ghost use Rattle.tracedesk.specs.Program.{AnswersAll, AnswersUpTo, Audits, Migrates, RunsOn, fault_line, fresh, lawful_line, refusal_line, version_line, TellsLine};
+ghost use Rattle.tracedesk.specs.Program.{AnswersAll, AnswersImport, AnswersUpTo, Audits, CutsImport, Migrates, RunsOn, StaysSame, fault_line, fresh, lawful_line, refusal_line, version_line, TellsLine};
 
 use crate::exit::{Exit, failed, refused, tell_line, unavailable};
 use desk_answers::Line;
 use desk_feed::feed;
 use desk_file::{DeskFile, FileDesk, migrate_desk, open_desk};
+use desk_import::{Folder, Import, Unread, read_file, serve_import};
 use desk_types::Wire;
 use feeder_state::StateDesk;
 use line_schema::in_memory;
@@ -120,6 +121,7 @@ pub fn feed_in_file<T: Start, R: Read, W: Write, E: Write>(
     ensures refused { result.0 ≡ 1 → (served : Served) × (0 < served.refused) × RunsOn T.Start (Some greatest) result.1 (AnswersAll R.remaining W.contents input.old output.old output.new served) }
     ensures no_desk { result.0 ≡ 3 → (told : OpenFault) × TellsLine E.contents errors.old errors.new (refusal_line told) }
     ensures untouched { result.0 ≡ 3 → (input.new ≡ input.old) × (output.new ≡ output.old) }
+    ensures left { result.0 ≡ 3 → result.1 ≡ None }
     ensures failed { result.0 ≡ 4 → (fault : ServeFault) × IsShown fault input.old input.new output.old output.new × TellsLine E.contents errors.old errors.new (fault_line fault)
         × RunsOn T.Start (Some greatest) result.1 (AnswersUpTo R.remaining W.contents input.old output.old output.new fault) }
     ensures end { (result.0 ≡ 0) ⊎ (result.0 ≡ 1) → IsAtEnd (R.remaining (inner_of input.new)) }
@@ -131,6 +133,88 @@ pub fn feed_in_file<T: Start, R: Read, W: Write, E: Write>(
         Ok(store) => {
             let mut store = store;
             let status = feed_lines(rt.alloc(), input, output, errors, &mut store);
+            (status, Some(store))
+        }
+        Err(fault) => (refused(rt.alloc(), &fault, errors), None),
+    }
+}
+
+/// Answers an import by an owner of a list: the exit status.
+fn import_rows<F: Folder, W: Write, E: Write, L: Line>(
+    alloc: Global,
+    line: &mut L,
+    import: &Import,
+    folder: &F,
+    from: &str,
+    output: &mut Wire<W>,
+    errors: &mut Wire<E>,
+) -> u8
+    requires write_failures { failures_of output.old < 2 ^ 63 }
+    requires error_failures { failures_of errors.old < 2 ^ 63 }
+    requires ready { L.Ready line.old }
+    ensures ready { L.Ready line.new }
+    ensures trusts { L.Trusts line.new → L.Trusts line.old }
+    ensures status { (result ≡ 0) ⊎ (result ≡ 1) ⊎ (result ≡ 3) ⊎ (result ≡ 4) }
+    ensures done { result ≡ 0 → ForLists L.Stands L.Trusts line.old line.new (AnswersImport W.contents output.old output.new false import.now (F.holds folder.now from.now)) }
+    ensures refused { result ≡ 1 → ForLists L.Stands L.Trusts line.old line.new (AnswersImport W.contents output.old output.new true import.now (F.holds folder.now from.now)) }
+    ensures no_memory { result ≡ 3 → TellsLine E.contents errors.old errors.new (refusal_line Unavailable) }
+    ensures untouched { result ≡ 3 → (line.new ≡ line.old) × (output.new ≡ output.old) }
+    ensures failed { result ≡ 4
+        → ((failures_of output.new ≡ failures_of output.old + 1) × TellsLine E.contents errors.old errors.new (fault_line (WriteFault none_served))
+        × ForLists L.Stands L.Trusts line.old line.new (CutsImport W.contents output.old output.new import.now (F.holds folder.now from.now)))
+        ⊎ ((output.new ≡ output.old) × TellsLine E.contents errors.old errors.new (fault_line (ReadFault none_served)) × ForLists L.Stands L.Trusts line.old line.new StaysSame) }
+    ensures kept { (result ≡ 0) ⊎ (result ≡ 1) → failures_of output.new ≡ failures_of output.old }
+    ensures quiet { (result ≡ 0) ⊎ (result ≡ 1) → errors.new ≡ errors.old }
+{
+    let bytes = match read_file(alloc, folder, from) {
+        Ok(bytes) => bytes,
+        Err(Unread::Failed) => {
+            tell_line(errors, "tracedesk: Read");
+            return Exit::Failed as u8;
+        }
+        Err(Unread::NoMemory) => return unavailable(errors),
+    };
+    match serve_import(alloc, output, line, import, &bytes) {
+        Ok(false) => Exit::Done as u8,
+        Ok(true) => Exit::Refused as u8,
+        Err(_) => {
+            tell_line(errors, "tracedesk: Write");
+            Exit::Failed as u8
+        }
+    }
+}
+
+/// Answers an import by the desk in a file: the exit status, and the desk.
+pub fn import_in_file<T: Start, F: Folder, W: Write, E: Write>(
+    rt: &HostRuntime,
+    file: &str,
+    start: T,
+    import: &Import,
+    folder: &F,
+    from: &str,
+    output: &mut Wire<W>,
+    errors: &mut Wire<E>,
+) -> (u8, Option<FileDesk<T, StateDesk>>)
+    requires write_failures { failures_of output.old < 2 ^ 63 }
+    requires error_failures { failures_of errors.old < 2 ^ 63 }
+    ensures status { (result.0 ≡ 0) ⊎ (result.0 ≡ 1) ⊎ (result.0 ≡ 3) ⊎ (result.0 ≡ 4) }
+    ensures done { result.0 ≡ 0 → RunsOn T.Start None result.1 (AnswersImport W.contents output.old output.new false import.now (F.holds folder.now from.now)) }
+    ensures refused { result.0 ≡ 1 → RunsOn T.Start None result.1 (AnswersImport W.contents output.old output.new true import.now (F.holds folder.now from.now)) }
+    ensures no_desk { result.0 ≡ 3 → (told : OpenFault) × TellsLine E.contents errors.old errors.new (refusal_line told) }
+    ensures untouched { result.0 ≡ 3 → output.new ≡ output.old }
+    ensures left { result.0 ≡ 3 → (result.1 ≡ None) ⊎ RunsOn T.Start None result.1 StaysSame }
+    ensures failed { result.0 ≡ 4
+        → ((failures_of output.new ≡ failures_of output.old + 1) × TellsLine E.contents errors.old errors.new (fault_line (WriteFault none_served))
+        × RunsOn T.Start None result.1 (CutsImport W.contents output.old output.new import.now (F.holds folder.now from.now)))
+        ⊎ ((output.new ≡ output.old) × TellsLine E.contents errors.old errors.new (fault_line (ReadFault none_served)) × RunsOn T.Start None result.1 StaysSame) }
+    ensures kept { (result.0 ≡ 0) ⊎ (result.0 ≡ 1) → failures_of output.new ≡ failures_of output.old }
+    ensures quiet { (result.0 ≡ 0) ⊎ (result.0 ≡ 1) → errors.new ≡ errors.old }
+{
+    let opened = open_desk::<T, StateDesk>(rt, file, start, None);
+    match opened {
+        Ok(store) => {
+            let mut store = store;
+            let status = import_rows(rt.alloc(), &mut store, import, folder, from, output, errors);
             (status, Some(store))
         }
         Err(fault) => (refused(rt.alloc(), &fault, errors), None),
@@ -153,6 +237,7 @@ pub fn audit_file<T: Start, W: Write, E: Write>(
         × Audits T.Start result.1 count }
     ensures no_desk { result.0 ≡ 3 → (told : OpenFault) × TellsLine E.contents errors.old errors.new (refusal_line told) }
     ensures untouched { result.0 ≡ 3 → output.new ≡ output.old }
+    ensures left { result.0 ≡ 3 → (result.1 ≡ None) ⊎ RunsOn T.Start None result.1 StaysSame }
     ensures failed { result.0 ≡ 4 → (failures_of output.new ≡ failures_of output.old + 1) × TellsLine E.contents errors.old errors.new (fault_line (WriteFault none_served))
         × (count : ℕ) × SendsFront (W.contents (inner_of output.old)) (W.contents (inner_of output.new)) (lawful_line count) × Audits T.Start result.1 count }
     ensures kept { result.0 ≡ 0 → failures_of output.new ≡ failures_of output.old }
@@ -182,6 +267,7 @@ pub fn migrate_file<T: Start, W: Write, E: Write>(
     ensures done { result.0 ≡ 0 → Appends (W.contents (inner_of output.old)) (W.contents (inner_of output.new)) version_line × Migrates T.Start result.1 }
     ensures no_desk { result.0 ≡ 3 → (told : OpenFault) × TellsLine E.contents errors.old errors.new (refusal_line told) }
     ensures untouched { result.0 ≡ 3 → output.new ≡ output.old }
+    ensures left { result.0 ≡ 3 → result.1 ≡ None }
     ensures failed { result.0 ≡ 4 → (failures_of output.new ≡ failures_of output.old + 1) × TellsLine E.contents errors.old errors.new (fault_line (WriteFault none_served))
         × SendsFront (W.contents (inner_of output.old)) (W.contents (inner_of output.new)) version_line × Migrates T.Start result.1 }
     ensures kept { result.0 ≡ 0 → failures_of output.new ≡ failures_of output.old }

@@ -3,8 +3,9 @@
 ghost use Rattle.std.specs.Prelude.{◌≡◌, ◌⊎◌, ◌+◌, ◌^◌, ◌<◌, ◌++◌, ◌∷◌, [], codes, List, ℕ};
 ghost use Rattle.desk_types.specs.Wire.{failures_of};
 ghost use Rattle.line_schema.specs.declared.fault.OpenFault.TheVariants.{Unavailable};
-ghost use Rattle.tracedesk.specs.Program.{fault_line, refusal_line, Tells, TellsLine};
+ghost use Rattle.tracedesk.specs.Program.{fault_line, option_line, refusal_line, Tells, TellsLine};
 
+use desk_import::BadOption;
 use desk_types::Wire;
 use line_schema::OpenFault;
 use served::{ServeFault, send, send_line};
@@ -16,13 +17,13 @@ use std::io::Write;
 pub enum Exit {
     /// All went well.
     Done = 0,
-    /// The answer to some line counts as refused.
+    /// The answer to some line, or to the import, counts as refused.
     Refused = 1,
-    /// The command line asks for nothing that the program does.
+    /// The command line asks for nothing that the program does, or an option can't be read.
     BadCommandLine = 2,
     /// The desk's file was refused, or memory was, outside of a message.
     NoDesk = 3,
-    /// Input or output failed.
+    /// Input or output failed, or the file of an import.
     Failed = 4,
 }
 
@@ -70,6 +71,29 @@ pub fn unavailable<E: Write>(errors: &mut Wire<E>) -> u8
 {
     tell_line(errors, "tracedesk: Unavailable");
     Exit::NoDesk as u8
+}
+
+/// Tells that an option of an import can't be read.
+pub fn bad_option<E: Write>(option: BadOption, errors: &mut Wire<E>) -> u8
+    requires error_failures { failures_of errors.old < 2 ^ 63 }
+    ensures status { result ≡ 2 }
+    ensures told { TellsLine E.contents errors.old errors.new (option_line option) }
+{
+    tell_line(errors, option_line(option));
+    Exit::BadCommandLine as u8
+}
+
+/// The line that tells of an option that can't be read.
+fn option_line(option: BadOption) -> &'static str
+    ensures { result.now ≡ option_line option }
+{
+    match option {
+        BadOption::Id => "tracedesk: Bad id",
+        BadOption::Source => "tracedesk: Bad source",
+        BadOption::Time => "tracedesk: Bad time",
+        BadOption::Product => "tracedesk: Bad product",
+        BadOption::Machine => "tracedesk: Bad machine",
+    }
 }
 
 /// Tells a line on standard error. Where that fails there is nowhere to tell of it.

@@ -1,6 +1,6 @@
 //! A run of the program.
 
-ghost use Rattle.std.specs.Prelude.{◌≡◌, ◌≢◌, ◌⊎◌, ◌+◌, ◌^◌, ◌<◌, ◌≤◌, None, codes, map, string_bytes, length, List, ℕ};
+ghost use Rattle.std.specs.Prelude.{◌≡◌, ◌≢◌, ◌⊎◌, ◌+◌, ◌^◌, ◌<◌, ◌≤◌, true, false, None, codes, map, string_bytes, length, List, ℕ};
 ghost use Rattle.std.specs.IoError.{error_kind};
 ghost use Rattle.std.specs.Io.KnownBytes.{Appends, IsAtEnd};
 ghost use Rattle.desk_types.specs.Wire.{inner_of, reads_of, failures_of};
@@ -9,19 +9,27 @@ ghost use Rattle.line_schema.specs.declared.fault.OpenFault.TheVariants.{Unavail
 ghost use Rattle.served.specs.declared.serving.Served.{Served};
 ghost use Rattle.served.specs.declared.serving.ServeFault.{ServeFault};
 ghost use Rattle.served.specs.declared.serving.TheConstants.{MOST_READS};
-ghost use Rattle.tracedesk.specs.CommandLine.{AsksForAudit, AsksForFeed, AsksForMigration, AsksForText, AsksForNothing};
+ghost use Rattle.desk_import.specs.declared.options.BadOption.{BadOption};
+ghost use Rattle.desk_import.specs.declared.options.Import.{Import};
+ghost use Rattle.served.specs.declared.serving.ServeFault.TheVariants.{Read as ReadFault};
+ghost use Rattle.served.specs.Counts.{none_served};
+ghost use Rattle.tracedesk.specs.CommandLine.{AsksForAudit, AsksForFeed, AsksForImport, AsksForMigration, AsksForText, AsksForNothing, HasBadOption};
 ghost use Rattle.served.specs.Sent.{SendsFront};
 ghost use Rattle.served.specs.Shown.{FailsNever, IsShown};
-ghost use Rattle.tracedesk.specs.Program.{AnswersAll, AnswersUpTo, Audits, Migrates, NamesFile, RunsAsked, fault_line, lawful_line, refusal_line, version_line, Tells, TellsLine};
+ghost use Rattle.tracedesk.specs.Program.{AnswersAll, AnswersImport, AnswersUpTo, Audits, CutsImport, Migrates, NamesFile, RunsAsked, RunsImport, RunsOn, StaysSame, fault_line, lawful_line, option_line, refusal_line, version_line, Tells, TellsLine};
 
 use crate::command_line::{Asked, read_words};
-use crate::desk::{audit_file, feed_in_file, feed_in_memory, migrate_file, send_text};
-use crate::exit::{Exit, tell, tell_line, unavailable};
+use crate::desk::{
+    audit_file, feed_in_file, feed_in_memory, import_in_file, migrate_file, send_text,
+};
+use crate::exit::{Exit, bad_option, tell, tell_line, unavailable};
 use desk_file::{DeskFile, FileDesk, close_desk, close_file};
+use desk_import::Folder;
 use desk_types::Wire;
 use feeder_state::StateDesk;
 use sqlite::{Start, Unknown};
 use std::alloc::AllocError;
+use std::fs::File;
 use std::io;
 use std::io::{ErrorKind, Read, Write};
 
@@ -32,12 +40,14 @@ pub fn run(rt: &HostRuntime) -> u8
     let mut input = Wire::new(rt.stdin());
     let mut output = Wire::new(rt.stdout());
     let mut errors = Wire::new(rt.stderr());
+    let files = SystemFiles { rt };
     match words(rt) {
         Ok(words) => {
             let (status, desk, migrated) = program(
                 rt,
                 words.as_slice(),
                 Unknown,
+                &files,
                 &mut input,
                 &mut output,
                 &mut errors,
@@ -46,6 +56,24 @@ pub fn run(rt: &HostRuntime) -> u8
             file_closed(rt, status, migrated)
         }
         Err(error) => wordless(&error, &mut errors),
+    }
+}
+
+/// The files of the system. What they hold is not known before they are read.
+#[derive(Drop)]
+struct SystemFiles<'a> {
+    rt: &'a HostRuntime,
+}
+
+impl Folder for SystemFiles<'_> {
+    ghost use Rattle.std.specs.Prelude.{None};
+
+    ghost holds = { λ _ _. None };
+
+    type File = File;
+
+    fn open(&self, path: &str) -> io::Result<File> {
+        File::open(self.rt, path)
     }
 }
 
@@ -72,14 +100,16 @@ fn wordless<E: Write>(error: &io::Error, errors: &mut Wire<E>) -> u8
 /// A whole run after the program's name: its exit status; where it kept one in a file, the desk; and
 /// the file that it migrated. The files are still to be closed.
 ///
-/// 0: done. 1: some line was answered by a refusal. 2: the command line is bad, and standard error
-/// says why. 3: the desk's file was refused, or memory was, outside of a message: `tracedesk: ` and
-/// the fault, with its number or its table after a space. 4: input or output failed, told as `tracedesk: Read`,
-/// `tracedesk: Write` or `tracedesk: TooManyReads`.
-pub fn program<T: Start, R: Read, W: Write, E: Write>(
+/// 0: done. 1: some line, or the import, was answered by a refusal. 2: the command line is bad, and
+/// standard error says why, of an option of an import as `tracedesk: Bad id`. 3: the desk's file was
+/// refused, or memory was, outside of a message: `tracedesk: ` and the fault, with its number or its
+/// table after a space. 4: input or output failed, told as `tracedesk: Read`, `tracedesk: Write` or
+/// `tracedesk: TooManyReads`; Read also where the file of an import can't be opened or read.
+pub fn program<T: Start, F: Folder, R: Read, W: Write, E: Write>(
     rt: &HostRuntime,
     words: &[String],
     start: T,
+    folder: &F,
     input: &mut Wire<R>,
     output: &mut Wire<W>,
     errors: &mut Wire<E>,
@@ -95,26 +125,35 @@ pub fn program<T: Start, R: Read, W: Write, E: Write>(
         × Audits T.Start result.1 count)
         ⊎ ((file : List ℕ) × AsksForMigration (map string_bytes words.now) file × Appends (W.contents (inner_of output.old)) (W.contents (inner_of output.new)) version_line
         × Migrates T.Start result.2)
+        ⊎ RunsImport T.Start (F.holds folder.now) (map string_bytes words.now) result.1 (AnswersImport W.contents output.old output.new false)
         ⊎ (AsksForText (map string_bytes words.now) × (text : List ℕ) × Appends (W.contents (inner_of output.old)) (W.contents (inner_of output.new)) text) }
     ensures refused { result.0 ≡ 1
-        → (served : Served) × (0 < served.refused) × RunsAsked T.Start (map string_bytes words.now) result.1 (AnswersAll R.remaining W.contents input.old output.old output.new served) }
-    ensures bad { result.0 ≡ 2 → AsksForNothing (map string_bytes words.now) × (text : List ℕ) × Tells E.contents errors.old errors.new text }
+        → ((served : Served) × (0 < served.refused) × RunsAsked T.Start (map string_bytes words.now) result.1 (AnswersAll R.remaining W.contents input.old output.old output.new served))
+        ⊎ RunsImport T.Start (F.holds folder.now) (map string_bytes words.now) result.1 (AnswersImport W.contents output.old output.new true) }
+    ensures bad { result.0 ≡ 2 → (AsksForNothing (map string_bytes words.now) × (text : List ℕ) × Tells E.contents errors.old errors.new text)
+        ⊎ ((option : BadOption) × HasBadOption (map string_bytes words.now) option × TellsLine E.contents errors.old errors.new (option_line option)) }
+    ensures unopened { result.0 ≡ 2 → (result.1 ≡ None) × (result.2 ≡ None) }
     ensures no_desk { result.0 ≡ 3 → (told : OpenFault) × ((told ≡ Unavailable) ⊎ NamesFile (map string_bytes words.now)) × TellsLine E.contents errors.old errors.new (refusal_line told) }
+    ensures left { result.0 ≡ 3 → ((result.1 ≡ None) ⊎ RunsOn T.Start None result.1 StaysSame) × (result.2 ≡ None) }
     ensures untouched { (result.0 ≡ 2) ⊎ (result.0 ≡ 3) → (input.new ≡ input.old) × (output.new ≡ output.old) }
     ensures failed { result.0 ≡ 4
-        → (fault : ServeFault) × IsShown fault input.old input.new output.old output.new × TellsLine E.contents errors.old errors.new (fault_line fault)
+        → ((fault : ServeFault) × IsShown fault input.old input.new output.old output.new × TellsLine E.contents errors.old errors.new (fault_line fault)
         × (RunsAsked T.Start (map string_bytes words.now) result.1 (AnswersUpTo R.remaining W.contents input.old output.old output.new fault)
         ⊎ ((file : List ℕ) × AsksForAudit (map string_bytes words.now) file × (count : ℕ) × SendsFront (W.contents (inner_of output.old)) (W.contents (inner_of output.new)) (lawful_line count)
         × Audits T.Start result.1 count)
         ⊎ ((file : List ℕ) × AsksForMigration (map string_bytes words.now) file × SendsFront (W.contents (inner_of output.old)) (W.contents (inner_of output.new)) version_line
         × Migrates T.Start result.2)
-        ⊎ (AsksForText (map string_bytes words.now) × (text : List ℕ) × SendsFront (W.contents (inner_of output.old)) (W.contents (inner_of output.new)) text)) }
+        ⊎ RunsImport T.Start (F.holds folder.now) (map string_bytes words.now) result.1 (CutsImport W.contents output.old output.new)
+        ⊎ (AsksForText (map string_bytes words.now) × (text : List ℕ) × SendsFront (W.contents (inner_of output.old)) (W.contents (inner_of output.new)) text)))
+        ⊎ ((input.new ≡ input.old) × (output.new ≡ output.old) × TellsLine E.contents errors.old errors.new (fault_line (ReadFault none_served))
+        × RunsImport T.Start (F.holds folder.now) (map string_bytes words.now) result.1 (λ _ _. StaysSame)) }
     ensures end { (result.0 ≡ 0) ⊎ (result.0 ≡ 1) → (file : _) (greatest : ℕ) → AsksForFeed (map string_bytes words.now) file greatest → IsAtEnd (R.remaining (inner_of input.new)) }
     ensures kept { (result.0 ≡ 0) ⊎ (result.0 ≡ 1) → FailsNever input.old input.new output.old output.new }
     ensures few_reads { reads_of input.new ≤ reads_of input.old + MOST_READS }
     ensures unread { AsksForText (map string_bytes words.now) → input.new ≡ input.old }
     ensures unread_by_audits { (file : List ℕ) → AsksForAudit (map string_bytes words.now) file → input.new ≡ input.old }
     ensures unread_by_migrations { (file : List ℕ) → AsksForMigration (map string_bytes words.now) file → input.new ≡ input.old }
+    ensures unread_by_imports { (file : List ℕ) (import : Import) (from : List ℕ) → AsksForImport (map string_bytes words.now) file import from → input.new ≡ input.old }
     ensures quiet { (result.0 ≡ 0) ⊎ (result.0 ≡ 1) → errors.new ≡ errors.old }
 {
     match read_words(rt.alloc(), words) {
@@ -145,6 +184,20 @@ pub fn program<T: Start, R: Read, W: Write, E: Write>(
             let (status, migrated) = migrate_file(rt, file.as_str(), start, output, errors);
             (status, None, migrated)
         }
+        Ok(Asked::Import { file, import, from }) => {
+            let (status, desk) = import_in_file(
+                rt,
+                file.as_str(),
+                start,
+                &import,
+                folder,
+                from.as_str(),
+                output,
+                errors,
+            );
+            (status, desk, None)
+        }
+        Ok(Asked::BadOption(option)) => (bad_option(option, errors), None, None),
         Ok(Asked::Text(text)) => (send_text(text.as_str(), output, errors), None, None),
         Ok(Asked::Bad(text)) => {
             tell(errors, text.as_str());

@@ -2,7 +2,7 @@
 
 use super::id;
 use desk_laws::desk_is_consistent;
-use desk_types::{Command, Desk, JudgeFault, Left, Minute, Rules, Stamped, run};
+use desk_types::{Command, Desk, JudgeFault, Minute, Stamped};
 use look_back::PlainDesk;
 use std::alloc::{AllocError, Global};
 use std::process::Abort;
@@ -63,63 +63,6 @@ fn a_command_is_accepted_or_memory_was_refused(rt: HostRuntime) -> Result<(), Fa
     ] {
         accept(&rt, rt.alloc(), &mut desk, uid, text)?;
     }
-    Ok(())
-}
-
-#[test]
-fn each_view_is_told(rt: HostRuntime) -> Result<(), Fail> {
-    let mut desk = PlainDesk::fresh(rt.alloc(), Rules::Two);
-    for (uid, text) in [
-        ("u1", "PartDefined\tP"),
-        ("u2", "SheetDefined\tPR\tM\t1\t1\tP\t1\tR1"),
-        ("u3", "ProductSelected\tM\tPR"),
-        ("u4", "ReelReceived\tK1\tP\tL1\t1\t10\t0"),
-        ("u5", "ReelReceived\tK2\tP\tL1\t1\t10\t0"),
-        ("u6", "MaterialsLoaded\tM\t1\tK1"),
-    ] {
-        accept(&rt, rt.alloc(), &mut desk, uid, text)?;
-    }
-    assert_eq!(rt; desk.minute(), Minute::new(0));
-    let machine = id("M")?;
-    let product = desk.selected(&machine).ok_or("no product")?;
-    let sheet = desk.sheet_of(&product, &machine)?.ok_or("no sheet")?;
-    assert_eq!(rt; sheet.as_slice().len(), 1);
-    assert_eq!(rt; desk.fronts(&machine)?.as_slice().len(), 1);
-    assert_eq!(rt;
-        desk.slots_of(&machine)?.ok_or("no slots")?.as_slice().len(),
-        1
-    );
-    let loaded = desk.reel(&id("K1")?).ok_or("no reel")?;
-    assert_eq!(rt; (loaded.mounted, loaded.left), (true, Left::Unlimited));
-    assert_eq!(rt; desk.free_reels(&loaded.part)?.as_slice().len(), 1);
     desk_is_consistent(&desk);
-    Ok(())
-}
-
-/// The pieces that a reel of 10 has after a count of 15 on a desk of these rules. The count is judged
-/// once more before it is sent.
-fn counted(rt: &impl Abort, alloc: Global, rules: Rules) -> Result<u64, Fail> {
-    let mut desk = PlainDesk::with_rules(alloc, rules);
-    accept(rt, alloc, &mut desk, "u1", "PartDefined\tP")?;
-    accept(
-        rt,
-        alloc,
-        &mut desk,
-        "u2",
-        "ReelReceived\tK1\tP\tL1\t1\t10\t0",
-    )?;
-    assert_eq!(rt; desk.entries().len(), 2);
-    assert_eq!(rt; desk.rules(), rules);
-    let messages = [stamped(alloc, "u3", "CountsTaken\t1\tK1\t15")?];
-    let _ = desk.judge(&messages[0]).is_ok();
-    let replies = run(alloc, &mut desk, &messages)?;
-    assert_eq!(rt; replies.as_slice().len(), 1);
-    Ok(desk.reel(&id("K1")?).ok_or("no reel")?.remaining)
-}
-
-#[test]
-fn a_count_rises_by_rules_two_alone(rt: HostRuntime) -> Result<(), Fail> {
-    assert_eq!(rt; counted(&rt, rt.alloc(), Rules::One)?, 10);
-    assert_eq!(rt; counted(&rt, rt.alloc(), Rules::Two)?, 15);
     Ok(())
 }

@@ -35,17 +35,24 @@ level_wants names h words has below none =
     let top = (built commands).top in
     is_wanted (finished top.rules (walk top.rules names h words).held) has (level_end top names h words has below none)
 
-of_three : (f g h : Shape) (x y z : Bool) (words : List (List ℕ)) (p : List ℕ × List Row)
-    → option_map (λ s. rows_at s words) (cond x (Some f) (cond y (Some g) (cond z (Some h) None))) ≡ Some p → (p.0 ≡ f.name) ⊎ (p.0 ≡ g.name) ⊎ (p.0 ≡ h.name)
-of_three f g h true y z words p is = inl (ap (λ (o : Option (List ℕ × List Row)). unwrap_or (option_map (λ q. q.0) o) []) (sym is))
-of_three f g h false true z words p is = inr (inl (ap (λ (o : Option (List ℕ × List Row)). unwrap_or (option_map (λ q. q.0) o) []) (sym is)))
-of_three f g h false false true words p is = inr (inr (ap (λ (o : Option (List ℕ × List Row)). unwrap_or (option_map (λ q. q.0) o) []) (sym is)))
-of_three f g h false false false words p is = cc
+-- the name in the rows that are found
+abbrev name_in : Option (List ℕ × List Row) → List ℕ
+name_in o = unwrap_or (option_map (λ q. q.0) o) []
+
+of_five : (f g h i j : Shape) (x y z v w : Bool) (words : List (List ℕ)) (p : List ℕ × List Row)
+    → option_map (λ s. rows_at s words) (cond x (Some f) (cond y (Some g) (cond z (Some h) (cond v (Some i) (cond w (Some j) None))))) ≡ Some p
+    → (p.0 ≡ f.name) ⊎ (p.0 ≡ g.name) ⊎ (p.0 ≡ h.name) ⊎ (p.0 ≡ i.name) ⊎ (p.0 ≡ j.name)
+of_five f g h i j true y z v w words p is = inl (ap name_in (sym is))
+of_five f g h i j false true z v w words p is = inr (inl (ap name_in (sym is)))
+of_five f g h i j false false true v w words p is = inr (inr (inl (ap name_in (sym is))))
+of_five f g h i j false false false true w words p is = inr (inr (inr (inl (ap name_in (sym is)))))
+of_five f g h i j false false false false true words p is = inr (inr (inr (inr (ap name_in (sym is)))))
+of_five f g h i j false false false false false words p is = cc
 
 one_of : (stop : Option (List ℕ × List (List ℕ))) (p : List ℕ × List Row) → entered (built commands) stop ≡ Some p
-    → (p.0 ≡ codes "feed") ⊎ (p.0 ≡ codes "audit") ⊎ (p.0 ≡ codes "migrate")
+    → (p.0 ≡ codes "feed") ⊎ (p.0 ≡ codes "import-setup") ⊎ (p.0 ≡ codes "import-counts") ⊎ (p.0 ≡ codes "audit") ⊎ (p.0 ≡ codes "migrate")
 one_of None p is = cc
-one_of (Some s) p is = of_three _ _ _ _ _ _ s.1 p is
+one_of (Some s) p is = of_five _ _ _ _ _ _ _ _ _ _ s.1 p is
 
 abbrev stop_in : List (List ℕ) → Option (List ℕ × List (List ℕ))
 stop_in words = stop_after (built commands).top.rules (names_of (built commands)) (argument_words commands words)
@@ -55,8 +62,8 @@ is_named : (words : List (List ℕ)) → told_of words ≡ [] → is_some (named
 unfolding told_of named_by
 is_named words none = level_wants _ _ _ (is_some (entered (built commands) (stop_in words))) _ none
 
--- and it is one of the three
-is_one_of : (words : List (List ℕ)) (p : List ℕ × List Row) → named_by words ≡ Some p → (p.0 ≡ codes "feed") ⊎ (p.0 ≡ codes "audit") ⊎ (p.0 ≡ codes "migrate")
+-- and it is one of the five
+is_one_of : (words : List (List ℕ)) (p : List ℕ × List Row) → named_by words ≡ Some p → (p.0 ≡ codes "feed") ⊎ (p.0 ≡ codes "import-setup") ⊎ (p.0 ≡ codes "import-counts") ⊎ (p.0 ≡ codes "audit") ⊎ (p.0 ≡ codes "migrate")
 unfolding named_by
 is_one_of words p is = one_of (stop_in words) p is
 
@@ -80,8 +87,8 @@ unreachable-requires c =
     let none : is_some (subcommand_rows_of c.args.matches.now) ≡ false = search rules in
     absurd (true≢false (sym some ∙ ap is_some (sym c.requires.named.2) ∙ none))
 
-pub returns-in-Some-3-clause-asks : goal.returns-in-Some-3-clause-asks
-returns-in-Some-3-clause-asks c = λ words none is.
+pub returns-in-Some-5-clause-asks : goal.returns-in-Some-5-clause-asks
+returns-in-Some-5-clause-asks c = λ words none is.
     let rows = rows_of (found_of c.in-Some.found.now) in
     let name = c.in-Some.name.now in
     let names : Some name ≡ subcommand_name_of c.args.matches.now = search rules in
@@ -89,8 +96,12 @@ returns-in-Some-3-clause-asks c = λ words none is.
     let is_both : named_by words ≡ Some (name, rows) = sym is ∙ rows_named c.args.matches.now name rows names finds in
     let no_audit : bytes_eq name (codes "audit") ≡ false = search rules in
     let no_migration : bytes_eq name (codes "migrate") ≡ false = search rules in
+    let no_setup : bytes_eq name (codes "import-setup") ≡ false = search rules in
+    let no_counts : bytes_eq name (codes "import-counts") ≡ false = search rules in
     elim (is_one_of words (name, rows) is_both) [
       | inl feed ↦ c.feed_of.ensures.asks words (none, is_both ∙ ap (λ n. Some (n, rows)) feed)
-      | inr (inl audit) ↦ absurd (true≢false (sym ((bytes_eq-Decides name (codes "audit")).1 audit) ∙ no_audit))
-      | inr (inr migration) ↦ absurd (true≢false (sym ((bytes_eq-Decides name (codes "migrate")).1 migration) ∙ no_migration))
+      | inr (inl setup) ↦ absurd (true≢false (sym ((bytes_eq-Decides name (codes "import-setup")).1 setup) ∙ no_setup))
+      | inr (inr (inl counts)) ↦ absurd (true≢false (sym ((bytes_eq-Decides name (codes "import-counts")).1 counts) ∙ no_counts))
+      | inr (inr (inr (inl audit))) ↦ absurd (true≢false (sym ((bytes_eq-Decides name (codes "audit")).1 audit) ∙ no_audit))
+      | inr (inr (inr (inr migration))) ↦ absurd (true≢false (sym ((bytes_eq-Decides name (codes "migrate")).1 migration) ∙ no_migration))
     ]

@@ -1,4 +1,4 @@
-use Rattle.std.proofs.Common.{rules, ◌≡◌, ◌∙◌, sym, codes, string_bytes, Some, None, inr}
+use Rattle.std.proofs.Common.{rules, ◌≡◌, ◌∙◌, sym, codes, string_bytes, Some, None, inl, inr}
 use Rattle.clap.specs.Matches.{found_of, first_value}
 use Rattle.clap.specs.Walk.{rows_of}
 use Rattle.clap.proofs.WalkLemmas.{first_value-rows}
@@ -14,4 +14,4 @@ pub returns-in_ok-no_file-in-None-clause-asks : goal.returns-in_ok-no_file-in-No
 returns-in_ok-no_file-in-None-clause-asks c = λ words names.
     let found = found_of c.args.found.now in
     let none : first_value found (codes "db") ≡ None = search rules in
-    inr (rows_of found, inr (inr (names, sym (first_value-rows found (codes "db")) ∙ none)))
+    inr (rows_of found, inr (inr (inl (names, sym (first_value-rows found (codes "db")) ∙ none))))

@@ -1,5 +1,6 @@
+use Rattle.std.proofs.Common.{None, inr, refl}
 use Rattle.line_schema.specs.declared.fault.OpenFault.TheVariants.{Unavailable}
-use Rattle.tracedesk.proofs.Running.{audits}
+use Rattle.tracedesk.proofs.Running.{audits, stays}
 use Rattle.tracedesk.proofs.desk.audit_file.Goals as goal
 
 pub returns-in-Ok-clause-done : goal.returns-in-Ok-clause-done
@@ -14,3 +15,6 @@ returns-in-Ok-clause-failed g c = λ is.
 
 pub returns-in-Ok-clause-no_desk : goal.returns-in-Ok-clause-no_desk
 returns-in-Ok-clause-no_desk g c = λ is. (Unavailable, c.tell_lawful-status.ensures.no_desk is)
+
+pub returns-in-Ok-clause-left : goal.returns-in-Ok-clause-left
+returns-in-Ok-clause-left g c = λ is. inr (stays g.T.Start None c.in-Ok.store c.in-Ok.store refl c.in-Ok.ensures.begins)

@@ -1,0 +1,3 @@
+pub mod Folder
+pub mod Import
+pub mod Options

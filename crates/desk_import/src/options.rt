@@ -1,0 +1,111 @@
+//! What the options of an import say.
+
+ghost use Rattle.std.specs.Prelude.{◌≡◌, ok_or};
+ghost use Rattle.cfx_profile.specs.Forms.{id_of};
+ghost use Rattle.imports.specs.Fault.{IsSaid};
+ghost use Rattle.desk_import.specs.Import.{command_said};
+ghost use Rattle.desk_import.specs.Options.{counts_import, id_in, setup_import, time_in};
+
+use cfx_profile::read_minute;
+use desk_types::{Id, Minute, Stamped};
+use imports::{ImportFault, read_counts, read_setup};
+use std::alloc::Global;
+
+/// What the rows of a file are.
+#[derive(Clone, Copy)]
+pub enum Content {
+    /// The sheet of a product on a machine.
+    Sheet {
+        /// The product.
+        product: Id,
+        /// The machine.
+        machine: Id,
+    },
+    /// A count of reels.
+    Counts,
+}
+
+/// A command of which a file is still to say the rows.
+#[derive(Clone, Copy)]
+pub struct Import {
+    pub uid: Id,
+    pub source: Id,
+    pub minute: Minute,
+    pub content: Content,
+}
+
+/// The first option that can't be read.
+#[derive(Clone, Copy, Debug, PartialEq, Eq)]
+pub enum BadOption {
+    Id,
+    Source,
+    Time,
+    Product,
+    Machine,
+}
+
+impl Import {
+    /// The command with the rows that a file of these bytes says.
+    #[tactic(auto, unfolding(crate::specs::Import::command_said))]
+    pub fn command(&self, alloc: Global, bytes: &[u8]) -> Result<Stamped, ImportFault>
+        ensures { IsSaid (command_said self.now bytes.now) result }
+    {
+        let command = match self.content {
+            Content::Sheet { product, machine } => read_setup(alloc, bytes, product, machine)?,
+            Content::Counts => read_counts(alloc, bytes)?,
+        };
+        Ok(Stamped {
+            uid: self.uid,
+            source: self.source,
+            minute: self.minute,
+            command,
+        })
+    }
+}
+
+/// The import of a setup file.
+#[tactic(auto, unfolding(crate::specs::Options::setup_import))]
+pub fn setup_import(
+    id: &str,
+    source: &str,
+    time: &str,
+    product: &str,
+    machine: &str,
+) -> Result<Import, BadOption>
+    ensures { result ≡ setup_import id.now source.now time.now product.now machine.now }
+{
+    let stamp = counts_import(id, source, time)?;
+    let content = Content::Sheet {
+        product: id_in(product, BadOption::Product)?,
+        machine: id_in(machine, BadOption::Machine)?,
+    };
+    Ok(Import { content, ..stamp })
+}
+
+/// The import of a count file.
+#[tactic(auto, unfolding(crate::specs::Options::counts_import))]
+pub fn counts_import(id: &str, source: &str, time: &str) -> Result<Import, BadOption>
+    ensures { result ≡ counts_import id.now source.now time.now }
+{
+    Ok(Import {
+        uid: id_in(id, BadOption::Id)?,
+        source: id_in(source, BadOption::Source)?,
+        minute: time_in(time)?,
+        content: Content::Counts,
+    })
+}
+
+/// The id that the text of an option is.
+fn id_in(text: &str, option: BadOption) -> Result<Id, BadOption>
+    ensures { result ≡ id_in text.now option }
+{
+    Id::read(text.as_bytes()).ok_or(option)
+}
+
+/// The minute of the option `time`.
+#[tactic(auto, unfolding(cfx_profile::specs::Minute::minute_said))]
+fn time_in(text: &str) -> Result<Minute, BadOption>
+    ensures { result ≡ time_in text.now }
+{
+    read_minute(text).map_err(|_| BadOption::Time)
+}

@@ -1,0 +1,56 @@
+//! The bytes of the file of an import.
+
+ghost use Rattle.std.specs.Prelude.{IfOk};
+ghost use Rattle.desk_import.specs.Folder.{IsRead};
+
+use imports::LONGEST_FILE;
+use std::alloc::Global;
+use std::io;
+use std::io::{ErrorKind, Read};
+
+/// The most bytes that are read of a file: one more than it may have.
+const MOST_READ: u64 = LONGEST_FILE as u64 + 1;
+
+/// Where files are read from.
+pub trait Folder {
+    ghost use Rattle.std.specs.Prelude.{◌≡◌, ℕ, List, Option, IfOk};
+
+    /// What the file at a path holds, where that is known.
+    ghost holds: { Self → List ℕ → Option (List ℕ) };
+
+    /// An open file.
+    type File: Read + Drop;
+
+    /// Opens the file at a path.
+    fn open(&self, path: &str) -> io::Result<Self::File>
+        ensures { IfOk result (λ file. Self.File.remaining file ≡ holds self.now path.now) };
+}
+
+/// Why a file is not read.
+#[derive(Clone, Copy, Debug, PartialEq, Eq)]
+pub enum Unread {
+    /// It can't be opened or read.
+    Failed,
+    /// Memory was refused.
+    NoMemory,
+}
+
+impl From<io::Error> for Unread {
+    fn from(error: io::Error) -> Unread {
+        if error.kind() == ErrorKind::OutOfMemory {
+            Unread::NoMemory
+        } else {
+            Unread::Failed
+        }
+    }
+}
+
+/// Reads a file, as far as it may be long and one byte further.
+pub fn read_file<F: Folder>(alloc: Global, folder: &F, path: &str) -> Result<Vec<u8>, Unread>
+    ensures { IfOk result (λ bytes. IsRead (F.holds folder.now path.now) bytes.items) }
+{
+    let file = folder.open(path)?;
+    let mut bytes = Vec::new(alloc);
+    file.take(MOST_READ).read_to_end(&mut bytes)?;
+    Ok(bytes)
+}

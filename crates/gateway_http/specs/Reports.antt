@@ -1,0 +1,17 @@
+-- The reports of the gateway.
+use Rattle.std.specs.Prelude.{Some}
+use Rattle.http_answers.specs.Requests.{Reports}
+use Rattle.http_routes.specs.declared.asked.Report.TheVariants.{BoardTrace, LotTrace, ReelCard, SlotList, KitList, OverdueList}
+use Rattle.list_texts.specs.Card.{reel_card}
+use Rattle.list_texts.specs.Kit.{kit_list}
+use Rattle.list_texts.specs.Slots.{slot_list}
+use Rattle.trace_reports.specs.Reports.{board_trace, lot_trace, overdue_list}
+
+-- the text of each report of a list, where there is one; there always is an overdue list
+abbrev pub report_of : Reports
+report_of (BoardTrace board detail) H = board_trace detail H board
+report_of (LotTrace lot detail) H = lot_trace detail H lot
+report_of (ReelCard reel) H = reel_card H reel
+report_of (SlotList machine) H = slot_list H machine
+report_of (KitList product machine boards) H = kit_list H product machine boards
+report_of OverdueList H = Some (overdue_list H)
