@@ -1,4 +1,4 @@
-use Rattle.tracedesk.proofs.tests.feed_thrice.Given as goal
+use Rattle.store_tests.proofs.tests.feeding.feed_thrice.Given as goal
 
 abbrev pub invariant-loop-pass : goal.invariant-loop-pass
 invariant-loop-pass g l = g.L.Line.Ready l.line
