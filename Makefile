@@ -24,7 +24,9 @@ wrong-bodies:
 # make bench           what a day costs, beside stock SQLite   (time)
 # make pictures        docs/crates.svg and docs/splice.svg
 # make docs            out/docs: the documents and the definitions as HTML and one PDF   (pandoc weasyprint)
-.PHONY: day plant-recall torture damage bench pictures docs
+# make dist            dist/tracedesk-VERSION-x86_64.tar.gz: the proved program and what a plant installs beside it,
+#                      without the prover   (pandoc binutils)
+.PHONY: day plant-recall torture damage bench pictures docs dist
 day:
 	@examples/day
 plant-recall:
@@ -40,3 +42,5 @@ pictures:
 	@tools/pictures
 docs:
 	@tools/print-docs
+dist:
+	@tools/dist
