@@ -21,12 +21,13 @@ wrong-bodies:
 # make plant-recall    three lines in one PostgreSQL, and a recall over them: docs/plant.md   (postgresql)
 # make torture         kills the program 200 times, fails its disk, looks at its order of calls   (strace)
 # make damage          cuts and zeroes a desk's file page by page
+# make fail-each       fails every read, write, sync and allocation in turn, and the power at each change   (cc)
 # make bench           what a day costs, beside stock SQLite   (time)
 # make pictures        docs/crates.svg and docs/splice.svg
 # make docs            out/docs: the documents and the definitions as HTML and one PDF   (pandoc weasyprint)
 # make dist            dist/tracedesk-VERSION-x86_64.tar.gz: the proved program and what a plant installs beside it,
 #                      without the prover   (pandoc binutils)
-.PHONY: day plant-recall torture damage bench pictures docs dist
+.PHONY: day plant-recall torture damage fail-each bench pictures docs dist
 day:
 	@examples/day
 plant-recall:
@@ -36,6 +37,9 @@ torture:
 	@tools/torture --planted --kills 20
 damage:
 	@tools/damage
+fail-each:
+	@tools/fail-each
+	@tools/fail-each --planted
 bench:
 	@tools/bench
 pictures:
