@@ -1,4 +1,5 @@
 pub mod Answering
+pub mod ConstantRows
 pub mod Headers
 pub mod Going
 pub mod Letters

@@ -1,3 +1,4 @@
+pub mod ConstantRows
 mod Kitting
 mod Once
 mod Prefixes
