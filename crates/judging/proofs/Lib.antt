@@ -1,3 +1,4 @@
+pub mod Feeds
 pub mod Reels
 pub mod Rejecting
 pub mod Spending

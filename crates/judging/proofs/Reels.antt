@@ -2,15 +2,16 @@
 use Rattle.std.proofs.Common.{◌≡◌, ℕ, ◌+◌, ◌-◌, ◌<◌, ◌≤◌, min, nat_lt, Bool, true, false, cond, Some, None, List, [], ◌∷◌, ◌++◌, length, drop, get_or, ◌⊎◌, inl, inr, refl, sym, ap, ◌∙◌, arith}
 use Rattle.std.specs.Prelude.{slice_get}
 use Rattle.std.specs.List.{find, filter, sum_by}
-use Rattle.std.proofs.lemmas.Bool.{ltb-false}
+use Rattle.std.proofs.lemmas.Bool.{lt-ltb, ltb-true, ltb-false}
 use Rattle.std.proofs.lemmas.List.{drop_all}
 use Rattle.std.proofs.lemmas.List.Sums.{sum_by-cons}
 use Rattle.std.proofs.lemmas.Option.{slice_get_cases, slice_get_within, get_or_from_slice_get}
+use Rattle.desk_types.specs.declared.take.Pick.{Pick}
 use Rattle.desk_types.specs.declared.take.Purpose.{Purpose}
 use Rattle.desk_types.specs.Id.{Name}
 use Rattle.desk_types.specs.History.{History}
 use Rattle.desk_types.specs.Tape.{tape_of}
-use Rattle.desk_types.specs.Pieces.{left_of, live_on, pieces_off, scrap_picks, first, front_of}
+use Rattle.desk_types.specs.Pieces.{left_of, live_on, picked, pieces_off, scrap_picks, first, front_of}
 use Rattle.desk_types.proofs.Steps.{drop-next}
 
 -- ---- one place further
@@ -40,13 +41,17 @@ module _ {X : Type 0} (test : X → Bool) (xs : List X) (i : ℕ) where
   pub find-end : length xs ≤ i → find test (drop i xs) ≡ None
   find-end past = ap (find test) (drop_all i xs past)
 
-  -- nor where there is no element
-  pub find-gap : slice_get xs i ≡ None → find test (drop i xs) ≡ None
-  find-gap none = by (slice_get_cases xs i).1
-    where
-      by : (((x : X) × (i < length xs) × (slice_get xs i ≡ Some x) × (get_or xs i x ≡ x)) ⊎ ((length xs ≤ i) × (slice_get xs i ≡ None))) → find test (drop i xs) ≡ None
-      by (inl (x, within, some, got)) = let both : Some x ≡ None = sym some ∙ none in cc
-      by (inr (past, gone)) = find-end past
+  -- a filter leaves an element out that fails the test
+  pub filter-past : (x : X) → slice_get xs i ≡ Some x → test x ≡ false → filter test (drop (i + 1) xs) ≡ filter test (drop i xs)
+  filter-past x is fails = sym (ap (filter test) (drop-at xs i x is) ∙ ap (λ b. cond b (x ∷ filter test (drop (i + 1) xs)) (filter test (drop (i + 1) xs))) fails)
+
+  -- and keeps one that passes it
+  pub filter-here : (x : X) → slice_get xs i ≡ Some x → test x ≡ true → filter test (drop i xs) ≡ x ∷ filter test (drop (i + 1) xs)
+  filter-here x is passes = ap (filter test) (drop-at xs i x is) ∙ ap (λ b. cond b (x ∷ filter test (drop (i + 1) xs)) (filter test (drop (i + 1) xs))) passes
+
+  -- nothing is left past the end
+  pub filter-end : length xs ≤ i → filter test (drop i xs) ≡ []
+  filter-end past = ap (filter test) (drop_all i xs past)
 
 -- ---- live reels
 
@@ -120,6 +125,14 @@ sum-kept pieces (r ∷ rs) = by (nat_lt 0 (pieces r)) refl (sum-kept pieces rs)
     by true is rest = sum_by-cons pieces r (filter (λ x. nat_lt 0 (pieces x)) rs) ∙ ap (λ n. pieces r + n) rest ∙ sym (sum_by-cons pieces r rs)
     by false is rest = let none = ltb-false 0 (pieces r) is in rest ∙ sym (sum_by-cons pieces r rs ∙ omega (arith, none))
 
+-- a search for a reel with a piece left after picks finds among the live reels what it finds on the tape
+pub find-tape : (H : History) (machine slot : Name) (picks : List Pick)
+    → find (λ r. nat_lt (picked picks r) (left_of H r)) (live_on H machine slot) ≡ find (λ r. nat_lt (picked picks r) (left_of H r)) (tape_of H machine slot)
+unfolding live_on
+find-tape H machine slot picks =
+    find-kept (λ r. nat_lt 0 (left_of H r)) (λ r. nat_lt (picked picks r) (left_of H r)) (tape_of H machine slot)
+    (λ r left. let less = ltb-true (picked picks r) (left_of H r) left in lt-ltb 0 (left_of H r) (omega (arith, less)))
+
 module _ (H : History) (machine slot : Name) (reels : List Name) (live : filter (λ reel. nat_lt 0 (left_of H reel)) reels ≡ live_on H machine slot) where
   -- the first of the reels with pieces left is the front
   first-front : find (λ reel. nat_lt 0 (left_of H reel)) reels ≡ front_of H machine slot
@@ -134,12 +147,6 @@ module _ (H : History) (machine slot : Name) (reels : List Name) (live : filter 
   pub front-none : (i : ℕ) → length reels ≤ i
       → find (λ r. nat_lt 0 (left_of H r)) (drop i reels) ≡ find (λ r. nat_lt 0 (left_of H r)) reels → None ≡ front_of H machine slot
   front-none i end past = sym (find-end (λ r. nat_lt 0 (left_of H r)) reels i end) ∙ past ∙ first-front
-
-  -- a search whose test holds only of live reels finds among the reels what it finds on the tape
-  pub find-live : (test : Name → Bool) → ((reel : Name) → test reel ≡ true → nat_lt 0 (left_of H reel) ≡ true) → find test reels ≡ find test (tape_of H machine slot)
-  unfolding live_on
-  find-live test only =
-      sym (find-kept (λ reel. nat_lt 0 (left_of H reel)) test reels only) ∙ ap (find test) live ∙ find-kept (λ reel. nat_lt 0 (left_of H reel)) test (tape_of H machine slot) only
 
   -- the picks off the reels are those off the tape
   pub scrap-live : (purpose : Purpose) (n : ℕ) → scrap_picks (left_of H) purpose reels n ≡ scrap_picks (left_of H) purpose (tape_of H machine slot) n

@@ -1,45 +1,29 @@
-use Rattle.std.proofs.Common.{◌≡◌, ◌+◌, nat_lt, true, drop, sym, ap, ◌∙◌, arith}
-use Rattle.std.specs.List.{find}
-use Rattle.std.specs.Option.{option_map}
+use Rattle.std.proofs.Common.{◌≡◌, ◌+◌, nat_lt, true, sym, ◌∙◌, arith}
 use Rattle.std.proofs.lemmas.Bool.{lt-ltb}
 use Rattle.desk_types.specs.Pieces.{left_of}
-use Rattle.judging.specs.declared.placing.Found.{Found}
-use Rattle.judging.specs.Placing.{HasMore, pieces_in}
-use Rattle.judging.proofs.Reels.{find-past, find-here, find-gap, spent}
-use Rattle.judging.proofs.Spending.{spent-fails, some-map, more-holds}
+use Rattle.judging.specs.Placing.{live_behind}
+use Rattle.judging.proofs.Reels.{filter-past, filter-here, no-gap, spent}
 use Rattle.judging.proofs.placing.next_reel.Goals as goal
+use Rattle.judging.proofs.placing.next_reel.Goals.{in-Some+else-pieces-gt0, in_default}
 
-pub returns-in_err-reel-clause-reel : goal.returns-in_err-reel-clause-reel
-returns-in_err-reel-clause-reel g c = λ H stands.
+pub returns-then-pieces-gt0-clause-live : goal.returns-then-pieces-gt0-clause-live
+returns-then-pieces-gt0-clause-live g c = λ H stands.
     let reels = g.F.Facts.reels_on c.args.facts.now c.args.machine.now c.args.slot.now in
-    ap (option_map (λ (found : Found). found.reel)) c.from_residual.ensures
-    ∙ sym (find-gap (λ r. nat_lt 0 (pieces_in (left_of H) c.args.stock.now r)) reels c.args.first (sym c.in_err-reel.ensures))
+    let reel = c.in-Some.reel in
+    let left = c.left-pieces.ensures H stands in
+    let some : nat_lt 0 (left_of H reel) ≡ true = lt-ltb 0 (left_of H reel) (omega (arith, left, c.if-pieces-gt0.true)) in
+    c.loop-place.invariant H stands ∙ filter-here (λ r. nat_lt 0 (left_of H r)) reels c.loop-place.place reel (sym c.reel_at.ensures ∙ c.in-Some.is) some
 
-pub returns-then-pieces-gt0-clause-reel : goal.returns-then-pieces-gt0-clause-reel
-returns-then-pieces-gt0-clause-reel g c = λ H stands.
+pub loop-place-preserved : goal.loop-place-preserved
+loop-place-preserved g c = λ H stands.
     let reels = g.F.Facts.reels_on c.args.facts.now c.args.machine.now c.args.slot.now in
-    let stock = c.args.stock.now in
-    let reel = c.in_ok-reel.reel in
-    let left = c.pieces_in-pieces.ensures H stands in
-    let some : nat_lt 0 (pieces_in (left_of H) stock reel) ≡ true = lt-ltb 0 (pieces_in (left_of H) stock reel) (omega (arith, left, c.if-pieces-gt0.true)) in
-    sym (find-here (λ r. nat_lt 0 (pieces_in (left_of H) stock r)) reels c.args.first reel (sym c.in_ok-reel.ensures) some)
-
-pub returns-clause-reel : goal.returns-clause-reel
-returns-clause-reel g c = λ H stands.
-    let reels = g.F.Facts.reels_on c.args.facts.now c.args.machine.now c.args.slot.now in
-    let stock = c.args.stock.now in
-    let none = spent (pieces_in (left_of H) stock c.in_ok-reel.reel) c.pieces_in-pieces.result (c.pieces_in-pieces.ensures H stands) c.if-pieces-gt0.false in
-    c.later_reel.ensures.reel H stands ∙ find-past (λ r. nat_lt 0 (pieces_in (left_of H) stock r)) reels c.args.first c.in_ok-reel.reel (sym c.in_ok-reel.ensures) none
-
-pub returns-clause-rest : goal.returns-clause-rest
-returns-clause-rest g c = λ H test stands.
-    let reels = g.F.Facts.reels_on c.args.facts.now c.args.machine.now c.args.slot.now in
-    let stock = c.args.stock.now in
-    let reel = c.in_ok-reel.reel in
-    let none = spent (pieces_in (left_of H) stock reel) c.pieces_in-pieces.result (c.pieces_in-pieces.ensures H stands) c.if-pieces-gt0.false in
-    some-map (λ (found : Found). HasMore (left_of H) stock found.reel test → find test (drop found.rest reels) ≡ find test (drop (c.args.first + 1) reels))
-    (λ found. HasMore (left_of H) stock found.reel test → find test (drop found.rest reels) ≡ find test (drop c.args.first reels)) c.later_reel.result
-    (λ found finds more.
-    let has = more-holds (left_of H) stock found.reel test more in
-    finds more ∙ find-past test reels c.args.first reel (sym c.in_ok-reel.ensures) (spent-fails (test reel) (nat_lt 0 (pieces_in (left_of H) stock reel)) (has reel) none))
-    (c.later_reel.ensures.rest H test stands)
+    let i = c.loop-place.place in
+    let past : live_behind (left_of H) reels (i + 1) ≡ live_behind (left_of H) reels i =
+    elim c.match-reel_at.branch as (λ _. live_behind (left_of H) reels (i + 1) ≡ live_behind (left_of H) reels i) [
+      | in-Some+else-pieces-gt0 w ↦
+          (let reel = w.in-Some.reel in
+          let none = spent (left_of H reel) w.left-pieces.result (w.left-pieces.ensures H stands) w.if-pieces-gt0.false in
+          filter-past (λ r. nat_lt 0 (left_of H r)) reels i reel (sym c.reel_at.ensures ∙ w.in-Some.is) none)
+      | in_default w ↦ absurd (no-gap reels i c.reel_count-place-end.result c.reel_count-place-end.ensures c.loop-place-test.true (sym c.reel_at.ensures ∙ w.in_default.is))
+    ] in
+    c.loop-place.invariant H stands ∙ sym past

@@ -7,13 +7,14 @@ use Rattle.desk_types.specs.declared.take.Pick.{Pick}
 use Rattle.desk_types.specs.Id.{by_name}
 use Rattle.desk_types.specs.Setup.{slot_on}
 use Rattle.desk_types.specs.Tape.{tape_of}
-use Rattle.desk_types.specs.Pieces.{left_of, install_picks}
+use Rattle.desk_types.specs.Pieces.{left_of, live_on, install_picks}
 use Rattle.desk_types.specs.Refusals.{designators_refusal}
 use Rattle.desk_types.specs.Work.{is_placed_on}
 use Rattle.desk_types.proofs.Steps.{take-next}
 use Rattle.setup_sheets.specs.Names.{HasSeen}
 use Rattle.judging.specs.Placing.{IsFeeding, pick_of}
-use Rattle.judging.proofs.Spending.{feeding-first, refusal-next, refusal-here, picks-next, picks-end}
+use Rattle.judging.proofs.Feeds.{feeds-first}
+use Rattle.judging.proofs.Spending.{refusal-next, refusal-here, picks-next, picks-end}
 use Rattle.judging.proofs.placing.place_all.Goals as goal
 
 pub loop-designator-init : goal.loop-designator-init
@@ -25,9 +26,9 @@ loop-designator-init g c = λ H stands.
     let reels = g.F.Facts.reels_on a.facts.now machine in
     let none = c.in_ok-picks.ensures.items in
     record {
-      feeding = subst (λ ps. IsFeeding tape (left_of H) reels ps (record { stock = c.new.result; firsts = c.new-2.result })) (sym none)
-          (feeding-first H machine reels (record { stock = c.new.result; firsts = c.new-2.result }) (λ slot. c.tells_live.ensures H machine slot stands)
-          (λ r. ap (lookup (is_at (by_name r))) c.new.ensures.empty) (λ s. ap (lookup (is_at (by_name s))) c.new-2.ensures.empty));
+      feeds = subst (λ ps. IsFeeding (live_on H machine) (left_of H) reels ps c.new-feeds.result) (sym none)
+          (feeds-first (live_on H machine) (left_of H) reels c.new-feeds.result (λ slot. c.tells_live.ensures H machine slot stands)
+          (λ s. ap (lookup (is_at (by_name s))) c.new-feeds.ensures.empty));
       seen = λ x. ap (list_any (is_at (by_name x))) c.new-seen.ensures.empty;
       refusal = ap (λ ps. designators_refusal slots tape (left_of H) (is_placed_on H a.board.now) machine a.board.now ps [] a.designators.now) none;
       picks = ap (λ ps. install_picks slots tape (left_of H) machine a.board.now ps a.designators.now) none;
@@ -42,7 +43,7 @@ returns-in-Err g c = λ H stands.
     let i = c.loop-designator.designator-index in
     let picks = c.loop-designator.picks.items in
     let inv = c.loop-designator.invariant H stands in
-    let here = c.in_ok-piece.ensures H picks (take i a.designators.now) stands inv.feeding inv.seen in
+    let here = c.in_ok-piece.ensures H picks (take i a.designators.now) stands inv.feeds inv.seen in
     sym inv.refusal
     ∙ refusal-here slots tape (left_of H) (is_placed_on H a.board.now) a.machine.now a.board.now a.designators.now picks i c.designator-item.result c.in-Err.refusal
     c.loop-designator-test.true c.designator-item.is (rw c.in-Err.is at here)
@@ -57,13 +58,13 @@ loop-designator-preserved g c = λ H stands.
     let d = c.designator-item.result in
     let picks = c.loop-designator.picks.items in
     let inv = c.loop-designator.invariant H stands in
-    let here = rw c.in-Ok.is at (c.in_ok-piece.ensures H picks (take i a.designators.now) stands inv.feeding inv.seen) in
+    let here = rw c.in-Ok.is at (c.in_ok-piece.ensures H picks (take i a.designators.now) stands inv.feeds inv.seen) in
     let pick : Pick = pick_of a.machine.now a.board.now d c.in-Ok.piece in
     let pushed : c.push.new.self.items ≡ picks ++ pick ∷ [] = c.in_ok-push-in-Ok.ensures.items in
     let none = here.0 in
     let found = here.1 in
     record {
-      feeding = subst (λ ps. IsFeeding tape (left_of H) reels ps c.place.new.feeding) (sym pushed) here.2;
+      feeds = subst (λ ps. IsFeeding (live_on H a.machine.now) (left_of H) reels ps c.place.new.feeds) (sym pushed) here.2;
       seen = subst (HasSeen c.place.new.seen) (sym (take-next a.designators.now i d c.loop-designator-test.true c.designator-item.is)) here.3;
       refusal = ap (λ ps. designators_refusal slots tape (left_of H) (is_placed_on H a.board.now) a.machine.now a.board.now ps
           (take (i + 1) a.designators.now) (drop (i + 1) a.designators.now)) pushed
@@ -87,7 +88,7 @@ returns g c = λ H stands.
     let none : drop c.loop-designator.designator-index a.designators.now ≡ [] = drop_all c.loop-designator.designator-index a.designators.now (omega arith) in (
       sym inv.refusal ∙ ap (designators_refusal slots tape (left_of H) (is_placed_on H a.board.now) a.machine.now a.board.now picks
           (take c.loop-designator.designator-index a.designators.now)) none,
-      c.new-3.ensures
+      c.new.ensures
           ∙ sym (picks-end slots tape (left_of H) a.machine.now a.board.now picks)
           ∙ ap (install_picks slots tape (left_of H) a.machine.now a.board.now picks) (sym none)
           ∙ inv.picks,

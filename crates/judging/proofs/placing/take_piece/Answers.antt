@@ -1,20 +1,69 @@
-use Rattle.std.proofs.Common.{◌-◌, nat_lt, drop, sym, ap, ◌∙◌}
-use Rattle.std.specs.List.{find}
-use Rattle.desk_types.specs.Pieces.{left_of}
-use Rattle.judging.proofs.Spending.{stock-lowered, firsts-moved}
+use Rattle.std.proofs.Common.{◌≡◌, [], ◌∷◌, Some, unwrap_or, refl, sym, ap, subst, ◌∙◌}
+use Rattle.desk_types.specs.Pieces.{left_of, live_on}
+use Rattle.desk_types.proofs.Keys.{name-written}
+use Rattle.desk_laws.proofs.Tapes.{live-distinct}
+use Rattle.judging.specs.Placing.{IsFed, feed_at, one_less, live_behind, live_next}
+use Rattle.judging.proofs.Feeds.{fed-front, fed-next, fed-none, feeds-next, given-reel, given-nothing, less-written, other-written}
+use Rattle.judging.proofs.Reels.{find-tape}
 use Rattle.judging.proofs.placing.take_piece.Goals as goal
 
-pub returns-clause-stock : goal.returns-clause-stock
-returns-clause-stock g c = λ H r stands.
-    stock-lowered (left_of H) c.args.feeding.now.stock c.insert.new.self c.in-Some.found.reel c.saturating_sub.result
-    (c.saturating_sub.ensures ∙ ap (λ n. n - 1) (c.in-Some.ensures.pieces H stands)) c.in_ok-insert.ensures.updates.0 r
-
-pub returns-clause-firsts : goal.returns-clause-firsts
-returns-clause-firsts g c = λ H s test stands has.
-    let stock = c.args.feeding.now.stock in
-    let lowered = stock-lowered (left_of H) stock c.insert.new.self c.in-Some.found.reel c.saturating_sub.result
-    (c.saturating_sub.ensures ∙ ap (λ n. n - 1) (c.in-Some.ensures.pieces H stands)) c.in_ok-insert.ensures.updates.0 in
+pub returns-in-Reel-clause-front : goal.returns-in-Reel-clause-front
+returns-in-Reel-clause-front g c = λ H picks stands is.
+    let machine = c.args.machine.now in
     let slot = c.args.slot.now in
-    let reels = g.F.Facts.reels_on c.args.facts.now c.args.machine.now in
-    firsts-moved c.args.feeding.now.firsts c.note_first.new.firsts slot c.in-Some.found.rest reels test c.in_ok-note_first.ensures
-    (c.in-Some.ensures.rest H test stands (λ r holds. sym (ap (nat_lt 0) (lowered r)) ∙ has r holds) ∙ ap (λ n. find test (drop n (reels slot))) c.first_at-first.ensures) s
+    let reels = g.F.Facts.reels_on c.args.facts.now machine slot in
+    let hand = given-reel (feed_at c.args.feeds.now slot) c.in-Reel.reel (sym c.in-Reel.ensures.given) in
+    let here = subst (λ o. IsFed (left_of H) (live_on H machine slot) reels picks o) hand.1 (is slot) in
+    ap Some hand.2 ∙ sym (fed-front (left_of H) (live_on H machine slot) reels picks hand.0 hand.3 here) ∙ find-tape H machine slot picks
+
+pub returns-in-Reel-clause-feeds : goal.returns-in-Reel-clause-feeds
+returns-in-Reel-clause-feeds g c = λ H picks p stands is one.
+    let machine = c.args.machine.now in
+    let slot = c.args.slot.now in
+    let reels = g.F.Facts.reels_on c.args.facts.now machine in
+    let judged = c.is_judged.ensures H stands in
+    let hand = given-reel (feed_at c.args.feeds.now slot) c.in-Reel.reel (sym c.in-Reel.ensures.given) in
+    let here = subst (λ o. IsFed (left_of H) (live_on H machine slot) (reels slot) picks o) hand.1 (is slot) in
+    feeds-next H machine reels picks c.args.feeds.now c.take_in_hand.new.feeds slot hand.0 p judged (λ s. live-distinct H machine s judged)
+    (sym (ap (λ o. unwrap_or o p.reel) one.0) ∙ hand.2) one.1 is here
+    (λ s. c.in-Reel.ensures.lowered s ∙ sym (less-written c.args.feeds.now slot hand.0 (one_less hand.0) hand.1 refl s))
+
+pub returns-in_default-clause-front : goal.returns-in_default-clause-front
+returns-in_default-clause-front g c = λ H picks stands is.
+    let machine = c.args.machine.now in
+    let slot = c.args.slot.now in
+    let reels = g.F.Facts.reels_on c.args.facts.now machine slot in
+    let feed = feed_at c.args.feeds.now slot in
+    let hand = given-nothing feed c.in-Nothing.past (sym c.in-Nothing.ensures.given) in
+    let none : live_next (left_of H) reels feed ≡ [] = ap (live_behind (left_of H) reels) (sym hand.1) ∙ c.in_default.ensures.live H stands in
+    sym (fed-none (left_of H) (live_on H machine slot) reels picks feed hand.0 none (is slot)) ∙ find-tape H machine slot picks
+
+pub returns-clause-front : goal.returns-clause-front
+returns-clause-front g c = λ H picks stands is.
+    let machine = c.args.machine.now in
+    let slot = c.args.slot.now in
+    let reels = g.F.Facts.reels_on c.args.facts.now machine slot in
+    let feed = feed_at c.args.feeds.now slot in
+    let f = c.in-Some.next in
+    let hand = given-nothing feed c.in-Nothing.past (sym c.in-Nothing.ensures.given) in
+    let next : live_next (left_of H) reels feed ≡ f.reel ∷ live_behind (left_of H) reels f.behind =
+    ap (live_behind (left_of H) reels) (sym hand.1) ∙ c.in-Some.ensures.live H stands in
+    let here = fed-next (left_of H) (live_on H machine slot) reels picks feed f hand.0 (c.in-Some.ensures.pieces H stands) next (is slot) in
+    sym (fed-front (left_of H) (live_on H machine slot) reels picks f c.in-Some.ensures.some here) ∙ find-tape H machine slot picks
+
+pub returns-clause-feeds : goal.returns-clause-feeds
+returns-clause-feeds g c = λ H picks p stands is one.
+    let machine = c.args.machine.now in
+    let slot = c.args.slot.now in
+    let reels = g.F.Facts.reels_on c.args.facts.now machine in
+    let judged = c.is_judged.ensures H stands in
+    let feed = feed_at c.args.feeds.now slot in
+    let f = c.in-Some.next in
+    let hand = given-nothing feed c.in-Nothing.past (sym c.in-Nothing.ensures.given) in
+    let next : live_next (left_of H) (reels slot) feed ≡ f.reel ∷ live_behind (left_of H) (reels slot) f.behind =
+    ap (live_behind (left_of H) (reels slot)) (sym hand.1) ∙ c.in-Some.ensures.live H stands in
+    let here = fed-next (left_of H) (live_on H machine slot) (reels slot) picks feed f hand.0 (c.in-Some.ensures.pieces H stands) next (is slot) in
+    feeds-next H machine reels picks c.args.feeds.now c.insert.new.self slot f p judged (λ s. live-distinct H machine s judged)
+    (sym (ap (λ o. unwrap_or o p.reel) one.0)) one.1 is here
+    (λ s. name-written _ _ slot (Some (one_less f)) (λ o. o) c.in_ok-insert.ensures.updates.0 s
+    ∙ other-written c.args.feeds.now c.take_in_hand.new.feeds slot (one_less f) s (c.in-Nothing.ensures.lowered s))
