@@ -20,6 +20,7 @@ wrong-bodies:
 # make day             feeds a made-up shift to a desk, and prints what is asked of it: docs/day.md
 # make plant-recall    three lines in one PostgreSQL, and a recall over them: docs/plant.md   (postgresql)
 # make torture         kills the program 200 times, fails its disk, looks at its order of calls   (strace)
+# make client-test     kills `serve` twenty times under examples/client.py
 # make damage          cuts and zeroes a desk's file page by page
 # make fail-each       fails every read, write, sync and allocation in turn, and the power at each change   (cc)
 # make bench           what a day costs, beside stock SQLite   (time)
@@ -27,7 +28,9 @@ wrong-bodies:
 # make docs            out/docs: the documents and the definitions as HTML and one PDF   (pandoc weasyprint)
 # make dist            dist/tracedesk-VERSION-x86_64.tar.gz: the proved program and what a plant installs beside it,
 #                      without the prover   (pandoc binutils)
-.PHONY: day plant-recall torture damage fail-each bench pictures docs dist
+# make plant-test      tries that package on a fresh Debian 12 of its own, and every command of docs/operations.md;
+#                      it wants root and some minutes, and names the packages that it installs   (debootstrap iproute2)
+.PHONY: day plant-recall client-test torture damage fail-each bench pictures docs dist plant-test
 day:
 	@examples/day
 plant-recall:
@@ -35,6 +38,8 @@ plant-recall:
 torture:
 	@tools/torture
 	@tools/torture --planted --kills 20
+client-test:
+	@examples/client-test
 damage:
 	@tools/damage
 fail-each:
@@ -48,3 +53,5 @@ docs:
 	@tools/print-docs
 dist:
 	@tools/dist
+plant-test: build
+	@tools/plant-test

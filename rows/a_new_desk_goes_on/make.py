@@ -100,3 +100,9 @@ lines("begun.jsonl", [accepted(n, f"begin-2000-{len(OLD)}-{n}", **detail) for n,
 lines("later.jsonl", [asked for asked, _ in later(1)])
 lines("later_old.jsonl", [told for _, told in later(len(OLD) + 1)])
 lines("later_new.jsonl", [told for _, told in later(len(NEW) + 1)])
+# of both desks: K3 is expired, so of the free reels K5 alone is for the kit, with more than the 5 pieces of slot 1
+lines("slots.csv", ["slot,position,reel,part,lot,remaining,minutes_left", "1,1,K1,P,L1,9,0", "1,2,K2,P,L1,30,8480"])
+lines("kit.csv", ["slot,part,needed,reel,pieces,minutes_left", "1,P,5,K5,7,4020", "2,P,5,,5,short"])
+CARD = "reel,part,lot,level,received,placed,scrapped,remaining,minutes_left,state"
+lines("K3.csv", [CARD, "K3,P,L2,6,5,0,0,5,0,open"])
+lines("K5.csv", [CARD, "K5,Q,L3,4,7,0,0,7,4020,sealed"])

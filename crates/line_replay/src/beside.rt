@@ -65,7 +65,7 @@ impl Beside {
 fn placements_by(alloc: Global, edits: &[RowEdit]) -> Result<Vec<PlacementRow>, AllocError>
     ensures { IfOk result (λ rows. rows.items ≡ placements_by edits.now) }
 {
-    let mut rows = Vec::new(alloc);
+    let mut rows = Vec::with_capacity(alloc, edits.len())?;
     for edit in edits {
         match placement_by(edit) {
             Some(row) => rows.push(row)?,

@@ -1,3 +1,4 @@
 pub mod Telling
 pub mod Repeats
 pub mod Judgements
+pub mod Putting

@@ -2,12 +2,14 @@
 //! desk judges again.
 #![tactic(auto)]
 
+mod edits;
 mod fault;
 mod judging;
 mod kept;
 mod reading;
 mod repeated;
 
+pub use edits::{Acceptance, prepare};
 pub use fault::{NoRow, RowFault};
 pub use judging::{Taken, accept_row};
 pub use kept::{row_of, rows_tell_lists_apart};

@@ -1,4 +1,4 @@
 pub mod Stands
-pub mod Opening
+pub use Rattle.line_opening.specs.Opening
 pub mod Traces
-pub mod Versions
+pub use Rattle.line_opening.specs.Versions

@@ -1,6 +1,6 @@
 //! The store of one line.
 
-ghost use Rattle.std.specs.Prelude.{◌≡◌, ◌<◌, ◌≤◌, ◌⊎◌, [], true, false, IsTrue, IfOk, IfErr, OnOk, OnErr, IfSome, IsSomeAnd, is_some, length, None, Err, ◌≢◌};
+ghost use Rattle.std.specs.Prelude.{◌≡◌, ◌<◌, ◌≤◌, ◌⊎◌, ⊤, [], true, false, IsTrue, IfOk, IfErr, OnOk, OnErr, IfSome, IsSomeAnd, is_some, length, None, Err, ◌≢◌};
 ghost use Rattle.std.specs.List.{list_any};
 ghost use Rattle.sqlite_trees.specs.Tree.{Trees};
 ghost use Rattle.sqlite.specs.State.{HasCleanDisk, KeepsCommit, Survives};
@@ -18,22 +18,20 @@ ghost use Rattle.line_tables.specs.Line.{is_blank, is_ours};
 ghost use Rattle.line_tables.specs.Names.{has_name};
 ghost use Rattle.line_tables.specs.Rows.{Holds, HoldsAt, blank};
 ghost use Rattle.line_rows.specs.Rows.{tables_of};
-ghost use Rattle.line_schema.specs.declared.fault.OpenFault.TheVariants as Fault;
-ghost use Rattle.line_schema.specs.Opening.{IsFaultOf, IsNamed, IsToldOf};
+ghost use Rattle.line_opening.specs.declared.fault.OpenFault.TheVariants as Fault;
+ghost use Rattle.line_opening.specs.Opening.{IsFaultOf, IsNamed, IsToldOf};
 ghost use Rattle.line_schema.specs.Stands.{Kept, Stands, state_of, conn_of, has_desk, accepting, ledger, kept_after, answer_in, NewlyLeaves, Leaves};
 
 mod migration;
 mod traces;
 
-use crate::edits::{Acceptance, prepare};
-use crate::fault::OpenFault;
-use crate::opening::{Opened, read_tables};
 use crate::settled::settled;
 use crate::unavailable::Unavailable;
 use desk_answers::Answer;
 use desk_types::{Change, Desk, JudgeFault, Rules, Stamped};
+use line_opening::{OpenFault, Opened, read_tables};
 use line_replay::{Replayed, rebuild};
-use line_rows::answer_under;
+use line_rows::{Acceptance, answer_under, prepare};
 use line_tables::{append, find, has_our_name, make};
 use sqlite::{Alter, Connection};
 use std::alloc::Global;
@@ -212,6 +210,7 @@ impl<S: Alter, D: Desk + Drop> LineStore<S, D> {
         ensures stands { (L : Kept) → Stands S.Store D.Stands D.kept_rules self.old L → HasCleanDisk (state_of S.Store self.new) → IsTrue L.own → Stands S.Store D.Stands D.kept_rules self.new (kept_after L stamped.now result) }
         ensures crash { (L : Kept) → Stands S.Store D.Stands D.kept_rules self.old L → HasCleanDisk (state_of S.Store self.new) → IsTrue L.own → (trees : Trees) → (state_of S.Store self.new).may_leave trees → Leaves L stamped.now result ((state_of S.Store self.old).may_leave trees) trees }
         ensures clean { HasCleanDisk (state_of S.Store self.new) → HasCleanDisk (state_of S.Store self.old) }
+        ensures survives { Survives (state_of S.Store self.old) (state_of S.Store self.new) (λ _. ⊤) }
     {
         match self.answer(stamped) {
             Ok(answer) => answer,
@@ -226,7 +225,7 @@ impl<S: Alter, D: Desk + Drop> LineStore<S, D> {
         ensures ok { (L : Kept) → Stands S.Store D.Stands D.kept_rules self.old L → HasCleanDisk (state_of S.Store self.new) → IsTrue L.own → OnOk result (Stands S.Store D.Stands D.kept_rules self.new (record L { history = command_after Two L.greatest L.history stamped.now })) }
         ensures err { (L : Kept) → Stands S.Store D.Stands D.kept_rules self.old L → HasCleanDisk (state_of S.Store self.new) → IsTrue L.own → OnErr result (Stands S.Store D.Stands D.kept_rules self.new L) }
         ensures crash { (L : Kept) → Stands S.Store D.Stands D.kept_rules self.old L → HasCleanDisk (state_of S.Store self.new) → IsTrue L.own → (trees : Trees) → (state_of S.Store self.new).may_leave trees → Leaves L stamped.now (answer_in result) ((state_of S.Store self.old).may_leave trees) trees }
-        ensures clean { HasCleanDisk (state_of S.Store self.new) → HasCleanDisk (state_of S.Store self.old) }
+        ensures survives { Survives (state_of S.Store self.old) (state_of S.Store self.new) (λ _. ⊤) }
     {
         if let Some(answer) = self.earlier(stamped)? {
             return Ok(answer);
@@ -259,7 +258,7 @@ impl<S: Alter, D: Desk + Drop> LineStore<S, D> {
         ensures ok { (L : Kept) → Stands S.Store D.Stands D.kept_rules self.old L → HasCleanDisk (state_of S.Store self.new) → IsTrue L.own → earlier_answer L.history stamped.now ≡ None → OnOk result (Stands S.Store D.Stands D.kept_rules self.new (record L { history = after_command Two L.history stamped.now })) }
         ensures err { (L : Kept) → Stands S.Store D.Stands D.kept_rules self.old L → HasCleanDisk (state_of S.Store self.new) → IsTrue L.own → OnErr result (Stands S.Store D.Stands D.kept_rules self.new L) }
         ensures crash { (L : Kept) → Stands S.Store D.Stands D.kept_rules self.old L → HasCleanDisk (state_of S.Store self.new) → IsTrue L.own → (trees : Trees) → (state_of S.Store self.new).may_leave trees → NewlyLeaves L stamped.now (answer_in result) ((state_of S.Store self.old).may_leave trees) trees }
-        ensures clean { HasCleanDisk (state_of S.Store self.new) → HasCleanDisk (state_of S.Store self.old) }
+        ensures survives { Survives (state_of S.Store self.old) (state_of S.Store self.new) (λ _. ⊤) }
     {
         self.ready()?;
         self.judge(stamped)
@@ -273,7 +272,7 @@ impl<S: Alter, D: Desk + Drop> LineStore<S, D> {
         ensures ok { (L : Kept) → Stands S.Store D.Stands D.kept_rules self.old L → (HasCleanDisk (state_of S.Store self.new) → IsTrue L.own → earlier_answer L.history stamped.now ≡ None) → OnOk result (Stands S.Store D.Stands D.kept_rules self.new (record L { history = after_command Two L.history stamped.now })) }
         ensures err { (L : Kept) → Stands S.Store D.Stands D.kept_rules self.old L → OnErr result (Stands S.Store D.Stands D.kept_rules self.new L) }
         ensures crash { (L : Kept) → Stands S.Store D.Stands D.kept_rules self.old L → HasCleanDisk (state_of S.Store self.new) → IsTrue L.own → (trees : Trees) → (state_of S.Store self.new).may_leave trees → NewlyLeaves L stamped.now (answer_in result) ((state_of S.Store self.old).may_leave trees) trees }
-        ensures clean { HasCleanDisk (state_of S.Store self.new) → HasCleanDisk (state_of S.Store self.old) }
+        ensures survives { Survives (state_of S.Store self.old) (state_of S.Store self.new) (λ _. ⊤) }
     {
         if self.count >= self.greatest {
             return Err(Unavailable);
@@ -299,7 +298,7 @@ impl<S: Alter, D: Desk + Drop> LineStore<S, D> {
         ensures err { (L : Kept) → Stands S.Store D.Stands D.kept_rules self.old L → OnErr result (Stands S.Store D.Stands D.kept_rules self.new L) }
         ensures survives { (L : Kept) → Stands S.Store D.Stands D.kept_rules self.old L → IsTrue L.own → Survives (state_of S.Store self.old) (state_of S.Store self.new) (HoldsAt (tables_of L.greatest (accepting L change.stamped).history)) }
         ensures alone { (L : Kept) → Stands S.Store D.Stands D.kept_rules self.old L → HasCleanDisk (state_of S.Store self.new) → IsTrue L.own → OnOk result ((trees : Trees) → (state_of S.Store self.new).may_leave trees → HoldsAt (tables_of L.greatest (accepting L change.stamped).history) trees) }
-        ensures clean { HasCleanDisk (state_of S.Store self.new) → HasCleanDisk (state_of S.Store self.old) }
+        ensures faults { Survives (state_of S.Store self.old) (state_of S.Store self.new) (λ _. ⊤) }
     {
         change.stamped.ranges_hold();
         let _ = change.minute.get();

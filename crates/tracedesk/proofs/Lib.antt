@@ -1,3 +1,1 @@
-pub mod CommandLineRows
-pub mod ConstantRows
 pub mod Running

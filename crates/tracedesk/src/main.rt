@@ -2,9 +2,6 @@
 //! or in a file.
 #![tactic(auto)]
 
-mod command_line;
-mod desk;
-mod exit;
 mod program;
 
 use std::process::ExitCode;

@@ -4,8 +4,8 @@ ghost use Rattle.std.specs.Prelude.{◌≡◌, ◌≢◌, ◌⊎◌, ◌+◌, �
 ghost use Rattle.std.specs.IoError.{error_kind};
 ghost use Rattle.std.specs.Io.KnownBytes.{Appends, IsAtEnd};
 ghost use Rattle.desk_types.specs.Wire.{inner_of, reads_of, failures_of};
-ghost use Rattle.line_schema.specs.declared.fault.OpenFault.{OpenFault};
-ghost use Rattle.line_schema.specs.declared.fault.OpenFault.TheVariants.{Unavailable};
+ghost use Rattle.line_opening.specs.declared.fault.OpenFault.{OpenFault};
+ghost use Rattle.line_opening.specs.declared.fault.OpenFault.TheVariants.{Unavailable};
 ghost use Rattle.served.specs.declared.serving.Served.{Served};
 ghost use Rattle.served.specs.declared.serving.ServeFault.{ServeFault};
 ghost use Rattle.served.specs.declared.serving.TheConstants.{MOST_READS};
@@ -13,19 +13,24 @@ ghost use Rattle.desk_import.specs.declared.options.BadOption.{BadOption};
 ghost use Rattle.desk_import.specs.declared.options.Import.{Import};
 ghost use Rattle.served.specs.declared.serving.ServeFault.TheVariants.{Read as ReadFault};
 ghost use Rattle.served.specs.Counts.{none_served};
-ghost use Rattle.tracedesk.specs.CommandLine.{AsksForAudit, AsksForFeed, AsksForImport, AsksForMigration, AsksForText, AsksForNothing, HasBadOption};
+ghost use Rattle.desk_words.specs.CommandLine.{AsksForAudit, AsksForFeed, AsksForImport, AsksForMigration, AsksForText, AsksForNothing, HasBadOption};
 ghost use Rattle.served.specs.Sent.{SendsFront};
 ghost use Rattle.served.specs.Shown.{FailsNever, IsShown};
-ghost use Rattle.tracedesk.specs.Program.{AnswersAll, AnswersImport, AnswersUpTo, Audits, CutsImport, Migrates, NamesFile, RunsAsked, RunsImport, RunsOn, StaysSame, fault_line, lawful_line, option_line, refusal_line, version_line, Tells, TellsLine};
+ghost use Rattle.http_stream.specs.Answers.{code_of};
+ghost use Rattle.desk_runs.specs.Runs.{AnswersAll, AnswersImport, AnswersUpTo, CutsImport, StaysSame};
+ghost use Rattle.desk_runs.specs.Told.{fault_line, lawful_line, option_line, printed, version_line, Tells, TellsEnd, TellsLine};
+ghost use Rattle.desk_commands.specs.Runs.{Audits, Migrates, RunsOn, refusal_line};
+ghost use Rattle.tracedesk.specs.Program.{NamesFile, RunsAsked, RunsImport, RunsReport, RunsServing};
 
-use crate::command_line::{Asked, read_words};
-use crate::desk::{
-    audit_file, feed_in_file, feed_in_memory, import_in_file, migrate_file, send_text,
+use desk_commands::{
+    audit_file, feed_in_file, feed_in_memory, import_in_file, migrate_file, report_in_file,
+    serve_in_file,
 };
-use crate::exit::{Exit, bad_option, tell, tell_line, unavailable};
 use desk_file::{DeskFile, FileDesk, close_desk, close_file};
 use desk_import::Folder;
+use desk_runs::{Exit, bad_option, send_text, tell, tell_line, unavailable};
 use desk_types::Wire;
+use desk_words::{Asked, read_words};
 use feeder_state::StateDesk;
 use sqlite::{Start, Unknown};
 use std::alloc::AllocError;
@@ -100,11 +105,14 @@ fn wordless<E: Write>(error: &io::Error, errors: &mut Wire<E>) -> u8
 /// A whole run after the program's name: its exit status; where it kept one in a file, the desk; and
 /// the file that it migrated. The files are still to be closed.
 ///
-/// 0: done. 1: some line, or the import, was answered by a refusal. 2: the command line is bad, and
-/// standard error says why, of an option of an import as `tracedesk: Bad id`. 3: the desk's file was
-/// refused, or memory was, outside of a message: `tracedesk: ` and the fault, with its number or its
-/// table after a space. 4: input or output failed, told as `tracedesk: Read`, `tracedesk: Write` or
-/// `tracedesk: TooManyReads`; Read also where the file of an import can't be opened or read.
+/// 0: done. 1: some line or request, or the import, was answered by a refusal, a connection failed, or
+/// there is no such report. 2: the command line is bad, and standard error says why, of an option of an
+/// import as `tracedesk: Bad id`. 3: the desk's file was refused, or memory was, outside of a message:
+/// `tracedesk: ` and the fault, with its number or its table after a space. 4: input or output failed,
+/// told as `tracedesk: Read`, `tracedesk: Write` or `tracedesk: TooManyReads`; Read also where the file
+/// of an import can't be opened or read, a port can't be had or no further connection be accepted.
+///
+/// Standard input is read by `feed` alone. What the clients of `serve` sent and got is not said.
 pub fn program<T: Start, F: Folder, R: Read, W: Write, E: Write>(
     rt: &HostRuntime,
     words: &[String],
@@ -126,10 +134,14 @@ pub fn program<T: Start, F: Folder, R: Read, W: Write, E: Write>(
         ⊎ ((file : List ℕ) × AsksForMigration (map string_bytes words.now) file × Appends (W.contents (inner_of output.old)) (W.contents (inner_of output.new)) version_line
         × Migrates T.Start result.2)
         ⊎ RunsImport T.Start (F.holds folder.now) (map string_bytes words.now) result.1 (AnswersImport W.contents output.old output.new false)
-        ⊎ (AsksForText (map string_bytes words.now) × (text : List ℕ) × Appends (W.contents (inner_of output.old)) (W.contents (inner_of output.new)) text) }
+        ⊎ (AsksForText (map string_bytes words.now) × (text : List ℕ) × Appends (W.contents (inner_of output.old)) (W.contents (inner_of output.new)) text)
+        ⊎ RunsServing T.Start (map string_bytes words.now) result.1 W.contents output.old output.new 0
+        ⊎ RunsReport T.Start (map string_bytes words.now) result.1 (λ answer. (code_of answer.status ≡ 200) × Appends (W.contents (inner_of output.old)) (W.contents (inner_of output.new)) (printed answer)) }
     ensures refused { result.0 ≡ 1
         → ((served : Served) × (0 < served.refused) × RunsAsked T.Start (map string_bytes words.now) result.1 (AnswersAll R.remaining W.contents input.old output.old output.new served))
-        ⊎ RunsImport T.Start (F.holds folder.now) (map string_bytes words.now) result.1 (AnswersImport W.contents output.old output.new true) }
+        ⊎ RunsImport T.Start (F.holds folder.now) (map string_bytes words.now) result.1 (AnswersImport W.contents output.old output.new true)
+        ⊎ RunsServing T.Start (map string_bytes words.now) result.1 W.contents output.old output.new 1
+        ⊎ RunsReport T.Start (map string_bytes words.now) result.1 (λ answer. (code_of answer.status ≢ 200) × Appends (W.contents (inner_of output.old)) (W.contents (inner_of output.new)) (printed answer)) }
     ensures bad { result.0 ≡ 2 → (AsksForNothing (map string_bytes words.now) × (text : List ℕ) × Tells E.contents errors.old errors.new text)
         ⊎ ((option : BadOption) × HasBadOption (map string_bytes words.now) option × TellsLine E.contents errors.old errors.new (option_line option)) }
     ensures unopened { result.0 ≡ 2 → (result.1 ≡ None) × (result.2 ≡ None) }
@@ -144,16 +156,15 @@ pub fn program<T: Start, F: Folder, R: Read, W: Write, E: Write>(
         ⊎ ((file : List ℕ) × AsksForMigration (map string_bytes words.now) file × SendsFront (W.contents (inner_of output.old)) (W.contents (inner_of output.new)) version_line
         × Migrates T.Start result.2)
         ⊎ RunsImport T.Start (F.holds folder.now) (map string_bytes words.now) result.1 (CutsImport W.contents output.old output.new)
-        ⊎ (AsksForText (map string_bytes words.now) × (text : List ℕ) × SendsFront (W.contents (inner_of output.old)) (W.contents (inner_of output.new)) text)))
+        ⊎ (AsksForText (map string_bytes words.now) × (text : List ℕ) × SendsFront (W.contents (inner_of output.old)) (W.contents (inner_of output.new)) text)
+        ⊎ RunsReport T.Start (map string_bytes words.now) result.1 (λ answer. SendsFront (W.contents (inner_of output.old)) (W.contents (inner_of output.new)) (printed answer))))
         ⊎ ((input.new ≡ input.old) × (output.new ≡ output.old) × TellsLine E.contents errors.old errors.new (fault_line (ReadFault none_served))
-        × RunsImport T.Start (F.holds folder.now) (map string_bytes words.now) result.1 (λ _ _. StaysSame)) }
+        × RunsImport T.Start (F.holds folder.now) (map string_bytes words.now) result.1 (λ _ _. StaysSame))
+        ⊎ ((input.new ≡ input.old) × TellsEnd E.contents output.old output.new errors.old errors.new × RunsServing T.Start (map string_bytes words.now) result.1 W.contents output.old output.new 4) }
     ensures end { (result.0 ≡ 0) ⊎ (result.0 ≡ 1) → (file : _) (greatest : ℕ) → AsksForFeed (map string_bytes words.now) file greatest → IsAtEnd (R.remaining (inner_of input.new)) }
     ensures kept { (result.0 ≡ 0) ⊎ (result.0 ≡ 1) → FailsNever input.old input.new output.old output.new }
     ensures few_reads { reads_of input.new ≤ reads_of input.old + MOST_READS }
-    ensures unread { AsksForText (map string_bytes words.now) → input.new ≡ input.old }
-    ensures unread_by_audits { (file : List ℕ) → AsksForAudit (map string_bytes words.now) file → input.new ≡ input.old }
-    ensures unread_by_migrations { (file : List ℕ) → AsksForMigration (map string_bytes words.now) file → input.new ≡ input.old }
-    ensures unread_by_imports { (file : List ℕ) (import : Import) (from : List ℕ) → AsksForImport (map string_bytes words.now) file import from → input.new ≡ input.old }
+    ensures unread { ((file : _) (greatest : ℕ) → AsksForFeed (map string_bytes words.now) file greatest → ⊥) → input.new ≡ input.old }
     ensures quiet { (result.0 ≡ 0) ⊎ (result.0 ≡ 1) → errors.new ≡ errors.old }
 {
     match read_words(rt.alloc(), words) {
@@ -176,6 +187,37 @@ pub fn program<T: Start, F: Folder, R: Read, W: Write, E: Write>(
                 None,
             ),
         },
+        Ok(
+            Asked::Serve {
+                file,
+                port,
+                connections,
+                greatest,
+            },
+        ) => {
+            let (status, desk) = serve_in_file(
+                rt,
+                file.as_str(),
+                start,
+                port,
+                connections,
+                greatest,
+                output,
+                errors,
+            );
+            (status, desk, None)
+        }
+        Ok(Asked::Report { file, target }) => {
+            let (status, desk) = report_in_file(
+                rt,
+                file.as_str(),
+                start,
+                target.as_str(),
+                output,
+                errors,
+            );
+            (status, desk, None)
+        }
         Ok(Asked::Audit { file }) => {
             let (status, desk) = audit_file(rt, file.as_str(), start, output, errors);
             (status, desk, None)

@@ -83,6 +83,7 @@ fn add_work(alloc: Global, messages: &mut Vec<Stamped>) -> Result<(), Fail> {
         (16, "WorkCompleted\tM\tB1"),
         (16, "MaterialsUnloaded\tM\t2"),
         (16, "MaterialsUnloaded\tM\t2"),
+        (17, "ReelSealed\tK4"),
         (17, "CountsTaken\t2\tK3\t5\tK4\t7"),
         (17, "CountsTaken\t2\tK4\t4\tK3\t6"),
         (18, "CountsTaken\t1\tK1\t1"),
@@ -96,7 +97,7 @@ fn add_work(alloc: Global, messages: &mut Vec<Stamped>) -> Result<(), Fail> {
     Ok(())
 }
 
-/// The 48 messages of both: every word.
+/// The 49 messages of both: every word.
 fn messages(alloc: Global) -> Result<Vec<Stamped>, Fail> {
     let mut messages = Vec::new(alloc);
     add_setup(alloc, &mut messages)?;

@@ -1,4 +1,4 @@
-use Rattle.std.proofs.Common.{inl, inr}
+use Rattle.std.proofs.Common.{inl, inr, arith}
 use Rattle.sqlite.specs.State.{HasCleanDisk}
 use Rattle.sqlite.specs.Held.{state}
 use Rattle.line_schema.proofs.Leaving.{newly_weaker}
@@ -7,7 +7,7 @@ use Rattle.line_schema.proofs.store.LineStore.judged.Goals as goal
 pub returns-clause-crash : goal.returns-clause-crash
 returns-clause-crash g c L stands clean own trees left =
     let mid = c.ready.new.self in
-    let early : HasCleanDisk (state g.S.Store mid.conn) = c.judge.ensures.clean clean in
+    let early : HasCleanDisk (state g.S.Store mid.conn) = omega (arith, c.judge.ensures.survives.clean, clean) in
     newly_weaker L c.args.stamped.now _ _ _ trees
     (λ before. elim (c.ready.ensures.survives.crash early trees before) [ inl at_entry ↦ at_entry | inr none ↦ absurd none ])
     (c.judge.ensures.crash L (c.ready.ensures.stands L stands early own) clean own trees left)

@@ -7,7 +7,7 @@ use Rattle.line_tables.specs.Rows.{Holds}
 use Rattle.line_tables.proofs.Ours.{ours_is}
 use Rattle.line_rows.specs.Rows.{tables_of}
 use Rattle.line_schema.specs.Stands.{Kept}
-use Rattle.line_schema.proofs.Reading.{opened_lawful, opened_holds}
+use Rattle.line_opening.proofs.Reading.{opened_lawful, opened_holds}
 use Rattle.line_schema.proofs.store.LineStore.open.Goals as goal
 
 pub returns-in-Ok-clause-stands : goal.returns-in-Ok-clause-stands

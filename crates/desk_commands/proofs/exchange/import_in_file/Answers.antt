@@ -1,0 +1,30 @@
+use Rattle.std.proofs.Common.{ℕ, List, Option, Bool, true, false, None, inl, inr}
+use Rattle.line_opening.specs.declared.fault.OpenFault.TheVariants.{Unavailable}
+use Rattle.desk_runs.specs.Runs.{AnswersImport, CutsImport, StaysSame}
+use Rattle.desk_commands.proofs.Running.{runs_on, stays}
+use Rattle.desk_commands.proofs.exchange.import_in_file.Goals as goal
+
+pub returns-in-Ok-clause-done : goal.returns-in-Ok-clause-done
+returns-in-Ok-clause-done g c = λ is.
+    let row = c.import_rows-status in
+    runs_on g.T.Start None c.in-Ok.store row.new.line (AnswersImport g.W.Write.contents c.args.output.now row.new.output false c.args.import.now (g.F.Folder.holds c.args.folder.now c.args.from.now)) row.ensures.trusts c.in-Ok.ensures.begins (row.ensures.done is)
+
+pub returns-in-Ok-clause-refused : goal.returns-in-Ok-clause-refused
+returns-in-Ok-clause-refused g c = λ is.
+    let row = c.import_rows-status in
+    runs_on g.T.Start None c.in-Ok.store row.new.line (AnswersImport g.W.Write.contents c.args.output.now row.new.output true c.args.import.now (g.F.Folder.holds c.args.folder.now c.args.from.now)) row.ensures.trusts c.in-Ok.ensures.begins (row.ensures.refused is)
+
+pub returns-in-Ok-clause-failed : goal.returns-in-Ok-clause-failed
+returns-in-Ok-clause-failed g c = λ is.
+    let row = c.import_rows-status in
+    elim (row.ensures.failed is) [
+      | inl cut ↦ inl (cut.0, cut.1, runs_on g.T.Start None c.in-Ok.store row.new.line (CutsImport g.W.Write.contents c.args.output.now row.new.output c.args.import.now (g.F.Folder.holds c.args.folder.now c.args.from.now)) row.ensures.trusts c.in-Ok.ensures.begins cut.2)
+      | inr unread ↦ inr (unread.0, unread.1, runs_on g.T.Start None c.in-Ok.store row.new.line StaysSame row.ensures.trusts c.in-Ok.ensures.begins unread.2)
+    ]
+
+pub returns-in-Ok-clause-no_desk : goal.returns-in-Ok-clause-no_desk
+returns-in-Ok-clause-no_desk g c = λ is. (Unavailable, c.import_rows-status.ensures.no_memory is)
+
+pub returns-in-Ok-clause-left : goal.returns-in-Ok-clause-left
+returns-in-Ok-clause-left g c = λ is.
+    inr (stays g.T.Start None c.in-Ok.store c.import_rows-status.new.line (c.import_rows-status.ensures.untouched is).0 c.in-Ok.ensures.begins)

@@ -1,0 +1,10 @@
+use Rattle.desk_commands.proofs.looks.migrate_file.Goals as goal
+
+pub returns-in-Ok-clause-done : goal.returns-in-Ok-clause-done
+returns-in-Ok-clause-done g c = λ is. (c.send_text-status.ensures.done is, c.in-Ok.ensures.migrated)
+
+pub returns-in-Ok-clause-failed : goal.returns-in-Ok-clause-failed
+returns-in-Ok-clause-failed g c = λ is.
+    let told = c.send_text-status.ensures in
+    let fault = told.failed is in
+    (fault.0, fault.1, told.front is, c.in-Ok.ensures.migrated)

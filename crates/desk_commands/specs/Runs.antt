@@ -1,0 +1,51 @@
+-- What a run on a desk does, from the list with which it begins.
+use Rattle.std.specs.Prelude.{◌≡◌, ℕ, List, [], ◌++◌, Option, None, IsSomeAnd, true, length, codes}
+use Rattle.sqlite_disk.specs.declared.Disk as disk
+use Rattle.sqlite_disk.specs.declared.start.Start as start
+use Rattle.sqlite_wal.specs.Files.{image_at}
+use Rattle.sqlite_store.specs.declared.store.FileStore.{FileStore}
+use Rattle.sqlite.specs.State.{HasCleanDisk}
+use Rattle.sqlite.specs.Files.{file_state, over_files}
+use Rattle.sqlite.specs.Held.{Held}
+use Rattle.desk_types.specs.declared.rules.Rules.TheVariants.{Two}
+use Rattle.desk_types.specs.History.{History}
+use Rattle.desk_types.specs.Judged.{IsLawful}
+use Rattle.desk_answers.specs.Ledger.{Ledger}
+use Rattle.feeder_state.specs.declared.desk.StateDesk.{StateDesk}
+use Rattle.feeder_state.specs.contracts.desk.StateDeskDesk.TheImpl.{ghosts as state}
+use Rattle.line_opening.specs.declared.fault.OpenFault.{OpenFault}
+use Rattle.line_schema.specs.declared.store.LineStore.{LineStore}
+use Rattle.line_schema.specs.Opening.{fault_text}
+use Rattle.line_schema.specs.Stands.{Kept, Stands, state_of}
+use Rattle.desk_file.specs.Files.{Begins, HasFirstAlone, HasLineAlone, MigratedFrom}
+use Rattle.http_answers.specs.Requests.{request_rule}
+use Rattle.http_listener.specs.Connections.{ConnectedEach, Ended}
+use Rattle.gateway_http.specs.Reports.{report_of}
+
+-- a desk of rules Two that has accepted nothing
+abbrev pub fresh : ℕ → Ledger
+fresh greatest = record { rules = Two; greatest = greatest; history = [] }
+
+-- What holds of the list with which a run on the files begins, where the disk told the truth and no other table was beside the desk's: that list is lawful, and the desk stands for a list that the fact tells.
+abbrev pub RunsOn : {T D : Type 0} {g : disk.Ghosts D} → start.Ghosts T → Option ℕ → Option (LineStore (FileStore D g) StateDesk) → (Ledger → History → Type 0) → Type 0
+RunsOn first make desk Fact = IsSomeAnd desk (λ d. HasCleanDisk (state_of over_files d) → HasLineAlone (image_at first)
+    → (greatest : ℕ) × (H : History) × Begins (image_at first) make greatest H × IsLawful Two greatest H
+    × (H' : History) × Stands over_files state.Stands state.kept_rules d (record { greatest = greatest; history = H'; own = true })
+    × Fact (record { rules = Two; greatest = greatest; history = H }) H')
+
+-- An audit found so many commands: the desk stands for a judged list of them, whatever its disk did. Where that told the truth and no other table was beside the desk's, it is the list with which the run began.
+abbrev pub Audits : {T D : Type 0} {g : disk.Ghosts D} → start.Ghosts T → Option (LineStore (FileStore D g) StateDesk) → ℕ → Type 0
+Audits first desk count = IsSomeAnd desk (λ d. (L : Kept) × Stands over_files state.Stands state.kept_rules d L × (count ≡ length L.history))
+    × RunsOn first None desk (λ G H. (H ≡ G.history) × (count ≡ length H))
+
+-- A file was migrated: where its disk told the truth and no other table was beside the desk's, its connection holds by version 2 the tables with which the run began by version 1.
+abbrev pub Migrates : {T D : Type 0} {g : disk.Ghosts D} → start.Ghosts T → Option (Held (FileStore D g)) → Type 0
+Migrates first file = IsSomeAnd file (λ conn. HasCleanDisk (file_state conn) → HasFirstAlone (image_at first) → MigratedFrom (image_at first) conn)
+
+-- Connections that ended so were answered by the list, each by the one that the connection before it left.
+abbrev pub ServesEach : List Ended → Ledger → History → Type 0
+ServesEach ends G H = ConnectedEach (request_rule report_of G.rules G.greatest) G.history ends H
+
+-- the line that tells why the desk's file was refused
+abbrev pub refusal_line : OpenFault → List ℕ
+refusal_line fault = codes "tracedesk: " ++ fault_text fault

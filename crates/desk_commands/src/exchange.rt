@@ -1,0 +1,143 @@
+//! Messages and files, answered by a desk in memory or in a file.
+
+ghost use Rattle.std.specs.Prelude.{◌≡◌, ◌⊎◌, ◌+◌, ◌^◌, ◌<◌, ◌≤◌, true, false, None, Some};
+ghost use Rattle.std.specs.Io.KnownBytes.{IsAtEnd};
+ghost use Rattle.desk_types.specs.declared.desk.TheConstants.{MOST_ENTRIES};
+ghost use Rattle.desk_types.specs.History.{History};
+ghost use Rattle.desk_types.specs.Wire.{inner_of, reads_of, failures_of};
+ghost use Rattle.line_opening.specs.declared.fault.OpenFault.{OpenFault};
+ghost use Rattle.line_opening.specs.declared.fault.OpenFault.TheVariants.{Unavailable};
+ghost use Rattle.served.specs.declared.serving.Served.{Served};
+ghost use Rattle.served.specs.declared.serving.ServeFault.{ServeFault};
+ghost use Rattle.served.specs.declared.serving.ServeFault.TheVariants.{Read as ReadFault, Write as WriteFault};
+ghost use Rattle.served.specs.declared.serving.TheConstants.{MOST_READS};
+ghost use Rattle.served.specs.Counts.{none_served};
+ghost use Rattle.served.specs.Shown.{FailsNever, IsShown};
+ghost use Rattle.desk_runs.specs.Runs.{AnswersAll, AnswersImport, AnswersUpTo, CutsImport, StaysSame};
+ghost use Rattle.desk_runs.specs.Told.{fault_line, TellsLine};
+ghost use Rattle.desk_commands.specs.Runs.{RunsOn, fresh, refusal_line};
+
+use crate::refusal::refused;
+use desk_file::{FileDesk, open_desk};
+use desk_import::{Folder, Import};
+use desk_runs::{feed_lines, import_rows, unavailable};
+use desk_types::Wire;
+use feeder_state::StateDesk;
+use line_schema::in_memory;
+use sqlite::Start;
+use std::alloc::Global;
+use std::io::{Read, Write};
+
+/// Answers the lines of the input by a new desk in memory: the exit status.
+pub fn feed_in_memory<R: Read, W: Write, E: Write>(
+    alloc: Global,
+    greatest: u32,
+    input: &mut Wire<R>,
+    output: &mut Wire<W>,
+    errors: &mut Wire<E>,
+) -> u8
+    requires least { 1 ≤ greatest }
+    requires most { greatest ≤ MOST_ENTRIES }
+    requires reads { reads_of input.old < 2 ^ 63 }
+    requires read_failures { failures_of input.old < 2 ^ 63 }
+    requires write_failures { failures_of output.old < 2 ^ 63 }
+    requires error_failures { failures_of errors.old < 2 ^ 63 }
+    ensures status { (result ≡ 0) ⊎ (result ≡ 1) ⊎ (result ≡ 3) ⊎ (result ≡ 4) }
+    ensures done { result ≡ 0 → (served : Served) × (served.refused ≡ 0) × (H : History) × AnswersAll R.remaining W.contents input.old output.old output.new served (fresh greatest) H }
+    ensures refused { result ≡ 1 → (served : Served) × (0 < served.refused) × (H : History) × AnswersAll R.remaining W.contents input.old output.old output.new served (fresh greatest) H }
+    ensures no_desk { result ≡ 3 → TellsLine E.contents errors.old errors.new (refusal_line Unavailable) }
+    ensures untouched { result ≡ 3 → (input.new ≡ input.old) × (output.new ≡ output.old) }
+    ensures failed { result ≡ 4 → (fault : ServeFault) × IsShown fault input.old input.new output.old output.new × TellsLine E.contents errors.old errors.new (fault_line fault)
+        × (H : History) × AnswersUpTo R.remaining W.contents input.old output.old output.new fault (fresh greatest) H }
+    ensures end { (result ≡ 0) ⊎ (result ≡ 1) → IsAtEnd (R.remaining (inner_of input.new)) }
+    ensures kept { (result ≡ 0) ⊎ (result ≡ 1) → FailsNever input.old input.new output.old output.new }
+    ensures quiet { (result ≡ 0) ⊎ (result ≡ 1) → errors.new ≡ errors.old }
+    ensures few_reads { reads_of input.new ≤ reads_of input.old + MOST_READS }
+{
+    match in_memory::<StateDesk>(alloc, greatest) {
+        Ok(store) => {
+            let mut store = store;
+            let status = feed_lines(alloc, input, output, errors, &mut store);
+            let _conn = store.into_connection();
+            status
+        }
+        Err(_) => unavailable(errors),
+    }
+}
+
+/// Answers the lines of the input by the desk in a file, which is made where there is none: the exit
+/// status, and the desk.
+pub fn feed_in_file<T: Start, R: Read, W: Write, E: Write>(
+    rt: &HostRuntime,
+    file: &str,
+    start: T,
+    greatest: u32,
+    input: &mut Wire<R>,
+    output: &mut Wire<W>,
+    errors: &mut Wire<E>,
+) -> (u8, Option<FileDesk<T, StateDesk>>)
+    requires least { 1 ≤ greatest }
+    requires most { greatest ≤ MOST_ENTRIES }
+    requires reads { reads_of input.old < 2 ^ 63 }
+    requires read_failures { failures_of input.old < 2 ^ 63 }
+    requires write_failures { failures_of output.old < 2 ^ 63 }
+    requires error_failures { failures_of errors.old < 2 ^ 63 }
+    ensures status { (result.0 ≡ 0) ⊎ (result.0 ≡ 1) ⊎ (result.0 ≡ 3) ⊎ (result.0 ≡ 4) }
+    ensures done { result.0 ≡ 0 → (served : Served) × (served.refused ≡ 0) × RunsOn T.Start (Some greatest) result.1 (AnswersAll R.remaining W.contents input.old output.old output.new served) }
+    ensures refused { result.0 ≡ 1 → (served : Served) × (0 < served.refused) × RunsOn T.Start (Some greatest) result.1 (AnswersAll R.remaining W.contents input.old output.old output.new served) }
+    ensures no_desk { result.0 ≡ 3 → (told : OpenFault) × TellsLine E.contents errors.old errors.new (refusal_line told) }
+    ensures untouched { result.0 ≡ 3 → (input.new ≡ input.old) × (output.new ≡ output.old) }
+    ensures left { result.0 ≡ 3 → result.1 ≡ None }
+    ensures failed { result.0 ≡ 4 → (fault : ServeFault) × IsShown fault input.old input.new output.old output.new × TellsLine E.contents errors.old errors.new (fault_line fault)
+        × RunsOn T.Start (Some greatest) result.1 (AnswersUpTo R.remaining W.contents input.old output.old output.new fault) }
+    ensures end { (result.0 ≡ 0) ⊎ (result.0 ≡ 1) → IsAtEnd (R.remaining (inner_of input.new)) }
+    ensures kept { (result.0 ≡ 0) ⊎ (result.0 ≡ 1) → FailsNever input.old input.new output.old output.new }
+    ensures quiet { (result.0 ≡ 0) ⊎ (result.0 ≡ 1) → errors.new ≡ errors.old }
+    ensures few_reads { reads_of input.new ≤ reads_of input.old + MOST_READS }
+{
+    match open_desk::<T, StateDesk>(rt, file, start, Some(greatest)) {
+        Ok(store) => {
+            let mut store = store;
+            let status = feed_lines(rt.alloc(), input, output, errors, &mut store);
+            (status, Some(store))
+        }
+        Err(fault) => (refused(rt.alloc(), &fault, errors), None),
+    }
+}
+
+/// Answers an import by the desk in a file: the exit status, and the desk.
+pub fn import_in_file<T: Start, F: Folder, W: Write, E: Write>(
+    rt: &HostRuntime,
+    file: &str,
+    start: T,
+    import: &Import,
+    folder: &F,
+    from: &str,
+    output: &mut Wire<W>,
+    errors: &mut Wire<E>,
+) -> (u8, Option<FileDesk<T, StateDesk>>)
+    requires write_failures { failures_of output.old < 2 ^ 63 }
+    requires error_failures { failures_of errors.old < 2 ^ 63 }
+    ensures status { (result.0 ≡ 0) ⊎ (result.0 ≡ 1) ⊎ (result.0 ≡ 3) ⊎ (result.0 ≡ 4) }
+    ensures done { result.0 ≡ 0 → RunsOn T.Start None result.1 (AnswersImport W.contents output.old output.new false import.now (F.holds folder.now from.now)) }
+    ensures refused { result.0 ≡ 1 → RunsOn T.Start None result.1 (AnswersImport W.contents output.old output.new true import.now (F.holds folder.now from.now)) }
+    ensures no_desk { result.0 ≡ 3 → (told : OpenFault) × TellsLine E.contents errors.old errors.new (refusal_line told) }
+    ensures untouched { result.0 ≡ 3 → output.new ≡ output.old }
+    ensures left { result.0 ≡ 3 → (result.1 ≡ None) ⊎ RunsOn T.Start None result.1 StaysSame }
+    ensures failed { result.0 ≡ 4
+        → ((failures_of output.new ≡ failures_of output.old + 1) × TellsLine E.contents errors.old errors.new (fault_line (WriteFault none_served))
+        × RunsOn T.Start None result.1 (CutsImport W.contents output.old output.new import.now (F.holds folder.now from.now)))
+        ⊎ ((output.new ≡ output.old) × TellsLine E.contents errors.old errors.new (fault_line (ReadFault none_served)) × RunsOn T.Start None result.1 StaysSame) }
+    ensures kept { (result.0 ≡ 0) ⊎ (result.0 ≡ 1) → failures_of output.new ≡ failures_of output.old }
+    ensures quiet { (result.0 ≡ 0) ⊎ (result.0 ≡ 1) → errors.new ≡ errors.old }
+{
+    let opened = open_desk::<T, StateDesk>(rt, file, start, None);
+    match opened {
+        Ok(store) => {
+            let mut store = store;
+            let status = import_rows(rt.alloc(), &mut store, import, folder, from, output, errors);
+            (status, Some(store))
+        }
+        Err(fault) => (refused(rt.alloc(), &fault, errors), None),
+    }
+}

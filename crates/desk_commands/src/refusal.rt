@@ -1,0 +1,28 @@
+//! A desk that is refused.
+
+ghost use Rattle.std.specs.Prelude.{◌≡◌, ◌⊎◌, ◌^◌, ◌<◌};
+ghost use Rattle.desk_types.specs.Wire.{failures_of};
+ghost use Rattle.line_opening.specs.declared.fault.OpenFault.TheVariants.{Unavailable};
+ghost use Rattle.desk_runs.specs.Told.{TellsLine};
+ghost use Rattle.desk_commands.specs.Runs.{refusal_line};
+
+use desk_runs::{Exit, tell_line, unavailable};
+use desk_types::Wire;
+use line_schema::OpenFault;
+use std::alloc::Global;
+use std::io::Write;
+
+/// Tells why the desk's file was refused, or Unavailable where memory is.
+pub fn refused<E: Write>(alloc: Global, fault: &OpenFault, errors: &mut Wire<E>) -> u8
+    requires error_failures { failures_of errors.old < 2 ^ 63 }
+    ensures status { result ≡ 3 }
+    ensures told { TellsLine E.contents errors.old errors.new (refusal_line fault.now) ⊎ TellsLine E.contents errors.old errors.new (refusal_line Unavailable) }
+{
+    match format!(in alloc; "tracedesk: {fault}") {
+        Ok(line) => {
+            tell_line(errors, line.as_str());
+            Exit::NoDesk as u8
+        }
+        Err(_) => unavailable(errors),
+    }
+}

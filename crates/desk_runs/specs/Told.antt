@@ -1,0 +1,71 @@
+-- What a run tells on standard output and standard error.
+use Rattle.std.specs.Prelude.{◌≡◌, ◌<◌, ◌⊎◌, ℕ, List, [], ◌∷◌, ◌++◌, Option, codes, decimal}
+use Rattle.std.specs.Io.KnownBytes.{Appends}
+use Rattle.desk_types.specs.declared.wire.Wire.{Wire}
+use Rattle.desk_types.specs.Wire.{inner_of, failures_of}
+use Rattle.served.specs.declared.serving.ServeFault.{ServeFault}
+use Rattle.served.specs.declared.serving.ServeFault.TheVariants.{Read, Write, TooManyReads}
+use Rattle.served.specs.Counts.{none_served}
+use Rattle.served.specs.Sent.{SendsFront}
+use Rattle.http_stream.specs.Answers.{Told}
+use Rattle.http_stream.specs.declared.response.Kind.{Kind}
+use Rattle.http_stream.specs.declared.response.Kind.TheVariants.{Json, Csv}
+use Rattle.desk_import.specs.declared.options.BadOption.{BadOption}
+use Rattle.desk_import.specs.declared.options.BadOption.TheVariants as option
+
+-- ---- standard output
+
+-- the line that tells of an audit: how many commands were accepted
+abbrev pub lawful_line : ℕ → List ℕ
+lawful_line count = codes "lawful " ++ decimal count ++ codes "\n"
+
+-- the line that tells of a migration
+abbrev pub version_line : List ℕ
+version_line = codes "version 2\n"
+
+-- a text of this kind as it is told: one that is not CSV gets a line feed
+abbrev pub with_end : Kind → List ℕ → List ℕ
+with_end Csv text = text
+with_end Json text = text ++ 10 ∷ []
+
+-- the report that a request is answered, or why there is none
+abbrev pub printed : Told → List ℕ
+printed answer = with_end answer.kind answer.body
+
+-- ---- what failed
+
+-- the line that tells of the fault
+abbrev pub fault_line : ServeFault → List ℕ
+fault_line (Read served) = codes "tracedesk: Read"
+fault_line (Write served) = codes "tracedesk: Write"
+fault_line (TooManyReads served) = codes "tracedesk: TooManyReads"
+
+-- the line that tells that memory was refused, outside of a message
+abbrev pub unavailable_line : List ℕ
+unavailable_line = codes "tracedesk: Unavailable"
+
+-- the line that tells of an option that can't be read
+abbrev pub option_line : BadOption → List ℕ
+option_line option.Id = codes "tracedesk: Bad id"
+option_line option.Source = codes "tracedesk: Bad source"
+option_line option.Time = codes "tracedesk: Bad time"
+option_line option.Product = codes "tracedesk: Bad product"
+option_line option.Machine = codes "tracedesk: Bad machine"
+
+-- ---- standard error
+
+-- a text went out, or its writing failed and only its first bytes did
+abbrev pub Tells : {E : Type 0} → (E → Option (List ℕ)) → Wire E → Wire E → List ℕ → Type 0
+Tells contents errors errors' text =
+    Appends (contents (inner_of errors)) (contents (inner_of errors')) text
+    ⊎ ((failures_of errors < failures_of errors') × SendsFront (contents (inner_of errors)) (contents (inner_of errors')) text)
+
+-- so did a line, with its line feed
+abbrev pub TellsLine : {E : Type 0} → (E → Option (List ℕ)) → Wire E → Wire E → List ℕ → Type 0
+TellsLine contents errors errors' line = Tells contents errors errors' (line ++ 10 ∷ [])
+
+-- why no further connection is served is told: a line could not be written, which the output's count shows, or none could be accepted
+abbrev pub TellsEnd : {W E : Type 0} → (E → Option (List ℕ)) → Wire W → Wire W → Wire E → Wire E → Type 0
+TellsEnd contents output output' errors errors' =
+    ((failures_of output' ≡ failures_of output) × TellsLine contents errors errors' (fault_line (Read none_served)))
+    ⊎ ((failures_of output < failures_of output') × TellsLine contents errors errors' (fault_line (Write none_served)))

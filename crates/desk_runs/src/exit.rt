@@ -1,0 +1,96 @@
+//! How a run ends, and what is told of that on standard error.
+
+ghost use Rattle.std.specs.Prelude.{◌≡◌, ◌^◌, ◌<◌};
+ghost use Rattle.desk_types.specs.Wire.{failures_of};
+ghost use Rattle.desk_runs.specs.Told.{fault_line, option_line, unavailable_line, Tells, TellsLine};
+
+use desk_import::BadOption;
+use desk_types::Wire;
+use served::{ServeFault, send, send_line};
+use std::io::Write;
+
+/// How a run ended.
+#[derive(Clone, Copy, Debug, PartialEq, Eq)]
+pub enum Exit {
+    /// All went well.
+    Done = 0,
+    /// The answer to some line or request, or to the import, counts as refused, a connection failed,
+    /// or there is no such report.
+    Refused = 1,
+    /// The command line asks for nothing that the program does, or an option can't be read.
+    BadCommandLine = 2,
+    /// The desk's file was refused, or memory was, outside of a message.
+    NoDesk = 3,
+    /// Input or output failed, the file of an import, or a port.
+    Failed = 4,
+}
+
+/// Tells why the input was not answered to its end.
+pub fn failed<E: Write>(fault: &ServeFault, errors: &mut Wire<E>) -> u8
+    requires error_failures { failures_of errors.old < 2 ^ 63 }
+    ensures status { result ≡ 4 }
+    ensures told { TellsLine E.contents errors.old errors.new (fault_line fault.now) }
+{
+    tell_line(errors, fault_line(fault));
+    Exit::Failed as u8
+}
+
+/// The line that tells why the input was not answered to its end.
+fn fault_line(fault: &ServeFault) -> &'static str
+    ensures { result.now ≡ fault_line fault.now }
+{
+    match fault {
+        ServeFault::Read(_) => "tracedesk: Read",
+        ServeFault::Write(_) => "tracedesk: Write",
+        ServeFault::TooManyReads(_) => "tracedesk: TooManyReads",
+    }
+}
+
+/// Tells that memory was refused outside of a message.
+pub fn unavailable<E: Write>(errors: &mut Wire<E>) -> u8
+    requires error_failures { failures_of errors.old < 2 ^ 63 }
+    ensures status { result ≡ 3 }
+    ensures told { TellsLine E.contents errors.old errors.new unavailable_line }
+{
+    tell_line(errors, "tracedesk: Unavailable");
+    Exit::NoDesk as u8
+}
+
+/// Tells that an option of an import can't be read.
+pub fn bad_option<E: Write>(option: BadOption, errors: &mut Wire<E>) -> u8
+    requires error_failures { failures_of errors.old < 2 ^ 63 }
+    ensures status { result ≡ 2 }
+    ensures told { TellsLine E.contents errors.old errors.new (option_line option) }
+{
+    tell_line(errors, option_line(option));
+    Exit::BadCommandLine as u8
+}
+
+/// The line that tells of an option that can't be read.
+fn option_line(option: BadOption) -> &'static str
+    ensures { result.now ≡ option_line option }
+{
+    match option {
+        BadOption::Id => "tracedesk: Bad id",
+        BadOption::Source => "tracedesk: Bad source",
+        BadOption::Time => "tracedesk: Bad time",
+        BadOption::Product => "tracedesk: Bad product",
+        BadOption::Machine => "tracedesk: Bad machine",
+    }
+}
+
+/// Tells a line on standard error. Where that fails there is nowhere to tell of it.
+pub fn tell_line<E: Write>(errors: &mut Wire<E>, line: &str)
+    requires error_failures { failures_of errors.old < 2 ^ 63 }
+    ensures { TellsLine E.contents errors.old errors.new line.now }
+{
+    let _ = send_line(errors, line.as_bytes());
+}
+
+/// Tells a text on standard error as it is.
+pub fn tell<E: Write>(errors: &mut Wire<E>, text: &str)
+    requires error_failures { failures_of errors.old < 2 ^ 63 }
+    ensures { Tells E.contents errors.old errors.new text.now }
+{
+    let _ = send(errors, text.as_bytes());
+}

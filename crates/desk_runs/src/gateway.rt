@@ -1,0 +1,121 @@
+//! Requests, answered: those of a port, or one that asks for a report.
+
+ghost use Rattle.std.specs.Prelude.{◌≡◌, ◌≢◌, ◌⊎◌, ◌+◌, ◌^◌, ◌<◌, ◌≤◌, true, false, List, OnOk, OnErr};
+ghost use Rattle.std.specs.Io.KnownBytes.{Appends};
+ghost use Rattle.desk_types.specs.Wire.{inner_of, failures_of};
+ghost use Rattle.served.specs.declared.serving.ServeFault.TheVariants.{Read as ReadFault, Write as WriteFault};
+ghost use Rattle.served.specs.Counts.{none_served};
+ghost use Rattle.served.specs.Sent.{SendsFront};
+ghost use Rattle.http_answers.specs.Gateways.{line_of};
+ghost use Rattle.http_listener.specs.Connections.{ConnectedEach, Ended, Tells};
+ghost use Rattle.http_stream.specs.Answers.{Told, code_of, told_by};
+ghost use Rattle.http_stream.specs.Stream.{ForLists};
+ghost use Rattle.desk_runs.specs.Runs.{TellsReport};
+ghost use Rattle.desk_runs.specs.Told.{fault_line, printed, TellsEnd, TellsLine};
+
+use crate::exit::{Exit, tell_line};
+use desk_types::Wire;
+use http_answers::{Gateway, ReportedLine};
+use http_listener::serve_listener;
+use http_stream::{Handler, Kind, Response};
+use served::{WriteFailed, send, send_line};
+use std::alloc::Global;
+use std::io::Write;
+use std::net::TcpListener;
+
+/// Serves so many connections on a port of this machine, and tells a line of each: the exit status.
+/// Where the port can't be had, none could be accepted.
+pub fn serve_port<A: Handler, W: Write, E: Write>(
+    rt: &HostRuntime,
+    port: u16,
+    connections: u32,
+    output: &mut Wire<W>,
+    errors: &mut Wire<E>,
+    handler: &mut A,
+) -> u8
+    requires some { 1 ≤ connections }
+    requires write_failures { failures_of output.old < 2 ^ 63 }
+    requires error_failures { failures_of errors.old < 2 ^ 63 }
+    requires ready { A.Ready handler.old }
+    ensures ready { A.Ready handler.new }
+    ensures trusts { A.Trusts handler.new → A.Trusts handler.old }
+    ensures status { (result ≡ 0) ⊎ (result ≡ 1) ⊎ (result ≡ 4) }
+    ensures served { (ends : List Ended) × Tells connections ends result (W.contents (inner_of output.old)) (W.contents (inner_of output.new)) (failures_of output.old) (failures_of output.new)
+        × ForLists A.Stands A.Trusts handler.old handler.new (λ G H. ConnectedEach (A.rule G.rules G.greatest) G.history ends H) }
+    ensures failed { result ≡ 4 → TellsEnd E.contents output.old output.new errors.old errors.new }
+    ensures kept { (result ≡ 0) ⊎ (result ≡ 1) → failures_of output.new ≡ failures_of output.old }
+    ensures quiet { (result ≡ 0) ⊎ (result ≡ 1) → errors.new ≡ errors.old }
+{
+    let Ok(listener) = TcpListener::bind(rt, ("127.0.0.1", port)) else {
+        tell_line(errors, "tracedesk: Read");
+        return Exit::Failed as u8;
+    };
+    let failures = output.failures();
+    let status = serve_listener(rt, &listener, connections, output, handler);
+    if status == 4 {
+        tell_end(errors, output.failures() > failures);
+    }
+    status
+}
+
+/// Tells why no further connection was served: a line could not be written, or none was accepted.
+fn tell_end<E: Write>(errors: &mut Wire<E>, unwritten: bool)
+    requires error_failures { failures_of errors.old < 2 ^ 63 }
+    ensures read { unwritten ≡ false → TellsLine E.contents errors.old errors.new (fault_line (ReadFault none_served)) }
+    ensures write { unwritten ≡ true → TellsLine E.contents errors.old errors.new (fault_line (WriteFault none_served)) }
+{
+    if unwritten {
+        tell_line(errors, "tracedesk: Write");
+    } else {
+        tell_line(errors, "tracedesk: Read");
+    }
+}
+
+/// Tells what a GET of a target is answered: the exit status.
+pub fn tell_report<L: ReportedLine, W: Write, E: Write>(
+    alloc: Global,
+    target: &str,
+    output: &mut Wire<W>,
+    errors: &mut Wire<E>,
+    gateway: &mut Gateway<L>,
+) -> u8
+    requires write_failures { failures_of output.old < 2 ^ 63 }
+    requires error_failures { failures_of errors.old < 2 ^ 63 }
+    requires ready { L.Ready (line_of gateway.old) }
+    ensures ready { L.Ready (line_of gateway.new) }
+    ensures trusts { L.Trusts (line_of gateway.new) → L.Trusts (line_of gateway.old) }
+    ensures status { (result ≡ 0) ⊎ (result ≡ 1) ⊎ (result ≡ 4) }
+    ensures done { result ≡ 0 → (answer : Told) × (code_of answer.status ≡ 200) × Appends (W.contents (inner_of output.old)) (W.contents (inner_of output.new)) (printed answer)
+        × ForLists L.Stands L.Trusts (line_of gateway.old) (line_of gateway.new) (TellsReport L.reports target.now answer) }
+    ensures refused { result ≡ 1 → (answer : Told) × (code_of answer.status ≢ 200) × Appends (W.contents (inner_of output.old)) (W.contents (inner_of output.new)) (printed answer)
+        × ForLists L.Stands L.Trusts (line_of gateway.old) (line_of gateway.new) (TellsReport L.reports target.now answer) }
+    ensures failed { result ≡ 4 → (failures_of output.new ≡ failures_of output.old + 1) × TellsLine E.contents errors.old errors.new (fault_line (WriteFault none_served))
+        × (answer : Told) × SendsFront (W.contents (inner_of output.old)) (W.contents (inner_of output.new)) (printed answer)
+        × ForLists L.Stands L.Trusts (line_of gateway.old) (line_of gateway.new) (TellsReport L.reports target.now answer) }
+    ensures kept { (result ≡ 0) ⊎ (result ≡ 1) → failures_of output.new ≡ failures_of output.old }
+    ensures quiet { (result ≡ 0) ⊎ (result ≡ 1) → errors.new ≡ errors.old }
+{
+    let response = gateway.ask(alloc, target.as_bytes());
+    match send_report(output, &response) {
+        Ok(()) if response.status.code() == 200 => Exit::Done as u8,
+        Ok(()) => Exit::Refused as u8,
+        Err(WriteFailed) => {
+            tell_line(errors, "tracedesk: Write");
+            Exit::Failed as u8
+        }
+    }
+}
+
+/// Sends what an answer tells to standard output.
+fn send_report<W: Write>(output: &mut Wire<W>, response: &Response) -> Result<(), WriteFailed>
+    requires few_failures { failures_of output.old < 2 ^ 63 }
+    ensures ok { OnOk result (Appends (W.contents (inner_of output.old)) (W.contents (inner_of output.new)) (printed (told_by response.now))) }
+    ensures kept { OnOk result (failures_of output.new ≡ failures_of output.old) }
+    ensures failed { OnErr result (failures_of output.new ≡ failures_of output.old + 1) }
+    ensures front { OnErr result (SendsFront (W.contents (inner_of output.old)) (W.contents (inner_of output.new)) (printed (told_by response.now))) }
+{
+    match response.kind {
+        Kind::Csv => send(output, response.body.as_slice()),
+        Kind::Json => send_line(output, response.body.as_slice()),
+    }
+}

@@ -1,0 +1,17 @@
+//! What each command does at an open desk, and what a run tells of it.
+//!
+//! `specs/Told.antt` has the lines that are told, `specs/Runs.antt` what is answered by the list of a
+//! desk. Nothing here knows in what the desk is kept.
+#![tactic(auto)]
+
+mod exit;
+mod gateway;
+mod import;
+mod lines;
+mod texts;
+
+pub use exit::{Exit, bad_option, failed, tell, tell_line, unavailable};
+pub use gateway::{serve_port, tell_report};
+pub use import::import_rows;
+pub use lines::feed_lines;
+pub use texts::{send_text, tell_lawful};

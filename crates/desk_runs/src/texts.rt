@@ -1,0 +1,59 @@
+//! Texts on standard output.
+
+ghost use Rattle.std.specs.Prelude.{◌≡◌, ◌⊎◌, ◌+◌, ◌^◌, ◌<◌};
+ghost use Rattle.std.specs.Io.KnownBytes.{Appends};
+ghost use Rattle.desk_types.specs.Wire.{inner_of, failures_of};
+ghost use Rattle.served.specs.declared.serving.ServeFault.TheVariants.{Write as WriteFault};
+ghost use Rattle.served.specs.Counts.{none_served};
+ghost use Rattle.served.specs.Sent.{SendsFront};
+ghost use Rattle.desk_runs.specs.Told.{fault_line, lawful_line, unavailable_line, TellsLine};
+
+use crate::exit::{Exit, tell_line, unavailable};
+use desk_types::Wire;
+use served::send;
+use std::alloc::Global;
+use std::io::Write;
+
+/// Tells that a list is lawful, and how many commands it has: the exit status.
+pub fn tell_lawful<W: Write, E: Write>(
+    alloc: Global,
+    count: u32,
+    output: &mut Wire<W>,
+    errors: &mut Wire<E>,
+) -> u8
+    requires write_failures { failures_of output.old < 2 ^ 63 }
+    requires error_failures { failures_of errors.old < 2 ^ 63 }
+    ensures status { (result ≡ 0) ⊎ (result ≡ 3) ⊎ (result ≡ 4) }
+    ensures done { result ≡ 0 → Appends (W.contents (inner_of output.old)) (W.contents (inner_of output.new)) (lawful_line count) }
+    ensures no_desk { result ≡ 3 → TellsLine E.contents errors.old errors.new unavailable_line }
+    ensures untouched { result ≡ 3 → output.new ≡ output.old }
+    ensures failed { result ≡ 4 → (failures_of output.new ≡ failures_of output.old + 1) × TellsLine E.contents errors.old errors.new (fault_line (WriteFault none_served)) }
+    ensures front { result ≡ 4 → SendsFront (W.contents (inner_of output.old)) (W.contents (inner_of output.new)) (lawful_line count) }
+    ensures kept { result ≡ 0 → failures_of output.new ≡ failures_of output.old }
+    ensures quiet { result ≡ 0 → errors.new ≡ errors.old }
+{
+    match format!(in alloc; "lawful {count}\n") {
+        Ok(line) => send_text(line.as_str(), output, errors),
+        Err(_) => unavailable(errors),
+    }
+}
+
+/// Sends a text to standard output: the exit status.
+pub fn send_text<W: Write, E: Write>(text: &str, output: &mut Wire<W>, errors: &mut Wire<E>) -> u8
+    requires write_failures { failures_of output.old < 2 ^ 63 }
+    requires error_failures { failures_of errors.old < 2 ^ 63 }
+    ensures status { (result ≡ 0) ⊎ (result ≡ 4) }
+    ensures done { result ≡ 0 → Appends (W.contents (inner_of output.old)) (W.contents (inner_of output.new)) text.now }
+    ensures failed { result ≡ 4 → (failures_of output.new ≡ failures_of output.old + 1) × TellsLine E.contents errors.old errors.new (fault_line (WriteFault none_served)) }
+    ensures front { result ≡ 4 → SendsFront (W.contents (inner_of output.old)) (W.contents (inner_of output.new)) text.now }
+    ensures kept { result ≡ 0 → failures_of output.new ≡ failures_of output.old }
+    ensures quiet { result ≡ 0 → errors.new ≡ errors.old }
+{
+    match send(output, text.as_bytes()) {
+        Ok(()) => Exit::Done as u8,
+        Err(_) => {
+            tell_line(errors, "tracedesk: Write");
+            Exit::Failed as u8
+        }
+    }
+}

@@ -1,0 +1,2 @@
+pub mod CommandLineRows
+pub mod ConstantRows

@@ -1,0 +1,17 @@
+use Rattle.std.proofs.Common.{rules, ◌≡◌, ◌∙◌, sym, codes, string_bytes, Some, None, inl, inr}
+use Rattle.clap.specs.Matches.{found_of, first_value}
+use Rattle.clap.specs.Walk.{rows_of}
+use Rattle.clap.proofs.WalkLemmas.{first_value-rows}
+use Rattle.desk_words.proofs.command_line.migrate_of.Goals as goal
+
+pub returns-in_ok-from_str-in-Some-clause-asks : goal.returns-in_ok-from_str-in-Some-clause-asks
+returns-in_ok-from_str-in-Some-clause-asks c = λ words names.
+    let found = found_of c.args.found.now in
+    let is : first_value found (codes "db") ≡ Some (string_bytes c.in_ok-from_str-in-Some.field-0) = search rules in
+    (rows_of found, names, sym (first_value-rows found (codes "db")) ∙ is)
+
+pub returns-in_ok-no_file-in-None-clause-asks : goal.returns-in_ok-no_file-in-None-clause-asks
+returns-in_ok-no_file-in-None-clause-asks c = λ words names.
+    let found = found_of c.args.found.now in
+    let none : first_value found (codes "db") ≡ None = search rules in
+    inr (rows_of found, inr (inr (inr (inr (inl (names, sym (first_value-rows found (codes "db")) ∙ none))))))

@@ -1,0 +1,46 @@
+use Rattle.std.proofs.Common.{rules, ◌≡◌, ◌∙◌, refl, ap, subst, true, map, string_bytes, List, ℕ, []}
+use Rattle.clap.specs.Simple.{App, HasMatchesOf, app_of, is_simple, subcommand_of, subcommand_rows_of}
+use Rattle.clap.specs.Faults.{is_simple_and_free, fault_of}
+use Rattle.clap.specs.Kinds.{HasKind}
+use Rattle.clap.specs.declared.parser.matches.ArgMatches.{ArgMatches}
+use Rattle.clap.proofs.OnLiterals.{clap_on_literals}
+use Rattle.desk_words.specs.CommandLine.{commands, named_by, told_of}
+use Rattle.desk_words.proofs.command_line.read_words.Goals as goal
+
+is_free : is_simple_and_free commands ≡ true
+unfolding clap_on_literals
+is_free = refl
+
+is_plain : is_simple commands ≡ true
+unfolding clap_on_literals
+is_plain = refl
+
+-- what a parse by the program's commands says of the words
+of_commands : (a : App) (words : List (List ℕ)) (m : ArgMatches) → a ≡ commands → (is_simple_and_free a ≡ true → fault_of a words ≡ [])
+    → HasMatchesOf a words m → (told_of words ≡ []) × (subcommand_rows_of m ≡ named_by words)
+unfolding told_of named_by
+of_commands a words m is fails finds = (
+  subst (λ (x : App). fault_of x words ≡ []) is (fails (ap is_simple_and_free is ∙ is_free)),
+  (finds (ap is_simple is ∙ is_plain)).1 ∙ ap (λ (x : App). subcommand_of x words) is,
+)
+
+pub command_of-requires : goal.command_of-requires
+command_of-requires c =
+    let is : app_of c.in_ok-command.command ≡ commands = search rules in
+    let words = map string_bytes c.args.words.now in
+    let says = of_commands _ words c.in-Ok.matches is c.in-Ok.ensures.kinds c.in-Ok.ensures.matches in
+    record { named = (words, says.0, says.1) }
+
+pub returns-in-Ok-clause-asks : goal.returns-in-Ok-clause-asks
+returns-in-Ok-clause-asks c =
+    let is : app_of c.in_ok-command.command ≡ commands = search rules in
+    let words = map string_bytes c.args.words.now in
+    let says = of_commands _ words c.in-Ok.matches is c.in-Ok.ensures.kinds c.in-Ok.ensures.matches in
+    c.command_of.ensures.asks words says.0 says.1
+
+pub returns-in-Err-clause-asks : goal.returns-in-Err-clause-asks
+unfolding told_of
+returns-in-Err-clause-asks c =
+    let is : app_of c.in_ok-command.command ≡ commands = search rules in
+    let words = map string_bytes c.args.words.now in
+    c.told.ensures.asks words (subst (λ (a : App). HasKind (fault_of a words) c.in-Err.error) is (c.in-Err.ensures.kinds (ap is_simple_and_free is ∙ is_free)))

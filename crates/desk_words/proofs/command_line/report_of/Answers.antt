@@ -1,0 +1,26 @@
+use Rattle.std.proofs.Common.{rules, ◌≡◌, ◌⊎◌, ◌∙◌, sym, codes, string_bytes, Some, None, inl, inr}
+use Rattle.clap.specs.Matches.{found_of, first_value}
+use Rattle.clap.specs.Walk.{first_of, rows_of}
+use Rattle.clap.proofs.WalkLemmas.{first_value-rows}
+use Rattle.desk_words.proofs.command_line.report_of.Goals as goal
+use Rattle.desk_words.proofs.command_line.report_of.Goals.{in_default-via-in-Some+in_default, in_default-via-in_default}
+
+pub returns-in_ok-from_str-in-Some-Some-2-clause-asks : goal.returns-in_ok-from_str-in-Some-Some-2-clause-asks
+returns-in_ok-from_str-in-Some-Some-2-clause-asks c = λ words names.
+    let found = found_of c.args.found.now in
+    let file : first_value found (codes "db") ≡ Some (string_bytes c.in_ok-from_str-in-Some-Some.field-0) = search rules in
+    let target : first_value found (codes "get") ≡ Some (string_bytes c.in_ok-from_str-in-Some-Some-2.field-0) = search rules in
+    (rows_of found, names, sym (first_value-rows found (codes "db")) ∙ file, sym (first_value-rows found (codes "get")) ∙ target)
+
+pub returns-in_ok-no_file-in_default-clause-asks : goal.returns-in_ok-no_file-in_default-clause-asks
+returns-in_ok-no_file-in_default-clause-asks c = λ words names.
+    let found = found_of c.args.found.now in
+    let missing : (first_of (codes "db") (rows_of found) ≡ None) ⊎ (first_of (codes "get") (rows_of found) ≡ None) = elim c.in_default.branch [
+      | in_default-via-in-Some+in_default w ↦
+          let none : first_value found (codes "get") ≡ None = search rules in
+          inr (sym (first_value-rows found (codes "get")) ∙ none)
+      | in_default-via-in_default w ↦
+          let none : first_value found (codes "db") ≡ None = search rules in
+          inl (sym (first_value-rows found (codes "db")) ∙ none)
+    ] in
+    inr (rows_of found, inr (inr (inl (names, missing))))

@@ -1,0 +1,22 @@
+use Rattle.std.proofs.Common.{rules, ◌≡◌, ◌∙◌, sym, codes, string_bytes, Some, None, inl, inr}
+use Rattle.clap.specs.Matches.{found_of, first_value}
+use Rattle.clap.specs.Walk.{first_of, rows_of}
+use Rattle.clap.proofs.WalkLemmas.{first_value-rows}
+use Rattle.desk_words.specs.declared.command_line.TheConstants.{MOST_PORT, MOST_CONNECTIONS}
+use Rattle.desk_words.specs.CommandLine.{GoesUpTo, Shows}
+use Rattle.desk_words.proofs.command_line.serve_of.Goals as goal
+
+pub returns-in_ok-from_str-in-Some-get_str-clause-asks : goal.returns-in_ok-from_str-in-Some-get_str-clause-asks
+returns-in_ok-from_str-in-Some-get_str-clause-asks c = λ words names.
+    let found = found_of c.args.found.now in
+    let file : first_value found (codes "db") ≡ Some (string_bytes c.in_ok-from_str-in-Some-get_str.field-0) = search rules in
+    let port : Shows MOST_PORT (first_of (codes "port") (rows_of found)) c.in-Some.port = search rules in
+    let connections : Shows MOST_CONNECTIONS (first_of (codes "connections") (rows_of found)) c.in-Some-number_in.connections = search rules in
+    let up : GoesUpTo (first_of (codes "greatest") (rows_of found)) c.in-Some-greatest_in.greatest = search rules in
+    (rows_of found, names, sym (first_value-rows found (codes "db")) ∙ file, port, connections, up)
+
+pub returns-in_ok-no_file-in-None-clause-asks : goal.returns-in_ok-no_file-in-None-clause-asks
+returns-in_ok-no_file-in-None-clause-asks c = λ words names.
+    let found = found_of c.args.found.now in
+    let none : first_value found (codes "db") ≡ None = search rules in
+    inr (rows_of found, inr (inl (names, inr (inr (inr (sym (first_value-rows found (codes "db")) ∙ none))))))

@@ -1,0 +1,9 @@
+//! The words of the program's command line: what they ask for, by `clap`'s statement of its grammar.
+//!
+//! `specs/CommandLine.antt` is the page that has the grammar, and what words ask for by it. Nothing is
+//! opened or read here but the words.
+#![tactic(auto)]
+
+mod command_line;
+
+pub use command_line::{Asked, MOST_CONNECTIONS, MOST_PORT, read_words};

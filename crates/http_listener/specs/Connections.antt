@@ -1,0 +1,79 @@
+-- What connections leave that are served one after the other, and what is told of them.
+use Rattle.std.specs.Prelude.{◌≡◌, ◌⊎◌, ◌<◌, ◌≤◌, ℕ, ◌+◌, nat_lt, Bool, true, List, [], ◌∷◌, ◌++◌, length, Option, None, Result, Ok, Err, codes, decimal, if◌then◌else◌}
+use Rattle.std.specs.List.{list_any}
+use Rattle.std.specs.Io.KnownBytes.{Appends}
+use Rattle.desk_types.specs.History.{History}
+use Rattle.served.specs.Sent.{SendsFront}
+use Rattle.served.specs.declared.serving.Served.{Served}
+use Rattle.served.specs.declared.serving.ServeFault.{ServeFault}
+use Rattle.served.specs.declared.serving.ServeFault.TheVariants.{Read, Write, TooManyReads}
+use Rattle.http_stream.specs.Stream.{Rule, AnsweredAll, AnsweredFront, AnsweredInto}
+
+-- how a connection ended: how much was answered, and the fault where there was one
+abbrev pub Ended : Type 0
+Ended = Result Served ServeFault
+
+-- ---- the list
+
+-- what a connection was answered by the list before it, and the list after it; which bytes its client sent and got, no socket says
+abbrev pub Connected : Rule → History → Ended → History → Type 0
+Connected rule H (Ok served) H' = AnsweredAll rule None H None H' None served
+Connected rule H (Err (Read served)) H' = AnsweredFront rule None H None H' None served
+Connected rule H (Err (TooManyReads served)) H' = AnsweredFront rule None H None H' None served
+Connected rule H (Err (Write served)) H' = AnsweredInto rule None H None H' None served
+
+-- each connection was answered by the list that the one before it left
+abbrev pub ConnectedEach : Rule → History → List Ended → History → Type 0
+ConnectedEach rule H [] H' = H' ≡ H
+ConnectedEach rule H (ended ∷ ends) H' = (H₁ : History) × Connected rule H ended H₁ × ConnectedEach rule H₁ ends H'
+
+-- ---- the lines
+
+abbrev pub served_of : Ended → Served
+served_of (Ok served) = served
+served_of (Err (Read served)) = served
+served_of (Err (Write served)) = served
+served_of (Err (TooManyReads served)) = served
+
+-- the word of the fault after a space, where there was one, and the end of the line
+abbrev pub fault_word : Ended → List ℕ
+fault_word (Ok served) = codes "\n"
+fault_word (Err (Read served)) = codes " Read\n"
+fault_word (Err (Write served)) = codes " Write\n"
+fault_word (Err (TooManyReads served)) = codes " TooManyReads\n"
+
+-- the line of a connection: its number, how many requests were answered, and the word of its fault
+abbrev pub connection_line : ℕ → Ended → List ℕ
+connection_line number ended = decimal number ++ codes " " ++ decimal (served_of ended).answered ++ fault_word ended
+
+-- the lines of connections of which the first has this number
+abbrev pub lines_from : ℕ → List Ended → List ℕ
+lines_from number [] = []
+lines_from number (ended ∷ ends) = connection_line number ended ++ lines_from (number + 1) ends
+
+-- ---- the exit status
+
+-- a request was refused, or a fault ended the connection
+abbrev pub is_faulty : Ended → Bool
+is_faulty (Ok served) = nat_lt 0 served.refused
+is_faulty (Err fault) = true
+
+-- all were served, and each has its line: the status is 0, or 1 where one of them was faulty
+abbrev pub TellsAll : ℕ → List Ended → ℕ → Option (List ℕ) → Option (List ℕ) → ℕ → ℕ → Type 0
+TellsAll connections ends status out out' failures failures' = (length ends ≡ connections) × (status ≡ (if list_any is_faulty ends then 1 else 0))
+    × Appends out out' (lines_from 1 ends) × (failures' ≡ failures)
+
+-- no further one could be accepted: those before it have their lines
+abbrev pub TellsSome : ℕ → List Ended → ℕ → Option (List ℕ) → Option (List ℕ) → ℕ → ℕ → Type 0
+TellsSome connections ends status out out' failures failures' = (length ends < connections) × (status ≡ 4)
+    × Appends out out' (lines_from 1 ends) × (failures' ≡ failures)
+
+-- a line could not be written, which the writer's count shows: the first bytes of the lines went out
+abbrev pub TellsFront : ℕ → List Ended → ℕ → Option (List ℕ) → Option (List ℕ) → ℕ → ℕ → Type 0
+TellsFront connections ends status out out' failures failures' = (length ends ≤ connections) × (status ≡ 4)
+    × SendsFront out out' (lines_from 1 ends) × (failures' ≡ failures + 1)
+
+-- the lines and the exit status of connections that ended so
+abbrev pub Tells : ℕ → List Ended → ℕ → Option (List ℕ) → Option (List ℕ) → ℕ → ℕ → Type 0
+Tells connections ends status out out' failures failures' = TellsAll connections ends status out out' failures failures'
+    ⊎ TellsSome connections ends status out out' failures failures' ⊎ TellsFront connections ends status out out' failures failures'

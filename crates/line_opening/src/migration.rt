@@ -1,0 +1,49 @@
+//! A file of version 1 made one of version 2.
+
+ghost use Rattle.std.specs.Prelude.{◌≡◌, ◌≢◌, ℕ, false, IsTrue, IfOk, IfErr, Err};
+ghost use Rattle.sqlite.specs.State.{HasCleanDisk, KeepsCommit, Survives};
+ghost use Rattle.sqlite.specs.Held.{state};
+ghost use Rattle.desk_types.specs.declared.rules.Rules.TheVariants.{One};
+ghost use Rattle.desk_types.specs.History.{History};
+ghost use Rattle.line_tables.specs.Calls.{LeavesMigrated};
+ghost use Rattle.line_opening.specs.declared.fault.OpenFault.TheVariants as Fault;
+ghost use Rattle.line_opening.specs.Opening.{IsFaultBy, IsNamedBy, IsToldBy};
+ghost use Rattle.line_opening.specs.Versions.{IsMigrated};
+
+use crate::fault::OpenFault;
+use crate::opening::{Opened, read_tables};
+use desk_types::{Desk, Rules};
+use line_tables::migrate_tables;
+use sqlite::{Alter, Connection};
+use std::alloc::Global;
+
+/// Makes the tables of version 1 those of version 2, and answers how many commands are accepted.
+/// Each of these is judged again first, by rules One, and the other tables are compared with the
+/// list's. No row but that of `version` changes, and a table for what counts find is added. After
+/// a fault the tables are as before; where it was a commit that failed, a crash may leave version
+/// 2 all the same. In an open transaction of the caller's it is Unavailable.
+pub fn migrate<S: Alter, D: Desk + Drop>(
+    alloc: Global,
+    conn: &mut Connection<S>,
+) -> Result<u32, OpenFault>
+    ensures migrated { HasCleanDisk (state S.Store conn.new) → IfOk result (λ count. (greatest : ℕ) × (H : History) × IsMigrated (state S.Store conn.old) (state S.Store conn.new) greatest H count) }
+    ensures named { IfOk result (λ _. IsNamedBy One (state S.Store conn.old)) }
+    ensures fault { HasCleanDisk (state S.Store conn.new) → IfErr result (IsFaultBy One (state S.Store conn.old)) }
+    ensures told { IfErr result (IsToldBy One (state S.Store conn.old)) }
+    ensures never { IfErr result (λ f. f ≢ Fault.NotBlank) }
+    ensures unchanged { HasCleanDisk (state S.Store conn.new) → IfErr result (λ _. KeepsCommit (state S.Store conn.old) (state S.Store conn.new)) }
+    ensures crash { Survives (state S.Store conn.old) (state S.Store conn.new) (LeavesMigrated (state S.Store conn.old)) }
+    ensures inside { IsTrue conn.old.in_transaction → (result ≡ Err Fault.Unavailable) × (conn.new ≡ conn.old) }
+    ensures mode { conn.old.in_transaction ≡ false → conn.new.in_transaction ≡ false }
+{
+    if !conn.is_autocommit() {
+        return Err(OpenFault::Unavailable);
+    }
+    let Opened {
+        desk: _desk,
+        count,
+        greatest: _greatest,
+    } = read_tables::<S, D>(alloc, conn, Rules::One)?;
+    migrate_tables(conn)?;
+    Ok(count)
+}
