@@ -365,3 +365,15 @@ int accept4(int file, struct sockaddr *restrict from, socklen_t *restrict length
     return connection;
 }
 int accept(int file, struct sockaddr *restrict from, socklen_t *restrict length) { return accept4(file, from, length, 0); }
+int socket(int family, int kind, int protocol) {
+    ASKED(1);
+    return syscall(SYS_socket, family, kind, protocol);
+}
+int bind(int file, const struct sockaddr *to, socklen_t length) {
+    ASKED(1);
+    return syscall(SYS_bind, file, to, length);
+}
+int listen(int file, int waiting) {
+    ASKED(1);
+    return syscall(SYS_listen, file, waiting);
+}

@@ -1,6 +1,6 @@
 """Takes the examples out of docs/files.md: a file, the command that imports it, and the answer.
 
-It also looks that the commands are those of this row, and that the page names each fault that some row shows.
+It also looks that the commands are those of this row, and that the page names each fault that some row of imports shows.
 """
 import json
 import pathlib
@@ -17,6 +17,7 @@ for number, run in enumerate(runs):
     assert command == " ".join(["tracedesk", *run["run"]]) + "\n", f"the page has another command: {command}"
     pathlib.Path(run["files"][0]).write_text(text, encoding="utf-8")
     pathlib.Path(run["output"]).write_text(answer, encoding="utf-8")
-shown = {name for row in HERE.parent.glob("*/row.json") for name in re.findall(r'"Fault": "(\w+)"', row.read_text(encoding="utf-8"))}
+rows = [row.read_text(encoding="utf-8") for row in HERE.parent.glob("*/row.json")]
+shown = {name for row in rows if '"import-' in row and '"serve"' not in row for name in re.findall(r'"Fault": "(\w+)"', row)}
 unnamed = [name for name in sorted(shown) if f"| `{name}` |" not in page]
 assert not unnamed, f"the page does not name {', '.join(unnamed)}"
