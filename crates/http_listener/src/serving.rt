@@ -51,7 +51,8 @@ pub fn serve_listener<A: Handler, W: Write>(
     u8::from(faulty)
 }
 
-/// Serves one connection.
+/// Serves one connection. What is written goes out at once: an answer is a head and then a body, and
+/// the second would else wait for the client to tell of the first.
 fn serve_stream<A: Handler>(
     alloc: Global,
     stream: &TcpStream,
@@ -62,6 +63,7 @@ fn serve_stream<A: Handler>(
     ensures trusts { A.Trusts handler.new → A.Trusts handler.old }
     ensures served { ForLists A.Stands A.Trusts handler.old handler.new (λ G H. Connected (A.rule G.rules G.greatest) G.history result H) }
 {
+    let _ = stream.set_nodelay(true);
     serve(
         alloc,
         &mut Wire::new(stream),
