@@ -1,5 +1,5 @@
 -- A run on a desk in a file.
-use Rattle.std.proofs.Common.{◌≡◌, ◌⊎◌, ℕ, true, Option, Some, None, length, refl, subst, sym, inl, inr, arith}
+use Rattle.std.proofs.Common.{◌≡◌, ◌≢◌, ◌⊎◌, ℕ, List, true, Option, Some, None, length, refl, subst, sym, inl, inr, arith}
 use Rattle.sqlite_disk.specs.declared.Disk as disk
 use Rattle.sqlite_disk.specs.declared.start.Start as start
 use Rattle.sqlite_wal.specs.Files.{image_at}
@@ -11,6 +11,8 @@ use Rattle.desk_types.specs.History.{History}
 use Rattle.desk_answers.specs.Ledger.{Ledger}
 use Rattle.feeder_state.specs.declared.desk.StateDesk.{StateDesk}
 use Rattle.feeder_state.specs.contracts.desk.StateDeskDesk.TheImpl.{ghosts as state}
+use Rattle.line_opening.specs.declared.fault.OpenFault.{OpenFault}
+use Rattle.line_opening.specs.declared.fault.OpenFault.TheVariants.{NotBlank, Unavailable}
 use Rattle.line_schema.specs.declared.store.LineStore.{LineStore}
 use Rattle.line_schema.specs.Stands.{Kept, Stands, state_of}
 use Rattle.desk_file.specs.Files.{Begins, HasLineAlone}
@@ -19,7 +21,7 @@ use Rattle.desk_runs.specs.Runs.{StaysSame}
 use Rattle.http_answers.specs.declared.gateway.Gateway.{Gateway}
 use Rattle.gateway_http.specs.declared.store.ReportedStore.{ReportedStore}
 use Rattle.gateway_http.specs.Stores.{store_in}
-use Rattle.desk_commands.specs.Runs.{Audits, RunsOn}
+use Rattle.desk_commands.specs.Runs.{Audits, RunsOn, refusal_line}
 
 -- the store of a file stands for the list by rules Two, its tables being its own
 abbrev pub IsKept : {D : Type 0} {g : disk.Ghosts D} → LineStore (FileStore D g) StateDesk → Ledger → Type 0
@@ -74,6 +76,16 @@ runs_behind first make store last old new Fact before after trusts begins goes =
     let begun = subst (λ (d : LineStore (FileStore _ _) StateDesk). HasCleanDisk (state_of over_files d) → HasLineAlone (image_at first) → (greatest : ℕ) × (H : History) × Begins (image_at first) make greatest H
     × Stands over_files state.Stands state.kept_rules d (record { greatest = greatest; history = H; own = true })) (sym before) begins in
     subst (λ (d : LineStore (FileStore _ _) StateDesk). RunsOn first make (Some d) Fact) (sym after) (runs_on first make (store_in old) (store_in new) Fact trusts begun goes)
+
+-- Unavailable was told
+pub told_unavailable : (Told : List ℕ → Type 0) → Told (refusal_line Unavailable) → (told : OpenFault) × (told ≢ NotBlank) × Told (refusal_line told)
+told_unavailable Told is = (Unavailable, λ same. absurd (cc), is)
+
+-- the fault was told, or Unavailable in its place
+pub told_refused : (Told : List ℕ → Type 0) (fault : OpenFault) → fault ≢ NotBlank → Told (refusal_line fault) ⊎ Told (refusal_line Unavailable)
+    → (told : OpenFault) × (told ≢ NotBlank) × Told (refusal_line told)
+told_refused Told fault apart (inl is) = (fault, apart, is)
+told_refused Told fault apart (inr is) = told_unavailable Told is
 
 -- an exit status of an open desk is not that of a refused one
 pub never_refused : {A : Type 0} (status : ℕ) → (status ≡ 0) ⊎ (status ≡ 1) ⊎ (status ≡ 4) → status ≡ 3 → A

@@ -17,7 +17,7 @@ use Rattle.line_opening.specs.declared.fault.OpenFault.{OpenFault}
 use Rattle.line_schema.specs.declared.store.LineStore.{LineStore}
 use Rattle.line_schema.specs.Opening.{fault_text}
 use Rattle.line_schema.specs.Stands.{Kept, Stands, state_of}
-use Rattle.desk_file.specs.Files.{Begins, HasFirstAlone, HasLineAlone, MigratedFrom}
+use Rattle.desk_file.specs.Files.{Begins, HasLineAlone, MigratedFrom}
 use Rattle.http_answers.specs.Requests.{request_rule}
 use Rattle.http_listener.specs.Connections.{ConnectedEach, Ended}
 use Rattle.gateway_http.specs.Reports.{report_of}
@@ -26,7 +26,7 @@ use Rattle.gateway_http.specs.Reports.{report_of}
 abbrev pub fresh : ℕ → Ledger
 fresh greatest = record { rules = Two; greatest = greatest; history = [] }
 
--- What holds of the list with which a run on the files begins, where the disk told the truth and no other table was beside the desk's: that list is lawful, and the desk stands for a list that the fact tells.
+-- What holds of the list with which a run on a file begins, where the disk told the truth and no other table was beside the desk's, of version 1 or of version 2: that list is lawful, and the desk stands for a list that the fact tells. A run begins with tables of version 2 or with none, so a file of version 1 is not answered from.
 abbrev pub RunsOn : {T D : Type 0} {g : disk.Ghosts D} → start.Ghosts T → Option ℕ → Option (LineStore (FileStore D g) StateDesk) → (Ledger → History → Type 0) → Type 0
 RunsOn first make desk Fact = IsSomeAnd desk (λ d. HasCleanDisk (state_of over_files d) → HasLineAlone (image_at first)
     → (greatest : ℕ) × (H : History) × Begins (image_at first) make greatest H × IsLawful Two greatest H
@@ -38,9 +38,9 @@ abbrev pub Audits : {T D : Type 0} {g : disk.Ghosts D} → start.Ghosts T → Op
 Audits first desk count = IsSomeAnd desk (λ d. (L : Kept) × Stands over_files state.Stands state.kept_rules d L × (count ≡ length L.history))
     × RunsOn first None desk (λ G H. (H ≡ G.history) × (count ≡ length H))
 
--- A file was migrated: where its disk told the truth and no other table was beside the desk's, its connection holds by version 2 the tables with which the run began by version 1.
+-- A file was migrated: where its disk told the truth and no other table was beside the desk's, the files held the tables of a list by version 1, and its connection holds them by version 2, which a crash leaves alone.
 abbrev pub Migrates : {T D : Type 0} {g : disk.Ghosts D} → start.Ghosts T → Option (Held (FileStore D g)) → Type 0
-Migrates first file = IsSomeAnd file (λ conn. HasCleanDisk (file_state conn) → HasFirstAlone (image_at first) → MigratedFrom (image_at first) conn)
+Migrates first file = IsSomeAnd file (λ conn. HasCleanDisk (file_state conn) → HasLineAlone (image_at first) → MigratedFrom (image_at first) conn)
 
 -- Connections that ended so were answered by the list, each by the one that the connection before it left.
 abbrev pub ServesEach : List Ended → Ledger → History → Type 0

@@ -1,12 +1,12 @@
 //! Messages and files, answered by a desk in memory or in a file.
 
-ghost use Rattle.std.specs.Prelude.{◌≡◌, ◌⊎◌, ◌+◌, ◌^◌, ◌<◌, ◌≤◌, true, false, None, Some};
+ghost use Rattle.std.specs.Prelude.{◌≡◌, ◌≢◌, ◌⊎◌, ◌+◌, ◌^◌, ◌<◌, ◌≤◌, true, false, None, Some};
 ghost use Rattle.std.specs.Io.KnownBytes.{IsAtEnd};
 ghost use Rattle.desk_types.specs.declared.desk.TheConstants.{MOST_ENTRIES};
 ghost use Rattle.desk_types.specs.History.{History};
 ghost use Rattle.desk_types.specs.Wire.{inner_of, reads_of, failures_of};
 ghost use Rattle.line_opening.specs.declared.fault.OpenFault.{OpenFault};
-ghost use Rattle.line_opening.specs.declared.fault.OpenFault.TheVariants.{Unavailable};
+ghost use Rattle.line_opening.specs.declared.fault.OpenFault.TheVariants.{NotBlank, Unavailable};
 ghost use Rattle.served.specs.declared.serving.Served.{Served};
 ghost use Rattle.served.specs.declared.serving.ServeFault.{ServeFault};
 ghost use Rattle.served.specs.declared.serving.ServeFault.TheVariants.{Read as ReadFault, Write as WriteFault};
@@ -121,7 +121,7 @@ pub fn import_in_file<T: Start, F: Folder, W: Write, E: Write>(
     ensures status { (result.0 ≡ 0) ⊎ (result.0 ≡ 1) ⊎ (result.0 ≡ 3) ⊎ (result.0 ≡ 4) }
     ensures done { result.0 ≡ 0 → RunsOn T.Start None result.1 (AnswersImport W.contents output.old output.new false import.now (F.holds folder.now from.now)) }
     ensures refused { result.0 ≡ 1 → RunsOn T.Start None result.1 (AnswersImport W.contents output.old output.new true import.now (F.holds folder.now from.now)) }
-    ensures no_desk { result.0 ≡ 3 → (told : OpenFault) × TellsLine E.contents errors.old errors.new (refusal_line told) }
+    ensures no_desk { result.0 ≡ 3 → (told : OpenFault) × (told ≢ NotBlank) × TellsLine E.contents errors.old errors.new (refusal_line told) }
     ensures untouched { result.0 ≡ 3 → output.new ≡ output.old }
     ensures left { result.0 ≡ 3 → (result.1 ≡ None) ⊎ RunsOn T.Start None result.1 StaysSame }
     ensures failed { result.0 ≡ 4

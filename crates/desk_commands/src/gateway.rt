@@ -5,6 +5,7 @@ ghost use Rattle.std.specs.Io.KnownBytes.{Appends};
 ghost use Rattle.desk_types.specs.declared.desk.TheConstants.{MOST_ENTRIES};
 ghost use Rattle.desk_types.specs.Wire.{inner_of, failures_of};
 ghost use Rattle.line_opening.specs.declared.fault.OpenFault.{OpenFault};
+ghost use Rattle.line_opening.specs.declared.fault.OpenFault.TheVariants.{NotBlank};
 ghost use Rattle.served.specs.declared.serving.ServeFault.TheVariants.{Write as WriteFault};
 ghost use Rattle.served.specs.Counts.{none_served};
 ghost use Rattle.served.specs.Sent.{SendsFront};
@@ -82,7 +83,7 @@ pub fn report_in_file<T: Start, W: Write, E: Write>(
         × RunsOn T.Start None result.1 (TellsReport report_of target.now answer) }
     ensures refused { result.0 ≡ 1 → (answer : Told) × (code_of answer.status ≢ 200) × Appends (W.contents (inner_of output.old)) (W.contents (inner_of output.new)) (printed answer)
         × RunsOn T.Start None result.1 (TellsReport report_of target.now answer) }
-    ensures no_desk { result.0 ≡ 3 → (told : OpenFault) × TellsLine E.contents errors.old errors.new (refusal_line told) }
+    ensures no_desk { result.0 ≡ 3 → (told : OpenFault) × (told ≢ NotBlank) × TellsLine E.contents errors.old errors.new (refusal_line told) }
     ensures untouched { result.0 ≡ 3 → output.new ≡ output.old }
     ensures left { result.0 ≡ 3 → result.1 ≡ None }
     ensures failed { result.0 ≡ 4 → (failures_of output.new ≡ failures_of output.old + 1) × TellsLine E.contents errors.old errors.new (fault_line (WriteFault none_served))

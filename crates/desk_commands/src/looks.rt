@@ -1,10 +1,10 @@
 //! A desk in a file, audited or migrated.
 
-ghost use Rattle.std.specs.Prelude.{◌≡◌, ◌⊎◌, ◌+◌, ◌^◌, ◌<◌, None, ℕ};
+ghost use Rattle.std.specs.Prelude.{◌≡◌, ◌≢◌, ◌⊎◌, ◌+◌, ◌^◌, ◌<◌, None, ℕ};
 ghost use Rattle.std.specs.Io.KnownBytes.{Appends};
 ghost use Rattle.desk_types.specs.Wire.{inner_of, failures_of};
 ghost use Rattle.line_opening.specs.declared.fault.OpenFault.{OpenFault};
-ghost use Rattle.line_opening.specs.declared.fault.OpenFault.TheVariants.{Unavailable};
+ghost use Rattle.line_opening.specs.declared.fault.OpenFault.TheVariants.{NotBlank, Unavailable};
 ghost use Rattle.served.specs.declared.serving.ServeFault.TheVariants.{Write as WriteFault};
 ghost use Rattle.served.specs.Counts.{none_served};
 ghost use Rattle.served.specs.Sent.{SendsFront};
@@ -34,7 +34,7 @@ pub fn audit_file<T: Start, W: Write, E: Write>(
     ensures status { (result.0 ≡ 0) ⊎ (result.0 ≡ 3) ⊎ (result.0 ≡ 4) }
     ensures done { result.0 ≡ 0 → (count : ℕ) × Appends (W.contents (inner_of output.old)) (W.contents (inner_of output.new)) (lawful_line count)
         × Audits T.Start result.1 count }
-    ensures no_desk { result.0 ≡ 3 → (told : OpenFault) × TellsLine E.contents errors.old errors.new (refusal_line told) }
+    ensures no_desk { result.0 ≡ 3 → (told : OpenFault) × (told ≢ NotBlank) × TellsLine E.contents errors.old errors.new (refusal_line told) }
     ensures untouched { result.0 ≡ 3 → output.new ≡ output.old }
     ensures left { result.0 ≡ 3 → (result.1 ≡ None) ⊎ RunsOn T.Start None result.1 StaysSame }
     ensures failed { result.0 ≡ 4 → (failures_of output.new ≡ failures_of output.old + 1) × TellsLine E.contents errors.old errors.new (fault_line (WriteFault none_served))
@@ -64,7 +64,7 @@ pub fn migrate_file<T: Start, W: Write, E: Write>(
     requires error_failures { failures_of errors.old < 2 ^ 63 }
     ensures status { (result.0 ≡ 0) ⊎ (result.0 ≡ 3) ⊎ (result.0 ≡ 4) }
     ensures done { result.0 ≡ 0 → Appends (W.contents (inner_of output.old)) (W.contents (inner_of output.new)) version_line × Migrates T.Start result.1 }
-    ensures no_desk { result.0 ≡ 3 → (told : OpenFault) × TellsLine E.contents errors.old errors.new (refusal_line told) }
+    ensures no_desk { result.0 ≡ 3 → (told : OpenFault) × (told ≢ NotBlank) × TellsLine E.contents errors.old errors.new (refusal_line told) }
     ensures untouched { result.0 ≡ 3 → output.new ≡ output.old }
     ensures left { result.0 ≡ 3 → result.1 ≡ None }
     ensures failed { result.0 ≡ 4 → (failures_of output.new ≡ failures_of output.old + 1) × TellsLine E.contents errors.old errors.new (fault_line (WriteFault none_served))

@@ -7,63 +7,79 @@ use Rattle.std.proofs.lemmas.List.Sorted.{IsPermutation-sym, IsPermutation-trans
 use Rattle.sqlite_wal.specs.Recovery.{Image}
 use Rattle.sqlite_trees.specs.Props.{Trees-set}
 use Rattle.sqlite_trees.specs.Tree.{Trees}
+use Rattle.sqlite_schema.specs.Names.{same_name}
 use Rattle.sqlite_schema.specs.declared.schema.Schema.{Schema}
 use Rattle.sqlite.specs.Effect.{Database, IsDatabase}
 use Rattle.sqlite.specs.Files.{HoldsDatabase}
 use Rattle.sqlite.specs.Start.{FindsIn}
 use Rattle.sqlite.specs.State.{State, Opens, IsLive}
+use Rattle.desk_types.specs.declared.rules.Rules.{Rules}
 use Rattle.desk_types.specs.declared.rules.Rules.TheVariants.{One, Two}
 use Rattle.desk_types.specs.History.{History}
 use Rattle.desk_types.specs.Judged.{IsJudged}
 use Rattle.line_tables.specs.Calls.{Reads}
-use Rattle.line_tables.specs.Line.{IsOurs, is_blank, is_ours, line_schema, no_schema}
+use Rattle.line_tables.specs.Line.{is_blank, is_ours, no_schema, schema_of}
 use Rattle.line_tables.specs.Names.{has_name, is_version}
 use Rattle.line_tables.specs.Rows.{Tables, Holds, HoldsAt}
 use Rattle.line_tables.proofs.Holding.{held_at}
-use Rattle.line_tables.proofs.Ours.{is_blank_of, is_ours_of, ours_named}
+use Rattle.line_tables.proofs.Ours.{is_blank_of, is_ours_of}
 use Rattle.line_rows.specs.Rows.{rows_of, tables_of}
-use Rattle.line_schema.specs.Opening.{IsNamed}
+use Rattle.line_schema.specs.Opening.{IsNamed, IsNamedBy}
 use Rattle.line_schema.specs.Versions.{IsMigrated}
-use Rattle.desk_file.specs.Files.{IsFoundIn, IsOfOne, HasFirstAlone, HasLineAlone, HasTables, HasNoTable, Begins}
+use Rattle.desk_file.specs.Files.{IsFoundIn, IsOfOne, HasLineAlone, HasTables, HasNoTable, FindsNoTable, Begins}
+
+-- the tables of each version have our names
+named_by : (rules : Rules) → list_any has_name (schema_of rules).tables ≡ true
+unfolding same_name
+named_by rules = refl
 
 module _ (image : Image) (s : State) (finds : FindsIn image s) (opens : Opens s) (live : IsLive s) where
   -- what is committed is what the files hold
   found : IsFoundIn image s.committed
   found = record { sound = (live opens.is_open).1; reads = finds.reads; same = finds.holds }
 
+  -- files with the tables of a line have some table
+  not_bare : (rules : Rules) → IsNamedBy rules s → s.committed.schema ≡ no_schema → ⊥
+  not_bare rules named none = true≢false (sym named.0 ∙ ap (λ (x : Schema). list_any is_version x.tables) (ap (λ (db : Database). db.schema) opens.clean ∙ none))
+
   -- a new desk, in files with none of its tables
   pub made_begins : (greatest : ℕ) → list_any has_name s.now.schema.tables ≡ false → HasLineAlone image → Begins image (Some greatest) greatest [] × (is_blank s.now.schema ≡ true)
   made_begins greatest nameless alone =
       let seen : s.now.schema ≡ s.committed.schema = ap (λ (db : Database). db.schema) opens.clean in
       elim (alone s.committed found) [
-        | inl ours ↦ absurd (true≢false (sym ours_named ∙ ap (λ (x : Schema). list_any has_name x.tables) (sym (seen ∙ ours)) ∙ nameless))
+        | inl ours ↦ absurd (true≢false (sym (named_by ours.0) ∙ ap (λ (x : Schema). list_any has_name x.tables) (sym (seen ∙ ours.1)) ∙ nameless))
         | inr none ↦ (inr ((s.committed, found, none), refl, refl), is_blank_of s.now.schema (seen ∙ none))
       ]
+
+  -- what was made is alone, in files with no table
+  pub no_table : FindsNoTable image → is_blank s.now.schema ≡ true
+  no_table none = is_blank_of s.now.schema (ap (λ (db : Database). db.schema) opens.clean ∙ none s.committed found)
 
   -- the desk that was read
   pub opened_begins : (make : Option ℕ) (greatest : ℕ) (H : History) → IsNamed s → Reads s (λ db. Holds db (tables_of greatest H)) → HasLineAlone image
       → Begins image make greatest H × (is_ours s.committed.schema ≡ true)
   opened_begins make greatest H named reads alone =
-      let seen : s.now.schema ≡ s.committed.schema = ap (λ (db : Database). db.schema) opens.clean in
       elim (alone s.committed found) [
-        | inl ours ↦ (inl (s.committed, found, reads.are (Two, ours)), is_ours_of s.committed.schema ours)
-        | inr none ↦ absurd (true≢false (sym named.0 ∙ ap (λ (x : Schema). list_any is_version x.tables) (seen ∙ none)))
+        | inl ours ↦ (inl (s.committed, found, reads.are ours), is_ours_of s.committed.schema (reads.are ours).schema)
+        | inr none ↦ absurd (not_bare Two named none)
       ]
 
   -- the desk of version 1 that was migrated
-  pub migrates : (new : State) (greatest : ℕ) (H : History) (n : ℕ) → IsMigrated s new greatest H n → HasFirstAlone image
-      → IsOfOne image greatest H × Holds new.committed (tables_of greatest H)
-  migrates new greatest H n m alone =
-      let ours : IsOurs s.committed.schema = (One, alone s.committed found) in
-      (record { tables = (s.committed, found, m.before.are ours); by_one = m.by_one ours; by_two = m.by_two ours }, m.after ours)
+  pub migrates : (new : State) (greatest : ℕ) (H : History) (n : ℕ) → IsNamedBy One s → IsMigrated s new greatest H n → HasLineAlone image
+      → IsOfOne image greatest H × Holds new.committed (tables_of greatest H) × ((trees : Trees) → new.may_leave trees → HoldsAt (tables_of greatest H) trees)
+  migrates new greatest H n named m alone =
+      elim (alone s.committed found) [
+        | inl ours ↦ (record { tables = (s.committed, found, m.before.are ours); by_one = m.by_one ours; by_two = m.by_two ours }, m.after ours, λ trees left. m.alone trees left ours)
+        | inr none ↦ absurd (not_bare One named none)
+      ]
 
 module _ (image : Image) (trees : Trees) (t : Tables) (holds : ∥ HoldsDatabase image trees ∥₁) (tables : HoldsAt t trees) where
   -- whatever an open finds has these tables
-  held : (db : Database) → IsFoundIn image db → Holds db t
+  pub held : (db : Database) → IsFoundIn image db → Holds db t
   held db f = held_at t trees tables db f.sound (∥∥₁_elim holds (Trees-set _ _) (f.same trees))
 
   pub line_alone : HasLineAlone image
-  line_alone db f = inl (held db f).schema
+  line_alone db f = inl (Two, (held db f).schema)
 
 -- and a run begins with their list
 pub same_list : (image : Image) (trees : Trees) (greatest : ℕ) (H : History) → ((G H : History) → IsJudged Two G → IsJudged Two H → IsPermutation (rows_of G) (rows_of H) → G ≡ H)
@@ -76,7 +92,12 @@ same_list image trees greatest H tell holds tables judged make next H' (inl has)
     (sym number, tell H' H judged' judged (IsPermutation-trans _ _ _ (IsPermutation-sym _ _ has.2.accepted) was.accepted))
 same_list image trees greatest H tell holds tables judged make next H' (inr (none, made, empty)) judged' =
     let was = held image trees (tables_of greatest H) holds tables none.0 none.1 in
-    absurd (true≢false (sym ours_named ∙ ap (λ (x : Schema). list_any has_name x.tables) (sym was.schema ∙ none.2)))
+    absurd (true≢false (sym (named_by Two) ∙ ap (λ (x : Schema). list_any has_name x.tables) (sym was.schema ∙ none.2)))
+
+-- with no table nothing is read
+pub reads_none : (image : Image) (greatest : ℕ) (H : History) → Begins image None greatest H → FindsNoTable image → ⊥
+reads_none image greatest H (inl has) none = true≢false (sym (named_by Two) ∙ ap (λ (x : Schema). list_any has_name x.tables) (sym has.2.schema ∙ none has.0 has.1))
+reads_none image greatest H (inr (bare, made, empty)) none = absurd (cc)
 
 -- a run that may make no desk begins as one that may
 pub begins_any : (image : Image) (make : Option ℕ) (greatest : ℕ) (H : History) → Begins image None greatest H → Begins image make greatest H

@@ -16,7 +16,7 @@ use Rattle.desk_types.specs.declared.rules.Rules.{Rules}
 use Rattle.desk_types.specs.declared.rules.Rules.TheVariants.{One, Two}
 use Rattle.desk_types.specs.History.{History}
 use Rattle.desk_types.specs.Judged.{IsLawful}
-use Rattle.line_tables.specs.Line.{line_schema, no_schema, schema_of}
+use Rattle.line_tables.specs.Line.{IsOurs, no_schema}
 use Rattle.line_tables.specs.Rows.{Tables, Holds, HoldsAt, HoldsBy}
 use Rattle.line_rows.specs.Rows.{tables_of}
 use Rattle.line_schema.specs.declared.store.LineStore.{LineStore}
@@ -28,11 +28,11 @@ pub record IsFoundIn (image : Image) (db : Database) : Type 0 where
   pub reads : AreFoundIn image db.trees
   pub same : (trees : Trees) → HoldsDatabase image trees → db.trees ≡ trees
 
--- the files hold the tables of a line with none beside them, or no table at all
+-- the files hold the tables of a line, of version 1 or of version 2, with none beside them, or no table at all
 abbrev pub HasLineAlone : Image → Type 0
-HasLineAlone image = (db : Database) → IsFoundIn image db → (db.schema ≡ line_schema) ⊎ (db.schema ≡ no_schema)
+HasLineAlone image = (db : Database) → IsFoundIn image db → IsOurs db.schema ⊎ (db.schema ≡ no_schema)
 
--- the files hold these tables
+-- the files hold these tables, by version 2
 abbrev pub HasTables : Image → Tables → Type 0
 HasTables image tables = (db : Database) × IsFoundIn image db × Holds db tables
 
@@ -40,13 +40,13 @@ HasTables image tables = (db : Database) × IsFoundIn image db × Holds db table
 abbrev pub HasNoTable : Image → Type 0
 HasNoTable image = (db : Database) × IsFoundIn image db × (db.schema ≡ no_schema)
 
--- A run on the files begins with the greatest number and the list whose tables they hold. Where they hold no table, and a desk may be made, it begins with an empty list and the greatest number that is asked for.
+-- whatever an open of the files finds has no table
+abbrev pub FindsNoTable : Image → Type 0
+FindsNoTable image = (db : Database) → IsFoundIn image db → db.schema ≡ no_schema
+
+-- A run on the files begins with the greatest number and the list whose tables they hold by version 2. Where they hold no table, and a desk may be made, it begins with an empty list and the greatest number that is asked for.
 abbrev pub Begins : Image → Option ℕ → ℕ → History → Type 0
 Begins image make greatest H = HasTables image (tables_of greatest H) ⊎ (HasNoTable image × (make ≡ Some greatest) × (H ≡ []))
-
--- the files hold the tables of a line of version 1 with none beside them
-abbrev pub HasFirstAlone : Image → Type 0
-HasFirstAlone image = (db : Database) → IsFoundIn image db → db.schema ≡ schema_of One
 
 -- the files hold the tables of this list by version 1, and it is lawful by the rules of both versions
 pub record IsOfOne (image : Image) (greatest : ℕ) (H : History) : Type 0 where
@@ -54,9 +54,10 @@ pub record IsOfOne (image : Image) (greatest : ℕ) (H : History) : Type 0 where
   pub by_one : IsLawful One greatest H
   pub by_two : IsLawful Two greatest H
 
--- The files held the tables of a list by version 1, which is lawful by the rules of both versions, and the connection holds its tables by version 2.
+-- The files held the tables of a list by version 1, which is lawful by the rules of both versions. The connection holds its tables by version 2, and a crash leaves these alone.
 abbrev pub MigratedFrom : {D : Type 0} {g : disk.Ghosts D} → Image → Held (FileStore D g) → Type 0
 MigratedFrom image conn = (greatest : ℕ) × (H : History) × IsOfOne image greatest H × Holds (file_state conn).committed (tables_of greatest H)
+    × ((trees : Trees) → (file_state conn).may_leave trees → HoldsAt (tables_of greatest H) trees)
 
 -- the two files hold these tables, and so does the database file with no log
 abbrev pub IsWhole : Tables → Image → Type 0

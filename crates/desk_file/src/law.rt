@@ -3,13 +3,14 @@
 ghost use Rattle.std.specs.Prelude.{◌≡◌, ℕ, Option};
 ghost use Rattle.sqlite_wal.specs.Recovery.{Image};
 ghost use Rattle.sqlite_trees.specs.Tree.{Trees};
+ghost use Rattle.sqlite.specs.Effect.{Database};
 ghost use Rattle.sqlite.specs.Files.{HoldsDatabase};
 ghost use Rattle.desk_types.specs.declared.rules.Rules.TheVariants.{Two};
 ghost use Rattle.desk_types.specs.History.{History};
 ghost use Rattle.desk_types.specs.Judged.{IsJudged};
-ghost use Rattle.line_tables.specs.Rows.{HoldsAt};
+ghost use Rattle.line_tables.specs.Rows.{Holds, HoldsAt};
 ghost use Rattle.line_rows.specs.Rows.{tables_of};
-ghost use Rattle.desk_file.specs.Files.{Begins, HasLineAlone};
+ghost use Rattle.desk_file.specs.Files.{Begins, HasLineAlone, IsFoundIn};
 
 use line_rows::rows_tell_lists_apart;
 
@@ -18,6 +19,8 @@ use line_rows::rows_tell_lists_apart;
 /// for proofs, and does nothing when it runs.
 pub fn next_run_goes_on()
     ensures alone { (image : Image) (trees : Trees) (greatest : ℕ) (H : History) → ∥ HoldsDatabase image trees ∥₁ → HoldsAt (tables_of greatest H) trees → HasLineAlone image }
+    ensures held { (image : Image) (trees : Trees) (greatest : ℕ) (H : History) → ∥ HoldsDatabase image trees ∥₁ → HoldsAt (tables_of greatest H) trees
+        → (db : Database) → IsFoundIn image db → Holds db (tables_of greatest H) }
     ensures same { (image : Image) (trees : Trees) (greatest : ℕ) (H : History) → ∥ HoldsDatabase image trees ∥₁ → HoldsAt (tables_of greatest H) trees → IsJudged Two H
         → (make : Option ℕ) (next : ℕ) (H' : History) → Begins image make next H' → IsJudged Two H' → (next ≡ greatest) × (H' ≡ H) }
 {

@@ -7,9 +7,11 @@ ghost use Rattle.sqlite.specs.Files.{file_state, over_files, IsOpened};
 ghost use Rattle.sqlite.specs.Start.{FindsIn};
 ghost use Rattle.desk_types.specs.declared.desk.TheConstants.{MOST_ENTRIES};
 ghost use Rattle.desk_types.specs.History.{History};
+ghost use Rattle.sqlite_trees.specs.Tree.{Trees};
+ghost use Rattle.line_tables.specs.Rows.{HoldsAt, blank};
 ghost use Rattle.line_opening.specs.declared.fault.OpenFault.TheVariants as Fault;
 ghost use Rattle.line_schema.specs.Stands.{Kept, Stands, state_of};
-ghost use Rattle.desk_file.specs.Files.{Begins, Closes, HasFirstAlone, HasLineAlone, KeepsTables, MigratedFrom};
+ghost use Rattle.desk_file.specs.Files.{Begins, Closes, FindsNoTable, HasLineAlone, KeepsTables, MigratedFrom};
 
 use desk_types::Desk;
 use line_schema::{LineStore, OpenFault};
@@ -37,6 +39,7 @@ pub fn open_desk<T: Start, D: Desk + Drop>(
     ensures never { make ≡ None → IfErr result (λ fault. fault ≢ Fault.NotBlank) }
     ensures begins { IfOk result (λ store. HasCleanDisk (state_of over_files store) → HasLineAlone (image_at T.Start)
         → (greatest : _) × (H : History) × Begins (image_at T.Start) make greatest H × Stands over_files D.Stands D.kept_rules store (record { greatest = greatest; history = H; own = true })) }
+    ensures alone { IfOk result (λ store. HasCleanDisk (state_of over_files store) → FindsNoTable (image_at T.Start) → IfSome make (λ greatest. (trees : Trees) → (state_of over_files store).may_leave trees → HoldsAt (blank greatest) trees)) }
 {
     let is_blank = is_blank(rt, path)?;
     match make {
@@ -55,7 +58,7 @@ pub fn migrate_desk<T: Start, D: Desk + Drop>(
     path: &str,
     start: T,
 ) -> Result<DeskFile<T>, OpenFault>
-    ensures migrated { IfOk result (λ conn. HasCleanDisk (file_state conn) → HasFirstAlone (image_at T.Start) → MigratedFrom (image_at T.Start) conn) }
+    ensures migrated { IfOk result (λ conn. HasCleanDisk (file_state conn) → HasLineAlone (image_at T.Start) → MigratedFrom (image_at T.Start) conn) }
     ensures never { IfErr result (λ fault. fault ≢ Fault.NotBlank) }
 {
     if is_blank(rt, path)? {
@@ -122,6 +125,7 @@ fn made<T: Start, D: Desk + Drop>(
     ensures stands { IfOk result (λ store. (L : Kept) × Stands over_files D.Stands D.kept_rules store L) }
     ensures begins { IfOk result (λ store. HasCleanDisk (state_of over_files store) → HasLineAlone (image_at T.Start)
         → Begins (image_at T.Start) (Some greatest) greatest [] × Stands over_files D.Stands D.kept_rules store (record { greatest = greatest; history = []; own = true })) }
+    ensures alone { IfOk result (λ store. HasCleanDisk (state_of over_files store) → FindsNoTable (image_at T.Start) → (trees : Trees) → (state_of over_files store).may_leave trees → HoldsAt (blank greatest) trees) }
 {
     let conn = connect(rt, path, start)?;
     match LineStore::create(rt.alloc(), conn, greatest) {

@@ -36,6 +36,12 @@ pub enum Unread {
 }
 
 impl From<io::Error> for Unread {
+    ghost use Rattle.std.specs.Prelude.{◌≡◌};
+    ghost use Rattle.std.specs.IoError.{error_kind};
+    ghost use Rattle.desk_import.specs.Folder.{unread_by};
+
+    ghost from_gives = { λ error unread. unread ≡ unread_by (error_kind error) };
+
     fn from(error: io::Error) -> Unread {
         if error.kind() == ErrorKind::OutOfMemory {
             Unread::NoMemory

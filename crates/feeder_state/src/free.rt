@@ -1,10 +1,11 @@
 //! The reels that could be loaded for a part.
 
-ghost use Rattle.std.specs.Prelude.{◌≡◌, Some, map, IfOk};
+ghost use Rattle.std.specs.Prelude.{◌≡◌, ◌&&◌, not, nat_lt, Some, map, IfOk};
 ghost use Rattle.std.specs.List.{filter, filter_map};
 ghost use Rattle.std.specs.Option.{option_map};
 ghost use Rattle.desk_types.specs.Id.{Name};
 ghost use Rattle.desk_types.specs.History.{History, now_of};
+ghost use Rattle.desk_types.specs.Pieces.{left_of, is_mounted};
 ghost use Rattle.desk_types.specs.View.{life_left, reel_view};
 ghost use Rattle.desk_types.specs.Free.{reels_received, is_free, by_turn, in_order, free_reels};
 ghost use Rattle.setup_sheets.specs.Alternates.{AreAlternates};
@@ -22,6 +23,14 @@ use entry_search::views::life_left;
 use setup_sheets::{Alternates, allowed};
 use std::alloc::{AllocError, Global};
 use std::collections::BTreeSet;
+
+/// Whether the reel has pieces left and is on no slot. Most reels of a line fail this, and it takes no
+/// look-up.
+fn is_at_rest(held: &Held) -> bool
+    ensures { (H : History) (name : Name) → IsHeld H name held.now → result ≡ (nat_lt 0 (left_of H name) && not (is_mounted H name)) }
+{
+    held.reel.remaining > 0 && !is_live(held)
+}
 
 /// Whether a reel to which this is left could be loaded where a sheet says the part.
 fn is_free(alternates: &Alternates, part: &Id, held: &Held, left: Left) -> bool
@@ -44,6 +53,9 @@ fn turn_of(
     ensures { (H : History) → IsHeld H name.now held.now → now_of H ≡ minute → AreAlternates H alternates.now
         → result ≡ option_map (turn_of H) (if_free H part.now name.now) }
 {
+    if !is_at_rest(held) {
+        return None;
+    }
     let left = life_left(&held.reel, held.reel.not_before(minute));
     if !is_free(alternates, part, held, left) {
         return None;

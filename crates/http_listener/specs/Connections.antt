@@ -68,10 +68,11 @@ abbrev pub TellsSome : ℕ → List Ended → ℕ → Option (List ℕ) → Opti
 TellsSome connections ends status out out' failures failures' = (length ends < connections) × (status ≡ 4)
     × Appends out out' (lines_from 1 ends) × (failures' ≡ failures)
 
--- a line could not be written, which the writer's count shows: the first bytes of the lines went out
+-- a line could not be written, which the writer's count shows: it is the line of the last connection that was served, and only its first bytes went out; those before it have their lines
 abbrev pub TellsFront : ℕ → List Ended → ℕ → Option (List ℕ) → Option (List ℕ) → ℕ → ℕ → Type 0
-TellsFront connections ends status out out' failures failures' = (length ends ≤ connections) × (status ≡ 4)
-    × SendsFront out out' (lines_from 1 ends) × (failures' ≡ failures + 1)
+TellsFront connections ends status out out' failures failures' = (length ends ≤ connections) × (status ≡ 4) × (failures' ≡ failures + 1)
+    × (before : List Ended) × (last : Ended) × (mid : Option (List ℕ)) × (ends ≡ before ++ last ∷ [])
+    × Appends out mid (lines_from 1 before) × SendsFront mid out' (connection_line (length before + 1) last)
 
 -- the lines and the exit status of connections that ended so
 abbrev pub Tells : ℕ → List Ended → ℕ → Option (List ℕ) → Option (List ℕ) → ℕ → ℕ → Type 0

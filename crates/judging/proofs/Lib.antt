@@ -1,4 +1,5 @@
 pub mod Feeds
+pub mod Halves
 pub mod Reels
 pub mod Rejecting
 pub mod Spending

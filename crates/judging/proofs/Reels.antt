@@ -53,6 +53,14 @@ module _ {X : Type 0} (test : X → Bool) (xs : List X) (i : ℕ) where
   pub filter-end : length xs ≤ i → filter test (drop i xs) ≡ []
   filter-end past = ap (filter test) (drop_all i xs past)
 
+  -- nor where there is no element
+  pub filter-gap : slice_get xs i ≡ None → filter test (drop i xs) ≡ []
+  filter-gap none = by (slice_get_cases xs i).1
+    where
+      by : (((x : X) × (i < length xs) × (slice_get xs i ≡ Some x) × (get_or xs i x ≡ x)) ⊎ ((length xs ≤ i) × (slice_get xs i ≡ None))) → filter test (drop i xs) ≡ []
+      by (inl (x, within, some, got)) = let both : Some x ≡ None = sym some ∙ none in cc
+      by (inr (past, gone)) = filter-end past
+
 -- ---- live reels
 
 -- a reel with no pieces left fails the test for them

@@ -10,7 +10,7 @@ use setup_sheets::{Alternates, Parts, Sheet};
 /// `Stands` says for which lists the facts are true, each a judged one. There may be several: each
 /// answer is that of each of them.
 pub trait Facts {
-    ghost use Rattle.std.specs.Prelude.{◌≡◌, nat_lt, IsSome, List, length, slice_get};
+    ghost use Rattle.std.specs.Prelude.{◌≡◌, nat_lt, IsSome, IfSome, List, length, slice_get};
     ghost use Rattle.std.specs.List.{filter};
     ghost use Rattle.std.specs.Option.{option_copied};
     ghost use Rattle.desk_types.specs.declared.rules.Rules.TheVariants.{Two};
@@ -23,6 +23,7 @@ pub trait Facts {
     ghost use Rattle.setup_sheets.specs.Names.{is_among};
     ghost use Rattle.setup_sheets.specs.Alternates.{AreAlternates};
     ghost use Rattle.entry_search.specs.Life.{IsReelOf};
+    ghost use Rattle.judging.specs.Facts.{ArePlacedOn};
 
     /// The lists for which the facts are true.
     ghost Stands: { Self → History → Type 0 };
@@ -108,6 +109,15 @@ pub trait Facts {
     /// The product of the board, where it was ever started.
     fn product_of(&self, board: &Id) -> Option<Id>
         ensures { (H : History) → Stands self.now H → result ≡ product_of H board.now };
+
+    /// The designators that are placed on the board, in order, where the facts keep them so: one who asks
+    /// for many takes them once. None tells nothing.
+    fn placed_on(&self, board: &Id) -> Option<&[Designator]>
+        ensures { (H : History) → Stands self.now H → IfSome result (λ names. ArePlacedOn H board.now names.now) }
+    {
+        let _ = board;
+        None
+    }
 
     /// Whether the designator of the board is placed.
     fn is_placed_on(&self, board: &Id, designator: &Designator) -> bool

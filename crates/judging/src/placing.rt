@@ -13,6 +13,7 @@ ghost use Rattle.desk_types.specs.Refusals.{designators_refusal};
 ghost use Rattle.desk_types.specs.Work.{is_placed_on};
 ghost use Rattle.setup_sheets.specs.Names.{HasSeen};
 ghost use Rattle.judging.specs.declared.placing.Feed.{Feed as Feeding};
+ghost use Rattle.judging.specs.Facts.{ArePlacedOn};
 ghost use Rattle.judging.specs.Placing.{IsPicked, IsPlacing, IsFeeding, IsOnePiece, feed_at, one_less, given, live_behind};
 
 use crate::facts::Facts;
@@ -53,8 +54,8 @@ fn take_in_hand(feeds: &mut BTreeMap<Id, Feed>, slot: &Id) -> Given
     Given::Reel(feed.reel)
 }
 
-/// The first reel of the slot with pieces left, past so many of its reels.
-fn next_reel<F: Facts>(facts: &F, machine: &Id, slot: &Id, past: usize) -> Option<Feed>
+/// The first reel of the slot with pieces left, past so many of its reels: each of the others is asked.
+fn later_reel<F: Facts>(facts: &F, machine: &Id, slot: &Id, past: usize) -> Option<Feed>
     ensures live { (H : History) → F.Stands facts.now H → live_behind (left_of H) (F.reels_on facts.now machine.now slot.now) past
         ≡ option_map_or (λ (feed : Feeding). feed.reel ∷ live_behind (left_of H) (F.reels_on facts.now machine.now slot.now) feed.behind) result [] }
     ensures pieces { (H : History) → F.Stands facts.now H → IfSome result (λ feed. feed.pieces ≡ left_of H feed.reel) }
@@ -74,6 +75,30 @@ fn next_reel<F: Facts>(facts: &F, machine: &Id, slot: &Id, past: usize) -> Optio
         }
     }
     None
+}
+
+/// The first reel of the slot with pieces left, past so many of its reels. Mostly that is the next one, so
+/// the reels are counted only where this one is spent.
+fn next_reel<F: Facts>(facts: &F, machine: &Id, slot: &Id, past: usize) -> Option<Feed>
+    ensures live { (H : History) → F.Stands facts.now H → live_behind (left_of H) (F.reels_on facts.now machine.now slot.now) past
+        ≡ option_map_or (λ (feed : Feeding). feed.reel ∷ live_behind (left_of H) (F.reels_on facts.now machine.now slot.now) feed.behind) result [] }
+    ensures pieces { (H : History) → F.Stands facts.now H → IfSome result (λ feed. feed.pieces ≡ left_of H feed.reel) }
+    ensures some { IfSome result (λ feed. 0 < feed.pieces) }
+{
+    if past == usize::MAX {
+        return later_reel(facts, machine, slot, past);
+    }
+    let reel = facts.reel_at(machine, slot, past)?;
+    let pieces = facts.left(&reel);
+    if pieces == 0 {
+        return later_reel(facts, machine, slot, past);
+    }
+    let behind = past + 1;
+    Some(Feed {
+        reel,
+        pieces,
+        behind,
+    })
 }
 
 /// One piece off the front of a slot's reels, where there is one.
@@ -127,6 +152,22 @@ fn slot_for<F: Facts>(
     }
 }
 
+/// Whether the designator of the board is placed, by the board's designators where there are some.
+fn has_placed<F: Facts>(
+    facts: &F,
+    placed: Option<&[Designator]>,
+    board: &Id,
+    designator: &Designator,
+) -> bool
+    requires { (H : History) → F.Stands facts.now H → IfSome placed (λ names. ArePlacedOn H board.now names.now) }
+    ensures { (H : History) → F.Stands facts.now H → result ≡ is_placed_on H board.now designator.now }
+{
+    match placed {
+        Some(names) => names.binary_search(designator).is_ok(),
+        None => facts.is_placed_on(board, designator),
+    }
+}
+
 /// A piece off a reel on a slot.
 #[derive(Clone, Copy, Debug, PartialEq, Eq)]
 struct Piece {
@@ -138,13 +179,15 @@ struct Piece {
 fn place<F: Facts>(
     facts: &F,
     sheet: Option<&Sheet>,
+    placed: Option<&[Designator]>,
     feeds: &mut BTreeMap<Id, Feed>,
     seen: &mut BTreeSet<Designator>,
     machine: &Id,
     board: &Id,
     designator: &Designator,
 ) -> Result<Result<Piece, Refusal>, AllocError>
-    requires { (H : History) → F.Stands facts.now H → IsSome sheet → option_copied sheet ≡ sheet_on H machine.now }
+    requires look_ups { (H : History) → F.Stands facts.now H → IsSome sheet → option_copied sheet ≡ sheet_on H machine.now }
+    requires names { (H : History) → F.Stands facts.now H → IfSome placed (λ names. ArePlacedOn H board.now names.now) }
     ensures { (H : History) (picks : List Picking) (before : List Name) → F.Stands facts.now H
         → IsFeeding (live_on H machine.now) (left_of H) (F.reels_on facts.now machine.now) picks feeds.old → HasSeen seen.old before
         → IfOk result (λ placing. IsPlacing (slot_on H machine.now) (tape_of H machine.now) (left_of H) (is_placed_on H board.now)
@@ -157,7 +200,7 @@ fn place<F: Facts>(
     if !seen.insert(*designator)? {
         return Ok(Err(Refusal::DesignatorTwice(name)));
     }
-    if facts.is_placed_on(board, designator) {
+    if has_placed(facts, placed, board, designator) {
         return Ok(Err(Refusal::AlreadyPlaced(name)));
     }
     let Some(reel) = take_piece(facts, feeds, machine, &slot)? else {
@@ -180,12 +223,13 @@ pub fn place_all<F: Facts>(
 {
     facts.tells_live();
     let sheet = facts.look_ups_on(machine);
+    let placed = facts.placed_on(board);
     let mut feeds = BTreeMap::new(alloc);
     let mut seen = BTreeSet::new(alloc);
     let mut picks = Vec::with_capacity(alloc, designators.len())?;
     for designator in designators {
         match place(
-            facts, sheet, &mut feeds, &mut seen, machine, board, designator,
+            facts, sheet, placed, &mut feeds, &mut seen, machine, board, designator,
         )? {
             Ok(piece) => picks.push(Pick {
                 reel: piece.reel,

@@ -1,7 +1,7 @@
-use Rattle.std.proofs.Common.{ℕ, List, Option, Bool, true, false, None, inl, inr}
-use Rattle.line_opening.specs.declared.fault.OpenFault.TheVariants.{Unavailable}
+use Rattle.std.proofs.Common.{ℕ, List, Option, Bool, true, false, None, refl, inl, inr}
 use Rattle.desk_runs.specs.Runs.{AnswersImport, CutsImport, StaysSame}
-use Rattle.desk_commands.proofs.Running.{runs_on, stays}
+use Rattle.desk_runs.specs.Told.{TellsLine}
+use Rattle.desk_commands.proofs.Running.{runs_on, stays, told_refused, told_unavailable}
 use Rattle.desk_commands.proofs.exchange.import_in_file.Goals as goal
 
 pub returns-in-Ok-clause-done : goal.returns-in-Ok-clause-done
@@ -23,7 +23,10 @@ returns-in-Ok-clause-failed g c = λ is.
     ]
 
 pub returns-in-Ok-clause-no_desk : goal.returns-in-Ok-clause-no_desk
-returns-in-Ok-clause-no_desk g c = λ is. (Unavailable, c.import_rows-status.ensures.no_memory is)
+returns-in-Ok-clause-no_desk g c = λ is. told_unavailable (TellsLine g.E.Write.contents c.args.errors.now c.import_rows-status.new.errors) (c.import_rows-status.ensures.no_memory is)
+
+pub returns-in-Err-clause-no_desk : goal.returns-in-Err-clause-no_desk
+returns-in-Err-clause-no_desk g c = λ _. told_refused (TellsLine g.E.Write.contents c.args.errors.now c.refused.new.errors) c.in-Err.fault (c.in-Err.ensures.never refl) c.refused.ensures.told
 
 pub returns-in-Ok-clause-left : goal.returns-in-Ok-clause-left
 returns-in-Ok-clause-left g c = λ is.

@@ -1,9 +1,12 @@
 use Rattle.desk_types.specs.declared.rules.Rules.TheVariants.{Two}
-use Rattle.desk_file.proofs.Beginning.{line_alone, same_list}
+use Rattle.desk_file.proofs.Beginning.{held, line_alone, same_list}
 use Rattle.desk_file.proofs.law.next_run_goes_on.Goals as goal
 
 pub returns-clause-alone : goal.returns-clause-alone
 returns-clause-alone c = λ image trees greatest H holds tables. line_alone image trees _ holds tables
+
+pub returns-clause-held : goal.returns-clause-held
+returns-clause-held c = λ image trees greatest H holds tables. held image trees _ holds tables
 
 pub returns-clause-same : goal.returns-clause-same
 returns-clause-same c = λ image trees greatest H holds tables judged. same_list image trees greatest H (c.rows_tell_lists_apart.ensures Two) holds tables judged

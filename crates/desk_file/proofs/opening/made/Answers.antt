@@ -3,7 +3,7 @@ use Rattle.sqlite_wal.specs.Files.{image_at}
 use Rattle.sqlite.specs.Files.{file_state, over_files}
 use Rattle.sqlite.specs.State.{HasCleanDisk}
 use Rattle.line_schema.specs.Stands.{Stands}
-use Rattle.desk_file.proofs.Beginning.{made_begins}
+use Rattle.desk_file.proofs.Beginning.{made_begins, no_table}
 use Rattle.desk_file.proofs.opening.made.Goals as goal
 
 pub returns-in-Ok-clause-begins : goal.returns-in-Ok-clause-begins
@@ -16,3 +16,10 @@ returns-in-Ok-clause-begins g c = λ clean alone.
       subst (λ (own : Bool). Stands over_files g.D.Desk.Stands g.D.Desk.kept_rules c.in-Ok.store (record { greatest = c.args.greatest; history = []; own = own }))
           begins.1 c.in-Ok.ensures.stands,
     )
+
+pub returns-in-Ok-clause-alone : goal.returns-in-Ok-clause-alone
+returns-in-Ok-clause-alone g c = λ clean none trees left.
+    let conn = c.in_ok-conn.conn in
+    let before : HasCleanDisk (file_state conn) = omega (arith, c.in-Ok.ensures.leaves.clean, clean) in
+    let opened = c.in_ok-conn.ensures.opened before in
+    c.in-Ok.ensures.alone clean (no_table (image_at g.T.Start) (file_state conn) (c.in_ok-conn.ensures.found before) opened.0 opened.1 none) trees left

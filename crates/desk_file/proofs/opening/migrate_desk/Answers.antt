@@ -11,5 +11,5 @@ returns-in-Ok-clause-migrated g c = λ clean alone.
     let before : HasCleanDisk (file_state conn) = omega (arith, c.migrate.ensures.crash.clean, clean) in
     let opened = c.in_ok-conn.ensures.opened before in
     let m = c.in-Ok.ensures.migrated clean in
-    let told = migrates (image_at g.T.Start) (file_state conn) (c.in_ok-conn.ensures.found before) opened.0 opened.1 (file_state c.migrate.new.conn) m.0 m.1 _ m.2 alone in
-    (m.0, m.1, told.0, told.1)
+    let told = migrates (image_at g.T.Start) (file_state conn) (c.in_ok-conn.ensures.found before) opened.0 opened.1 (file_state c.migrate.new.conn) m.0 m.1 _ c.in-Ok.ensures.named m.2 alone in
+    (m.0, m.1, told.0, told.1, told.2)

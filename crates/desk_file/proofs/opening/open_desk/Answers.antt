@@ -1,8 +1,12 @@
-use Rattle.std.proofs.Common.{[], sym, subst}
+use Rattle.std.proofs.Common.{ℕ, [], Option, IfSome, inr, sym, subst}
 use Rattle.std.proofs.lemmas.Result.{IfOk-weaker}
 use Rattle.sqlite_wal.specs.Files.{image_at}
-use Rattle.desk_file.specs.Files.{Begins}
-use Rattle.desk_file.proofs.Beginning.{begins_any}
+use Rattle.sqlite_trees.specs.Tree.{Trees}
+use Rattle.sqlite.specs.Files.{over_files}
+use Rattle.line_tables.specs.Rows.{HoldsAt, blank}
+use Rattle.line_schema.specs.Stands.{state_of}
+use Rattle.desk_file.specs.Files.{Begins, HasLineAlone}
+use Rattle.desk_file.proofs.Beginning.{begins_any, reads_none}
 use Rattle.desk_file.proofs.opening.open_desk.Goals as goal
 
 pub returns-in-Some-clause-begins : goal.returns-in-Some-clause-begins
@@ -17,3 +21,15 @@ returns-in_default-clause-begins g c =
     IfOk-weaker c.opened.result _ _ (λ store begins clean alone.
     let b = begins clean alone in
     (b.0, b.1, begins_any (image_at g.T.Start) c.args.make b.0 b.1 b.2, b.3)) c.opened.ensures.begins
+
+pub returns-in-Some-clause-alone : goal.returns-in-Some-clause-alone
+returns-in-Some-clause-alone g c =
+    IfOk-weaker c.made.result _ _ (λ store alone clean none.
+    subst (λ (make : Option ℕ). IfSome make (λ greatest. (trees : Trees) → (state_of over_files store).may_leave trees → HoldsAt (blank greatest) trees)) (sym c.in-Some.is) (alone clean none)) c.made.ensures.alone
+
+pub returns-in_default-clause-alone : goal.returns-in_default-clause-alone
+returns-in_default-clause-alone g c =
+    IfOk-weaker c.opened.result _ _ (λ store begins clean none.
+    let bare : HasLineAlone (image_at g.T.Start) = λ db found. inr (none db found) in
+    let b = begins clean bare in
+    absurd (reads_none (image_at g.T.Start) b.0 b.1 b.2 none)) c.opened.ensures.begins

@@ -19,7 +19,7 @@ returns g c = λ H picks before stands feeding seen.
     let new = was-new c.args.seen.now before d c.in_ok-insert.field-0 seen c.in_ok-insert.ensures.added c.if-not-branch.false in
     let front = sym (c.in_ok-reel.ensures.front H picks stands feeding) ∙ c.in-Some-2.is in
     let pick = pick-found (slot_on H machine) (tape_of H machine) (left_of H) machine board picks d piece slot front in (
-      not-refused d piece.slot _ _ _ _ (pick_of machine board d piece) slot new (sym (c.is_placed_on.ensures H stands) ∙ c.if-is_placed_on.false) pick,
+      not-refused d piece.slot _ _ _ _ (pick_of machine board d piece) slot new (sym (c.has_placed.ensures H stands) ∙ c.if-has_placed.false) pick,
       pick,
       c.in_ok-reel.ensures.feeds H picks (pick_of machine board d piece) stands feeding (c.in-Some-2.is, refl),
       HasSeen-push c.args.seen.now c.insert.new.self d before seen c.in_ok-insert.ensures.updates.0,
@@ -34,5 +34,5 @@ returns-in_default-2 g c = λ H picks before stands feeding seen.
     let new = was-new c.args.seen.now before d c.in_ok-insert.field-0 seen c.in_ok-insert.ensures.added c.if-not-branch.false in
     let front = sym (c.in_ok-reel.ensures.front H picks stands feeding) ∙ c.in_default-2.is in
     let pick = pick-none (slot_on H machine) (tape_of H machine) (left_of H) machine board picks d c.in-Some.slot slot front in
-    refused-short d c.in-Some.slot _ _ _ _ slot new (sym (c.is_placed_on.ensures H stands) ∙ c.if-is_placed_on.false) pick
+    refused-short d c.in-Some.slot _ _ _ _ slot new (sym (c.has_placed.ensures H stands) ∙ c.if-has_placed.false) pick
     ∙ ap (λ n. Some (ReelShort n)) (sym c.from-name.ensures)

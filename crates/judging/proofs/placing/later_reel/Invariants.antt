@@ -2,7 +2,7 @@ use Rattle.std.proofs.Common.{◌≡◌}
 use Rattle.desk_types.specs.History.{History}
 use Rattle.desk_types.specs.Pieces.{left_of}
 use Rattle.judging.specs.Placing.{live_behind}
-use Rattle.judging.proofs.placing.next_reel.Given as goal
+use Rattle.judging.proofs.placing.later_reel.Given as goal
 
 -- the reels that were passed over are spent
 abbrev pub invariant-loop-place : goal.invariant-loop-place
