@@ -1,9 +1,7 @@
-pub mod Apart
 pub mod Bounds
 pub mod Command
 pub mod Designator
 pub mod Desk
-pub mod Fields
 pub mod Fixed
 pub mod FloorLife
 pub mod Free
@@ -19,7 +17,6 @@ pub mod Pieces
 pub mod Placements
 pub mod Refusals
 pub mod Setup
-pub mod StoredText
 pub mod Tape
 pub mod View
 pub mod Wire

@@ -16,9 +16,9 @@ use Rattle.desk_types.specs.Placements.{Placement, placements_of}
 use Rattle.desk_types.specs.Work.{is_placed_on}
 use Rattle.desk_laws.proofs.Designators.{spots_of, spot-placed}
 use Rattle.desk_laws.proofs.Mounted.{iff}
-use Rattle.state_rows.specs.declared.row.PlacementRow.{PlacementRow}
+use Rattle.state_tables.specs.declared.row.PlacementRow.{PlacementRow}
 use Rattle.state_rows.specs.Kept.{by_piece, row_at, Lists}
-use Rattle.state_rows.specs.Tables.{placement_row}
+use Rattle.state_tables.specs.Tables.{placement_row}
 use Rattle.state_rows.proofs.PlacedRows.{entry_of, piece_entries, pieces-listed}
 use Rattle.feeder_state.proofs.Filling.{AreOf, each-of}
 

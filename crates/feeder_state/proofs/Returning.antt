@@ -29,8 +29,8 @@ use Rattle.desk_laws.proofs.Lookups.{mounted-live}
 use Rattle.desk_laws.proofs.Judgements.{by-desk_minute}
 use Rattle.desk_laws.proofs.Mounted.{mounted-is}
 use Rattle.desk_laws.proofs.Openings.{starts-by}
-use Rattle.state_rows.specs.declared.row.ReelRow.{ReelRow}
-use Rattle.state_rows.specs.Tables.{Tables, columns_of, reel_row, last_put, mount_row}
+use Rattle.state_tables.specs.declared.row.ReelRow.{ReelRow}
+use Rattle.state_tables.specs.Tables.{Tables, columns_of, reel_row, last_put, mount_row}
 use Rattle.state_rows.proofs.Exposed.{since-by}
 use Rattle.state_rows.proofs.Meaning.{live-mount}
 use Rattle.state_rows.specs.Kept.{KeptRows, tables_in, row_at}

@@ -26,7 +26,7 @@ use Rattle.desk_types.specs.View.{defines_on, has_sheet}
 use Rattle.desk_types.proofs.Keys.{same-refl, same-sym, same-true}
 use Rattle.desk_laws.proofs.Mounted.{iff}
 use Rattle.state_rows.specs.Kept.{by_sheet_place, row_at, Lists}
-use Rattle.state_rows.specs.Tables.{at_place, sheet_row}
+use Rattle.state_tables.specs.Tables.{at_place, sheet_row}
 use Rattle.state_rows.proofs.Keeping.{is_at-by_sheet_place}
 use Rattle.state_rows.proofs.PlacementRows.{at_place-before}
 use Rattle.feeder_state.specs.Restored.{sheet_in}

@@ -9,7 +9,7 @@ use Rattle.desk_types.specs.declared.rules.Rules.TheVariants.{Two}
 use Rattle.desk_types.specs.History.{History}
 use Rattle.desk_types.specs.Judged.{IsJudged}
 use Rattle.state_rows.specs.Kept.{KeptRows, tables_in}
-use Rattle.state_rows.specs.Tables.{tables_of}
+use Rattle.state_tables.specs.Tables.{tables_of}
 
 -- The rows are those of the list, which a desk of rules Two can come to have.
 pub record AreRowsOf (H : History) (rows : KeptRows) : Type 0 where

@@ -23,7 +23,7 @@ use Rattle.sqlite_trees.specs.declared.store.Store.{Ghosts}
 use Rattle.sqlite.specs.Effect.{Database}
 use Rattle.sqlite.specs.Held.{Held, state}
 use Rattle.sqlite.specs.Program.{overlay}
-use Rattle.state_rows.specs.declared.row.PlacementRow.{PlacementRow}
+use Rattle.state_tables.specs.declared.row.PlacementRow.{PlacementRow}
 use Rattle.line_tables.specs.Line as line
 use Rattle.line_tables.specs.Calls.{Selects, Reads}
 use Rattle.line_tables.specs.StateRows.{rows_in, columns, has_text, has_piece, placement_columns}

@@ -14,7 +14,7 @@ use Rattle.std.proofs.lemmas.List.Elements.{recursion_from_All}
 use Rattle.desk_types.specs.Id.{Name, same, by_name}
 use Rattle.desk_types.specs.Pair.{by_pair}
 use Rattle.desk_types.proofs.Keys.{same-true, is_at-by_name, is_at-by_pair}
-use Rattle.state_rows.specs.declared.row.MountRow.{MountRow}
+use Rattle.state_tables.specs.declared.row.MountRow.{MountRow}
 use Rattle.state_rows.proofs.Keeping.{is_at-by_piece, is_at-by_sheet_place}
 use Rattle.line_audit.specs.Alone.{Listed, IsNew, AreApart, IsNamed}
 use Rattle.line_audit.proofs.Keys.{both}

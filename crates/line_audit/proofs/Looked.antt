@@ -2,9 +2,9 @@
 use Rattle.desk_types.specs.Id.{Name}
 use Rattle.std.proofs.Common.{ℕ}
 use Rattle.desk_types.specs.declared.sheet.SheetRow.{SheetRow}
-use Rattle.state_rows.specs.declared.row.ReelRow.{ReelRow}
-use Rattle.state_rows.specs.declared.row.MountRow.{MountRow}
-use Rattle.state_rows.specs.declared.row.BoardRow.{BoardRow}
+use Rattle.state_tables.specs.declared.row.ReelRow.{ReelRow}
+use Rattle.state_tables.specs.declared.row.MountRow.{MountRow}
+use Rattle.state_tables.specs.declared.row.BoardRow.{BoardRow}
 use Rattle.line_tables.specs.Line as line
 use Rattle.line_tables.specs.StateRows.{has_text, has_pair, has_sheet_place, part_columns, alternate_columns, sheet_columns, selected_columns, reel_columns, mount_columns, board_columns, found_columns}
 use Rattle.line_audit.proofs.Keys.{one_text, one_pair, one_sheet_place}

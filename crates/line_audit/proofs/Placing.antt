@@ -11,7 +11,7 @@ use Rattle.sqlite_sql.specs.Ops.{binary, is_true, from_truth}
 use Rattle.sqlite.specs.Collation.TheVariants.{Binary}
 use Rattle.sqlite.specs.Effect.{Database}
 use Rattle.sqlite.specs.State.{State, KeepsCommit}
-use Rattle.state_rows.specs.declared.row.PlacementRow.{PlacementRow}
+use Rattle.state_tables.specs.declared.row.PlacementRow.{PlacementRow}
 use Rattle.line_tables.specs.Line as line
 use Rattle.line_tables.specs.Line.{IsOurs}
 use Rattle.line_tables.specs.StateRows.{rows_in, has_piece, placement_columns}

@@ -11,7 +11,7 @@ use Rattle.sqlite_value.specs.Order.{Row}
 use Rattle.sqlite_trees.specs.declared.store.Store.{Ghosts}
 use Rattle.sqlite.specs.Held.{Held, state}
 use Rattle.desk_types.specs.Id.{Name}
-use Rattle.state_rows.specs.declared.row.PlacementRow.{PlacementRow}
+use Rattle.state_tables.specs.declared.row.PlacementRow.{PlacementRow}
 use Rattle.line_tables.specs.Line as line
 use Rattle.line_tables.specs.StateRows.{columns, has_text, has_int, has_pair, has_sheet_place}
 use Rattle.line_tables.proofs.FindTexts.{IsSelect, rows_from, count_from}

@@ -3,7 +3,7 @@
 ghost use Rattle.std.specs.Prelude.{◌≡◌, ◌<◌, ℕ, Option, false, IfOk, length};
 ghost use Rattle.sqlite.specs.State.{HasCleanDisk, Survives, KeepsCommit};
 ghost use Rattle.sqlite.specs.Held.{state};
-ghost use Rattle.state_rows.specs.declared.row.PlacementRow.{PlacementRow as PlacedRow};
+ghost use Rattle.state_tables.specs.declared.row.PlacementRow.{PlacementRow as PlacedRow};
 ghost use Rattle.state_rows.specs.Kept.{tables_in};
 ghost use Rattle.line_tables.specs.Calls.{Reads};
 ghost use Rattle.line_audit.specs.Alone.{Tells};

@@ -11,7 +11,7 @@ use crate::shown::{shows_count, shows_only};
 use crate::values::{level, number, since, text, text_or_empty, yes_or_no};
 use desk_types::Id;
 use sqlite::{Alter, Connection, Error};
-use state_rows::{BoardRow, MountRow, ReelRow};
+use state_tables::{BoardRow, MountRow, ReelRow};
 
 /// Whether the row of the reel is one, with these columns.
 pub fn has_reel<S: Alter>(conn: &mut Connection<S>, reel: &Id, row: &ReelRow) -> Result<bool, Error>

@@ -11,7 +11,7 @@ ghost use Rattle.line_audit.specs.Placed.{has_placement};
 use crate::shown::{shows_count, shows_only};
 use crate::values::{designator, number, text, yes_or_no};
 use sqlite::{Alter, Connection, Error};
-use state_rows::PlacementRow;
+use state_tables::PlacementRow;
 
 /// Whether the row is the one of its board, its designator, its number and its place. It is looked up
 /// by the index on board and designator.

@@ -12,7 +12,7 @@ use crate::placed::has_placement;
 use crate::values::{designator, is_row, number, text, yes_or_no};
 use line_tables::select::select;
 use sqlite::{Alter, Connection, Error, Row};
-use state_rows::PlacementRow;
+use state_tables::PlacementRow;
 
 /// Whether each of the rows, all of this number, is in the table. In a file of ours their rowids go by
 /// number and place, so one query shows them; in any other each is looked up.

@@ -12,8 +12,8 @@ use Rattle.desk_types.specs.Id.{Name}
 use Rattle.desk_types.specs.Judged.{IsJudged, IsLawful}
 use Rattle.desk_laws.proofs.RulesOne.{nothing-found}
 use Rattle.line_tables.specs.declared.version.Version.{Version}
-use Rattle.state_rows.specs.declared.row.PlacementRow.{PlacementRow}
-use Rattle.state_rows.specs.Tables.{Tables as StateTables, tables_of as state_of, placement_row, found_row}
+use Rattle.state_tables.specs.declared.row.PlacementRow.{PlacementRow}
+use Rattle.state_tables.specs.Tables.{Tables as StateTables, tables_of as state_of, placement_row, found_row}
 use Rattle.state_rows.specs.Kept.{tables_in}
 use Rattle.line_tables.specs.Line.{is_ours}
 use Rattle.line_tables.specs.Names.{is_version, has_state}

@@ -10,7 +10,7 @@ use Rattle.desk_types.specs.declared.rules.Rules.{Rules}
 use Rattle.desk_types.specs.declared.rules.Rules.TheVariants.{Two}
 use Rattle.desk_types.specs.History.{History}
 use Rattle.desk_types.specs.Judged.{IsJudged}
-use Rattle.state_rows.specs.Tables.{tables_of as state_of}
+use Rattle.state_tables.specs.Tables.{tables_of as state_of}
 use Rattle.line_tables.specs.Names.{is_version, is_accepted, has_state}
 use Rattle.line_tables.specs.Rows.{version_in, accepted_in, version_of}
 use Rattle.line_tables.specs.StateRows.{HoldsStateBy}

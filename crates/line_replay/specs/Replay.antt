@@ -17,7 +17,7 @@ use Rattle.line_replay.specs.Listed.{IsAt, AreAt, StopsAt, AreRowsOf}
 use Rattle.line_replay.specs.declared.beside.Beside.{Beside}
 use Rattle.line_replay.specs.Beside.{IsBeside, Adds}
 use Rattle.line_rows.specs.Judging.{GoesOn, Lead}
-use Rattle.state_rows.specs.declared.edit.RowEdit.{RowEdit}
+use Rattle.state_tables.specs.declared.edit.RowEdit.{RowEdit}
 
 -- The desk stands for a judged list of so many entries, no more than the greatest number, and the rows beside it are the list's; on a clean disk the list is lawful, and the rows of accepted commands that are committed are its rows.
 pub record IsReplayed {D : Type 0} (StandsFor : D → History → Type 0) (rules : Rules) (greatest : ℕ) (Clean : Type 0) (old : State) (desk : D) (beside : Beside) (count : ℕ) (H : History) : Type 0 where

@@ -10,7 +10,8 @@ ghost use Rattle.line_replay.specs.Beside.{IsBeside, Adds, Tells, ArePlacedToo, 
 use crate::fault::ReplayFault;
 use line_audit::{Placed, has_placements};
 use sqlite::{Alter, Connection};
-use state_rows::{PlacementRow, RowEdit, RowSet};
+use state_rows::RowSet;
+use state_tables::{PlacementRow, RowEdit};
 use std::alloc::{AllocError, Global};
 
 /// The rows of the state tables that a list makes. Placements are not kept: each entry's are looked

@@ -23,7 +23,7 @@ use desk_types::Desk;
 use line_rows::{RowFault, Taken, accept_row};
 use line_tables::{count, is_repeat, least_number, row_at};
 use sqlite::{Alter, Connection, Row};
-use state_rows::RowEdits;
+use state_tables::RowEdits;
 use std::alloc::Global;
 
 /// Asks that the least number is 1, where there is a row.

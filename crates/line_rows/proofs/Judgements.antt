@@ -14,7 +14,7 @@ use Rattle.desk_types.specs.History.{History, entry_of, effective_minute}
 use Rattle.desk_types.specs.Judged.{IsNext}
 use Rattle.desk_types.specs.Outcome.{detail_of}
 use Rattle.desk_types.specs.Refusals.{refusal_of}
-use Rattle.desk_types.specs.StoredText.{stored_text}
+use Rattle.stored_texts.specs.StoredText.{stored_text}
 use Rattle.desk_answers.specs.Commands.{first_text}
 use Rattle.desk_answers.specs.Texts.{accepted_text}
 use Rattle.line_tables.proofs.Finds.{seven}

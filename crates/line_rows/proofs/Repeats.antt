@@ -5,7 +5,7 @@ use Rattle.desk_types.specs.declared.command.Entry.{Entry}
 use Rattle.desk_types.specs.declared.command.Stamped.{Stamped}
 use Rattle.desk_types.specs.Command.{IsEntry, IsCommand}
 use Rattle.desk_types.specs.History.{History}
-use Rattle.desk_types.specs.StoredText.{stored_text}
+use Rattle.stored_texts.specs.StoredText.{stored_text}
 use Rattle.desk_answers.specs.declared.answer.Answer.TheVariants.{Accepted, IdReused}
 use Rattle.desk_answers.specs.Commands.{first_text, answer_under}
 use Rattle.desk_answers.specs.Repeats.{is_same}

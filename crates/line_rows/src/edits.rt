@@ -14,7 +14,8 @@ use crate::kept::row_of;
 use desk_answers::accepted_text;
 use desk_types::{Change, Desk, Text};
 use line_tables::{Accepted, Edit};
-use state_rows::{RowEdits, rows_of};
+use state_rows::rows_of;
+use state_tables::RowEdits;
 use std::alloc::{AllocError, Global};
 
 /// The text of an answer, and the edits of the tables that are committed before it goes out.

@@ -10,10 +10,12 @@ ghost use Rattle.line_rows.specs.Judging.{GoesOn, Lead};
 use crate::fault::RowFault;
 use crate::reading::{says, stamped_of};
 use desk_answers::accepted_text;
-use desk_types::{Desk, Id, JudgeFault, texts_tell_commands_apart};
+use desk_types::{Desk, Id, JudgeFault};
 use sqlite::Row;
-use state_rows::{RowEdits, rows_of};
+use state_rows::rows_of;
+use state_tables::RowEdits;
 use std::alloc::Global;
+use stored_texts::texts_tell_commands_apart;
 
 /// The UniqueID of an accepted command, and its edits of the state tables.
 pub struct Taken {

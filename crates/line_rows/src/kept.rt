@@ -9,9 +9,10 @@ ghost use Rattle.line_tables.specs.Rows.{columns_of};
 ghost use Rattle.line_rows.specs.Rows.{columns, rows_of};
 
 use crate::fault::NoRow;
-use desk_types::{Change, Text, texts_tell_commands_apart};
+use desk_types::{Change, Text};
 use line_tables::Accepted;
 use std::alloc::Global;
+use stored_texts::{Kept, texts_tell_commands_apart};
 
 /// The row of the change, whose command gets this number and this answer.
 pub fn row_of(alloc: Global, number: u32, change: &Change, answer: &Text) -> Result<Accepted, NoRow>

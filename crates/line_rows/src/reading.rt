@@ -13,6 +13,7 @@ use desk_types::{Command, Id, Minute, Stamped, Text};
 use sqlite::Row;
 use sqlite::types::ValueRef;
 use std::alloc::{AllocError, Global};
+use stored_texts::Kept;
 
 /// The message of the row, or none where the row is that of no message in its ranges. Its number,
 /// its effective minute and its answer are not looked at.

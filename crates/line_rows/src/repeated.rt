@@ -9,9 +9,10 @@ ghost use Rattle.line_tables.specs.Rows.{columns_of};
 ghost use Rattle.line_rows.specs.Rows.{entry_row};
 
 use desk_answers::Answer;
-use desk_types::{Listing, Stamped, Text, texts_tell_commands_apart};
+use desk_types::{Listing, Stamped, Text};
 use line_tables::Accepted;
 use std::alloc::{AllocError, Global};
+use stored_texts::{Kept, texts_tell_commands_apart};
 
 /// The first answer once more where the row is that of the same message, and else that the UniqueID
 /// was used. It is said where the row is that of an entry with the message's UniqueID.

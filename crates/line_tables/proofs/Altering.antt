@@ -13,9 +13,9 @@ use Rattle.sqlite.specs.State.{State}
 use Rattle.desk_types.specs.Placements.{takes_of}
 use Rattle.desk_types.specs.Pieces.{found_of}
 use Rattle.desk_types.specs.declared.rules.Rules.TheVariants.{Two}
-use Rattle.state_rows.specs.declared.edit.RowEdit.{RowEdit}
-use Rattle.state_rows.specs.Tables.{Tables as StateTables}
-use Rattle.state_rows.specs.Edits.{with_edit as state_with, IsNew as IsNewRow}
+use Rattle.state_tables.specs.declared.edit.RowEdit.{RowEdit}
+use Rattle.state_tables.specs.Tables.{Tables as StateTables}
+use Rattle.state_tables.specs.Edits.{with_edit as state_with, IsNew as IsNewRow}
 use Rattle.line_tables.specs.Line.{line_schema, line_tables, version, accepted, part, alternate, sheet_row, selected, reel, mount, board, placement, found}
 use Rattle.line_tables.specs.StateRows.{AreRows, rows_in, columns, HoldsState, HoldsParts, HoldsAlternates, HoldsSheets, HoldsSelected, HoldsReels, HoldsMounts, HoldsBoards, HoldsPlacements, HoldsFound}
 use Rattle.line_tables.specs.Rowids.{AreApart, AreAllApart, changed_tables}

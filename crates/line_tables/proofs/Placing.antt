@@ -11,7 +11,7 @@ use Rattle.sqlite.specs.Rowids.TheVariants.{Chosen}
 use Rattle.sqlite_rules.specs.Edit.{numbered, with_rowid, put_all, are_fresh}
 use Rattle.sqlite_trees.specs.Tree.{put_row}
 use Rattle.sqlite.specs.State.{State}
-use Rattle.state_rows.specs.declared.row.PlacementRow.{PlacementRow}
+use Rattle.state_tables.specs.declared.row.PlacementRow.{PlacementRow}
 use Rattle.line_tables.specs.Line.{line_schema, placement}
 use Rattle.line_tables.specs.Rowids.{placement_id}
 use Rattle.line_tables.specs.StateRows.{AreRows, columns, has_piece, placement_columns, flag}

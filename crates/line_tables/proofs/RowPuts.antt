@@ -17,10 +17,10 @@ use Rattle.sqlite.specs.Term.{col}
 use Rattle.sqlite.specs.State.{State}
 use Rattle.desk_types.specs.Id.{Name, same}
 use Rattle.desk_types.specs.declared.sheet.SheetRow.{SheetRow}
-use Rattle.state_rows.specs.declared.edit.RowEdit.TheVariants.{TakeSheetRow, TakeMount, PutPart, PutAlternate, PutSheetRow, PutSelected, PutReel, PutMount, PutBoard, PutFound}
-use Rattle.state_rows.specs.declared.row.ReelRow.{ReelRow}
-use Rattle.state_rows.specs.declared.row.MountRow.{MountRow}
-use Rattle.state_rows.specs.declared.row.BoardRow.{BoardRow}
+use Rattle.state_tables.specs.declared.edit.RowEdit.TheVariants.{TakeSheetRow, TakeMount, PutPart, PutAlternate, PutSheetRow, PutSelected, PutReel, PutMount, PutBoard, PutFound}
+use Rattle.state_tables.specs.declared.row.ReelRow.{ReelRow}
+use Rattle.state_tables.specs.declared.row.MountRow.{MountRow}
+use Rattle.state_tables.specs.declared.row.BoardRow.{BoardRow}
 use Rattle.line_tables.specs.Line.{line_schema, part, alternate, sheet_row, selected, reel, mount, board, found}
 use Rattle.line_tables.specs.StateRows.{columns, has_text, has_pair, has_sheet_place, unit_if, part_columns, alternate_columns, sheet_columns, selected_columns, reel_columns, mount_columns, board_columns, found_columns, since_or_none, flag}
 use Rattle.line_tables.specs.Calls.{Runs, Changes, WritesRow}

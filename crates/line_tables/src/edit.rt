@@ -1,6 +1,6 @@
 //! What is written into the tables.
 
-use state_rows::RowEdit;
+use state_tables::RowEdit;
 
 /// A row of `accepted`.
 #[derive(Debug, Drop)]

@@ -3,8 +3,8 @@
 ghost use Rattle.std.specs.Prelude.{◌≡◌, OnOk};
 ghost use Rattle.sqlite.specs.State.{HasCleanDisk, Survives, KeepsCommit};
 ghost use Rattle.sqlite.specs.Held.{state};
-ghost use Rattle.state_rows.specs.declared.edit.RowEdit.TheVariants as RowEdit;
-ghost use Rattle.state_rows.specs.declared.row.ReelRow.{ReelRow};
+ghost use Rattle.state_tables.specs.declared.edit.RowEdit.TheVariants as RowEdit;
+ghost use Rattle.state_tables.specs.declared.row.ReelRow.{ReelRow};
 ghost use Rattle.line_tables.specs.Calls.{WritesRow};
 ghost use Rattle.sqlite.specs.Values.{bound};
 ghost use Rattle.line_tables.specs.StateRows.{reel_columns};
@@ -14,7 +14,7 @@ use crate::values::{int, or_empty, since};
 use desk_types::Id;
 use sqlite::types::{ToSql, ValueRef};
 use sqlite::{Alter, Error, Transaction, params};
-use state_rows::{BoardRow, MountRow, ReelRow};
+use state_tables::{BoardRow, MountRow, ReelRow};
 
 /// A reel's row is changed in its place, since placements refer to it. Two rows of one reel are an
 /// error.

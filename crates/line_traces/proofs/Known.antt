@@ -22,9 +22,9 @@ use Rattle.desk_types.specs.Placements.{Placement, placements_of}
 use Rattle.desk_laws.specs.Verified.{IsRightlyPlaced}
 use Rattle.desk_laws.proofs.Placing.{rightly-placed}
 use Rattle.desk_laws.proofs.Spent.{receipt-prefix}
-use Rattle.state_rows.specs.declared.row.ReelRow.{ReelRow}
-use Rattle.state_rows.specs.declared.row.PlacementRow.{PlacementRow}
-use Rattle.state_rows.specs.Tables.{columns_of, placement_columns as columns_of_piece}
+use Rattle.state_tables.specs.declared.row.ReelRow.{ReelRow}
+use Rattle.state_tables.specs.declared.row.PlacementRow.{PlacementRow}
+use Rattle.state_tables.specs.Tables.{columns_of, placement_columns as columns_of_piece}
 use Rattle.state_rows.specs.Kept.{by_piece}
 use Rattle.state_rows.proofs.PlacedRows.{entry_of, piece_entries, pieces-found, pieces-ascend}
 use Rattle.line_tables.specs.Line as line

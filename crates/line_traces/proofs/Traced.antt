@@ -26,7 +26,7 @@ use Rattle.sqlite.specs.Held.{Held, state}
 use Rattle.desk_types.specs.Id.{Name, same}
 use Rattle.desk_types.specs.History.{History}
 use Rattle.desk_types.specs.Placements.{Placement, placements_of}
-use Rattle.state_rows.specs.declared.row.ReelRow.{ReelRow}
+use Rattle.state_tables.specs.declared.row.ReelRow.{ReelRow}
 use Rattle.state_rows.specs.Kept.{by_piece}
 use Rattle.state_rows.proofs.PlacedRows.{entry_of, pieces-ascend}
 use Rattle.line_tables.specs.Line as line

@@ -24,8 +24,8 @@ use Rattle.desk_laws.proofs.Balance.{balance}
 use Rattle.desk_laws.proofs.Exposures.{exposure-within}
 use Rattle.desk_laws.proofs.Ranges.{received-range}
 use Rattle.desk_laws.proofs.Totals.{placed-next, scrapped-next}
-use Rattle.state_rows.specs.declared.row.ReelRow.{ReelRow}
-use Rattle.state_rows.specs.Tables.{columns_of, reel_row}
+use Rattle.state_tables.specs.declared.row.ReelRow.{ReelRow}
+use Rattle.state_tables.specs.Tables.{columns_of, reel_row}
 use Rattle.state_rows.specs.EditsOf.{ArePiecesFitting, CountFits}
 use Rattle.state_rows.proofs.ReelRows.{used-then}
 

@@ -12,16 +12,16 @@ use Rattle.desk_types.specs.Id.{Name, same, by_name}
 use Rattle.desk_types.proofs.Keys.{is_at-by_name, is_at-by_pair}
 use Rattle.desk_types.specs.Pair.{same_pair, by_pair}
 use Rattle.desk_types.specs.declared.sheet.SheetRow.{SheetRow}
-use Rattle.state_rows.specs.declared.row.ReelRow.{ReelRow}
-use Rattle.state_rows.specs.declared.row.MountRow.{MountRow}
-use Rattle.state_rows.specs.declared.row.BoardRow.{BoardRow}
-use Rattle.state_rows.specs.declared.row.PlacementRow.{PlacementRow}
-use Rattle.state_rows.specs.declared.edit.RowEdit.{RowEdit}
-use Rattle.state_rows.specs.declared.edit.RowEdit.TheVariants.{TakeSheetRow, TakeMount, PutPart, PutAlternate, PutSheetRow, PutSelected, PutReel, PutMount, PutBoard, PutPlacement, PutFound}
+use Rattle.state_tables.specs.declared.row.ReelRow.{ReelRow}
+use Rattle.state_tables.specs.declared.row.MountRow.{MountRow}
+use Rattle.state_tables.specs.declared.row.BoardRow.{BoardRow}
+use Rattle.state_tables.specs.declared.row.PlacementRow.{PlacementRow}
+use Rattle.state_tables.specs.declared.edit.RowEdit.{RowEdit}
+use Rattle.state_tables.specs.declared.edit.RowEdit.TheVariants.{TakeSheetRow, TakeMount, PutPart, PutAlternate, PutSheetRow, PutSelected, PutReel, PutMount, PutBoard, PutPlacement, PutFound}
 use Rattle.desk_types.specs.Placements.{takes_of}
 use Rattle.desk_types.specs.Pieces.{found_of}
-use Rattle.state_rows.specs.Tables.{Tables, placement_row, found_row}
-use Rattle.state_rows.specs.Edits.{with_edit, with_edits}
+use Rattle.state_tables.specs.Tables.{Tables, placement_row, found_row}
+use Rattle.state_tables.specs.Edits.{with_edit, with_edits}
 use Rattle.state_rows.specs.Kept.{KeptRows, tables_in, is_placement, but_placements, by_sheet_place, by_piece, by_since, has_key, row_at, Lists, ListsKeys}
 use Rattle.state_rows.proofs.Editing.{edits-next}
 

@@ -21,8 +21,8 @@ use Rattle.desk_types.specs.Outcome.{takes_by}
 use Rattle.desk_types.specs.Judged.{IsJudged}
 use Rattle.desk_types.specs.Placements.{EntryTake, Placement, entry_takes, takes_of, placement_of, placements_of}
 use Rattle.desk_laws.proofs.Distinct.{all-append}
-use Rattle.state_rows.specs.declared.row.PlacementRow.{PlacementRow}
-use Rattle.state_rows.specs.Tables.{placement_columns, placement_row}
+use Rattle.state_tables.specs.declared.row.PlacementRow.{PlacementRow}
+use Rattle.state_tables.specs.Tables.{placement_columns, placement_row}
 use Rattle.state_rows.specs.Kept.{by_piece, row_at, Lists}
 
 -- a placement as a row with its key

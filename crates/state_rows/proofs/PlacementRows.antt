@@ -15,8 +15,8 @@ use Rattle.desk_types.specs.History.{History}
 use Rattle.desk_types.specs.Outcome.{takes_by}
 use Rattle.desk_types.specs.Judged.{IsJudged}
 use Rattle.desk_types.specs.Placements.{EntryTake, Placement, entry_takes, takes_of, placement_of, placements_of}
-use Rattle.state_rows.specs.declared.row.PlacementRow.{PlacementRow}
-use Rattle.state_rows.specs.Tables.{at_place, placement_columns, placement_row}
+use Rattle.state_tables.specs.declared.row.PlacementRow.{PlacementRow}
+use Rattle.state_tables.specs.Tables.{at_place, placement_columns, placement_row}
 use Rattle.state_rows.specs.After.{placed_row, placement_after}
 
 -- ---- places

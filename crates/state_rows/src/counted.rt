@@ -6,13 +6,12 @@ ghost use Rattle.desk_types.specs.declared.rules.Rules.TheVariants.{Two};
 ghost use Rattle.desk_types.specs.History.{History};
 ghost use Rattle.desk_types.specs.Judged.{IsJudged};
 ghost use Rattle.desk_types.specs.Desk.{HasRoom};
-ghost use Rattle.state_rows.specs.Tables.{columns_of};
+ghost use Rattle.state_tables.specs.Tables.{columns_of};
 ghost use Rattle.state_rows.specs.EditsOf.{counted_row, counted_edits, count_edits, CountFits};
 
-use crate::edit::RowEdit;
 use crate::reels::columns;
-use crate::row::ReelRow;
 use desk_types::{CountRow, Desk, ReelView};
+use state_tables::{ReelRow, RowEdit};
 use std::alloc::{AllocError, Global};
 
 /// The reel's row with so many pieces counted.

@@ -5,18 +5,17 @@ ghost use Rattle.desk_types.specs.declared.rules.Rules.TheVariants.{Two};
 ghost use Rattle.desk_types.specs.History.{History, now_of, accept};
 ghost use Rattle.desk_types.specs.Judged.{IsJudged};
 ghost use Rattle.desk_types.specs.Desk.{HasRoom, IsChange};
-ghost use Rattle.state_rows.specs.Tables.{tables_of};
-ghost use Rattle.state_rows.specs.Edits.{with_edits, AreNew, AreTakesFirst, AreBalanced};
+ghost use Rattle.state_tables.specs.Tables.{tables_of};
+ghost use Rattle.state_tables.specs.Edits.{with_edits, AreNew, AreTakesFirst, AreBalanced};
 ghost use Rattle.state_rows.specs.EditsOf.{pick_of, AreEditsOf, ArePiecesFitting};
 
 use crate::counted::count;
-use crate::edit::{RowEdit, RowEdits};
 use crate::reels::{bake, mount, open, received, seal};
-use crate::row::MountRow;
 use crate::sheets::define;
 use crate::slot_rows::{board, unload};
 use crate::takes::take;
 use desk_types::{Change, Command, Desk, Listing, Minute, Take};
+use state_tables::{MountRow, RowEdit, RowEdits};
 use std::alloc::{AllocError, Global};
 
 /// One edit.

@@ -7,11 +7,10 @@ ghost use Rattle.desk_types.specs.Id.{Name};
 ghost use Rattle.desk_types.specs.History.{History};
 ghost use Rattle.desk_types.specs.Setup.{selected_on};
 ghost use Rattle.state_rows.specs.EditsOf.{reel_on_slot, reels_on, board_edit};
-ghost use Rattle.state_rows.specs.declared.edit.RowEdit.TheVariants.{TakeMount};
+ghost use Rattle.state_tables.specs.declared.edit.RowEdit.TheVariants.{TakeMount};
 
-use crate::edit::RowEdit;
-use crate::row::BoardRow;
 use desk_types::{Desk, Id, Mount};
+use state_tables::{BoardRow, RowEdit};
 use std::alloc::{AllocError, Global};
 
 /// The reel of a live reel's row, where it is on the slot.

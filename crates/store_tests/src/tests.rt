@@ -11,6 +11,7 @@ use sqlite::{Alter, Connection, MemStore};
 use std::alloc::{AllocError, Global};
 use std::process::Abort;
 use std::test::Fail;
+use stored_texts::Kept;
 
 fn id(text: &str) -> Result<Id, Fail> {
     Ok(Id::read(text.as_bytes()).ok_or("no id")?)

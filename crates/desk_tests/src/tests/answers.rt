@@ -7,6 +7,7 @@ use look_back::PlainDesk;
 use std::alloc::{AllocError, Global};
 use std::process::Abort;
 use std::test::Fail;
+use stored_texts::Kept;
 
 /// The command of a stored text, in a message of minute 0.
 fn stamped(alloc: Global, uid: &str, text: &str) -> Result<Stamped, Fail> {

@@ -14,6 +14,7 @@ use state_rows::{RowSet, rows_of};
 use std::alloc::{AllocError, Global};
 use std::process::Abort;
 use std::test::Fail;
+use stored_texts::Kept;
 
 /// The message of a stored text.
 fn message(alloc: Global, minute: u64, text: &str) -> Result<Stamped, Fail> {

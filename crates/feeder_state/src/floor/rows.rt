@@ -7,7 +7,7 @@ ghost use Rattle.desk_types.specs.History.{History, now_of};
 ghost use Rattle.desk_types.specs.Pieces.{live_on, found_of, is_mounted};
 ghost use Rattle.desk_types.specs.Judged.{IsJudged};
 ghost use Rattle.entry_search.specs.Floor.{tape_at};
-ghost use Rattle.state_rows.specs.Tables.{reel_row};
+ghost use Rattle.state_tables.specs.Tables.{reel_row};
 ghost use Rattle.feeder_state.specs.Floor.{IsFloor};
 ghost use Rattle.feeder_state.specs.Held.{held_at, IsHeld, IsHeldOf, AreHeld};
 ghost use Rattle.feeder_state.specs.Restored.{AreRowsOf};
@@ -18,7 +18,8 @@ use crate::maps::put;
 use desk_types::{Id, Minute};
 use entry_search::floor::Tape;
 use reels::Reel;
-use state_rows::{MountRow, ReelRow, RowSet};
+use state_rows::RowSet;
+use state_tables::{MountRow, ReelRow};
 use std::alloc::{AllocError, Global};
 use std::collections::{BTreeMap, VecDeque};
 

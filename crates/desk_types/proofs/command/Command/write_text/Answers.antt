@@ -1,6 +1,0 @@
-use Rattle.std.proofs.Common.{sym, ◌∙◌}
-use Rattle.desk_types.proofs.Tabs.{stored_text-written}
-use Rattle.desk_types.proofs.command.Command.write_text.Goals as goal
-
-pub returns : goal.returns
-returns c = c.new.ensures ∙ c.in_ok-written.ensures ∙ sym (stored_text-written c.args.self.now)

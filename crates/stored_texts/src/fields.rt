@@ -1,0 +1,87 @@
+//! The fields of a stored text, one after another.
+
+ghost use Rattle.std.specs.Prelude.{◌≡◌, ◌∷◌, [], IsTrue, ◌↔◌, MatchOption, position, ◌==◌};
+ghost use Rattle.stored_texts.specs.Fields.{fields_in};
+
+use std::alloc::AllocError;
+use std::marker::Model;
+
+/// What stands between two fields.
+pub const TAB: u8 = b'\t';
+
+/// Why a value was not read.
+#[derive(Clone, Copy, Debug, PartialEq, Eq)]
+pub enum Unread {
+    /// Memory was refused.
+    NoMemory,
+    /// The fields don't begin with what is kept of such a value.
+    NotStored,
+}
+
+impl From<AllocError> for Unread {
+    ghost use Rattle.std.specs.Prelude.{◌≡◌};
+    ghost use Rattle.stored_texts.specs.declared.fields.Unread.TheVariants.{NoMemory};
+
+    ghost from_gives = { λ _ fault. fault ≡ NoMemory };
+
+    fn from(_error: AllocError) -> Unread {
+        Unread::NoMemory
+    }
+}
+
+/// The fields of a text that are still to be read.
+#[derive(Drop)]
+pub struct Fields<'a> {
+    /// The text from the next field on; none after the last field.
+    rest: Option<&'a [u8]>,
+}
+
+impl<'a> Model for Fields<'a> {
+    ghost use Rattle.std.specs.Prelude.{List, ℕ};
+    ghost use Rattle.std.specs.Option.{option_copied};
+    ghost use Rattle.stored_texts.specs.Fields.{fields_left};
+
+    ghost Value = { List (List ℕ) };
+
+    ghost view = { λ a. fields_left (option_copied a.rest) };
+}
+
+impl<'a> Fields<'a> {
+    /// The fields of a text.
+    pub fn new(text: &'a [u8]) -> Fields<'a>
+        ensures { result ≡ fields_in text.now }
+    {
+        Fields { rest: Some(text) }
+    }
+
+    /// Takes the next field, where there is one.
+    pub fn take_next(&mut self) -> Option<&'a [u8]>
+        ensures { MatchOption result (self.old ≡ []) (λ field. self.old ≡ field.now ∷ self.new) }
+    {
+        let rest = self.rest?;
+        match first_tab(rest) {
+            Some(end) => {
+                self.rest = Some(&rest[end + 1..]);
+                Some(&rest[..end])
+            }
+            None => {
+                self.rest = None;
+                Some(rest)
+            }
+        }
+    }
+
+    /// Whether no field is left.
+    pub fn is_empty(&self) -> bool
+        ensures { IsTrue result ↔ (self.now ≡ []) }
+    {
+        self.rest.is_none()
+    }
+}
+
+/// Where the first tab of a text stands.
+fn first_tab(text: &[u8]) -> Option<usize>
+    ensures { result ≡ position (λ byte. byte == 0x09) text.now }
+{
+    text.iter().position(|byte| *byte == TAB)
+}

@@ -1,0 +1,50 @@
+//! A command as its text, and back.
+
+ghost use Rattle.std.specs.Prelude.{◌≡◌, IfOk, IfSome, IfNone};
+ghost use Rattle.desk_types.specs.Command.{IsCommand};
+ghost use Rattle.stored_texts.specs.StoredText.{stored_text};
+
+use crate::fields::Unread;
+use crate::reading::whole;
+use crate::writing::written;
+use desk_types::{Command, Text};
+use std::alloc::{AllocError, Global};
+
+/// What is kept as a text of its own.
+pub trait Kept: Drop + Sized {
+    ghost use Rattle.std.specs.Prelude.{List, ℕ};
+
+    /// Whether it may be kept.
+    ghost in_range: { Self → Type 0 };
+
+    /// Its text.
+    ghost stored: { Self → List ℕ };
+
+    /// The text that is kept of it.
+    fn write_text(&self, alloc: Global) -> Result<Text, AllocError>
+        ensures { IfOk result (λ text. text ≡ stored self.now) };
+
+    /// What has this text. Takes memory for its lists alone.
+    fn read_text(alloc: Global, text: &[u8]) -> Result<Option<Self>, AllocError>
+        ensures read { IfOk result (λ found. IfSome found (λ it. text.now ≡ stored it)) }
+        ensures range { IfOk result (λ found. IfSome found in_range) }
+        ensures refused { IfOk result (λ found. IfNone found ((it : Self) → in_range it → ¬ (text.now ≡ stored it))) };
+}
+
+impl Kept for Command {
+    ghost in_range = { IsCommand };
+
+    ghost stored = { stored_text };
+
+    fn write_text(&self, alloc: Global) -> Result<Text, AllocError> {
+        Ok(Text::new(written(alloc, self)?))
+    }
+
+    fn read_text(alloc: Global, text: &[u8]) -> Result<Option<Command>, AllocError> {
+        match whole(alloc, text) {
+            Ok(command) => Ok(Some(command)),
+            Err(Unread::NotStored) => Ok(None),
+            Err(Unread::NoMemory) => Err(AllocError),
+        }
+    }
+}

@@ -1,0 +1,168 @@
+//! Values that texts are made of, and how each is read from the front of some fields.
+
+ghost use Rattle.std.specs.Prelude.{◌≡◌, ◌∷◌, [], ⊤, IfOk, IfErr, OnOk, ◌++◌};
+ghost use Rattle.desk_types.specs.Designator.{IsDesignator};
+ghost use Rattle.stored_texts.specs.Fields.{Reads, TellsApart, number_fields, level_fields, IsNumber, after_tabs};
+ghost use Rattle.desk_types.specs.Id.{IsId};
+ghost use Rattle.desk_types.specs.Number.{IsQuantity, IsCountedQuantity};
+ghost use Rattle.stored_texts.specs.StoredText.{name_fields};
+ghost use Rattle.stored_texts.specs.declared.fields.Unread.TheVariants.{NotStored};
+ghost use Rattle.stored_texts.specs.Apart.{names_apart, levels_apart, numbers_apart, quantities_fit, counted_quantities_fit};
+
+use crate::fields::{Fields, TAB, Unread};
+use decimals::number;
+use desk_types::{CountedQuantity, Designator, Id, Level, Quantity};
+use itoa::Buffer;
+use std::alloc::{AllocError, Global};
+
+/// A value that a text has as some of its fields.
+pub trait Stored: Drop + Sized {
+    ghost use Rattle.std.specs.Prelude.{List, ℕ};
+
+    /// Whether it is in its range.
+    ghost in_range: { Self → Type 0 };
+
+    /// Its fields.
+    ghost spelling: { Self → List (List ℕ) };
+
+    /// Writes its fields at the end of the text, each behind a tab.
+    fn write(&self, text: &mut Vec<u8>) -> Result<(), AllocError>
+        ensures { OnOk result (text.new.items ≡ text.old.items ++ after_tabs (spelling self.now)) };
+
+    /// Reads one from the front of the fields. After an error what is left of them is of no use.
+    fn read(alloc: Global, fields: &mut Fields) -> Result<Self, Unread>
+        ensures { Reads in_range spelling fields.old fields.new result };
+
+    /// No value's fields begin those of another.
+    ghost apart: { TellsApart in_range spelling };
+}
+
+/// Writes a field at the end of the text, behind a tab.
+fn put_field(text: &mut Vec<u8>, field: &[u8]) -> Result<(), AllocError>
+    ensures { OnOk result (text.new.items ≡ text.old.items ++ after_tabs (field.now ∷ [])) }
+{
+    text.push(TAB)?;
+    text.extend_from_slice(field)
+}
+
+/// The next field.
+fn next_field<'a>(fields: &mut Fields<'a>) -> Result<&'a [u8], Unread>
+    ensures ok { IfOk result (λ field. fields.old ≡ field.now ∷ fields.new) }
+    ensures err { IfErr result (λ fault. (fault ≡ NotStored) × (fields.old ≡ [])) }
+{
+    fields.take_next().ok_or(Unread::NotStored)
+}
+
+impl Stored for Id {
+    ghost in_range = { IsId };
+
+    ghost spelling = { name_fields };
+
+    ghost apart = { names_apart IsId };
+
+    fn write(&self, text: &mut Vec<u8>) -> Result<(), AllocError> {
+        put_field(text, self.as_bytes())
+    }
+
+    fn read(_: Global, fields: &mut Fields) -> Result<Id, Unread> {
+        let Some(id) = Id::read(next_field(fields)?) else {
+            return Err(Unread::NotStored);
+        };
+        Ok(id)
+    }
+}
+
+impl Stored for Designator {
+    ghost in_range = { IsDesignator };
+
+    ghost spelling = { name_fields };
+
+    ghost apart = { names_apart IsDesignator };
+
+    fn write(&self, text: &mut Vec<u8>) -> Result<(), AllocError> {
+        put_field(text, self.as_bytes())
+    }
+
+    fn read(_: Global, fields: &mut Fields) -> Result<Designator, Unread> {
+        let Some(designator) = Designator::read(next_field(fields)?) else {
+            return Err(Unread::NotStored);
+        };
+        Ok(designator)
+    }
+}
+
+impl Stored for Level {
+    ghost in_range = { λ _. ⊤ };
+
+    ghost spelling = { level_fields };
+
+    ghost apart = { levels_apart (λ _. ⊤) };
+
+    fn write(&self, text: &mut Vec<u8>) -> Result<(), AllocError> {
+        put_field(text, self.as_str().as_bytes())
+    }
+
+    fn read(_: Global, fields: &mut Fields) -> Result<Level, Unread> {
+        let Some(level) = Level::read(next_field(fields)?) else {
+            return Err(Unread::NotStored);
+        };
+        Ok(level)
+    }
+}
+
+impl Stored for u64 {
+    ghost in_range = { IsNumber };
+
+    ghost spelling = { number_fields };
+
+    ghost apart = { numbers_apart IsNumber (λ n fits. fits) };
+
+    fn write(&self, text: &mut Vec<u8>) -> Result<(), AllocError> {
+        put_field(text, Buffer::new().format(*self).as_bytes())
+    }
+
+    fn read(_: Global, fields: &mut Fields) -> Result<u64, Unread> {
+        let Some(n) = number(next_field(fields)?) else {
+            return Err(Unread::NotStored);
+        };
+        Ok(n)
+    }
+}
+
+impl Stored for Quantity {
+    ghost in_range = { IsQuantity };
+
+    ghost spelling = { number_fields };
+
+    ghost apart = { numbers_apart IsQuantity quantities_fit };
+
+    fn write(&self, text: &mut Vec<u8>) -> Result<(), AllocError> {
+        self.get().write(text)
+    }
+
+    fn read(alloc: Global, fields: &mut Fields) -> Result<Quantity, Unread> {
+        let Some(quantity) = Quantity::new(u64::read(alloc, fields)?) else {
+            return Err(Unread::NotStored);
+        };
+        Ok(quantity)
+    }
+}
+
+impl Stored for CountedQuantity {
+    ghost in_range = { IsCountedQuantity };
+
+    ghost spelling = { number_fields };
+
+    ghost apart = { numbers_apart IsCountedQuantity counted_quantities_fit };
+
+    fn write(&self, text: &mut Vec<u8>) -> Result<(), AllocError> {
+        self.get().write(text)
+    }
+
+    fn read(alloc: Global, fields: &mut Fields) -> Result<CountedQuantity, Unread> {
+        let Some(quantity) = CountedQuantity::new(u64::read(alloc, fields)?) else {
+            return Err(Unread::NotStored);
+        };
+        Ok(quantity)
+    }
+}

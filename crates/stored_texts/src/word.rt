@@ -1,0 +1,91 @@
+//! The words that stored texts begin with.
+
+ghost use Rattle.std.specs.Prelude.{◌≡◌, find, option_map, IfSome, IfNone};
+ghost use Rattle.desk_types.specs.Id.{same};
+ghost use Rattle.stored_texts.specs.StoredText.{word_text};
+
+/// Which of the seventeen commands a text is of.
+#[derive(Clone, Copy, Debug, PartialEq, Eq)]
+pub enum Word {
+    PartDefined,
+    AlternateAllowed,
+    SheetDefined,
+    ProductSelected,
+    ReelReceived,
+    ReelOpened,
+    ReelSealed,
+    ReelBaked,
+    MaterialsLoaded,
+    MaterialsSpliced,
+    MaterialsUnloaded,
+    WorkStarted,
+    WorkCompleted,
+    MaterialsInstalled,
+    MaterialsScrapped,
+    CountsTaken,
+    ClockSet,
+}
+
+/// All seventeen.
+const WORDS: [Word; 17] = [
+    Word::PartDefined,
+    Word::AlternateAllowed,
+    Word::SheetDefined,
+    Word::ProductSelected,
+    Word::ReelReceived,
+    Word::ReelOpened,
+    Word::ReelSealed,
+    Word::ReelBaked,
+    Word::MaterialsLoaded,
+    Word::MaterialsSpliced,
+    Word::MaterialsUnloaded,
+    Word::WorkStarted,
+    Word::WorkCompleted,
+    Word::MaterialsInstalled,
+    Word::MaterialsScrapped,
+    Word::CountsTaken,
+    Word::ClockSet,
+];
+
+impl Word {
+    /// The word of this text, where it is one of the seventeen.
+    pub fn read(text: &[u8]) -> Option<Word>
+        ensures read { IfSome result (λ word. text.now ≡ word_text word) }
+        ensures refused { IfNone result ((word : Word) → ¬ (text.now ≡ word_text word)) }
+    {
+        named(&WORDS, text).copied()
+    }
+
+    /// The text of the word.
+    #[tactic(auto, unfolding(crate::specs::StoredText::word_text))]
+    pub fn as_str(self) -> &'static str
+        ensures { result.now ≡ word_text self }
+    {
+        match self {
+            Word::PartDefined => "PartDefined",
+            Word::AlternateAllowed => "AlternateAllowed",
+            Word::SheetDefined => "SheetDefined",
+            Word::ProductSelected => "ProductSelected",
+            Word::ReelReceived => "ReelReceived",
+            Word::ReelOpened => "ReelOpened",
+            Word::ReelSealed => "ReelSealed",
+            Word::ReelBaked => "ReelBaked",
+            Word::MaterialsLoaded => "MaterialsLoaded",
+            Word::MaterialsSpliced => "MaterialsSpliced",
+            Word::MaterialsUnloaded => "MaterialsUnloaded",
+            Word::WorkStarted => "WorkStarted",
+            Word::WorkCompleted => "WorkCompleted",
+            Word::MaterialsInstalled => "MaterialsInstalled",
+            Word::MaterialsScrapped => "MaterialsScrapped",
+            Word::CountsTaken => "CountsTaken",
+            Word::ClockSet => "ClockSet",
+        }
+    }
+}
+
+/// The first of some words with this text.
+fn named<'a>(words: &'a [Word], text: &[u8]) -> Option<&'a Word>
+    ensures { option_map (λ word. word.now) result ≡ find (λ word. same (word_text word) text.now) words.now }
+{
+    words.iter().find(|word| word.as_str().as_bytes() == text)
+}

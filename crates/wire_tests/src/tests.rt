@@ -1,0 +1,4 @@
+//! Wires, and lines over them.
+
+mod lines;
+mod wires;
