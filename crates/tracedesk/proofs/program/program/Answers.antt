@@ -66,7 +66,7 @@ pub returns-in-Ok-Audit-clause-no_desk : goal.returns-in-Ok-Audit-clause-no_desk
 returns-in-Ok-Audit-clause-no_desk g c = λ is.
     let asks : AsksForAudit (map string_bytes c.args.words.now) (string_bytes c.in-Ok-Audit.file) = search rules in
     let told = c.audit_file-status.ensures.no_desk is in
-    (told.0, inr (string_bytes c.in-Ok-Audit.file, inl asks), told.1)
+    (told.0, inr (string_bytes c.in-Ok-Audit.file, inl asks), told.2)
 
 pub returns-in-Ok-Migrate-clause-done : goal.returns-in-Ok-Migrate-clause-done
 returns-in-Ok-Migrate-clause-done g c = λ is.
@@ -84,7 +84,7 @@ pub returns-in-Ok-Migrate-clause-no_desk : goal.returns-in-Ok-Migrate-clause-no_
 returns-in-Ok-Migrate-clause-no_desk g c = λ is.
     let asks : AsksForMigration (map string_bytes c.args.words.now) (string_bytes c.in-Ok-Migrate.file) = search rules in
     let told = c.migrate_file-status.ensures.no_desk is in
-    (told.0, inr (string_bytes c.in-Ok-Migrate.file, inr (inr (inl asks))), told.1)
+    (told.0, inr (string_bytes c.in-Ok-Migrate.file, inr (inr (inl asks))), told.2)
 
 pub returns-in-Ok-Import-clause-done : goal.returns-in-Ok-Import-clause-done
 returns-in-Ok-Import-clause-done g c = λ is.
@@ -108,7 +108,7 @@ pub returns-in-Ok-Import-clause-no_desk : goal.returns-in-Ok-Import-clause-no_de
 returns-in-Ok-Import-clause-no_desk g c = λ is.
     let asks : AsksForImport (map string_bytes c.args.words.now) (string_bytes c.in-Ok-Import.file) c.in-Ok-Import.import (string_bytes c.in-Ok-Import.from) = search rules in
     let told = c.import_in_file-status.ensures.no_desk is in
-    (told.0, inr (string_bytes c.in-Ok-Import.file, inr (inr (inr (inl (c.in-Ok-Import.import, string_bytes c.in-Ok-Import.from, asks))))), told.1)
+    (told.0, inr (string_bytes c.in-Ok-Import.file, inr (inr (inr (inl (c.in-Ok-Import.import, string_bytes c.in-Ok-Import.from, asks))))), told.2)
 
 pub returns-in-Ok-Serve-clause-done : goal.returns-in-Ok-Serve-clause-done
 returns-in-Ok-Serve-clause-done g c = λ is.
@@ -179,7 +179,7 @@ returns-in-Ok-Report-clause-no_desk g c = λ is.
     let asked = c.in-Ok-Report in
     let asks : AsksForReport (map string_bytes c.args.words.now) (string_bytes asked.file) (string_bytes asked.target) = search rules in
     let told = c.report_in_file-status.ensures.no_desk is in
-    (told.0, inr (string_bytes asked.file, inr (inr (inr (inr (inr (string_bytes asked.target, asks)))))), told.1)
+    (told.0, inr (string_bytes asked.file, inr (inr (inr (inr (inr (string_bytes asked.target, asks)))))), told.2)
 
 pub returns-in-Some-clause-unread : goal.returns-in-Some-clause-unread
 returns-in-Some-clause-unread g c = λ no_feed.
