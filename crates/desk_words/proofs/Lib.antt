@@ -1,2 +1,3 @@
 pub mod CommandLineRows
 pub mod ConstantRows
+pub mod OneCommand

@@ -216,6 +216,15 @@ HasBadValue words =
 abbrev pub AsksForNothing : List (List ℕ) → Type 0
 AsksForNothing words = IsMistaken words ⊎ HasBadValue words
 
+-- the words ask for something else than to answer lines
+abbrev pub AsksForOther : List (List ℕ) → Type 0
+AsksForOther words =
+    ((file : List ℕ) × AsksForAudit words file) ⊎ ((file : List ℕ) × AsksForMigration words file)
+    ⊎ ((file : List ℕ) × (import : Import) × (from : List ℕ) × AsksForImport words file import from)
+    ⊎ ((file : List ℕ) × (port : ℕ) × (connections : ℕ) × (greatest : ℕ) × AsksForServing words file port connections greatest)
+    ⊎ ((file : List ℕ) × (target : List ℕ) × AsksForReport words file target)
+    ⊎ ((option : BadOption) × HasBadOption words option) ⊎ AsksForText words ⊎ AsksForNothing words
+
 -- what the words ask for
 abbrev pub Asks : List (List ℕ) → Asked → Type 0
 Asks words (Feed file greatest) = AsksForFeed words (option_map string_bytes file) greatest

@@ -1,5 +1,5 @@
 -- A run that the words ask for.
-use Rattle.std.proofs.Common.{◌≡◌, ℕ, List, Option, None, Some, subst}
+use Rattle.std.proofs.Common.{◌≡◌, ℕ, List, Option, None, Some, OnSome, subst}
 use Rattle.sqlite_disk.specs.declared.Disk as disk
 use Rattle.sqlite_disk.specs.declared.start.Start as start
 use Rattle.sqlite_store.specs.declared.store.FileStore.{FileStore}
@@ -39,3 +39,8 @@ pub runs_serving : {T D W : Type 0} {g : disk.Ghosts D} (first : start.Ghosts T)
 runs_serving first words desk contents output output' file port connections greatest status told asks is served =
     let all = subst (λ (n : ℕ). (ends : List Ended) × Tells connections ends n (contents (inner_of output)) (contents (inner_of output')) (failures_of output) (failures_of output') × RunsOn first (Some greatest) desk (ServesEach ends)) is served in
     (file, port, connections, greatest, asks, all.0, all.1, all.2)
+
+-- what is known is known of a value that may be there
+pub on_some : {X : Type 0} (value : Option X) (Fact : Type 0) → Fact → OnSome value Fact
+on_some None Fact is = tt
+on_some (Some x) Fact is = is

@@ -42,9 +42,17 @@ RunsReport first words desk Shown =
     (file : List ℕ) × (target : List ℕ) × AsksForReport words file target
     × (answer : Told) × Shown answer × RunsOn first None desk (TellsReport report_of target answer)
 
--- the words name a file that keeps a desk
-abbrev pub NamesFile : List (List ℕ) → Type 0
-NamesFile words = (file : List ℕ) × (AsksForAudit words file ⊎ ((greatest : ℕ) × AsksForFeed words (Some file) greatest) ⊎ AsksForMigration words file
+-- the words name a file whose desk is opened
+abbrev pub NamesDesk : List (List ℕ) → Type 0
+NamesDesk words = (file : List ℕ) × (AsksForAudit words file ⊎ ((greatest : ℕ) × AsksForFeed words (Some file) greatest)
     ⊎ ((import : Import) × (from : List ℕ) × AsksForImport words file import from)
     ⊎ ((port : ℕ) × (connections : ℕ) × (greatest : ℕ) × AsksForServing words file port connections greatest)
     ⊎ ((target : List ℕ) × AsksForReport words file target))
+
+-- they name one that is migrated
+abbrev pub NamesMigrated : List (List ℕ) → Type 0
+NamesMigrated words = (file : List ℕ) × AsksForMigration words file
+
+-- they name a file that keeps a desk
+abbrev pub NamesFile : List (List ℕ) → Type 0
+NamesFile words = NamesDesk words ⊎ NamesMigrated words

@@ -1,6 +1,6 @@
 //! A run of the program.
 
-ghost use Rattle.std.specs.Prelude.{◌≡◌, ◌≢◌, ◌⊎◌, ◌+◌, ◌^◌, ◌<◌, ◌≤◌, true, false, None, codes, map, string_bytes, length, List, ℕ};
+ghost use Rattle.std.specs.Prelude.{◌≡◌, ◌≢◌, ◌⊎◌, ◌+◌, ◌^◌, ◌<◌, ◌≤◌, true, false, None, codes, map, string_bytes, length, IfSome, IsSomeAnd, OnSome, List, ℕ};
 ghost use Rattle.std.specs.IoError.{error_kind};
 ghost use Rattle.std.specs.Io.KnownBytes.{Appends, IsAtEnd};
 ghost use Rattle.desk_types.specs.Wire.{inner_of, reads_of, failures_of};
@@ -18,9 +18,11 @@ ghost use Rattle.served.specs.Sent.{SendsFront};
 ghost use Rattle.served.specs.Shown.{FailsNever, IsShown};
 ghost use Rattle.http_stream.specs.Answers.{code_of};
 ghost use Rattle.desk_runs.specs.Runs.{AnswersAll, AnswersImport, AnswersUpTo, CutsImport, StaysSame};
-ghost use Rattle.desk_runs.specs.Told.{fault_line, lawful_line, option_line, printed, version_line, Tells, TellsEnd, TellsLine};
+ghost use Rattle.desk_runs.specs.Told.{fault_line, lawful_line, option_line, printed, unavailable_line, version_line, Tells, TellsEnd, TellsLine};
+ghost use Rattle.feeder_state.specs.contracts.desk.StateDeskDesk.TheImpl.{ghosts as state};
+ghost use Rattle.desk_file.specs.Files.{Closes, KeepsTables};
 ghost use Rattle.desk_commands.specs.Runs.{Audits, Migrates, RunsOn, refusal_line};
-ghost use Rattle.tracedesk.specs.Program.{NamesFile, RunsAsked, RunsImport, RunsReport, RunsServing};
+ghost use Rattle.tracedesk.specs.Program.{NamesDesk, NamesFile, NamesMigrated, RunsAsked, RunsImport, RunsReport, RunsServing};
 
 use desk_commands::{
     audit_file, feed_in_file, feed_in_memory, import_in_file, migrate_file, report_in_file,
@@ -32,7 +34,7 @@ use desk_runs::{Exit, bad_option, send_text, tell, tell_line, unavailable};
 use desk_types::Wire;
 use desk_words::{Asked, read_words};
 use feeder_state::StateDesk;
-use sqlite::{Start, Unknown};
+use sqlite::{FileFrom, Files, Start, Unknown};
 use std::alloc::AllocError;
 use std::fs::File;
 use std::io;
@@ -57,8 +59,9 @@ pub fn run(rt: &HostRuntime) -> u8
                 &mut output,
                 &mut errors,
             );
-            let status = closed(rt, status, desk);
-            file_closed(rt, status, migrated)
+            let (status, _) = closed(status, desk, &mut Wire::new(rt.stderr()));
+            let (status, _) = file_closed(status, migrated, &mut Wire::new(rt.stderr()));
+            status
         }
         Err(error) => wordless(&error, &mut errors),
     }
@@ -145,6 +148,8 @@ pub fn program<T: Start, F: Folder, R: Read, W: Write, E: Write>(
     ensures bad { result.0 ≡ 2 → (AsksForNothing (map string_bytes words.now) × (text : List ℕ) × Tells E.contents errors.old errors.new text)
         ⊎ ((option : BadOption) × HasBadOption (map string_bytes words.now) option × TellsLine E.contents errors.old errors.new (option_line option)) }
     ensures unopened { result.0 ≡ 2 → (result.1 ≡ None) × (result.2 ≡ None) }
+    ensures opened { OnSome result.1 (NamesDesk (map string_bytes words.now)) }
+    ensures migrated { OnSome result.2 (NamesMigrated (map string_bytes words.now)) }
     ensures no_desk { result.0 ≡ 3 → (told : OpenFault) × ((told ≡ Unavailable) ⊎ NamesFile (map string_bytes words.now)) × TellsLine E.contents errors.old errors.new (refusal_line told) }
     ensures left { result.0 ≡ 3 → ((result.1 ≡ None) ⊎ RunsOn T.Start None result.1 StaysSame) × (result.2 ≡ None) }
     ensures untouched { (result.0 ≡ 2) ⊎ (result.0 ≡ 3) → (input.new ≡ input.old) × (output.new ≡ output.old) }
@@ -249,31 +254,47 @@ pub fn program<T: Start, F: Folder, R: Read, W: Write, E: Write>(
     }
 }
 
-/// The exit status once the desk's file is closed. One that can't be closed is Unavailable, whatever
-/// was answered before, which is in its log.
-fn closed<T: Start>(rt: &HostRuntime, status: u8, desk: Option<FileDesk<T, StateDesk>>) -> u8
-    ensures same { desk ≡ None → result ≡ status }
-    ensures ends { (result ≡ status) ⊎ (result ≡ 3) }
+/// Closes the desk's file: the exit status, and the files for clauses to name. One that can't be
+/// closed is Unavailable, whatever was answered before, which is in its log.
+fn closed<T: Start, E: Write>(
+    status: u8,
+    desk: Option<FileDesk<T, StateDesk>>,
+    errors: &mut Wire<E>,
+) -> (u8, Option<Files<FileFrom<T>>>)
+    requires error_failures { failures_of errors.old < 2 ^ 63 }
+    ensures same { desk ≡ None → (result.0 ≡ status) × (errors.new ≡ errors.old) }
+    ensures ends { (result.0 ≡ status) ⊎ (result.0 ≡ 3) }
+    ensures told { result.0 ≢ status → TellsLine E.contents errors.old errors.new unavailable_line }
+    ensures quiet { result.0 ≢ 3 → errors.new ≡ errors.old }
+    ensures whole { result.0 ≢ 3 → IfSome desk (λ d. IsSomeAnd result.1 (Closes state.Stands state.kept_rules d)) }
 {
     match desk {
-        None => status,
+        None => (status, None),
         Some(desk) => match close_desk(desk) {
-            Ok(_) => status,
-            Err(_) => unavailable(&mut Wire::new(rt.stderr())),
+            Ok(files) => (status, Some(files)),
+            Err(_) => (unavailable(errors), None),
         },
     }
 }
 
 /// The same for the file that was migrated.
-fn file_closed<T: Start>(rt: &HostRuntime, status: u8, file: Option<DeskFile<T>>) -> u8
-    ensures same { file ≡ None → result ≡ status }
-    ensures ends { (result ≡ status) ⊎ (result ≡ 3) }
+fn file_closed<T: Start, E: Write>(
+    status: u8,
+    file: Option<DeskFile<T>>,
+    errors: &mut Wire<E>,
+) -> (u8, Option<Files<FileFrom<T>>>)
+    requires error_failures { failures_of errors.old < 2 ^ 63 }
+    ensures same { file ≡ None → (result.0 ≡ status) × (errors.new ≡ errors.old) }
+    ensures ends { (result.0 ≡ status) ⊎ (result.0 ≡ 3) }
+    ensures told { result.0 ≢ status → TellsLine E.contents errors.old errors.new unavailable_line }
+    ensures quiet { result.0 ≢ 3 → errors.new ≡ errors.old }
+    ensures whole { result.0 ≢ 3 → IfSome file (λ conn. IsSomeAnd result.1 (KeepsTables conn)) }
 {
     match file {
-        None => status,
+        None => (status, None),
         Some(file) => match close_file(file) {
-            Ok(_) => status,
-            Err(_) => unavailable(&mut Wire::new(rt.stderr())),
+            Ok(files) => (status, Some(files)),
+            Err(_) => (unavailable(errors), None),
         },
     }
 }

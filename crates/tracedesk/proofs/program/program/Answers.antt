@@ -8,7 +8,8 @@ use Rattle.served.specs.Sent.{SendsFront}
 use Rattle.http_stream.specs.Answers.{code_of}
 use Rattle.desk_runs.specs.Runs.{AnswersImport, CutsImport, StaysSame}
 use Rattle.desk_runs.specs.Told.{printed}
-use Rattle.tracedesk.proofs.Running.{runs_import, runs_report, runs_serving}
+use Rattle.tracedesk.specs.Program.{NamesDesk, NamesMigrated}
+use Rattle.tracedesk.proofs.Running.{on_some, runs_import, runs_report, runs_serving}
 use Rattle.tracedesk.proofs.program.program.Goals as goal
 
 pub returns-in-Some-clause-done : goal.returns-in-Some-clause-done
@@ -60,13 +61,13 @@ returns-in-Some-clause-no_desk g c = λ is.
     let file = string_bytes c.in-Some.file in
     let asks : AsksForFeed (map string_bytes c.args.words.now) (Some file) c.in-Ok-Feed.greatest = search rules in
     let told = c.feed_in_file-status.ensures.no_desk is in
-    (told.0, inr (file, inr (inl (c.in-Ok-Feed.greatest, asks))), told.1)
+    (told.0, inr (inl (file, inr (inl (c.in-Ok-Feed.greatest, asks)))), told.1)
 
 pub returns-in-Ok-Audit-clause-no_desk : goal.returns-in-Ok-Audit-clause-no_desk
 returns-in-Ok-Audit-clause-no_desk g c = λ is.
     let asks : AsksForAudit (map string_bytes c.args.words.now) (string_bytes c.in-Ok-Audit.file) = search rules in
     let told = c.audit_file-status.ensures.no_desk is in
-    (told.0, inr (string_bytes c.in-Ok-Audit.file, inl asks), told.2)
+    (told.0, inr (inl (string_bytes c.in-Ok-Audit.file, inl asks)), told.2)
 
 pub returns-in-Ok-Migrate-clause-done : goal.returns-in-Ok-Migrate-clause-done
 returns-in-Ok-Migrate-clause-done g c = λ is.
@@ -84,7 +85,7 @@ pub returns-in-Ok-Migrate-clause-no_desk : goal.returns-in-Ok-Migrate-clause-no_
 returns-in-Ok-Migrate-clause-no_desk g c = λ is.
     let asks : AsksForMigration (map string_bytes c.args.words.now) (string_bytes c.in-Ok-Migrate.file) = search rules in
     let told = c.migrate_file-status.ensures.no_desk is in
-    (told.0, inr (string_bytes c.in-Ok-Migrate.file, inr (inr (inl asks))), told.2)
+    (told.0, inr (inr (string_bytes c.in-Ok-Migrate.file, asks)), told.2)
 
 pub returns-in-Ok-Import-clause-done : goal.returns-in-Ok-Import-clause-done
 returns-in-Ok-Import-clause-done g c = λ is.
@@ -108,7 +109,7 @@ pub returns-in-Ok-Import-clause-no_desk : goal.returns-in-Ok-Import-clause-no_de
 returns-in-Ok-Import-clause-no_desk g c = λ is.
     let asks : AsksForImport (map string_bytes c.args.words.now) (string_bytes c.in-Ok-Import.file) c.in-Ok-Import.import (string_bytes c.in-Ok-Import.from) = search rules in
     let told = c.import_in_file-status.ensures.no_desk is in
-    (told.0, inr (string_bytes c.in-Ok-Import.file, inr (inr (inr (inl (c.in-Ok-Import.import, string_bytes c.in-Ok-Import.from, asks))))), told.2)
+    (told.0, inr (inl (string_bytes c.in-Ok-Import.file, inr (inr (inl (c.in-Ok-Import.import, string_bytes c.in-Ok-Import.from, asks))))), told.2)
 
 pub returns-in-Ok-Serve-clause-done : goal.returns-in-Ok-Serve-clause-done
 returns-in-Ok-Serve-clause-done g c = λ is.
@@ -139,7 +140,7 @@ returns-in-Ok-Serve-clause-no_desk g c = λ is.
     let asked = c.in-Ok-Serve in
     let asks : AsksForServing (map string_bytes c.args.words.now) (string_bytes asked.file) asked.port asked.connections asked.greatest = search rules in
     let told = c.serve_in_file-status.ensures.no_desk is in
-    (told.0, inr (string_bytes asked.file, inr (inr (inr (inr (inl (asked.port, asked.connections, asked.greatest, asks)))))), told.1)
+    (told.0, inr (inl (string_bytes asked.file, inr (inr (inr (inl (asked.port, asked.connections, asked.greatest, asks)))))), told.1)
 
 pub returns-in-Ok-Report-clause-done : goal.returns-in-Ok-Report-clause-done
 returns-in-Ok-Report-clause-done g c = λ is.
@@ -179,7 +180,7 @@ returns-in-Ok-Report-clause-no_desk g c = λ is.
     let asked = c.in-Ok-Report in
     let asks : AsksForReport (map string_bytes c.args.words.now) (string_bytes asked.file) (string_bytes asked.target) = search rules in
     let told = c.report_in_file-status.ensures.no_desk is in
-    (told.0, inr (string_bytes asked.file, inr (inr (inr (inr (inr (string_bytes asked.target, asks)))))), told.2)
+    (told.0, inr (inl (string_bytes asked.file, inr (inr (inr (inr (string_bytes asked.target, asks)))))), told.2)
 
 pub returns-in-Some-clause-unread : goal.returns-in-Some-clause-unread
 returns-in-Some-clause-unread g c = λ no_feed.
@@ -190,3 +191,36 @@ pub returns-in-None-clause-unread : goal.returns-in-None-clause-unread
 returns-in-None-clause-unread g c = λ no_feed.
     let asks : AsksForFeed (map string_bytes c.args.words.now) None c.in-Ok-Feed.greatest = search rules in
     absurd (no_feed None c.in-Ok-Feed.greatest asks)
+
+pub returns-in-Some-clause-opened : goal.returns-in-Some-clause-opened
+returns-in-Some-clause-opened g c =
+    let file = string_bytes c.in-Some.file in
+    let asks : AsksForFeed (map string_bytes c.args.words.now) (Some file) c.in-Ok-Feed.greatest = search rules in
+    on_some c.feed_in_file-status.result.1 (NamesDesk (map string_bytes c.args.words.now)) (file, inr (inl (c.in-Ok-Feed.greatest, asks)))
+
+pub returns-in-Ok-Audit-clause-opened : goal.returns-in-Ok-Audit-clause-opened
+returns-in-Ok-Audit-clause-opened g c =
+    let asks : AsksForAudit (map string_bytes c.args.words.now) (string_bytes c.in-Ok-Audit.file) = search rules in
+    on_some c.audit_file-status.result.1 (NamesDesk (map string_bytes c.args.words.now)) (string_bytes c.in-Ok-Audit.file, inl asks)
+
+pub returns-in-Ok-Import-clause-opened : goal.returns-in-Ok-Import-clause-opened
+returns-in-Ok-Import-clause-opened g c =
+    let asks : AsksForImport (map string_bytes c.args.words.now) (string_bytes c.in-Ok-Import.file) c.in-Ok-Import.import (string_bytes c.in-Ok-Import.from) = search rules in
+    on_some c.import_in_file-status.result.1 (NamesDesk (map string_bytes c.args.words.now)) (string_bytes c.in-Ok-Import.file, inr (inr (inl (c.in-Ok-Import.import, string_bytes c.in-Ok-Import.from, asks))))
+
+pub returns-in-Ok-Serve-clause-opened : goal.returns-in-Ok-Serve-clause-opened
+returns-in-Ok-Serve-clause-opened g c =
+    let asked = c.in-Ok-Serve in
+    let asks : AsksForServing (map string_bytes c.args.words.now) (string_bytes asked.file) asked.port asked.connections asked.greatest = search rules in
+    on_some c.serve_in_file-status.result.1 (NamesDesk (map string_bytes c.args.words.now)) (string_bytes asked.file, inr (inr (inr (inl (asked.port, asked.connections, asked.greatest, asks)))))
+
+pub returns-in-Ok-Report-clause-opened : goal.returns-in-Ok-Report-clause-opened
+returns-in-Ok-Report-clause-opened g c =
+    let asked = c.in-Ok-Report in
+    let asks : AsksForReport (map string_bytes c.args.words.now) (string_bytes asked.file) (string_bytes asked.target) = search rules in
+    on_some c.report_in_file-status.result.1 (NamesDesk (map string_bytes c.args.words.now)) (string_bytes asked.file, inr (inr (inr (inr (string_bytes asked.target, asks)))))
+
+pub returns-in-Ok-Migrate-clause-migrated : goal.returns-in-Ok-Migrate-clause-migrated
+returns-in-Ok-Migrate-clause-migrated g c =
+    let asks : AsksForMigration (map string_bytes c.args.words.now) (string_bytes c.in-Ok-Migrate.file) = search rules in
+    on_some c.migrate_file-status.result.1 (NamesMigrated (map string_bytes c.args.words.now)) (string_bytes c.in-Ok-Migrate.file, asks)
