@@ -90,3 +90,49 @@ dropped-next left machine slot takes i t first now next inside is so_far one =
     neither true b = refl
     neither false true = refl
     neither false false = refl
+
+-- ---- takes that spend no reel
+
+-- neither of two holds
+neither-of : (a b : Bool) → (a || b) ≡ false → (a ≡ false) × (b ≡ false)
+neither-of false false none = (refl, refl)
+neither-of false true none = cc
+neither-of true b none = cc
+
+-- a take that leaves some pieces of its reel, and of the others what was left, joins takes that spent none
+pub unspent-next : (takes : List Take) (i : ℕ) (t : Take) (before after : Name → ℕ) (spent last : Bool) → i < length takes → t ≡ get_or takes i t
+    → (spent ≡ false → list_any (λ (x : Take). before x.reel == 0) (take i takes) ≡ false) → last ≡ (after t.reel == 0)
+    → ((r : Name) → same t.reel r ≡ false → after r ≡ before r) → (spent || last) ≡ false → list_any (λ (x : Take). after x.reel == 0) (take (i + 1) takes) ≡ false
+unspent-next takes i t before after spent last inside is so_far told others none =
+    ap (list_any (λ (x : Take). after x.reel == 0)) (take-next takes i t inside is)
+    ∙ list_any-append (λ (x : Take). after x.reel == 0) (take i takes) (t ∷ [])
+    ∙ ap (λ b. b || ((after t.reel == 0) || false)) (kept (take i takes) (so_far both.0))
+    ∙ ap (λ b. b || false) some
+  where
+    both : (spent ≡ false) × (last ≡ false)
+    both = neither-of spent last none
+
+    some : (after t.reel == 0) ≡ false
+    some = sym told ∙ both.1
+
+    stays : (r : Name) (b : Bool) → same t.reel r ≡ b → (before r == 0) ≡ false → (after r == 0) ≡ false
+    stays r true here left = ap (λ n. after n == 0) (sym (same-true t.reel r here)) ∙ some
+    stays r false here left = ap (λ n. n == 0) (others r here) ∙ left
+
+    kept : (xs : List Take) → list_any (λ (x : Take). before x.reel == 0) xs ≡ false → list_any (λ (x : Take). after x.reel == 0) xs ≡ false
+    kept [] none_yet = refl
+    kept (x ∷ xs) none_yet =
+        let parts = neither-of (before x.reel == 0) (list_any (λ (y : Take). before y.reel == 0) xs) none_yet in
+        ap (λ b. b || list_any (λ (y : Take). after y.reel == 0) xs) (stays x.reel (same t.reel x.reel) refl parts.0) ∙ kept xs parts.1
+
+-- takes that leave some pieces of their reels take no reel off a slot
+pub none-spent : (left : Name → ℕ) (machine slot r : Name) (takes : List Take) → list_any (λ (t : Take). left t.reel == 0) takes ≡ false
+    → not (list_any (is_spent_by left machine slot r) takes) ≡ true
+none-spent left machine slot r [] none = refl
+none-spent left machine slot r (t ∷ ts) none =
+    let parts = neither-of (left t.reel == 0) (list_any (λ (x : Take). left x.reel == 0) ts) none in
+    by (is_spent_by left machine slot r t) (list_any (is_spent_by left machine slot r) ts) (unspent-stay left machine slot t parts.0 r) (none-spent left machine slot r ts parts.1)
+  where
+    by : (a b : Bool) → not a ≡ true → not b ≡ true → not (a || b) ≡ true
+    by false b one others = others
+    by true b one others = cc

@@ -95,6 +95,16 @@ left-taken p a (Some x) None moved = absurd moved
 
 -- ---- one take
 
+-- what is left of another reel
+pub left-other : (here on_boards away : Bool) (n : ℕ) (x y : Option Held) → here ≡ false → AreMoved (cond (here && on_boards) n 0) (cond (here && away) n 0) 0 x y
+    → left_in y ≡ left_in x
+left-other false on_boards away n x y other moved = let left = left-taken 0 0 x y moved in omega (arith, left)
+left-other true on_boards away n x y other moved = cc
+
+-- what is written at a name stands there
+pub written-there : (old new : Name → Option Held) (k : Name) (y : Held) → ((q : Name) → new q ≡ cond (same k q) (Some y) (old q)) → Some y ≡ new k
+written-there old new k y is = sym (is k ∙ ap (λ b. cond b (Some y) (old k)) (same-refl k))
+
 -- pieces for a purpose go where such pieces go
 pub moved-for : (usage : Usage) (purpose : Purpose) (n : ℕ) (x y : Held) → went usage purpose ≡ true
     → IsMoved (if is_placed_usage usage then n else 0) (if is_placed_usage usage then 0 else n) 0 x y

@@ -200,6 +200,10 @@ impl Facts for StateDesk {
         self.work.product_of(board)
     }
 
+    fn placed_on(&self, board: &Id) -> Option<&[Designator]> {
+        Some(self.work.placed_on(board))
+    }
+
     fn is_placed_on(&self, board: &Id, designator: &Designator) -> bool {
         self.work.is_placed_on(board, designator)
     }

@@ -2,10 +2,10 @@
 
 mod rows;
 
-ghost use Rattle.std.specs.Prelude.{◌≡◌, ℕ, ◌∷◌, [], OnOk};
-ghost use Rattle.std.specs.List.{IsDistinct};
+ghost use Rattle.std.specs.Prelude.{◌≡◌, ℕ, List, ◌∷◌, [], true, false, OnOk};
 ghost use Rattle.desk_types.specs.declared.command.Entry.{Entry};
-ghost use Rattle.desk_types.specs.Id.{Name, same};
+ghost use Rattle.desk_types.specs.declared.take.Take.{Take as Taking};
+ghost use Rattle.desk_types.specs.Id.{Name};
 ghost use Rattle.desk_types.specs.History.{History};
 ghost use Rattle.desk_types.specs.Pieces.{live_on};
 ghost use Rattle.entry_search.specs.Floor.{tape_at};
@@ -52,9 +52,25 @@ impl Floor {
         requires { (H : History) × (e : Entry) × IsNoted H e command.now at takes.now × IsFloor H self.old × HasPlace H }
         ensures { (H : History) (e : Entry) → IsNoted H e command.now at takes.now → IsFloor H self.old → OnOk result (IsFloor (e ∷ H) self.new) }
     {
-        note_reels(&mut self.reels, &self.tapes, command, at, takes)?;
-        note_tapes(alloc, &self.reels, &mut self.tapes, command, takes)?;
+        if may_take(command) {
+            self.note_takes(command, takes);
+            return Ok(());
+        }
+        note_reels(&mut self.reels, &self.tapes, command, at)?;
+        note_tape(alloc, &mut self.tapes, command)?;
         Ok(())
+    }
+
+    /// Takes the pieces of a command off their reels, and the reels that it spent off their slots.
+    fn note_takes(&mut self, command: &Command, takes: &[Take])
+        requires takes { may_take command.now ≡ true }
+        requires known { (H : History) × (e : Entry) × (at : ℕ) × IsNoted H e command.now at takes.now × IsFloor H self.old × HasPlace H }
+        ensures { (H : History) (e : Entry) (at : ℕ) → IsNoted H e command.now at takes.now → IsFloor H self.old → IsFloor (e ∷ H) self.new }
+    {
+        if !take_pieces(&mut self.reels, command, takes) {
+            return;
+        }
+        drop_all_spent(&self.reels, &mut self.tapes, takes);
     }
 }
 
@@ -70,16 +86,16 @@ fn may_take(command: &Command) -> bool
     }
 }
 
-/// Does to the reels what an accepted command does.
+/// Does to the reels what an accepted command does that takes no pieces.
 fn note_reels(
     reels: &mut BTreeMap<Id, Held>,
     tapes: &BTreeMap<(Id, Id), Tape>,
     command: &Command,
     at: Minute,
-    takes: &[Take],
 ) -> Result<(), AllocError>
-    requires { (H : History) × (e : Entry) × IsNoted H e command.now at takes.now × AreHeld H reels.old × HasPlace H }
-    ensures { (H : History) (e : Entry) → IsNoted H e command.now at takes.now → ((m s : Name) → tape_at tapes.now m s ≡ live_on H m s) → AreHeld H reels.old
+    requires other { may_take command.now ≡ false }
+    requires known { (H : History) × (e : Entry) × (takes : List Taking) × IsNoted H e command.now at takes × AreHeld H reels.old }
+    ensures { (H : History) (e : Entry) (takes : List Taking) → IsNoted H e command.now at takes → ((m s : Name) → tape_at tapes.now m s ≡ live_on H m s) → AreHeld H reels.old
         → OnOk result (AreHeld (e ∷ H) reels.new) }
 {
     match command {
@@ -96,29 +112,7 @@ fn note_reels(
         Command::MaterialsLoaded { reel, .. } => handle(reels, reel, command, at),
         Command::MaterialsSpliced { reel, .. } => handle(reels, reel, command, at),
         Command::MaterialsUnloaded { machine, slot } => unload(reels, tapes, machine, slot),
-        Command::MaterialsInstalled { .. } => take_pieces(reels, command, takes),
-        Command::MaterialsScrapped { .. } => take_pieces(reels, command, takes),
-        Command::CountsTaken { .. } => take_pieces(reels, command, takes),
         _ => {}
     }
     Ok(())
-}
-
-/// Does to the live reels of the slots what an accepted command does, which has been done to the reels.
-fn note_tapes(
-    alloc: Global,
-    reels: &BTreeMap<Id, Held>,
-    tapes: &mut BTreeMap<(Id, Id), Tape>,
-    command: &Command,
-    takes: &[Take],
-) -> Result<(), AllocError>
-    requires { (m s : Name) → IsDistinct same (tape_at tapes.old m s) }
-    ensures { (H : History) (e : Entry) (at : ℕ) → IsNoted H e command.now at takes.now → AreHeld (e ∷ H) reels.now → ((m s : Name) → tape_at tapes.old m s ≡ live_on H m s)
-        → (m s : Name) → OnOk result (tape_at tapes.new m s ≡ live_on (e ∷ H) m s) }
-{
-    if may_take(command) {
-        drop_all_spent(reels, tapes, takes);
-        return Ok(());
-    }
-    Ok(note_tape(alloc, tapes, command)?)
 }

@@ -1,11 +1,12 @@
 //! The reels that were received, each with whether it is on a slot.
 
-ghost use Rattle.std.specs.Prelude.{◌≡◌, ℕ, ◌+◌, ◌-◌, ◌≤◌, ◌<◌, ◌^◌, ◌&&◌, ◌||◌, nat_lt, Bool, true, false, Some, None, if◌then◌else◌, ◌∷◌, OnOk, All, max};
+ghost use Rattle.std.specs.Prelude.{◌≡◌, ℕ, ◌+◌, ◌-◌, ◌≤◌, ◌<◌, ◌^◌, ◌&&◌, ◌||◌, ◌==◌, nat_lt, Bool, true, false, Some, None, if◌then◌else◌, ◌∷◌, OnOk, All, max};
 ghost use Rattle.std.specs.List.{list_any};
 ghost use Rattle.std.specs.Option.{ForSome, option_map};
 ghost use Rattle.desk_types.specs.declared.count.CountRow.{CountRow as Counting};
 ghost use Rattle.desk_types.specs.declared.command.Entry.{Entry};
 ghost use Rattle.desk_types.specs.declared.rules.Rules.TheVariants.{Two};
+ghost use Rattle.desk_types.specs.declared.take.Take.{Take as Taking};
 ghost use Rattle.desk_types.specs.Id.{Name, same};
 ghost use Rattle.desk_types.specs.History.{History};
 ghost use Rattle.desk_types.specs.Judged.{IsJudged};
@@ -80,25 +81,34 @@ fn usage(purpose: &Purpose) -> Usage
     }
 }
 
-/// Takes the pieces of one take off its reel.
-fn lower(reels: &mut BTreeMap<Id, Held>, take: &Take)
+/// Takes the pieces of one take off its reel, and tells whether none are left of it.
+fn lower(reels: &mut BTreeMap<Id, Held>, take: &Take) -> bool
     requires { take.now.quantity ≤ left_at reels.old take.now.reel }
-    ensures { (r : Name) → AreMoved (if same take.now.reel r && went Placed take.now.purpose then take.now.quantity else 0)
+    ensures spent { result ≡ (left_at reels.new take.now.reel == 0) }
+    ensures moved { (r : Name) → AreMoved (if same take.now.reel r && went Placed take.now.purpose then take.now.quantity else 0)
         (if same take.now.reel r && went Scrapped take.now.purpose then take.now.quantity else 0) 0 (held_at reels.old r) (held_at reels.new r) }
 {
-    if let Some(held) = reels.get_mut(&take.reel) {
-        held.reel.take(take.quantity, usage(&take.purpose));
+    match reels.get_mut(&take.reel) {
+        Some(held) => {
+            held.reel.take(take.quantity, usage(&take.purpose));
+            held.reel.remaining == 0
+        }
+        None => true,
     }
 }
 
-/// Takes the pieces of takes off their reels.
-pub fn lower_all(reels: &mut BTreeMap<Id, Held>, takes: &[Take])
+/// Takes the pieces of takes off their reels, and tells whether one of the reels may have none left.
+pub fn lower_all(reels: &mut BTreeMap<Id, Held>, takes: &[Take]) -> bool
     requires { (r : Name) → taken takes.now r ≤ left_at reels.old r }
-    ensures { (r : Name) → AreMoved (taken_for Placed takes.now r) (taken_for Scrapped takes.now r) 0 (held_at reels.old r) (held_at reels.new r) }
+    ensures unspent { result ≡ false → list_any (λ (take : Taking). left_at reels.new take.reel == 0) takes.now ≡ false }
+    ensures moved { (r : Name) → AreMoved (taken_for Placed takes.now r) (taken_for Scrapped takes.now r) 0 (held_at reels.old r) (held_at reels.new r) }
 {
+    let mut spent = false;
     for take in takes {
-        lower(reels, take);
+        let last = lower(reels, take);
+        spent |= last;
     }
+    spent
 }
 
 /// The reel is on no slot.

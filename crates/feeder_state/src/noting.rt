@@ -1,15 +1,17 @@
 //! What accepted commands do to the reels.
 
-ghost use Rattle.std.specs.Prelude.{◌≡◌, ℕ, ◌∷◌, true, OnOk};
+ghost use Rattle.std.specs.Prelude.{◌≡◌, ℕ, ◌∷◌, ◌==◌, true, false, OnOk};
+ghost use Rattle.std.specs.List.{list_any};
 ghost use Rattle.desk_types.specs.declared.command.Command.TheVariants.{ReelReceived, MaterialsUnloaded};
 ghost use Rattle.desk_types.specs.declared.command.Entry.{Entry};
 ghost use Rattle.desk_types.specs.declared.rules.Rules.TheVariants.{Two};
+ghost use Rattle.desk_types.specs.declared.take.Take.{Take as Taking};
 ghost use Rattle.desk_types.specs.Id.{Name};
 ghost use Rattle.desk_types.specs.History.{History};
 ghost use Rattle.desk_types.specs.Judged.{IsJudged};
 ghost use Rattle.desk_types.specs.Pieces.{live_on};
 ghost use Rattle.entry_search.specs.Floor.{tape_at};
-ghost use Rattle.feeder_state.specs.Held.{AreHeld};
+ghost use Rattle.feeder_state.specs.Held.{AreHeld, left_at};
 ghost use Rattle.feeder_state.specs.Noted.{IsNoted, HasPlace, may_take};
 
 use crate::held::{Held, lower_all, rise_all, take_all_off};
@@ -60,14 +62,20 @@ pub fn unload(
     }
 }
 
-/// Takes the pieces that a command takes, and puts in what a count finds.
-pub fn take_pieces(reels: &mut BTreeMap<Id, Held>, command: &Command, takes: &[Take])
+/// Takes the pieces that a command takes, and puts in what a count finds. Tells whether it may have spent
+/// a reel.
+pub fn take_pieces(reels: &mut BTreeMap<Id, Held>, command: &Command, takes: &[Take]) -> bool
     requires takes { may_take command.now ≡ true }
     requires known { (H : History) × (e : Entry) × (at : ℕ) × IsNoted H e command.now at takes.now × AreHeld H reels.old × HasPlace H }
-    ensures { (H : History) (e : Entry) (at : ℕ) → IsNoted H e command.now at takes.now → AreHeld H reels.old → AreHeld (e ∷ H) reels.new }
+    ensures unspent { result ≡ false → list_any (λ (take : Taking). left_at reels.new take.reel == 0) takes.now ≡ false }
+    ensures held { (H : History) (e : Entry) (at : ℕ) → IsNoted H e command.now at takes.now → AreHeld H reels.old → AreHeld (e ∷ H) reels.new }
 {
-    lower_all(reels, takes);
-    if let Command::CountsTaken { counts } = command {
-        rise_all(reels, counts.as_slice());
+    let spent = lower_all(reels, takes);
+    match command {
+        Command::CountsTaken { counts } => {
+            rise_all(reels, counts.as_slice());
+            true
+        }
+        _ => spent,
     }
 }

@@ -2,7 +2,8 @@
 
 ghost use Rattle.std.specs.Prelude.{◌≡◌, ◌||◌, [], OnOk, OnErr};
 ghost use Rattle.std.specs.List.{list_any};
-ghost use Rattle.desk_types.specs.Id.{Name, same};
+ghost use Rattle.std.specs.List.Sorted.{IsSorted};
+ghost use Rattle.desk_types.specs.Id.{Name, same, by_name};
 
 use desk_types::Designator;
 use std::alloc::{AllocError, Global};
@@ -42,6 +43,14 @@ impl Placed {
         ensures { result ≡ list_any (same designator.now) self.now }
     {
         self.names.binary_search(designator).is_ok()
+    }
+
+    /// The designators, in order.
+    pub fn in_order(&self) -> &[Designator]
+        ensures order { IsSorted by_name result.now }
+        ensures value { result.now ≡ self.now }
+    {
+        self.names.as_slice()
     }
 
     /// Puts designators in: all are copied into a new piece of memory of their size and sorted. The

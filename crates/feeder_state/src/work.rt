@@ -14,6 +14,7 @@ ghost use Rattle.desk_types.specs.Judged.{IsJudged};
 ghost use Rattle.desk_types.specs.Setup.{selected_on};
 ghost use Rattle.desk_types.specs.Work.{work_by, in_work_on, is_in_work, product_of, places, is_placed_on};
 ghost use Rattle.desk_laws.specs.Working.{in_work_after};
+ghost use Rattle.judging.specs.Facts.{ArePlacedOn};
 ghost use Rattle.feeder_state.specs.Work.{IsWork, running_at, is_busy, product_at, product_by, is_placed_at};
 
 pub use self::rows::work_of;
@@ -88,6 +89,16 @@ impl Work {
         match self.products.get(board) {
             Some(product) => Some(*product),
             None => None,
+        }
+    }
+
+    /// The designators that are placed on the board, in order.
+    pub fn placed_on(&self, board: &Id) -> &[Designator]
+        ensures { (H : History) → IsWork H self.now → ArePlacedOn H board.now result.now }
+    {
+        match self.placed.get(board) {
+            Some(placed) => placed.in_order(),
+            None => &[],
         }
     }
 

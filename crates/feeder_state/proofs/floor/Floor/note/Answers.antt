@@ -1,13 +1,34 @@
-use Rattle.std.proofs.Common.{sym, subst}
-use Rattle.std.specs.List.{IsDistinct}
-use Rattle.desk_types.specs.Id.{same}
-use Rattle.desk_laws.proofs.Tapes.{live-distinct}
+use Rattle.std.proofs.Common.{sym, ap, ◌∙◌}
+use Rattle.desk_types.specs.Pieces.{live_on}
+use Rattle.desk_types.specs.Tape.{tape_after}
+use Rattle.feeder_state.specs.Noted.{may_take}
+use Rattle.feeder_state.proofs.TapeSteps.{lives-kept}
 use Rattle.feeder_state.proofs.floor.Floor.note.Goals as goal
 
-pub note_tapes-requires : goal.note_tapes-requires
-note_tapes-requires c = λ m s. let known = c.requires in subst (IsDistinct same) (sym (known.3.tapes m s)) (live-distinct known.0 m s known.2.judged.1)
+pub note_takes-requires-clause-takes : goal.note_takes-requires-clause-takes
+note_takes-requires-clause-takes c = sym c.may_take.ensures ∙ c.if-may_take.true
+
+pub note_takes-requires-clause-known : goal.note_takes-requires-clause-known
+note_takes-requires-clause-known c = let known = c.requires in (known.0, known.1, c.args.at, known.2, known.3, known.4)
+
+pub returns-then-may_take : goal.returns-then-may_take
+returns-then-may_take c = λ H e noted floor. c.note_takes.ensures H e c.args.at noted floor
+
+pub note_reels-requires-clause-other : goal.note_reels-requires-clause-other
+note_reels-requires-clause-other c = sym c.may_take.ensures ∙ c.if-may_take.false
+
+pub note_reels-requires-clause-known : goal.note_reels-requires-clause-known
+note_reels-requires-clause-known c = let known = c.requires in (known.0, known.1, c.args.takes.now, known.2, known.3.reels)
 
 pub returns : goal.returns
 returns c = λ H e noted floor.
-    let held = c.in_ok-note_reels.ensures H e noted floor.tapes floor.reels in
-    record { reels = held; tapes = c.in_ok-note_tapes.ensures H e c.args.at noted held floor.tapes }
+    let command = c.args.command.now in
+    let other = ap may_take noted.command_is ∙ sym c.may_take.ensures ∙ c.if-may_take.false in
+    record {
+      reels = c.in_ok-note_reels.ensures H e c.args.takes.now noted floor.tapes floor.reels;
+      tapes = λ m s.
+          c.in_ok-note_tape.ensures m s
+          ∙ ap (tape_after m s command) (floor.tapes m s)
+          ∙ ap (λ said. tape_after m s said (live_on H m s)) (sym noted.command_is)
+          ∙ lives-kept H e m s noted.judged other;
+    }
