@@ -1,10 +1,16 @@
 -- The shop floor before the first entry.
-use Rattle.std.proofs.Common.{◌≡◌, [], refl}
+use Rattle.std.proofs.Common.{◌≡◌, Bool, true, [], refl}
 use Rattle.desk_types.specs.Id.{Name}
 use Rattle.desk_types.specs.Tape.{tape_of}
-use Rattle.desk_types.specs.Pieces.{live_on}
+use Rattle.desk_types.specs.Pieces.{live_on, left_of}
+use Rattle.feeder_state.specs.Resting.{rests}
 
 -- no reel is live where nothing is accepted
 pub live_on-none : (machine slot : Name) → [] ≡ live_on [] machine slot
 unfolding live_on tape_of
 live_on-none machine slot = refl
+
+-- and none is at rest
+pub none-rests : (reel : Name) (b : Bool) → rests [] reel ≡ true → b ≡ true
+unfolding left_of
+none-rests reel b rest = cc

@@ -1,6 +1,7 @@
 pub mod Accepting
 pub mod Alike
 pub mod AlikeNext
+pub mod AtRest
 pub mod Counted
 pub mod Dropping
 pub mod Filling

@@ -1,11 +1,10 @@
 -- Free reels in their order, whichever is looked at first.
-use Rattle.std.proofs.Common.{◌≡◌, ℕ, Bool, true, false, cond, Option, Some, None, is_some, List, [], ◌∷◌, ◌++◌, map, filter, refl, sym, ap, subst, ◌∙◌}
+use Rattle.std.proofs.Common.{◌≡◌, ℕ, nat_lt, Bool, true, false, cond, not, Some, None, is_some, List, [], ◌∷◌, ◌++◌, map, filter, refl, sym, ap, subst, ◌∙◌}
 use Rattle.std.specs.Prelude.{◌&&◌, ◌||◌}
-use Rattle.std.specs.BTreeMap.{BTreeMap, is_at}
-use Rattle.std.specs.BTreeSet.{insert_key}
+use Rattle.std.specs.BTreeMap.{is_at}
+use Rattle.std.specs.BTreeSet.{BTreeSet, insert_key}
 use Rattle.std.specs.Cmp.{IsTotalOrder}
 use Rattle.std.specs.List.{cons_option}
-use Rattle.std.specs.Map.{keys_of, lookup}
 use Rattle.std.specs.Option.{option_map, option_map_or, option_or}
 use Rattle.std.specs.Ordering.{nat_cmp, ordering_then, on, then_cmp}
 use Rattle.std.specs.declared.cmp.Ordering.{Ordering}
@@ -16,19 +15,23 @@ use Rattle.std.proofs.lemmas.Map.Lookups.{CmpEqualImpliesEq, exact_bytes}
 use Rattle.desk_types.specs.declared.command.Command.{Command}
 use Rattle.desk_types.specs.declared.command.Command.TheVariants.{ReelReceived}
 use Rattle.desk_types.specs.declared.command.Receipt.{Receipt}
+use Rattle.desk_types.specs.declared.rules.Rules.TheVariants.{Two}
 use Rattle.desk_types.specs.declared.view.Left.{Left}
 use Rattle.desk_types.specs.declared.view.Left.TheVariants.{Minutes, Unlimited, Unbaked}
 use Rattle.desk_types.specs.Id.{Name, same, by_name}
-use Rattle.desk_types.specs.History.{History}
-use Rattle.desk_types.specs.Setup.{receipt_of, receipt_by}
-use Rattle.desk_types.specs.View.{life_left}
+use Rattle.desk_types.specs.History.{History, now_of}
+use Rattle.desk_types.specs.Setup.{receipt_of, receipt_by, is_allowed}
+use Rattle.desk_types.specs.Pieces.{left_of, is_mounted}
+use Rattle.desk_types.specs.FloorLife.{is_unbaked, is_expired}
+use Rattle.desk_types.specs.Judged.{IsJudged}
+use Rattle.desk_types.specs.View.{part_of, life_left}
 use Rattle.desk_types.specs.Free.{received_by, reels_received, is_free, by_left, by_turn, in_order}
-use Rattle.desk_types.proofs.Keys.{is_at-by_name, same-sym}
+use Rattle.desk_types.proofs.Keys.{is_at-by_name, list_any-same, same-sym}
 use Rattle.desk_laws.proofs.Mounts.{has, has-filter}
 use Rattle.entry_search.specs.Turns.{turn_of, by_life, if_free}
 use Rattle.entry_search.proofs.Turning.{turn-put}
-use Rattle.feeder_state.specs.declared.held.Held.{Held}
-use Rattle.feeder_state.specs.Held.{held_at, IsHeldOf, AreHeld}
+use Rattle.feeder_state.specs.Resting.{rests, is_resting}
+use Rattle.feeder_state.proofs.AtRest.{rests-received}
 use Rattle.feeder_state.proofs.Ordered.{in_order-same}
 
 -- ---- the order
@@ -72,16 +75,20 @@ by_turn-exact H a b is = exact_bytes a b (second (by_left (life_left H a) (life_
 abbrev pub free_in : History → Name → List Name → List Name
 free_in H part reels = in_order (by_turn H) (filter (λ r. is_free H part r) reels)
 
--- of the same reels the same are free
-free-same : (H : History) (part : Name) (xs ys : List Name) → ((r : Name) → has xs r ≡ has ys r) → free_in H part xs ≡ free_in H part ys
+-- lists that have the same free reels
+free-same : (H : History) (part : Name) (xs ys : List Name) → ((r : Name) → is_free H part r ≡ true → has xs r ≡ has ys r) → free_in H part xs ≡ free_in H part ys
 free-same H part xs ys agree =
     in_order-same (by_turn H) (by_turn-total H) (by_turn-exact H) (filter (λ r. is_free H part r) xs) (filter (λ r. is_free H part r) ys)
-    (λ r. has-filter (is_free H part) xs r ∙ ap (λ b. is_free H part r && b) (agree r) ∙ sym (has-filter (is_free H part) ys r))
+    (λ r. has-filter (is_free H part) xs r ∙ where-free (is_free H part r) (has xs r) (has ys r) (agree r) ∙ sym (has-filter (is_free H part) ys r))
+  where
+    where-free : (free a b : Bool) → (free ≡ true → a ≡ b) → (free && a) ≡ (free && b)
+    where-free true a b is = is refl
+    where-free false a b is = refl
 
 -- one reel more
 pub turn-next : (H : History) (part : Name) (reels : List Name) (reel : Name) (turns : List (Left × Name)) → turns ≡ map (turn_of H) (free_in H part reels)
     → option_map_or (insert_key by_life turns) (option_map (turn_of H) (if_free H part reel)) turns ≡ map (turn_of H) (free_in H part (reels ++ reel ∷ []))
-turn-next H part reels reel turns is = turn-put H part reels reel turns is ∙ ap (map (turn_of H)) (free-same H part (reel ∷ reels) (reels ++ reel ∷ []) joined)
+turn-next H part reels reel turns is = turn-put H part reels reel turns is ∙ ap (map (turn_of H)) (free-same H part (reel ∷ reels) (reels ++ reel ∷ []) (λ r free. joined r))
   where
     turned : (a b : Bool) → (a || b) ≡ (b || (a || false))
     turned true true = refl
@@ -92,17 +99,7 @@ turn-next H part reels reel turns is = turn-put H part reels reel turns is ∙ a
     joined : (r : Name) → has (reel ∷ reels) r ≡ has (reels ++ reel ∷ []) r
     joined r = turned (same r reel) (has reels r) ∙ sym (list_any-append (same r) reels (reel ∷ []))
 
--- ---- the reels of the map
-
--- a name is among the keys where something is found there
-key-there : {V : Type 0} (entries : List (Name × V)) (r : Name) → has (keys_of entries) r ≡ is_some (lookup (is_at (by_name r)) entries)
-key-there [] r = refl
-key-there (e ∷ entries) r = ap (λ b. b || has (keys_of entries) r) (sym (is_at-by_name r e.0)) ∙ by (is_at (by_name r) e.0) (key-there entries r)
-  where
-    by : (b : Bool) → has (keys_of entries) r ≡ is_some (lookup (is_at (by_name r)) entries)
-        → (b || has (keys_of entries) r) ≡ is_some (cond b (Some e.1) (lookup (is_at (by_name r)) entries))
-    by true rest = refl
-    by false rest = rest
+-- ---- the reels at rest
 
 -- a reel that was received is among the received ones
 received-has : (H : History) (r : Name) → is_some (receipt_of H r) ≡ has (reels_received H) r
@@ -121,13 +118,22 @@ received-has (e ∷ H) r = by e.stamped.command (received-has H r)
         ∙ ap (λ b. b || has (reels_received H) r) (same-sym x r)
     by _ rest = rest
 
-held-received : (H : History) (name : Name) (found : Option Held) → IsHeldOf H name found → is_some found ≡ is_some (receipt_of H name)
-held-received H name None none = sym (ap is_some none)
-held-received H name (Some held) is = sym (ap is_some is.stands.receipt.is)
+-- a reel that is free is at rest
+free-rests : (H : History) (part reel : Name) → is_free H part reel ≡ true → rests H reel ≡ true
+free-rests H part reel =
+    by (is_allowed H part (part_of H reel)) (not (is_mounted H reel)) (nat_lt 0 (left_of H reel)) (not (is_unbaked H reel)) (not (is_expired H reel (now_of H)))
+  where
+    by : (a off some c d : Bool) → (a && off && some && c && d) ≡ true → (some && off) ≡ true
+    by true true true c d is = refl
+    by true true false c d is = cc
+    by true false some c d is = cc
+    by false off some c d is = cc
 
--- The free reels of the map are those of the list.
-pub free-held : (H : History) (part : Name) (reels : BTreeMap Name Held) → AreHeld H reels
-    → free_in H part (keys_of reels.entries) ≡ free_in H part (reels_received H)
-free-held H part reels are =
-    free-same H part (keys_of reels.entries) (reels_received H)
-    (λ r. key-there reels.entries r ∙ held-received H r (held_at reels r) (are r) ∙ received-has H r)
+-- The free reels among those that may be at rest are those of the list.
+pub free-resting : (H : History) (part : Name) (resting : BTreeSet Name) → IsJudged Two H → ((r : Name) → rests H r ≡ true → is_resting resting r ≡ true)
+    → free_in H part resting.keys ≡ free_in H part (reels_received H)
+free-resting H part resting judged all =
+    free-same H part resting.keys (reels_received H) (λ r free.
+    let rest = free-rests H part r free in
+    sym (list_any-same (is_at (by_name r)) (same r) (is_at-by_name r) resting.keys) ∙ all r rest
+    ∙ sym (sym (received-has H r) ∙ rests-received H r judged rest))

@@ -2,6 +2,7 @@ pub mod Floor
 pub mod Handling
 pub mod Held
 pub mod Noted
+pub mod Resting
 pub mod Restored
 pub mod Setup
 pub mod Spending

@@ -16,17 +16,20 @@ ghost use Rattle.feeder_state.specs.Noted.{IsNoted, HasPlace, may_take};
 pub use self::rows::floor_of;
 use crate::held::{Held, handle};
 use crate::noting::{receive, take_pieces, unload};
+use crate::resting::{end_rests, note_resting};
 use crate::tapes::drop_all_spent;
 use desk_types::{Command, Id, Minute, Take};
 use entry_search::floor::{Tape, note_tape};
 use std::alloc::{AllocError, Global};
-use std::collections::BTreeMap;
+use std::collections::{BTreeMap, BTreeSet};
 
-/// The shop floor: reels by name, and the live reels of each machine's slot.
+/// The shop floor: reels by name, the live reels of each machine's slot, and the reels that may be at
+/// rest, with pieces left and on no slot. All that are at rest are among them.
 #[derive(Drop)]
 pub struct Floor {
     pub reels: BTreeMap<Id, Held>,
     pub tapes: BTreeMap<(Id, Id), Tape>,
+    pub resting: BTreeSet<Id>,
 }
 
 impl Floor {
@@ -37,6 +40,7 @@ impl Floor {
         Floor {
             reels: BTreeMap::new(alloc),
             tapes: BTreeMap::new(alloc),
+            resting: BTreeSet::new(alloc),
         }
     }
 
@@ -56,12 +60,14 @@ impl Floor {
             self.note_takes(command, takes);
             return Ok(());
         }
+        note_resting(&mut self.resting, &self.tapes, command)?;
         note_reels(&mut self.reels, &self.tapes, command, at)?;
         note_tape(alloc, &mut self.tapes, command)?;
         Ok(())
     }
 
-    /// Takes the pieces of a command off their reels, and the reels that it spent off their slots.
+    /// Takes the pieces of a command off their reels, and the reels that it spent off their slots and
+    /// out of those at rest.
     fn note_takes(&mut self, command: &Command, takes: &[Take])
         requires takes { may_take command.now ≡ true }
         requires known { (H : History) × (e : Entry) × (at : ℕ) × IsNoted H e command.now at takes.now × IsFloor H self.old × HasPlace H }
@@ -71,6 +77,7 @@ impl Floor {
             return;
         }
         drop_all_spent(&self.reels, &mut self.tapes, takes);
+        end_rests(&self.reels, &mut self.resting, command, takes);
     }
 }
 

@@ -1,11 +1,10 @@
 //! The reels that could be loaded for a part.
 
-ghost use Rattle.std.specs.Prelude.{◌≡◌, ◌&&◌, not, nat_lt, Some, map, IfOk};
+ghost use Rattle.std.specs.Prelude.{◌≡◌, Some, map, IfOk};
 ghost use Rattle.std.specs.List.{filter, filter_map};
 ghost use Rattle.std.specs.Option.{option_map};
 ghost use Rattle.desk_types.specs.Id.{Name};
 ghost use Rattle.desk_types.specs.History.{History, now_of};
-ghost use Rattle.desk_types.specs.Pieces.{left_of, is_mounted};
 ghost use Rattle.desk_types.specs.View.{life_left, reel_view};
 ghost use Rattle.desk_types.specs.Free.{reels_received, is_free, by_turn, in_order, free_reels};
 ghost use Rattle.setup_sheets.specs.Alternates.{AreAlternates};
@@ -15,6 +14,7 @@ ghost use Rattle.feeder_state.specs.Told.{IsTold};
 
 use crate::floor::Floor;
 use crate::held::Held;
+use crate::resting::is_at_rest;
 use crate::views::{is_live, reel_view_at};
 use desk_types::{Id, Left, Listing, Minute, ReelView, ReelViews};
 use entry_search::free::is_usable;
@@ -23,14 +23,6 @@ use entry_search::views::life_left;
 use setup_sheets::{Alternates, allowed};
 use std::alloc::{AllocError, Global};
 use std::collections::BTreeSet;
-
-/// Whether the reel has pieces left and is on no slot. Most reels of a line fail this, and it takes no
-/// look-up.
-fn is_at_rest(held: &Held) -> bool
-    ensures { (H : History) (name : Name) → IsHeld H name held.now → result ≡ (nat_lt 0 (left_of H name) && not (is_mounted H name)) }
-{
-    held.reel.remaining > 0 && !is_live(held)
-}
 
 /// Whether a reel to which this is left could be loaded where a sheet says the part.
 fn is_free(alternates: &Alternates, part: &Id, held: &Held, left: Left) -> bool
@@ -63,7 +55,23 @@ fn turn_of(
     Some((left, *name))
 }
 
-/// The turns of the free reels. The set orders them, whichever reel is looked at first.
+/// The turn of the reel of this name, where it is free for the part.
+fn turn_at(
+    floor: &Floor,
+    minute: Minute,
+    alternates: &Alternates,
+    part: &Id,
+    name: &Id,
+) -> Option<(Left, Id)>
+    ensures { (H : History) → IsTold H floor.now (Some minute) → AreAlternates H alternates.now
+        → result ≡ option_map (turn_of H) (if_free H part.now name.now) }
+{
+    let held = floor.reels.get(name)?;
+    turn_of(held, minute, alternates, part, name)
+}
+
+/// The turns of the free reels, which are among those that may be at rest. The set orders them,
+/// whichever reel is looked at first.
 fn turns(
     alloc: Global,
     floor: &Floor,
@@ -75,8 +83,8 @@ fn turns(
         → IfOk result (λ turns. turns.keys ≡ map (turn_of H) (in_order (by_turn H) (filter (is_free H part.now) (reels_received H)))) }
 {
     let mut turns = BTreeSet::new(alloc);
-    for (name, held) in &floor.reels {
-        insert_if(&mut turns, turn_of(held, minute, alternates, part, name))?;
+    for name in &floor.resting {
+        insert_if(&mut turns, turn_at(floor, minute, alternates, part, name))?;
     }
     Ok(turns)
 }

@@ -10,6 +10,7 @@ mod held;
 mod maps;
 mod noting;
 mod placed;
+mod resting;
 mod same_state;
 mod setup;
 mod tapes;

@@ -38,7 +38,7 @@ fn drop_reel(tapes: &mut BTreeMap<(Id, Id), Tape>, machine: Id, slot: Id, reel: 
 }
 
 /// Whether the reel has no pieces left.
-fn is_spent(reels: &BTreeMap<Id, Held>, reel: &Id) -> bool
+pub fn is_spent(reels: &BTreeMap<Id, Held>, reel: &Id) -> bool
     ensures { result ≡ (left_at reels.now reel.now == 0) }
 {
     match reels.get(reel) {

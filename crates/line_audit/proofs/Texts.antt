@@ -112,7 +112,7 @@ found_test = is_param 1 0 ∷ []
 abbrev found_places : List Term
 found_places = col 1 1 ∷ col 1 2 ∷ []
 
-found_is : IsSelect select_found (rows_from 20 found_test found_places) (codes "reel" ∷ codes "pieces" ∷ [])
+found_is : IsSelect select_found (rows_from 21 found_test found_places) (codes "reel" ∷ codes "pieces" ∷ [])
 unfolding understood everything listing_schema
 found_is One = inr refl
 found_is Two = inl (refl, refl, (refl, refl))
@@ -202,7 +202,7 @@ count_placement_is rules = inl (refl, refl, (refl, refl))
 abbrev count_found : List ℕ
 count_found = codes "SELECT count(*) FROM found"
 
-count_found_is : IsSelect count_found (count_from 20) (codes "count(*)" ∷ [])
+count_found_is : IsSelect count_found (count_from 21) (codes "count(*)" ∷ [])
 unfolding understood everything listing_schema
 count_found_is One = inr refl
 count_found_is Two = inl (refl, refl, (refl, refl))

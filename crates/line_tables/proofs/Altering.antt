@@ -92,7 +92,7 @@ pub record OthersHold (tree : ℕ) (db : Database) (t : StateTables) : Type 0 wh
   pub mounts : not (13 == tree) ≡ true → HoldsMounts db t
   pub boards : not (15 == tree) ≡ true → HoldsBoards db t
   pub placements : not (17 == tree) ≡ true → HoldsPlacements db t
-  pub found : not (20 == tree) ≡ true → HoldsFound db t
+  pub found : not (21 == tree) ≡ true → HoldsFound db t
 
 pub others_hold : (tree : ℕ) (old new : Database) (t : StateTables) → AllByRecursion (λ u. u.tree ≢ tree → new.trees u.tree ≡ old.trees u.tree) line_tables → HoldsState old t → OthersHold tree new t
 others_hold tree old new t others was = record {
@@ -104,7 +104,7 @@ others_hold tree old new t others was = record {
   mounts = λ h. stays mount old new (others.1.1.1.1.1.1.1.0 (other_tree 13 tree h)) was.mounts;
   boards = λ h. stays board old new (others.1.1.1.1.1.1.1.1.0 (other_tree 15 tree h)) was.boards;
   placements = λ h. stays placement old new (others.1.1.1.1.1.1.1.1.1.0 (other_tree 17 tree h)) was.placements;
-  found = λ h. stays found old new (others.1.1.1.1.1.1.1.1.1.1.0 (other_tree 20 tree h)) was.found;
+  found = λ h. stays found old new (others.1.1.1.1.1.1.1.1.1.1.0 (other_tree 21 tree h)) was.found;
 }
 
 -- rows of a changed table that are apart, beside those of all others
@@ -131,7 +131,7 @@ all_apart_but tree old new others none was =
     let n5 = and_parts _ _ n4.1 in
     let n6 = and_parts _ _ n5.1 in
     let n7 = and_parts _ _ n6.1 in
-    (subst AreApart (sym (others.1.1.0 (other_tree 3 tree n0.0))) was.0, (subst AreApart (sym (others.1.1.1.0 (other_tree 5 tree n1.0))) was.1.0, (subst AreApart (sym (others.1.1.1.1.0 (other_tree 7 tree n2.0))) was.1.1.0, (subst AreApart (sym (others.1.1.1.1.1.0 (other_tree 9 tree n3.0))) was.1.1.1.0, (subst AreApart (sym (others.1.1.1.1.1.1.0 (other_tree 11 tree n4.0))) was.1.1.1.1.0, (subst AreApart (sym (others.1.1.1.1.1.1.1.0 (other_tree 13 tree n5.0))) was.1.1.1.1.1.0, (subst AreApart (sym (others.1.1.1.1.1.1.1.1.0 (other_tree 15 tree n6.0))) was.1.1.1.1.1.1.0, (subst AreApart (sym (others.1.1.1.1.1.1.1.1.1.1.0 (other_tree 20 tree n7.0))) was.1.1.1.1.1.1.1.0, tt))))))))
+    (subst AreApart (sym (others.1.1.0 (other_tree 3 tree n0.0))) was.0, (subst AreApart (sym (others.1.1.1.0 (other_tree 5 tree n1.0))) was.1.0, (subst AreApart (sym (others.1.1.1.1.0 (other_tree 7 tree n2.0))) was.1.1.0, (subst AreApart (sym (others.1.1.1.1.1.0 (other_tree 9 tree n3.0))) was.1.1.1.0, (subst AreApart (sym (others.1.1.1.1.1.1.0 (other_tree 11 tree n4.0))) was.1.1.1.1.0, (subst AreApart (sym (others.1.1.1.1.1.1.1.0 (other_tree 13 tree n5.0))) was.1.1.1.1.1.0, (subst AreApart (sym (others.1.1.1.1.1.1.1.1.0 (other_tree 15 tree n6.0))) was.1.1.1.1.1.1.0, (subst AreApart (sym (others.1.1.1.1.1.1.1.1.1.1.0 (other_tree 21 tree n7.0))) was.1.1.1.1.1.1.1.0, tt))))))))
 
 -- ---- all tables
 

@@ -12,7 +12,7 @@ use Rattle.sqlite.specs.Schema.{Schema}
 use Rattle.sqlite.specs.Table.{Table}
 use Rattle.sqlite.proofs.Callers.{IsPlain, command_of, statement_of}
 use Rattle.line_tables.proofs.FindTexts.{rows_from}
-use Rattle.line_tables.specs.Line.{version, accepted, part, alternate, sheet_row, selected, reel, mount, board, placement, placement_reel, found, first_of_line, line_schema}
+use Rattle.line_tables.specs.Line.{version, accepted, part, alternate, sheet_row, selected, reel, mount, board, placement, placement_reel, placement_overdue, found, first_of_line, line_schema}
 
 -- the text makes this table, but for its tree, in a database of the schema
 abbrev pub IsCreate : Schema → List ℕ → Table → Type 0
@@ -129,14 +129,25 @@ index_is = (refl, refl, (refl, refl), refl)
 pub index_makes : indexed (first_of_line 10 9) placement (record placement_reel { tree = 0 }) ≡ first_of_line 10 10
 index_makes = refl
 
+abbrev pub overdue_text : List ℕ
+overdue_text = codes "CREATE INDEX placement_overdue ON placement (overdue)"
+
+pub overdue_is : (command_of (understood (first_of_line 10 10) overdue_text) ≡ CreateIndex 9) × (statement_of overdue_text (understood (first_of_line 10 10) overdue_text) ≡ overdue_text) × IsPlain (understood (first_of_line 10 10) overdue_text)
+    × (index_defined_by placement overdue_text ≡ Ok (record placement_overdue { tree = 0 }))
+unfolding understood everything
+overdue_is = (refl, refl, (refl, refl), refl)
+
+pub overdue_makes : indexed (first_of_line 10 10) placement (record placement_overdue { tree = 0 }) ≡ first_of_line 10 11
+overdue_makes = refl
+
 abbrev pub found_text : List ℕ
 found_text = codes "CREATE TABLE found (reel TEXT NOT NULL, pieces INTEGER NOT NULL, PRIMARY KEY (reel), CHECK (pieces >= 1)) STRICT"
 
-pub found_is : IsCreate (first_of_line 10 10) found_text found
+pub found_is : IsCreate (first_of_line 10 11) found_text found
 unfolding understood everything
 found_is = (refl, refl, (refl, refl), refl)
 
-pub found_makes : created (first_of_line 10 10) (record found { tree = 0 }) ≡ first_of_line 11 11
+pub found_makes : created (first_of_line 10 11) (record found { tree = 0 }) ≡ first_of_line 11 12
 found_makes = refl
 
 abbrev pub insert_version : List ℕ

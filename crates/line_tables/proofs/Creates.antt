@@ -21,9 +21,9 @@ use Rattle.sqlite_trees.specs.Tree.{Trees, put_row}
 use Rattle.sqlite_rules.specs.Edit.{with_rowid}
 use Rattle.sqlite.specs.Rowids.TheVariants.{Chosen}
 use Rattle.line_tables.proofs.Puts.{cast_int, cast_null, quiet}
-use Rattle.line_tables.proofs.CreateTexts.{IsCreate, version_text, version_is, accepted_text, accepted_is, part_text, part_is, alternate_text, alternate_is, sheet_row_text, sheet_row_is, selected_text, selected_is, reel_text, reel_is, mount_text, mount_is, board_text, board_is, placement_text, placement_is, index_text, index_is, found_text, found_is, insert_version, version_terms, insert_version_is}
+use Rattle.line_tables.proofs.CreateTexts.{IsCreate, version_text, version_is, accepted_text, accepted_is, part_text, part_is, alternate_text, alternate_is, sheet_row_text, sheet_row_is, selected_text, selected_is, reel_text, reel_is, mount_text, mount_is, board_text, board_is, placement_text, placement_is, index_text, index_is, overdue_text, overdue_is, found_text, found_is, insert_version, version_terms, insert_version_is}
 use Rattle.desk_types.specs.declared.rules.Rules.TheVariants.{One}
-use Rattle.line_tables.specs.Line.{no_schema, line_schema, schema_of, first_of_line, version, accepted, part, alternate, sheet_row, selected, reel, mount, board, placement, placement_reel, found}
+use Rattle.line_tables.specs.Line.{no_schema, line_schema, schema_of, first_of_line, version, accepted, part, alternate, sheet_row, selected, reel, mount, board, placement, placement_reel, placement_overdue, found}
 use Rattle.line_tables.specs.Rows.{Holds, blank, version_columns}
 use Rattle.line_tables.specs.Calls.{Runs, Makes, IsBare, Extends, Grows, AddsFound}
 
@@ -121,10 +121,13 @@ makes_placement old new = creates_bare placement_text old new (first_of_line 9 8
 makes_index : (old new : State) → Runs index_text [] old new → Extends (first_of_line 10 9) (first_of_line 10 10) old new
 makes_index old new = indexes_bare index_text old new (first_of_line 10 9) 9 placement (record placement_reel { tree = 0 }) refl index_is
 
+makes_overdue : (old new : State) → Runs overdue_text [] old new → Extends (first_of_line 10 10) (first_of_line 10 11) old new
+makes_overdue old new = indexes_bare overdue_text old new (first_of_line 10 10) 9 placement (record placement_overdue { tree = 0 }) refl overdue_is
+
 pub adds_found : (old new : State) → Runs found_text [] old new → AddsFound old new
 adds_found old new ran = record { was_open = ran.shown.was_open; added = creates found_text old new (schema_of One) found found_is refl ran }
 
-makes_found : (old new : State) → AddsFound old new → Extends (first_of_line 10 10) (first_of_line 11 11) old new
+makes_found : (old new : State) → AddsFound old new → Extends (first_of_line 10 11) (first_of_line 11 12) old new
 makes_found old new h = record { was_open = h.was_open; bare = λ bare. let grows = h.added bare.schema in record { schema = grows.schema; empty = bare_more (schema_of One) line_schema found old.now new.now grows bare } }
 
 pub makes_list : (a b c : State) → Runs version_text [] a b → Runs accepted_text [] b c → Extends (first_of_line 0 0) (first_of_line 2 1) a c
@@ -136,8 +139,8 @@ makes_setup a b c d e r1 r2 r3 r4 = extends_then _ _ _ a d e (extends_then _ _ _
 pub makes_floor : (a b c d : State) → Runs reel_text [] a b → Runs mount_text [] b c → Runs board_text [] c d → Extends (first_of_line 6 5) (first_of_line 9 8) a d
 makes_floor a b c d r1 r2 r3 = extends_then _ _ _ a c d (extends_then _ _ _ a b c (makes_reel a b r1) (makes_mount b c r2)) (makes_board c d r3)
 
-pub makes_pieces : (a b c d : State) → Runs placement_text [] a b → Runs index_text [] b c → AddsFound c d → Extends (first_of_line 9 8) (first_of_line 11 11) a d
-makes_pieces a b c d r1 r2 r3 = extends_then _ _ _ a c d (extends_then _ _ _ a b c (makes_placement a b r1) (makes_index b c r2)) (makes_found c d r3)
+pub makes_pieces : (a b c d e : State) → Runs placement_text [] a b → Runs index_text [] b c → Runs overdue_text [] c d → AddsFound d e → Extends (first_of_line 9 8) (first_of_line 11 12) a e
+makes_pieces a b c d e r1 r2 r3 r4 = extends_then _ _ _ a d e (extends_then _ _ _ a c d (extends_then _ _ _ a b c (makes_placement a b r1) (makes_index b c r2)) (makes_overdue c d r3)) (makes_found d e r4)
 
 -- what was empty is so in the trees that stay
 still_bare : (tree : ℕ) (tables : List Table) (old new : Trees) → list_all (λ t. not (t.tree == tree)) tables ≡ true → AllByRecursion (λ t. t.tree ≢ tree → new t.tree ≡ old t.tree) tables → AllByRecursion (λ t. old t.tree ≡ []) tables

@@ -65,8 +65,8 @@ module _ (a b c : State) (added : AddsFound a b) (ran : Runs update_version [] b
   same : KeepsRows rest a.now.trees c.now.trees
   same = kept_on 0 rest (found ∷ []) a.now.trees b.now.trees c.now.trees refl grown.kept.1 changed.others.1
 
-  empty : c.now.trees 20 ≡ []
-  empty = changed.others.1.1.1.1.1.1.1.1.1.1.0 (other_tree 20 0 refl) ∙ grown.empty
+  empty : c.now.trees 21 ≡ []
+  empty = changed.others.1.1.1.1.1.1.1.1.1.1.0 (other_tree 21 0 refl) ∙ grown.empty
 
   numbered : (greatest : ℕ) → version_in a.now ≡ version_row One greatest ∷ [] → version_in c.now ≡ version_row Two greatest ∷ []
   numbered greatest was =

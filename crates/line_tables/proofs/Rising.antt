@@ -155,7 +155,7 @@ module _ {S : Type 0} (g : Ghosts S) (old : Held S) where
   }
 
   pub tells_found : (b : Bool) → Shows g (codes "SELECT rowid FROM found ORDER BY rowid") old b → IsFoundTold Two b (state g old)
-  tells_found b h = let t = tells _ 20 _ found_is b h in record { was_open = t.was_open; are = λ ours told. (t.are ours told, tt) }
+  tells_found b h = let t = tells _ 21 _ found_is b h in record { was_open = t.was_open; are = λ ours told. (t.are ours told, tt) }
 
 -- what is committed is read after calls that keep it
 reads_before : (old mid : State) → KeepsCommit old mid → (Is : Database → Type 0) → Reads mid Is → Reads old Is

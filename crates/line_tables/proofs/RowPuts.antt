@@ -67,7 +67,7 @@ module _ (old new : State) where
   pub takes_found : (r : Name) → Runs delete_found (Text r ∷ []) old new → Alters found (without (has_text 0 r)) old new
   takes_found r ran =
       deletes found (has_text 0 r) found_tests (col 1 0 ∷ []) (Text r ∷ []) old new (λ r. and_true _) (λ r. refl) ran.shown.was_open
-      (λ has. delete_does delete_found (Text r ∷ []) old new line_schema has 10 found found_tests (col 1 0 ∷ []) refl (quiet 20) delete_found_is.1 ran.count ran.executed delete_found_is.0)
+      (λ has. delete_does delete_found (Text r ∷ []) old new line_schema has 10 found found_tests (col 1 0 ∷ []) refl (quiet 21) delete_found_is.1 ran.count ran.executed delete_found_is.0)
 
   part_cast : (p : Name) → cast_row part (Null ∷ part_columns p) ≡ Null ∷ part_columns p
   part_cast p = rw (cast_null) refl
@@ -133,7 +133,7 @@ module _ (old new : State) where
   found_cast r n = rw (cast_null, cast_int (pos n)) refl
 
   found_in : (r : Name) (n : ℕ) → (ran : Runs insert_found (found_columns r n) old new) → old.now.schema ≡ line_schema → Inserted line_schema found ((Null ∷ found_columns r n) ∷ []) old new
-  found_in r n ran has = insert_does insert_found (found_columns r n) old new line_schema has 10 found found_terms 3 refl refl refl insert_found_is.0 insert_found_is.1 ran.count ran.executed (quiet 20 [])
+  found_in r n ran has = insert_does insert_found (found_columns r n) old new line_schema has 10 found found_terms 3 refl refl refl insert_found_is.0 insert_found_is.1 ran.count ran.executed (quiet 21 [])
 
   pub puts_found : (r : Name) (n : ℕ) → Runs insert_found (found_columns r n) old new → Alters found (λ rows. (found_columns r n) ∷ rows) old new
   puts_found r n ran =

@@ -92,7 +92,7 @@ delete_found = codes "DELETE FROM found WHERE reel = ?1"
 abbrev pub found_tests : List Term
 found_tests = is_param 1 0 ∷ []
 
-pub delete_found_is : IsDelete delete_found 10 20 found_tests
+pub delete_found_is : IsDelete delete_found 10 21 found_tests
 unfolding understood everything
 delete_found_is = (refl, (refl, refl))
 

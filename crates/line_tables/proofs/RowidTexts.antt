@@ -47,7 +47,7 @@ unfolding understood everything
 board_is rules = inl (refl, refl, (refl, refl))
 
 -- version 1 has no such table
-pub found_is : IsRowids (codes "SELECT rowid FROM found ORDER BY rowid") 20 (codes "rowid")
+pub found_is : IsRowids (codes "SELECT rowid FROM found ORDER BY rowid") 21 (codes "rowid")
 unfolding understood everything listing_schema
 found_is One = inr refl
 found_is Two = inl (refl, refl, (refl, refl))

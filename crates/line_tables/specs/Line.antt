@@ -123,12 +123,16 @@ placement = record (unique (3 ∷ 4 ∷ []) (table_of (codes "placement") 17
 abbrev pub placement_reel : Index
 placement_reel = record { name = codes "placement_reel"; tree = 19; table = 17; columns = 7 ∷ []; order = plain; is_unique = false }
 
+-- and those that are overdue by their mark
+abbrev pub placement_overdue : Index
+placement_overdue = record { name = codes "placement_overdue"; tree = 20; table = 17; columns = 8 ∷ []; order = plain; is_unique = false }
+
 -- so many pieces were found on the reel
 abbrev pub some_pieces : Term
 some_pieces = op2 (Compare Ge Binary) (col 1 2) (lit (Int (pos 1)))
 
 abbrev pub found : Table
-found = record (by_columns (1 ∷ []) (table_of (codes "found") 20 (text (codes "reel") ∷ number (codes "pieces") ∷ []))) { checks = some_pieces ∷ [] }
+found = record (by_columns (1 ∷ []) (table_of (codes "found") 21 (text (codes "reel") ∷ number (codes "pieces") ∷ []))) { checks = some_pieces ∷ [] }
 
 -- the schema of a database with no table
 abbrev pub no_schema : Schema
@@ -141,18 +145,18 @@ found_tables Two = found ∷ []
 
 abbrev pub found_indexes : Rules → List Index
 found_indexes One = []
-found_indexes Two = listing.automatic found 0 (1 ∷ []) 21 ∷ []
+found_indexes Two = listing.automatic found 0 (1 ∷ []) 22 ∷ []
 
 -- all tables of the line under rules in the order in which they are made: the trees count up over a table, its indexes and the next table
 abbrev pub tables_of : Rules → List Table
 tables_of rules = version ∷ accepted ∷ part ∷ alternate ∷ sheet_row ∷ selected ∷ reel ∷ mount ∷ board ∷ placement ∷ found_tables rules
 
--- the index of each PRIMARY KEY or UNIQUE, and that on the reels of placements
+-- the index of each PRIMARY KEY or UNIQUE, and those on the reels and the marks of placements
 abbrev pub indexes_of : Rules → List Index
 indexes_of rules =
     listing.automatic accepted 0 (2 ∷ []) 2 ∷ listing.automatic part 0 (1 ∷ []) 4 ∷ listing.automatic alternate 0 (1 ∷ 2 ∷ []) 6 ∷ listing.automatic sheet_row 0 (1 ∷ 2 ∷ 3 ∷ []) 8
     ∷ listing.automatic selected 0 (1 ∷ []) 10 ∷ listing.automatic reel 0 (1 ∷ []) 12 ∷ listing.automatic mount 0 (4 ∷ []) 14 ∷ listing.automatic board 0 (1 ∷ []) 16
-    ∷ listing.automatic placement 0 (3 ∷ 4 ∷ []) 18 ∷ placement_reel ∷ found_indexes rules
+    ∷ listing.automatic placement 0 (3 ∷ 4 ∷ []) 18 ∷ placement_reel ∷ placement_overdue ∷ found_indexes rules
 
 -- the tables of the line under rules, and no other object: version 1 goes with rules One, version 2 with rules Two
 abbrev pub schema_of : Rules → Schema

@@ -15,6 +15,7 @@ ghost use Rattle.feeder_state.specs.Restored.{AreRowsOf};
 use crate::floor::Floor;
 use crate::held::Held;
 use crate::maps::put;
+use crate::resting::resting_of;
 use desk_types::{Id, Minute};
 use entry_search::floor::Tape;
 use reels::Reel;
@@ -113,5 +114,10 @@ pub fn floor_of(alloc: Global, rows: &RowSet, minute: Minute) -> Result<Floor, A
 {
     let reels = reels_of(alloc, rows, minute)?;
     let tapes = tapes_of(alloc, rows)?;
-    Ok(Floor { reels, tapes })
+    let resting = resting_of(alloc, &reels)?;
+    Ok(Floor {
+        reels,
+        tapes,
+        resting,
+    })
 }

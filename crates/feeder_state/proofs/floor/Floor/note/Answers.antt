@@ -1,7 +1,11 @@
-use Rattle.std.proofs.Common.{sym, ap, ◌∙◌}
+use Rattle.std.proofs.Common.{List, sym, ap, ◌∙◌}
+use Rattle.desk_types.specs.Id.{Name}
 use Rattle.desk_types.specs.Pieces.{live_on}
 use Rattle.desk_types.specs.Tape.{tape_after}
+use Rattle.entry_search.specs.Floor.{tape_at}
 use Rattle.feeder_state.specs.Noted.{may_take}
+use Rattle.feeder_state.specs.Resting.{is_resting, resting_after}
+use Rattle.feeder_state.proofs.AtRest.{rests-next}
 use Rattle.feeder_state.proofs.TapeSteps.{lives-kept}
 use Rattle.feeder_state.proofs.floor.Floor.note.Goals as goal
 
@@ -31,4 +35,10 @@ returns c = λ H e noted floor.
           ∙ ap (tape_after m s command) (floor.tapes m s)
           ∙ ap (λ said. tape_after m s said (live_on H m s)) (sym noted.command_is)
           ∙ lives-kept H e m s noted.judged other;
+      resting = λ r rest.
+          let before = is_resting c.args.self.now.resting r in
+          c.in_ok-note_resting.ensures r
+          ∙ ap (λ said. resting_after (tape_at c.args.self.now.tapes) r said before) (sym noted.command_is)
+          ∙ ap (λ (live : Name → Name → List Name). resting_after live r e.stamped.command before) (λ j m s. floor.tapes m s j)
+          ∙ rests-next H e r before noted.judged (floor.resting r) rest;
     }

@@ -1,10 +1,12 @@
-use Rattle.std.proofs.Common.{not, sym, ap, subst, ◌∙◌}
+use Rattle.std.proofs.Common.{not, ◌∷◌, sym, ap, subst, ◌∙◌}
 use Rattle.std.specs.List.{filter, list_any, IsDistinct}
 use Rattle.desk_types.specs.Id.{same}
 use Rattle.desk_laws.proofs.Tapes.{live-distinct}
 use Rattle.entry_search.specs.Floor.{tape_at}
 use Rattle.feeder_state.specs.Held.{held_at, left_at}
+use Rattle.feeder_state.specs.Noted.{may_take}
 use Rattle.feeder_state.specs.Spending.{is_spent_by}
+use Rattle.feeder_state.proofs.AtRest.{rests-left, rests-taken}
 use Rattle.feeder_state.proofs.Dropping.{filter-kept, none-spent}
 use Rattle.feeder_state.proofs.ReelSteps.{left-held}
 use Rattle.feeder_state.proofs.TapeSteps.{lives-taken}
@@ -28,6 +30,7 @@ returns-then-not-take_pieces c = λ H e at noted floor.
           sym (filter-kept (λ r. not (list_any (is_spent_by (left_at reels) m s r) takes)) (λ r. none-spent (left_at reels) m s r takes (c.take_pieces.ensures.unspent c.if-not-take_pieces.true)) (tape_at tapes m s))
           ∙ ap (filter (λ r. not (list_any (is_spent_by (left_at reels) m s r) takes))) (floor.tapes m s)
           ∙ lives-taken H e c.args.command.now at takes (left_at reels) m s noted c.requires.takes (λ r. left-held _ r (held_at reels r) noted.judged (held r));
+      resting = λ r rest. floor.resting r (rests-taken H e r noted.judged (ap may_take noted.command_is ∙ c.requires.takes) rest);
     }
 
 pub returns : goal.returns
@@ -41,4 +44,5 @@ returns c = λ H e at noted floor.
           c.drop_all_spent.ensures m s
           ∙ ap (filter (λ r. not (list_any (is_spent_by (left_at reels) m s r) takes))) (floor.tapes m s)
           ∙ lives-taken H e c.args.command.now at takes (left_at reels) m s noted c.requires.takes (λ r. left-held _ r (held_at reels r) noted.judged (held r));
+      resting = λ r rest. c.end_rests.ensures r (rests-left (e ∷ H) r (left_at reels r) (left-held _ r (held_at reels r) noted.judged (held r)) rest) ∙ floor.resting r (rests-taken H e r noted.judged (ap may_take noted.command_is ∙ c.requires.takes) rest);
     }

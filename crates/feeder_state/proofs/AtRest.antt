@@ -1,0 +1,153 @@
+-- Reels at rest: after one entry more, and as reels that are held.
+use Rattle.std.proofs.Common.{◌≡◌, ℕ, ◌+◌, ◌<◌, nat_lt, Bool, true, false, cond, not, Option, Some, None, is_some, List, [], ◌∷◌, take, get_or, length, refl, sym, ap, ◌∙◌}
+use Rattle.std.specs.Prelude.{◌&&◌, ◌||◌, ◌==◌}
+use Rattle.std.specs.BTreeMap.{is_at}
+use Rattle.std.specs.List.{list_any}
+use Rattle.std.specs.Map.{lookup}
+use Rattle.std.specs.Option.{option_map_or}
+use Rattle.std.proofs.Math.Bool.{and-false, and-true}
+use Rattle.std.proofs.lemmas.Bool.{and_from, and_parts, eqb-true}
+use Rattle.std.proofs.lemmas.List.Folds.{list_any-append}
+use Rattle.desk_types.specs.declared.command.Command.{Command}
+use Rattle.desk_types.specs.declared.command.Command.TheVariants.{ReelReceived, MaterialsLoaded, MaterialsSpliced, MaterialsUnloaded, MaterialsInstalled, MaterialsScrapped, CountsTaken}
+use Rattle.desk_types.specs.declared.command.Entry.{Entry}
+use Rattle.desk_types.specs.declared.command.Receipt.{Receipt}
+use Rattle.desk_types.specs.declared.rules.Rules.TheVariants.{Two}
+use Rattle.desk_types.specs.Id.{Name, same, by_name}
+use Rattle.desk_types.specs.History.{History}
+use Rattle.desk_types.specs.Setup.{receipt_of, receipt_by}
+use Rattle.desk_types.specs.Pieces.{left_of, live_on, is_mounted}
+use Rattle.desk_types.specs.Judged.{IsJudged}
+use Rattle.desk_types.proofs.Keys.{is_at-by_name, same-sym, same-true}
+use Rattle.desk_types.proofs.Steps.{take-next}
+use Rattle.desk_laws.specs.Place.{mounted_after}
+use Rattle.desk_laws.proofs.Balance.{some-next, unreceived-empty}
+use Rattle.desk_laws.proofs.Mounted.{mounted-next}
+use Rattle.desk_laws.proofs.Mounts.{has}
+use Rattle.state_rows.specs.Kept.{row_at}
+use Rattle.feeder_state.specs.declared.held.Held.{Held}
+use Rattle.feeder_state.specs.Held.{is_live, IsHeldOf}
+use Rattle.feeder_state.specs.Noted.{may_take}
+use Rattle.feeder_state.specs.Resting.{rests, held_rests, resting_after}
+use Rattle.feeder_state.proofs.Working.{has_such}
+
+-- ---- one entry more
+
+-- what may be at rest after a command, where a reel has pieces left then and is not mounted
+step : (minute : ℕ) (reel : Name) (command : Command) (live : Name → Name → List Name) (left some mounted before : Bool) → left ≡ true
+    → not (mounted_after left (λ m s. has (live m s) reel) reel command mounted) ≡ true → (receipt_by reel minute command ≡ None → some ≡ true)
+    → ((some && not mounted) ≡ true → before ≡ true) → resting_after live reel command before ≡ true
+step minute reel (ReelReceived r part lot moisture quantity) live left some mounted before has_left off had was = by (same r reel) off had
+  where
+    receipt : Receipt
+    receipt = record { part = part; lot = lot; moisture = moisture; quantity = quantity; effective = minute }
+
+    by : (b : Bool) → not (cond b false mounted) ≡ true → (cond b (Some receipt) None ≡ None → some ≡ true) → (b || before) ≡ true
+    by true off had = refl
+    by false off had = was (and_from _ _ (had refl) off)
+step minute reel (MaterialsLoaded m s r) live left some mounted before has_left off had was = by (same r reel) off
+  where
+    by : (b : Bool) → not (cond b left mounted) ≡ true → cond b false before ≡ true
+    by true off = let never = sym (ap not has_left) ∙ off in cc
+    by false off = was (and_from _ _ (had refl) off)
+step minute reel (MaterialsSpliced m s r) live left some mounted before has_left off had was = by (same r reel) off
+  where
+    by : (b : Bool) → not (cond b left mounted) ≡ true → cond b false before ≡ true
+    by true off = let never = sym (ap not has_left) ∙ off in cc
+    by false off = was (and_from _ _ (had refl) off)
+step minute reel (MaterialsUnloaded m s) live left some mounted before has_left off had was = by (has (live m s) reel) off
+  where
+    by : (b : Bool) → not (mounted && not b) ≡ true → (b || before) ≡ true
+    by true off = refl
+    by false off = was (and_from _ _ (had refl) (ap not (sym (and-true mounted)) ∙ off))
+step minute reel (MaterialsInstalled m board ds) live left some mounted before has_left off had was =
+    was (and_from _ _ (had refl) (ap not (sym (and-true mounted)) ∙ ap (λ b. not (mounted && b)) (sym has_left) ∙ off))
+step minute reel (MaterialsScrapped m s n) live left some mounted before has_left off had was =
+    was (and_from _ _ (had refl) (ap not (sym (and-true mounted)) ∙ ap (λ b. not (mounted && b)) (sym has_left) ∙ off))
+step minute reel (CountsTaken counts) live left some mounted before has_left off had was =
+    was (and_from _ _ (had refl) (ap not (sym (and-true mounted)) ∙ ap (λ b. not (mounted && b)) (sym has_left) ∙ off))
+step minute reel _ live left some mounted before has_left off had was = was (and_from _ _ (had refl) off)
+
+-- A reel that is at rest after an entry may be so by what its command says.
+pub rests-next : (H : History) (e : Entry) (reel : Name) (before : Bool) → IsJudged Two (e ∷ H) → (rests H reel ≡ true → before ≡ true) → rests (e ∷ H) reel ≡ true
+    → resting_after (live_on H) reel e.stamped.command before ≡ true
+rests-next H e reel before judged was is =
+    let both = and_parts (nat_lt 0 (left_of (e ∷ H) reel)) (not (is_mounted (e ∷ H) reel)) is in
+    step e.effective reel e.stamped.command (live_on H) (nat_lt 0 (left_of (e ∷ H) reel)) (nat_lt 0 (left_of H reel)) (is_mounted H reel) before both.0
+    (sym (ap not (mounted-next H e reel judged)) ∙ both.1) (λ none. some-next H e reel judged none both.0) was
+
+kept : (live : Name → Name → List Name) (reel : Name) (command : Command) (before : Bool) → may_take command ≡ true → resting_after live reel command before ≡ true → before ≡ true
+kept live reel (MaterialsInstalled m board ds) before may is = is
+kept live reel (MaterialsScrapped m s n) before may is = is
+kept live reel (CountsTaken counts) before may is = is
+kept live reel _ before may is = cc
+
+-- A command that may take pieces puts no reel to rest.
+pub rests-taken : (H : History) (e : Entry) (reel : Name) → IsJudged Two (e ∷ H) → may_take e.stamped.command ≡ true → rests (e ∷ H) reel ≡ true → rests H reel ≡ true
+rests-taken H e reel judged may is = kept (live_on H) reel e.stamped.command (rests H reel) may (rests-next H e reel (rests H reel) judged (λ rest. rest) is)
+
+-- A reel at rest has pieces left,
+pub rests-left : (H : History) (reel : Name) (left : ℕ) → left ≡ left_of H reel → rests H reel ≡ true → (left == 0) ≡ false
+rests-left H reel left is rest = by (left == 0) refl
+  where
+    by : (b : Bool) → (left == 0) ≡ b → (left == 0) ≡ false
+    by true none =
+        let some = (and_parts (nat_lt 0 (left_of H reel)) (not (is_mounted H reel)) rest).0 in
+        let never = ap (nat_lt 0) (sym (eqb-true left 0 none)) ∙ ap (nat_lt 0) is ∙ some in
+        cc
+    by false some = some
+
+-- and was received.
+pub rests-received : (H : History) (reel : Name) → IsJudged Two H → rests H reel ≡ true → is_some (receipt_of H reel) ≡ true
+rests-received H reel judged rest = by (receipt_of H reel) refl
+  where
+    by : (said : Option Receipt) → receipt_of H reel ≡ said → is_some said ≡ true
+    by None none = let never = ap (λ n. nat_lt 0 n && not (is_mounted H reel)) (sym (unreceived-empty H reel judged none)) ∙ rest in cc
+    by (Some receipt) says = refl
+
+-- where a spent reel is taken out, the reels with pieces left stay as they were
+pub others-rest : (left : Name → ℕ) (spent r : Name) (new old : Bool) → (left spent == 0) ≡ true → (left r == 0) ≡ false → new ≡ cond (same spent r) false old → new ≡ old
+others-rest left spent r new old none some out = by (same spent r) refl out
+  where
+    by : (b : Bool) → same spent r ≡ b → new ≡ cond b false old → new ≡ old
+    by true one out = let never = sym none ∙ ap (λ n. left n == 0) (same-true spent r one) ∙ some in cc
+    by false away out = out
+
+-- ---- reels that are held
+
+-- what is found in a list is among its entries
+such-there : {X : Type 0} (such : X → Bool) (key : Name) (es : List (Name × X)) (x : X) → row_at by_name es key ≡ Some x → such x ≡ true → has_such such key es ≡ true
+such-there such key [] x found is = cc
+such-there such key (e ∷ es) x found is =
+    by (same e.0 key) (sym (ap (λ b. cond b (Some e.1) (lookup (is_at (by_name key)) es)) (is_at-by_name key e.0 ∙ same-sym key e.0)) ∙ found) (λ later. such-there such key es x later is)
+  where
+    by : (b : Bool) → cond b (Some e.1) (lookup (is_at (by_name key)) es) ≡ Some x → (row_at by_name es key ≡ Some x → has_such such key es ≡ true)
+        → ((such e.1 && b) || has_such such key es) ≡ true
+    by true found rest = ap (λ b. (b && true) || has_such such key es) (ap (λ o. option_map_or such o true) found ∙ is)
+    by false found rest = ap (λ b. b || has_such such key es) (and-false (such e.1)) ∙ rest found
+
+-- A reel at rest is among those that are held.
+pub rests-held : (H : History) (reel : Name) (es : List (Name × Held)) (found : Option Held) → IsJudged Two H → row_at by_name es reel ≡ found → IsHeldOf H reel found
+    → rests H reel ≡ true → has_such held_rests reel es ≡ true
+rests-held H reel es None judged is none rest = let never = sym (ap is_some none) ∙ rests-received H reel judged rest in cc
+rests-held H reel es (Some held) judged is is_held rest =
+    such-there held_rests reel es held is (
+    ap (λ n. nat_lt 0 n && not (is_live held)) is_held.remaining ∙ ap (λ b. nat_lt 0 (left_of H reel) && not b) is_held.mounted ∙ rest)
+
+-- ---- names that are put in
+
+-- one name more of a list
+pub put-next : (names : List Name) (i : ℕ) (x r : Name) (first now new : Bool) → i < length names → x ≡ get_or names i x
+    → now ≡ (has (take i names) r || first) → new ≡ (same x r || now) → new ≡ (has (take (i + 1) names) r || first)
+put-next names i x r first now new inside is so_far one =
+    one
+    ∙ ap (λ b. same x r || b) so_far
+    ∙ swap (same x r) (has (take i names) r) first
+    ∙ ap (λ b. (has (take i names) r || (b || false)) || first) (same-sym x r)
+    ∙ ap (λ b. b || first) (sym (ap (list_any (same r)) (take-next names i x inside is) ∙ list_any-append (same r) (take i names) (x ∷ [])))
+  where
+    swap : (a b c : Bool) → (a || (b || c)) ≡ ((b || (a || false)) || c)
+    swap true true c = refl
+    swap true false c = refl
+    swap false true c = refl
+    swap false false c = refl

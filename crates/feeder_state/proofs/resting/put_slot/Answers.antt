@@ -1,0 +1,17 @@
+use Rattle.std.proofs.Common.{rules, ◌≡◌, [], ap, ◌∙◌}
+use Rattle.std.specs.Prelude.{◌||◌}
+use Rattle.std.specs.List.{list_any}
+use Rattle.desk_types.specs.Id.{same}
+use Rattle.entry_search.specs.Floor.{tape_at}
+use Rattle.feeder_state.specs.Resting.{is_resting}
+use Rattle.feeder_state.proofs.resting.put_slot.Goals as goal
+
+pub returns-in_ok-put_tape : goal.returns-in_ok-put_tape
+returns-in_ok-put_tape c = λ r.
+    let tape : c.in-Some.tape.now ≡ tape_at c.args.tapes.now c.args.machine.now c.args.slot.now = search rules in
+    c.in_ok-put_tape.ensures r ∙ ap (λ reels. list_any (same r) reels || is_resting c.args.resting.now r) tape
+
+pub returns-in_default : goal.returns-in_default
+returns-in_default c = λ r.
+    let none : [] ≡ tape_at c.args.tapes.now c.args.machine.now c.args.slot.now = search rules in
+    ap (λ reels. list_any (same r) reels || is_resting c.args.resting.now r) none

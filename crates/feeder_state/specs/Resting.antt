@@ -1,0 +1,32 @@
+-- Reels at rest: those that have pieces left and are on no slot.
+use Rattle.std.specs.Prelude.{Bool, false, not, ◌&&◌, ◌||◌, nat_lt, List, if◌then◌else◌}
+use Rattle.std.specs.List.{list_any}
+use Rattle.std.specs.BTreeSet.{BTreeSet, contains}
+use Rattle.desk_types.specs.declared.command.Command.{Command}
+use Rattle.desk_types.specs.declared.command.Command.TheVariants.{ReelReceived, MaterialsLoaded, MaterialsSpliced, MaterialsUnloaded}
+use Rattle.desk_types.specs.Id.{Name, same, by_name}
+use Rattle.desk_types.specs.History.{History}
+use Rattle.desk_types.specs.Pieces.{left_of, is_mounted}
+use Rattle.feeder_state.specs.declared.held.Held.{Held}
+use Rattle.feeder_state.specs.Held.{is_live}
+
+-- whether the reel has pieces left and is on no slot
+abbrev pub rests : History → Name → Bool
+rests H reel = nat_lt 0 (left_of H reel) && not (is_mounted H reel)
+
+-- the same of a reel that is held
+abbrev pub held_rests : Held → Bool
+held_rests held = nat_lt 0 held.reel.remaining && not (is_live held)
+
+-- whether the reel is in the set of those that may be at rest
+abbrev pub is_resting : BTreeSet Name → Name → Bool
+is_resting resting reel = contains by_name resting reel
+
+-- whether a reel may be at rest after a command, from whether it might before: a receipt and an unload put reels to rest, a load and a
+-- splice end the rest of one
+abbrev pub resting_after : (Name → Name → List Name) → Name → Command → Bool → Bool
+resting_after live reel (ReelReceived r part lot moisture quantity) before = same r reel || before
+resting_after live reel (MaterialsUnloaded m s) before = list_any (same reel) (live m s) || before
+resting_after live reel (MaterialsLoaded m s r) before = if same r reel then false else before
+resting_after live reel (MaterialsSpliced m s r) before = if same r reel then false else before
+resting_after live reel _ before = before

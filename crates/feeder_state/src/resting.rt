@@ -1,0 +1,122 @@
+//! The reels that may be at rest: with pieces left, and on no slot.
+
+ghost use Rattle.std.specs.Prelude.{◌≡◌, ◌||◌, ◌==◌, true, false, IfOk, OnOk};
+ghost use Rattle.std.specs.List.{list_any};
+ghost use Rattle.desk_types.specs.declared.rules.Rules.TheVariants.{Two};
+ghost use Rattle.desk_types.specs.Id.{Name, same};
+ghost use Rattle.desk_types.specs.History.{History};
+ghost use Rattle.desk_types.specs.Judged.{IsJudged};
+ghost use Rattle.entry_search.specs.Floor.{tape_at};
+ghost use Rattle.feeder_state.specs.Held.{IsHeld, AreHeld, left_at};
+ghost use Rattle.feeder_state.specs.Resting.{rests, held_rests, is_resting, resting_after};
+
+use crate::held::Held;
+use crate::tapes::is_spent;
+use crate::views::is_live;
+use desk_types::{Command, Id, Take};
+use entry_search::floor::Tape;
+use std::alloc::{AllocError, Global};
+use std::collections::{BTreeMap, BTreeSet};
+
+/// Whether the reel has pieces left and is on no slot. Most reels of a line fail this, and it takes no
+/// look-up.
+pub fn is_at_rest(held: &Held) -> bool
+    ensures held { result ≡ held_rests held.now }
+    ensures listed { (H : History) (name : Name) → IsHeld H name held.now → result ≡ rests H name }
+{
+    held.reel.remaining > 0 && !is_live(held)
+}
+
+/// Puts in the reels of a tape.
+fn put_tape(resting: &mut BTreeSet<Id>, tape: &Tape) -> Result<(), AllocError>
+    ensures { (r : Name) → OnOk result (is_resting resting.new r ≡ (list_any (same r) tape.now || is_resting resting.old r)) }
+{
+    for i in 0..tape.reels.len() {
+        resting.insert(tape.reels[i])?;
+    }
+    Ok(())
+}
+
+/// Puts in the reels of a slot.
+fn put_slot(
+    resting: &mut BTreeSet<Id>,
+    tapes: &BTreeMap<(Id, Id), Tape>,
+    machine: &Id,
+    slot: &Id,
+) -> Result<(), AllocError>
+    ensures { (r : Name) → OnOk result (is_resting resting.new r ≡ (list_any (same r) (tape_at tapes.now machine.now slot.now) || is_resting resting.old r)) }
+{
+    if let Some(tape) = tapes.get(&(*machine, *slot)) {
+        put_tape(resting, tape)?;
+    }
+    Ok(())
+}
+
+/// The reels that may be at rest after a command; `tapes` are those before it.
+pub fn note_resting(
+    resting: &mut BTreeSet<Id>,
+    tapes: &BTreeMap<(Id, Id), Tape>,
+    command: &Command,
+) -> Result<(), AllocError>
+    ensures { (r : Name) → OnOk result (is_resting resting.new r ≡ resting_after (tape_at tapes.now) r command.now (is_resting resting.old r)) }
+{
+    match command {
+        Command::ReelReceived { reel, .. } => {
+            resting.insert(*reel)?;
+        }
+        Command::MaterialsUnloaded { machine, slot } => put_slot(resting, tapes, machine, slot)?,
+        Command::MaterialsLoaded { reel, .. } => {
+            resting.remove(reel);
+        }
+        Command::MaterialsSpliced { reel, .. } => {
+            resting.remove(reel);
+        }
+        _ => {}
+    }
+    Ok(())
+}
+
+/// Takes the reel out, where it has no pieces left.
+fn end_rest(reels: &BTreeMap<Id, Held>, resting: &mut BTreeSet<Id>, reel: &Id)
+    ensures { (r : Name) → (left_at reels.now r == 0) ≡ false → is_resting resting.new r ≡ is_resting resting.old r }
+{
+    if is_spent(reels, reel) {
+        resting.remove(reel);
+    }
+}
+
+/// Takes out the reels of takes that have no pieces left. The others stay as they were.
+fn end_each(reels: &BTreeMap<Id, Held>, resting: &mut BTreeSet<Id>, takes: &[Take])
+    ensures { (r : Name) → (left_at reels.now r == 0) ≡ false → is_resting resting.new r ≡ is_resting resting.old r }
+{
+    for take in takes {
+        end_rest(reels, resting, &take.reel);
+    }
+}
+
+/// Takes out the reels that a command left with no pieces: only a count takes pieces of reels at rest.
+pub fn end_rests(
+    reels: &BTreeMap<Id, Held>,
+    resting: &mut BTreeSet<Id>,
+    command: &Command,
+    takes: &[Take],
+)
+    ensures { (r : Name) → (left_at reels.now r == 0) ≡ false → is_resting resting.new r ≡ is_resting resting.old r }
+{
+    if let Command::CountsTaken { .. } = command {
+        end_each(reels, resting, takes);
+    }
+}
+
+/// The reels at rest among some reels.
+pub fn resting_of(alloc: Global, reels: &BTreeMap<Id, Held>) -> Result<BTreeSet<Id>, AllocError>
+    ensures { (H : History) → IsJudged Two H → AreHeld H reels.now → (r : Name) → IfOk result (λ resting. rests H r ≡ true → is_resting resting r ≡ true) }
+{
+    let mut resting = BTreeSet::new(alloc);
+    for (name, held) in reels {
+        if is_at_rest(held) {
+            resting.insert(*name)?;
+        }
+    }
+    Ok(resting)
+}
