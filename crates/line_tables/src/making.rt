@@ -145,7 +145,11 @@ fn make_pieces<S: Alter>(tx: &mut Transaction<'_, S>) -> Result<(), Error>
         &[],
     )?;
     run(tx, "CREATE INDEX placement_reel ON placement (reel)", &[])?;
-    run(tx, "CREATE INDEX placement_overdue ON placement (overdue)", &[])?;
+    run(
+        tx,
+        "CREATE INDEX placement_overdue ON placement (overdue)",
+        &[],
+    )?;
     make_found(tx)
 }
 
