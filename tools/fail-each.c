@@ -8,11 +8,19 @@
                 other files, standard input and output, and connections are the wire
    FAIL_COUNTS  a file for the counts, eight bytes each in the order of the kinds
    FAIL_RECORD  a file for each change of the disk and all bytes that are put out, in their order
+   FAIL_POINTS  a file of lines as `write 3 17 write 3 5 28`: before the third write a copy of the process is made, in
+                which FAIL is what stands behind the number 17. It has copies of the desk's files, of what was put out
+                and of what was told, in the folder `17` within FAIL_ROOMS; the process itself waits for its end, puts
+                17 and its status into the file `ended` there, and goes on. Sorted by kind and number
+   FAIL_SECONDS how long a copy may take
+   FAIL_GIVEN   what a connection gives, which is then none of the network: what is answered to it goes into the file
+                `answered` beside the desk
 
    What the system's source of chance gives is the same in each run, so that a call of the same number is the same. */
 #define _GNU_SOURCE
 #include <errno.h>
 #include <fcntl.h>
+#include <netinet/in.h>
 #include <signal.h>
 #include <stdarg.h>
 #include <stdint.h>
@@ -24,6 +32,7 @@
 #include <sys/stat.h>
 #include <sys/syscall.h>
 #include <sys/uio.h>
+#include <sys/wait.h>
 #include <unistd.h>
 
 enum kind { MEMORY, INPUT, OUTPUT, READ, WRITE, SYNC, CALL, KINDS };
@@ -44,6 +53,11 @@ static char folder[4096];
 enum { FILES = 1024 };
 static enum place { ELSEWHERE, WIRE, DISK, FOLDER } places[FILES];
 static char names[FILES][32]; /* of the desk's files, what their names have more than the desk's */
+
+static const char *points[KINDS], *rooms; /* what is left of FAIL_POINTS, for each kind */
+static char own_folder[4096];             /* a copy's folder, which stands for the desk's */
+static int given = -1, ended = -1, connection = -1, keeps;
+static off_t given_until;
 
 static void give_up(void) { syscall(SYS_exit_group, 99); }
 
@@ -84,6 +98,21 @@ static int opened_for(const char *path) {
     return high;
 }
 
+static void read_points(const char *path) {
+    char file[4200];
+    rooms = getenv("FAIL_ROOMS");
+    snprintf(file, sizeof file, "%s/ended", rooms);
+    ended = opened_for(file);
+    int from = opened_for(path);
+    off_t length = syscall(SYS_lseek, from, 0, SEEK_END);
+    const char *text = mmap(NULL, length + 1, PROT_READ, MAP_PRIVATE, from, 0);
+    if (text == MAP_FAILED) give_up();
+    for (const char *it = text; it != NULL && *it != 0; it = strchr(it, '\n') == NULL ? NULL : strchr(it, '\n') + 1) {
+        char kind[16];
+        if (sscanf(it, "%15s", kind) == 1 && points[kind_of(kind)] == NULL) points[kind_of(kind)] = it;
+    }
+}
+
 __attribute__((constructor)) static void begin(void) {
     const char *counted = getenv("FAIL_COUNTS"), *told = getenv("FAIL_RECORD");
     if (getenv("FAIL_DESK") != NULL) desk = getenv("FAIL_DESK");
@@ -99,6 +128,8 @@ __attribute__((constructor)) static void begin(void) {
     }
     if (told != NULL) record = opened_for(told);
     read_failing(getenv("FAIL"));
+    if (getenv("FAIL_GIVEN") != NULL) given = opened_for(getenv("FAIL_GIVEN"));
+    if (getenv("FAIL_POINTS") != NULL) read_points(getenv("FAIL_POINTS"));
 }
 
 static void killed(void) {
@@ -106,9 +137,107 @@ static void killed(void) {
     for (;;) syscall(SYS_pause);
 }
 
+/* ---- a copy of the process for each point ------------------------------------------------------------------------ */
+static void copied(const char *from, const char *to) {
+    struct stat it;
+    int in = syscall(SYS_openat, AT_FDCWD, from, O_RDONLY), out = syscall(SYS_openat, AT_FDCWD, to, O_WRONLY | O_CREAT | O_EXCL, 0600);
+    if (in < 0 || out < 0 || syscall(SYS_fstat, in, &it) != 0 || syscall(SYS_fchmod, out, it.st_mode & 0777) != 0) give_up();
+    for (long done = 0, more; done < it.st_size; done += more)
+        if ((more = syscall(SYS_sendfile, out, in, NULL, it.st_size - done)) <= 0) give_up();
+    syscall(SYS_close, in);
+    syscall(SYS_close, out);
+}
+
+/* The files of the desk's folder whose names begin with the desk's, and what was answered to a connection. */
+static void copy_files(void) {
+    struct entry { uint64_t number; int64_t next; unsigned short length; unsigned char kind; char name[]; };
+    static _Alignas(8) char found[32768];
+    char from[8400], to[8400];
+    int in = syscall(SYS_openat, AT_FDCWD, folder, O_RDONLY | O_DIRECTORY);
+    const char *name = desk + strlen(folder) + 1;
+    for (long length; (length = syscall(SYS_getdents64, in, found, sizeof found)) > 0;)
+        for (long at = 0; at < length; at += ((struct entry *)(found + at))->length) {
+            const char *it = ((struct entry *)(found + at))->name;
+            if (strncmp(it, name, strlen(name)) != 0 && strcmp(it, "answered") != 0) continue;
+            snprintf(from, sizeof from, "%s/%s", folder, it);
+            snprintf(to, sizeof to, "%s/%s", own_folder, it);
+            copied(from, to);
+        }
+    syscall(SYS_close, in);
+}
+
+/* An open file becomes the one of this path, at the same place of its bytes. */
+static void opens(int file, const char *path) {
+    int flags = syscall(SYS_fcntl, file, F_GETFL), own = syscall(SYS_fcntl, file, F_GETFD);
+    off_t at = syscall(SYS_lseek, file, 0, SEEK_CUR);
+    int it = syscall(SYS_openat, AT_FDCWD, path, flags & (O_ACCMODE | O_APPEND | O_DIRECTORY));
+    if (it < 0 || syscall(SYS_dup3, it, file, own & FD_CLOEXEC ? O_CLOEXEC : 0) < 0) give_up();
+    if (it != file) syscall(SYS_close, it);
+    if (at > 0 && syscall(SYS_lseek, file, at, SEEK_SET) != at) give_up();
+}
+
+static void open_files(void) {
+    char path[8400], from[64];
+    const char *const told[] = {"", "out", "told"};
+    for (int file = 0; file < 64; file++) {
+        snprintf(from, sizeof from, "/proc/self/fd/%d", file);
+        if (file == 1 || file == 2) {
+            snprintf(path, sizeof path, "%s/%s", own_folder, told[file]);
+            copied(from, path);
+        } else if (places[file] == DISK) snprintf(path, sizeof path, "%s%s%s", own_folder, desk + strlen(folder), names[file]);
+        else if (places[file] == FOLDER) snprintf(path, sizeof path, "%s", own_folder);
+        else if (places[file] == WIRE && file == connection) snprintf(path, sizeof path, "%s/answered", own_folder);
+        else if (places[file] == WIRE) snprintf(path, sizeof path, "%s", from);
+        else continue;
+        opens(file, path);
+    }
+}
+
+/* The path that stands for this one in a copy. */
+static const char *here(const char *path) {
+    static char other[8400];
+    if (*own_folder == 0 || path == NULL || (strncmp(path, desk, strlen(desk)) != 0 && strcmp(path, folder) != 0)) return path;
+    snprintf(other, sizeof other, "%s%s", own_folder, path + strlen(folder));
+    return other;
+}
+
+/* Makes the copies of this number of a kind. In a copy FAIL is the point's, and no further copy is made. */
+static void branch(enum kind kind, int64_t number) {
+    char word[16], line[64];
+    long at, name, begins;
+    int before = errno, status;
+    while (points[kind] != NULL && sscanf(points[kind], "%15s %ld %ld %ln", word, &at, &name, &begins) == 3 && kind_of(word) == kind && at == number) {
+        int copy = fork();
+        if (copy < 0) give_up();
+        if (copy == 0) {
+            syscall(SYS_alarm, getenv("FAIL_SECONDS") != NULL ? atoi(getenv("FAIL_SECONDS")) : 60);
+            keeps = name % 25 != 0;
+            memcpy(own_counts, counts, sizeof own_counts);
+            counts = own_counts;
+            snprintf(own_folder, sizeof own_folder, "%s/%ld", rooms, name);
+            if (syscall(SYS_mkdir, own_folder, 0700) != 0) give_up();
+            copy_files();
+            open_files();
+            static char text[256];
+            snprintf(text, sizeof text, "%.*s", (int)strcspn(points[kind] + begins, "\n"), points[kind] + begins);
+            memset(points, 0, sizeof points);
+            failings = 0;
+            read_failing(text);
+            break;
+        }
+        while (syscall(SYS_wait4, copy, &status, 0, NULL) != copy) {}
+        int length = snprintf(line, sizeof line, "%ld %d\n", name, status);
+        if (syscall(SYS_write, ended, line, length) != length) give_up();
+        points[kind] = strchr(points[kind], '\n') + 1;
+        if (*points[kind] == 0) points[kind] = NULL;
+    }
+    errno = before;
+}
+
 /* Counts a call, and says what is to be done with it, or NULL. */
 static const struct failing *counted(enum kind kind) {
     int64_t number = __atomic_add_fetch(&counts[kind], 1, __ATOMIC_SEQ_CST);
+    if (points[kind] != NULL) branch(kind, number);
     for (const struct failing *it = failing; it < failing + failings; it++) {
         if (it->kind != kind || number < it->first || number > it->last) continue;
         if (it->way == KILL) killed();
@@ -148,6 +277,7 @@ extern void *__libc_malloc(size_t);
 extern void *__libc_calloc(size_t, size_t);
 extern void *__libc_realloc(void *, size_t);
 extern void *__libc_memalign(size_t, size_t);
+extern void __libc_free(void *);
 
 static int has_memory(void) {
     if (counted(MEMORY) == NULL) return 1;
@@ -157,6 +287,10 @@ static int has_memory(void) {
 
 void *malloc(size_t size) { return has_memory() ? __libc_malloc(size) : NULL; }
 void *calloc(size_t count, size_t size) { return has_memory() ? __libc_calloc(count, size) : NULL; }
+/* All copies but each 25th give no memory back: that would write to each page of it, and so copy all of them. */
+void free(void *old) {
+    if (!keeps) __libc_free(old);
+}
 void *realloc(void *old, size_t size) { return has_memory() ? __libc_realloc(old, size) : NULL; }
 void *aligned_alloc(size_t align, size_t size) { return has_memory() ? __libc_memalign(align, size) : NULL; }
 int posix_memalign(void **to, size_t align, size_t size) {
@@ -171,10 +305,14 @@ static long done_now(enum call call, int file, void *bytes, size_t length, off_t
     switch (call) {
     case CALL_READ: return syscall(SYS_read, file, bytes, length);
     case CALL_PREAD: return syscall(SYS_pread64, file, bytes, length, at);
-    case CALL_RECV: return syscall(SYS_recvfrom, file, bytes, length, flags, NULL, NULL);
+    case CALL_RECV:
+        if (given < 0) return syscall(SYS_recvfrom, file, bytes, length, flags, NULL, NULL);
+        long got = syscall(SYS_pread64, given, bytes, length, given_until);
+        given_until += got > 0 ? got : 0;
+        return got;
     case CALL_WRITE: return syscall(SYS_write, file, bytes, length);
     case CALL_PWRITE: return syscall(SYS_pwrite64, file, bytes, length, at);
-    default: return syscall(SYS_sendto, file, bytes, length, flags, NULL, 0);
+    default: return given < 0 ? syscall(SYS_sendto, file, bytes, length, flags, NULL, 0) : syscall(SYS_write, file, bytes, length);
     }
 }
 
@@ -242,8 +380,8 @@ static int opened(int at, const char *path, int flags, mode_t mode) {
     int is_folder = *folder != 0 && strcmp(path, folder) == 0, ours = is_ours(path);
     const struct failing *it = ours || is_folder ? counted(CALL) : NULL;
     if (it != NULL) return refused(it);
-    int is_new = syscall(SYS_faccessat, at, path, F_OK) != 0;
-    int file = syscall(SYS_openat, at, path, flags, mode);
+    int is_new = syscall(SYS_faccessat, at, here(path), F_OK) != 0;
+    int file = syscall(SYS_openat, at, here(path), flags, mode);
     if (file < 0 || file >= FILES) return file;
     places[file] = is_folder ? FOLDER : ours ? DISK : flags & O_DIRECTORY || strncmp(path, "/proc/", 6) == 0 ? ELSEWHERE : WIRE;
     snprintf(names[file], sizeof names[file], "%s", ours ? path + strlen(desk) : "");
@@ -303,7 +441,7 @@ int ftruncate64(int file, off_t length) { return cut(file, length); }
 int unlink(const char *path) {
     const struct failing *it = is_ours(path) ? counted(CALL) : NULL;
     if (it != NULL) return refused(it);
-    int done = syscall(SYS_unlink, path);
+    int done = syscall(SYS_unlink, here(path));
     if (is_ours(path) && done == 0) tell("remove", path + strlen(desk), 0, "", 0);
     return done;
 }
@@ -317,7 +455,7 @@ int unlink(const char *path) {
 
 int statx(int at, const char *restrict path, int flags, unsigned mask, struct statx *restrict to) {
     ASKED(place_of(at) == DISK || is_ours(path));
-    return syscall(SYS_statx, at, path, flags, mask, to);
+    return syscall(SYS_statx, at, here(path), flags, mask, to);
 }
 int fchmod(int file, mode_t mode) {
     ASKED(place_of(file) == DISK);
@@ -360,20 +498,32 @@ int getentropy(void *to, size_t length) {
 /* ---- connections ------------------------------------------------------------------------------------------------- */
 int accept4(int file, struct sockaddr *restrict from, socklen_t *restrict length, int flags) {
     ASKED(1);
-    int connection = syscall(SYS_accept4, file, from, length, flags);
+    if (given < 0) connection = syscall(SYS_accept4, file, from, length, flags);
+    else {
+        char path[8400];
+        snprintf(path, sizeof path, "%s/answered", *own_folder == 0 ? folder : own_folder);
+        connection = syscall(SYS_openat, AT_FDCWD, path, O_WRONLY | O_CREAT | O_APPEND | O_CLOEXEC, 0600);
+        if (from != NULL && length != NULL && *length >= sizeof(struct sockaddr_in)) {
+            *(struct sockaddr_in *)from = (struct sockaddr_in){.sin_family = AF_INET, .sin_port = htons(40000), .sin_addr.s_addr = htonl(INADDR_LOOPBACK)};
+            *length = sizeof(struct sockaddr_in);
+        }
+    }
     if (connection >= 0 && connection < FILES) places[connection] = WIRE;
     return connection;
+}
+int setsockopt(int file, int level, int name, const void *value, socklen_t length) {
+    return given < 0 ? syscall(SYS_setsockopt, file, level, name, value, length) : 0;
 }
 int accept(int file, struct sockaddr *restrict from, socklen_t *restrict length) { return accept4(file, from, length, 0); }
 int socket(int family, int kind, int protocol) {
     ASKED(1);
-    return syscall(SYS_socket, family, kind, protocol);
+    return given < 0 ? syscall(SYS_socket, family, kind, protocol) : syscall(SYS_openat, AT_FDCWD, "/dev/null", O_RDWR | O_CLOEXEC);
 }
 int bind(int file, const struct sockaddr *to, socklen_t length) {
     ASKED(1);
-    return syscall(SYS_bind, file, to, length);
+    return given < 0 ? syscall(SYS_bind, file, to, length) : 0;
 }
 int listen(int file, int waiting) {
     ASKED(1);
-    return syscall(SYS_listen, file, waiting);
+    return given < 0 ? syscall(SYS_listen, file, waiting) : 0;
 }
