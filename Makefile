@@ -16,7 +16,8 @@ test:
 wrong-bodies:
 	@tools/wrong-bodies
 
-# None of these is in the gate. Each needs the program (make build) and what stands beside it, all of Debian.
+# None of these is in the gate, but that rows run the page of `make day` and a short client-test. Each needs Python 3, most
+# the program too (make build, or PROGRAM=FILE in the environment), and the Debian packages in brackets.
 # make day             feeds a made-up shift to a desk, and prints what is asked of it: docs/day.md
 # make plant-recall    three lines in one PostgreSQL, and a recall over them: docs/plant.md   (postgresql)
 # make torture         kills the program 200 times, fails its disk, looks at its order of calls   (strace)

@@ -14,4 +14,5 @@ pub mod SetupRows
 pub mod Steps
 pub mod TraceRows
 pub mod ViewRows
+pub mod Words
 pub mod WorkRows

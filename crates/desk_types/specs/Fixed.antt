@@ -1,5 +1,6 @@
 -- Short texts that are kept in place, in an array of a fixed width.
-use Rattle.std.specs.Prelude.{◌≡◌, ℕ, ◌-◌, ◌≤◌, List, ◌++◌, length, take, replicate}
+use Rattle.std.specs.Prelude.{◌≡◌, ℕ, ◌-◌, ◌≤◌, List, ◌++◌, length, take, drop, replicate}
+use Rattle.std.specs.Slice.Scan.{big_endian}
 
 -- the bytes, with zeros behind them up to the width
 abbrev pub padded : ℕ → List ℕ → List ℕ
@@ -9,3 +10,7 @@ padded width bytes = bytes ++ replicate (width - length bytes) 0
 pub record IsPadded (width : ℕ) (bytes : List ℕ) (len : ℕ) : Type 0 where
   pub len_fits : len ≤ length bytes
   pub padding : padded width (take len bytes) ≡ bytes
+
+-- the number that the eight bytes from this place on spell, the greatest first
+abbrev pub word_at : List ℕ → ℕ → ℕ
+word_at bytes at = big_endian 0 (take 8 (drop at bytes))

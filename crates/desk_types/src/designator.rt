@@ -3,7 +3,7 @@
 ghost use Rattle.std.specs.Prelude.{◌≡◌, ℕ, ◌≤◌, ◌<◌, ◌↔◌, List, length, SomeIff, IsTrue, Some, ⊤};
 ghost use Rattle.desk_types.specs.Designator.{IsDesignator, is_designator_byte};
 
-use crate::fixed::padded;
+use crate::fixed::{order, padded};
 use std::alloc::AllocError;
 use std::cmp::Ordering;
 use std::fmt;
@@ -107,7 +107,7 @@ impl PartialEq for Designator {
     ghost laws = { Prim.search (comparing, rules) };
 
     fn eq(&self, other: &Designator) -> bool {
-        self.as_bytes() == other.as_bytes()
+        self.bytes == other.bytes
     }
 }
 
@@ -133,7 +133,7 @@ impl Ord for Designator {
     ghost matches_eq = { Prim.search (comparing, rules) };
 
     fn cmp(&self, other: &Designator) -> Ordering {
-        self.as_bytes().cmp(other.as_bytes())
+        order(&self.bytes, &other.bytes)
     }
 }
 

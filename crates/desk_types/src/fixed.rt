@@ -1,7 +1,11 @@
 //! Short texts that are kept in place, in an array of a fixed width.
 
-ghost use Rattle.std.specs.Prelude.{◌≡◌, ◌≤◌, length};
-ghost use Rattle.desk_types.specs.Fixed.{padded};
+ghost use Rattle.std.specs.Prelude.{◌≡◌, ◌≤◌, ◌+◌, ◌%◌, length};
+ghost use Rattle.std.specs.Cmp.Lexicographic.{slice_cmp};
+ghost use Rattle.std.specs.Ordering.{nat_cmp};
+ghost use Rattle.desk_types.specs.Fixed.{padded, word_at};
+
+use std::cmp::Ordering;
 
 /// The bytes, with zeros behind them up to the width.
 pub fn padded<const N: usize>(bytes: &[u8]) -> [u8; N]
@@ -11,4 +15,39 @@ pub fn padded<const N: usize>(bytes: &[u8]) -> [u8; N]
     let mut own = [0u8; N];
     own[..bytes.len()].copy_from_slice(bytes);
     own
+}
+
+/// The order of two arrays of one width, byte by byte. Eight bytes at a time are compared, as one
+/// number.
+pub fn order(a: &[u8], b: &[u8]) -> Ordering
+    requires one_width { length a.now ≡ length b.now }
+    requires whole_words { length a.now % 8 ≡ 0 }
+    ensures { result ≡ slice_cmp nat_cmp a.now b.now }
+{
+    let mut at = 0;
+    while at < a.len() {
+        let (x, y) = (word(a, at), word(b, at));
+        if x != y {
+            return x.cmp(&y);
+        }
+        at += 8;
+    }
+    Ordering::Equal
+}
+
+/// The number that eight bytes spell, the greatest first.
+fn word(bytes: &[u8], at: usize) -> u64
+    requires { at + 8 ≤ length bytes.now }
+    ensures { result ≡ word_at bytes.now at }
+{
+    u64::from_be_bytes([
+        bytes[at],
+        bytes[at + 1],
+        bytes[at + 2],
+        bytes[at + 3],
+        bytes[at + 4],
+        bytes[at + 5],
+        bytes[at + 6],
+        bytes[at + 7],
+    ])
 }

@@ -4,7 +4,7 @@ ghost use Rattle.std.specs.Prelude.{◌≡◌, ℕ, ◌≤◌, ◌<◌, ◌↔�
 ghost use Rattle.desk_types.specs.Id.{IsId};
 
 use crate::designator::Designator;
-use crate::fixed::padded;
+use crate::fixed::{order, padded};
 use std::alloc::AllocError;
 use std::cmp::Ordering;
 use std::fmt;
@@ -118,7 +118,7 @@ impl PartialEq for Id {
     ghost laws = { Prim.search (comparing, rules) };
 
     fn eq(&self, other: &Id) -> bool {
-        self.as_bytes() == other.as_bytes()
+        self.bytes == other.bytes
     }
 }
 
@@ -144,7 +144,7 @@ impl Ord for Id {
     ghost matches_eq = { Prim.search (comparing, rules) };
 
     fn cmp(&self, other: &Id) -> Ordering {
-        self.as_bytes().cmp(other.as_bytes())
+        order(&self.bytes, &other.bytes)
     }
 }
 

@@ -43,10 +43,10 @@ pub fn serve<R: Read, W: Write, S: Alter, D: Desk + Drop>(
     ensures kept { OnOk result (FailsNever input.old input.new output.old output.new) }
     ensures few_reads { reads_of input.new ≤ reads_of input.old + MOST_READS }
     ensures read { (served : Served) → result ≡ Err (ServeFault.Read served) → IsShown (ServeFault.Read served) input.old input.new output.old output.new
-        × ForStores S.Store D.Stands D.kept_rules (store_in gateway.old) (store_in gateway.new) (λ L H. AnsweredFront (rule_of L) (R.remaining (inner_of input.old))
+        × ForStores S.Store D.Stands D.kept_rules (store_in gateway.old) (store_in gateway.new) (λ L H. AnsweredFront (rule_of L) (R.remaining (inner_of input.old)) (R.remaining (inner_of input.new))
         L.history (W.contents (inner_of output.old)) H (W.contents (inner_of output.new)) served) }
     ensures too_many { (served : Served) → result ≡ Err (ServeFault.TooManyReads served) → IsShown (ServeFault.TooManyReads served) input.old input.new output.old output.new
-        × ForStores S.Store D.Stands D.kept_rules (store_in gateway.old) (store_in gateway.new) (λ L H. AnsweredFront (rule_of L) (R.remaining (inner_of input.old))
+        × ForStores S.Store D.Stands D.kept_rules (store_in gateway.old) (store_in gateway.new) (λ L H. AnsweredFront (rule_of L) (R.remaining (inner_of input.old)) (R.remaining (inner_of input.new))
         L.history (W.contents (inner_of output.old)) H (W.contents (inner_of output.new)) served) }
     ensures write { (served : Served) → result ≡ Err (ServeFault.Write served) → IsShown (ServeFault.Write served) input.old input.new output.old output.new
         × ForStores S.Store D.Stands D.kept_rules (store_in gateway.old) (store_in gateway.new) (λ L H. AnsweredInto (rule_of L) (R.remaining (inner_of input.old))

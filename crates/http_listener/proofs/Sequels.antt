@@ -42,8 +42,8 @@ module _ {S : Type 0} (rule : RuleBy) (Stands : S → Ledger → Type 0) (Trusts
   -- however a connection ended
   pub serves_one : (old new : S) (ended : Ended)
       → IfOk ended (λ served. ForLists Stands Trusts old new (λ G H. AnsweredAll (rule G.rules G.greatest) None G.history None H None served))
-      → ((served : Served) → ended ≡ Err (Read served) → ForLists Stands Trusts old new (λ G H. AnsweredFront (rule G.rules G.greatest) None G.history None H None served))
-      → ((served : Served) → ended ≡ Err (TooManyReads served) → ForLists Stands Trusts old new (λ G H. AnsweredFront (rule G.rules G.greatest) None G.history None H None served))
+      → ((served : Served) → ended ≡ Err (Read served) → ForLists Stands Trusts old new (λ G H. AnsweredFront (rule G.rules G.greatest) None None G.history None H None served))
+      → ((served : Served) → ended ≡ Err (TooManyReads served) → ForLists Stands Trusts old new (λ G H. AnsweredFront (rule G.rules G.greatest) None None G.history None H None served))
       → ((served : Served) → ended ≡ Err (Write served) → ForLists Stands Trusts old new (λ G H. AnsweredInto (rule G.rules G.greatest) None G.history None H None served))
       → ServesOne old ended new
   serves_one old new (Ok served) all read many write = all

@@ -18,8 +18,8 @@ Ended = Result Served ServeFault
 -- what a connection was answered by the list before it, and the list after it; which bytes its client sent and got, no socket says
 abbrev pub Connected : Rule → History → Ended → History → Type 0
 Connected rule H (Ok served) H' = AnsweredAll rule None H None H' None served
-Connected rule H (Err (Read served)) H' = AnsweredFront rule None H None H' None served
-Connected rule H (Err (TooManyReads served)) H' = AnsweredFront rule None H None H' None served
+Connected rule H (Err (Read served)) H' = AnsweredFront rule None None H None H' None served
+Connected rule H (Err (TooManyReads served)) H' = AnsweredFront rule None None H None H' None served
 Connected rule H (Err (Write served)) H' = AnsweredInto rule None H None H' None served
 
 -- each connection was answered by the list that the one before it left

@@ -11,7 +11,8 @@ use Rattle.http_stream.specs.declared.head.LengthFault.{LengthFault}
 use Rattle.http_stream.specs.declared.head.TheConstants.{HEAD_LIMIT, MOST_HEADERS}
 use Rattle.http_stream.specs.Heads.{window, TakesHead, IsBadHead, IsUnfinished}
 use Rattle.http_stream.specs.Looks.{IsHeadOf}
-use Rattle.http_stream.specs.Cut.{Portion, whole, bad_head, head_too_large, unread, starved, IsPortion, EndsInside, TakesPortion, PortionsGone, Leads, IsCut, is_last}
+use Rattle.http_stream.specs.Inbox.{ReadsFewer}
+use Rattle.http_stream.specs.Cut.{Portion, whole, bad_head, head_too_large, unread, starved, IsPortion, EndsInside, ReadsInside, TakesPortion, PortionsGone, Leads, IsCut, is_last}
 use Rattle.httparse.specs.Spans.{span_bytes}
 
 -- ---- what is known of the bytes at hand stays known of more bytes
@@ -144,6 +145,40 @@ ends_in_body pend bytes more behind head h (Some us) (Some zs) n gone s e few p 
     let all : behind ++ us ≡ gone = p ∙ ap (λ l. gone ++ l) end ∙ append-nil gone in
     inr (h, behind ++ us, n, (head_of pend bytes more behind us head h s, sym s.is.body ∙ e), omega (arith, few, ap length all))
 
+-- ---- what was read of a portion that is not all read
+
+keeps_consumes : (a b c : Option (List ℕ)) (bytes : List ℕ) → Keeps a b → Consumes b c bytes → Consumes a c bytes
+keeps_consumes None b c bytes k p = tt
+keeps_consumes (Some xs) None c bytes k p = absurd k
+keeps_consumes (Some xs) (Some ys) None bytes k p = absurd p
+keeps_consumes (Some xs) (Some ys) (Some zs) bytes k p = sym k ∙ p
+
+pub keeps_inside : (a b c : Option (List ℕ)) → Keeps a b → ReadsInside b c → ReadsInside a c
+keeps_inside a b c k (bytes, gone, inside) = (bytes, keeps_consumes a b c bytes k gone, inside)
+
+-- the pending bytes are no whole head
+pub stops_in_head : (a : Option (List ℕ)) (pend : List ℕ) (known new : Option (List ℕ)) → Keeps a (prepend_known pend known) → Keeps known new → length pend < HEAD_LIMIT → IsUnfinished pend
+    → ReadsInside a new
+stops_in_head a pend known new k l short un = (pend, keeps_consumes a (prepend_known pend known) new pend k (pending_goes pend known new l), inl (short, un))
+  where
+    pending_goes : (pend : List ℕ) (known new : Option (List ℕ)) → Keeps known new → Consumes (prepend_known pend known) new pend
+    pending_goes pend None new l = tt
+    pending_goes pend (Some us) None l = absurd l
+    pending_goes pend (Some us) (Some vs) l = ap (λ l. pend ++ l) (sym l)
+
+-- behind the head is no whole body
+pub stops_in_body : (pend bytes more behind : List ℕ) (head : Head) (h : RequestHead) (known new : Option (List ℕ)) (n : ℕ) → Sees pend bytes more behind head h
+    → head.body ≡ Ok n → ReadsFewer (prepend_known behind known) new n → ReadsInside (prepend_known pend known) new
+stops_in_body pend bytes more behind head h known new n s e (gone, few, p) =
+    let seen = head_of pend bytes more behind [] head h s in
+    (print_request h ++ gone, body_goes known new p, inr (h, gone, n, (((seen.0.0, refl), seen.1, seen.2), sym s.is.body ∙ e), few))
+  where
+    body_goes : (known new : Option (List ℕ)) → Consumes (prepend_known behind known) new gone → Consumes (prepend_known pend known) new (print_request h ++ gone)
+    body_goes None new p = tt
+    body_goes (Some us) None p = absurd p
+    body_goes (Some us) (Some zs) p =
+        (head_of pend bytes more behind us head h s).0.1 ∙ ap (λ l. print_request h ++ l) p ∙ sym (append_assoc (print_request h) gone zs)
+
 -- ---- portions one after another
 
 leads_more : (a b c : List ℕ) (ps : List Portion) (p : Portion) → Leads a ps b → IsPortion b p c → is_last p ≡ false → Leads a (ps ++ p ∷ []) c
@@ -178,10 +213,10 @@ end_comes None b ps g end = tt
 end_comes (Some xs) None ps g end = absurd g
 end_comes (Some xs) (Some ys) ps g end = cut_end xs ys ps g end
 
-pub gone_first : (a b : Option (List ℕ)) (ps : List Portion) → PortionsGone a ps b → IfSome a (λ bytes. (left : List ℕ) × Leads bytes ps left)
-gone_first None b ps g = tt
-gone_first (Some xs) None ps g = absurd g
-gone_first (Some xs) (Some ys) ps g = (ys, g)
+pub gone_first : (a b c : Option (List ℕ)) (ps : List Portion) → PortionsGone a ps b → ReadsInside b c → IfSome a (λ bytes. (left : List ℕ) × Leads bytes ps left × ReadsInside (Some left) c)
+gone_first None b c ps g r = tt
+gone_first (Some xs) None c ps g r = absurd g
+gone_first (Some xs) (Some ys) c ps g r = (ys, g, r)
 
 pub next_first : (a b c : Option (List ℕ)) (ps : List Portion) (p : Portion) → PortionsGone a ps b → TakesPortion b p c
     → IfSome a (λ bytes. (left : List ℕ) × (rest : List ℕ) × Leads bytes ps left × IsPortion left p rest)

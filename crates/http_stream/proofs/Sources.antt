@@ -52,6 +52,12 @@ body_goes xs front ys (m ∷ ms) (Some us) (Some vs) e none p =
     let nil = none (omega arith) in
     ap (λ l. l ++ us) (e ∙ ap (λ l. front ++ l) nil ∙ append-nil front) ∙ ap (λ l. front ++ l) p ∙ sym (append_assoc front (m ∷ ms) vs) ∙ ap (λ l. (front ++ m ∷ ms) ++ (l ++ vs)) (sym nil)
 
+-- all that is pending goes out, and then bytes of the reader
+pub all_goes : (xs front more : List ℕ) (a b : Option (List ℕ)) → xs ≡ front → Consumes a b more → Consumes (prepend_known xs a) b (front ++ more)
+all_goes xs front more None b e p = tt
+all_goes xs front more (Some us) None e p = absurd p
+all_goes xs front more (Some us) (Some vs) e p = ap (λ l. l ++ us) e ∙ ap (λ l. front ++ l) p ∙ sym (append_assoc front more vs)
+
 -- what is read behind the first bytes stands behind them
 pub take-put_mid_some : (room more : List ℕ) (got k n : ℕ) → got ≤ length room → n ≤ length more → take (got + n) (put_mid got k room more) ≡ take got room ++ take n more
 take-put_mid_some room more got k n le few =

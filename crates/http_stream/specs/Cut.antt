@@ -2,6 +2,7 @@
 use Rattle.std.specs.Prelude.{◌≡◌, ◌<◌, ◌≤◌, ◌⊎◌, ℕ, Bool, true, false, List, [], ◌∷◌, ◌++◌, length, codes, Ok, Err, Option, Some, None}
 use Rattle.std.specs.Str.{bytes_eq}
 use Rattle.httparse.specs.Grammar.{RequestHead}
+use Rattle.std.specs.Io.KnownBytes.{Consumes}
 use Rattle.http_stream.specs.declared.head.TheConstants.{HEAD_LIMIT}
 use Rattle.http_stream.specs.declared.head.LengthFault.{LengthFault}
 use Rattle.http_stream.specs.Heads.{window, TakesHead, IsBadHead, IsUnfinished, headers_of, body_length, closes}
@@ -66,6 +67,10 @@ IsCut input [] = EndsInside input
 IsCut input (p ∷ ps) = (rest : List ℕ) × IsPortion input p rest × (((is_last p ≡ true) × (ps ≡ [])) ⊎ ((is_last p ≡ false) × IsCut rest ps))
 
 -- ---- a reader's bytes, where they are known
+
+-- what was read of them is no whole portion
+abbrev pub ReadsInside : Option (List ℕ) → Option (List ℕ) → Type 0
+ReadsInside old new = (bytes : List ℕ) × Consumes old new bytes × EndsInside bytes
 
 -- this portion is gone
 abbrev pub TakesPortion : Option (List ℕ) → Portion → Option (List ℕ) → Type 0

@@ -42,6 +42,10 @@ IsFront inbox known front.Bad = IsBadHead (window (pending inbox))
 IsFront inbox known front.TooLarge = (HEAD_LIMIT ≤ length (pending inbox)) × IsUnfinished (window (pending inbox))
 IsFront inbox known front.End = (length (pending inbox) < HEAD_LIMIT) × IsUnfinished (pending inbox) × IsAtEnd known
 
+-- fewer bytes than so many were read
+abbrev pub ReadsFewer : Option (List ℕ) → Option (List ℕ) → ℕ → Type 0
+ReadsFewer old new n = (gone : List ℕ) × (length gone < n) × Consumes old new gone
+
 -- so many bytes went out as a body; or all that were left, and they were too few; or memory was refused for a body that isn't empty
 abbrev pub TakesBody : Option (List ℕ) → ℕ → BodyTaken → Option (List ℕ) → Type 0
 TakesBody old n (body.Whole bytes) new = (length bytes.items ≡ n) × Consumes old new bytes.items

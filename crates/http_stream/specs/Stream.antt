@@ -1,5 +1,5 @@
 -- What a stream of requests is answered.
-use Rattle.std.specs.Prelude.{◌≡◌, ℕ, ◌+◌, Bool, true, false, not, List, [], ◌∷◌, length, Option, IfSome, count_by}
+use Rattle.std.specs.Prelude.{◌≡◌, ℕ, ◌+◌, Bool, true, false, not, List, [], ◌∷◌, length, Option, Some, IfSome, count_by}
 use Rattle.std.specs.List.{flat_map}
 use Rattle.std.specs.Io.KnownBytes.{Appends}
 use Rattle.desk_answers.specs.Ledger.{Ledger}
@@ -9,7 +9,7 @@ use Rattle.served.specs.Counts.{none_served}
 use Rattle.served.specs.Sent.{SendsFront}
 use Rattle.served.specs.declared.serving.Served.{Served}
 use Rattle.http_stream.specs.Answers.{Told, unavailable, told_bad_head, told_head_too_large, told_length, is_refused, written}
-use Rattle.http_stream.specs.Cut.{Request, Portion, whole, bad_head, head_too_large, unread, starved, is_last, is_head, IsPortion, Leads, IsCut}
+use Rattle.http_stream.specs.Cut.{Request, Portion, whole, bad_head, head_too_large, unread, starved, is_last, is_head, IsPortion, Leads, ReadsInside, IsCut}
 
 -- ---- one portion
 
@@ -87,10 +87,10 @@ abbrev pub AnsweredAll : Rule → Option (List ℕ) → History → Option (List
 AnsweredAll rule input H out H' out' served = (ps : List Portion) × (marks : List Bool)
     × IfSome input (λ bytes. IsCut bytes ps) × Answered rule ps marks H out none_served H' out' served
 
--- the first portions of them were answered, each whole, and nothing else went out
-abbrev pub AnsweredFront : Rule → Option (List ℕ) → History → Option (List ℕ) → History → Option (List ℕ) → Served → Type 0
-AnsweredFront rule input H out H' out' served = (ps : List Portion) × (marks : List Bool)
-    × IfSome input (λ bytes. (left : List ℕ) × Leads bytes ps left) × Answered rule ps marks H out none_served H' out' served
+-- the first portions of them were answered, each whole, and nothing else went out; what was read of the next is not all of it
+abbrev pub AnsweredFront : Rule → Option (List ℕ) → Option (List ℕ) → History → Option (List ℕ) → History → Option (List ℕ) → Served → Type 0
+AnsweredFront rule input input' H out H' out' served = (ps : List Portion) × (marks : List Bool)
+    × IfSome input (λ bytes. (left : List ℕ) × Leads bytes ps left × ReadsInside (Some left) input') × Answered rule ps marks H out none_served H' out' served
 
 -- the first portions of them were answered, each whole; then one more was answered, and of that answer only the first bytes went out
 abbrev pub AnsweredInto : Rule → Option (List ℕ) → History → Option (List ℕ) → History → Option (List ℕ) → Served → Type 0

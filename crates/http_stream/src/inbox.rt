@@ -3,7 +3,8 @@
 ghost use Rattle.std.specs.Prelude.{◌≡◌, ◌+◌, ◌-◌, ◌^◌, ◌<◌, ◌≤◌, ◌++◌, ℕ, List, length, take, true, false, IfOk, OnOk, OnErr, Ok, Err};
 ghost use Rattle.std.specs.Io.KnownBytes.{Keeps, Consumes, IsAtEnd};
 ghost use Rattle.desk_types.specs.Wire.{inner_of, reads_of, failures_of};
-ghost use Rattle.http_stream.specs.Inbox.{IsInbox, pending, source, fuel, IsFront, TakesBody};
+ghost use Rattle.http_stream.specs.Cut.{ReadsInside};
+ghost use Rattle.http_stream.specs.Inbox.{IsInbox, pending, source, fuel, IsFront, ReadsFewer, TakesBody};
 
 use crate::head::{Glance, HEAD_LIMIT, Head, look};
 use desk_types::Wire;
@@ -81,6 +82,7 @@ impl Inbox {
         requires few_reads { reads_of wire.old ≤ most_reads }
         ensures valid { IsInbox self.new }
         ensures source { OnOk result (Keeps (source self.old (R.remaining (inner_of wire.old))) (source self.new (R.remaining (inner_of wire.new)))) }
+        ensures unread { OnErr result (ReadsInside (source self.old (R.remaining (inner_of wire.old))) (R.remaining (inner_of wire.new))) }
         ensures front { IfOk result (λ front. IsFront self.new (R.remaining (inner_of wire.new)) front) }
         ensures falls { OnOk result (fuel most_reads (reads_of wire.new) self.new ≤ fuel most_reads (reads_of wire.old) self.old) }
         ensures few_reads { reads_of wire.new ≤ most_reads }
@@ -120,6 +122,7 @@ impl Inbox {
         ensures valid { IsInbox self.new }
         ensures source { OnOk result (Keeps (source self.old (R.remaining (inner_of wire.old))) (source self.new (R.remaining (inner_of wire.new)))) }
         ensures end { result ≡ Ok false → IsAtEnd (R.remaining (inner_of wire.new)) × (pending self.new ≡ pending self.old) }
+        ensures unread { OnErr result (Keeps (R.remaining (inner_of wire.old)) (R.remaining (inner_of wire.new))) }
         ensures falls { OnOk result (fuel most_reads (reads_of wire.new) self.new < fuel most_reads (reads_of wire.old) self.old) }
         ensures few_reads { reads_of wire.new ≤ most_reads }
         ensures kept { OnOk result (failures_of wire.new ≡ failures_of wire.old) }
@@ -167,6 +170,7 @@ impl Inbox {
         requires few_reads { reads_of wire.old ≤ most_reads }
         ensures valid { IsInbox self.new }
         ensures block { self.new.block ≡ self.old.block }
+        ensures unread { OnErr result (ReadsFewer (source self.old (R.remaining (inner_of wire.old))) (R.remaining (inner_of wire.new)) length) }
         ensures body { IfOk result (λ body. TakesBody (source self.old (R.remaining (inner_of wire.old))) length body (source self.new (R.remaining (inner_of wire.new)))) }
         ensures falls { OnOk result (fuel most_reads (reads_of wire.new) self.new ≤ fuel most_reads (reads_of wire.old) self.old) }
         ensures few_reads { reads_of wire.new ≤ most_reads }
@@ -200,6 +204,7 @@ impl Inbox {
         ensures valid { IsInbox self.new }
         ensures block { self.new.block ≡ self.old.block }
         ensures whole { result ≡ Ok true → Consumes (source self.old (R.remaining (inner_of wire.old))) (source self.new (R.remaining (inner_of wire.new))) room.new }
+        ensures unread { OnErr result (ReadsFewer (source self.old (R.remaining (inner_of wire.old))) (R.remaining (inner_of wire.new)) (length room.old)) }
         ensures end { result ≡ Ok false → (gone : List ℕ) × (length gone < length room.old)
             × Consumes (source self.old (R.remaining (inner_of wire.old))) (source self.new (R.remaining (inner_of wire.new))) gone × IsAtEnd (source self.new (R.remaining (inner_of wire.new))) }
         ensures falls { OnOk result (fuel most_reads (reads_of wire.new) self.new ≤ fuel most_reads (reads_of wire.old) self.old) }
@@ -240,6 +245,7 @@ fn read_behind<R: Read>(
     ensures bytes { IfOk result (λ count. (gone : List ℕ) × (take (end + count) block.new ≡ take end block.old ++ gone) × (length gone ≡ count)
         × Consumes (R.remaining (inner_of wire.old)) (R.remaining (inner_of wire.new)) gone) }
     ensures end { result ≡ Ok 0 → IsAtEnd (R.remaining (inner_of wire.new)) }
+    ensures unread { OnErr result (Keeps (R.remaining (inner_of wire.old)) (R.remaining (inner_of wire.new))) }
     ensures reads { reads_of wire.new ≡ reads_of wire.old + 1 }
     ensures kept { OnOk result (failures_of wire.new ≡ failures_of wire.old) }
     ensures failed { OnErr result (failures_of wire.new ≡ failures_of wire.old + 1) }
@@ -259,6 +265,7 @@ fn read_whole<R: Read>(
     requires few_failures { failures_of wire.old < 2 ^ 63 }
     requires few_reads { reads_of wire.old ≤ most_reads }
     ensures whole { result ≡ Ok true → Consumes (R.remaining (inner_of wire.old)) (R.remaining (inner_of wire.new)) room.new }
+    ensures unread { OnErr result (ReadsFewer (R.remaining (inner_of wire.old)) (R.remaining (inner_of wire.new)) (length room.old)) }
     ensures end { result ≡ Ok false → (gone : List ℕ) × (length gone < length room.old)
         × Consumes (R.remaining (inner_of wire.old)) (R.remaining (inner_of wire.new)) gone × IsAtEnd (R.remaining (inner_of wire.new)) }
     ensures few_reads { reads_of wire.new ≤ most_reads }

@@ -1,8 +1,8 @@
 //! One portion of a stream at a time.
 
-ghost use Rattle.std.specs.Prelude.{◌≡◌, ◌+◌, ◌-◌, ◌^◌, ◌<◌, ◌≤◌, ℕ, List, length, false, IfOk, IfSome, OnOk, MatchOption, Err};
+ghost use Rattle.std.specs.Prelude.{◌≡◌, ◌+◌, ◌-◌, ◌^◌, ◌<◌, ◌≤◌, ℕ, List, length, false, IfOk, IfSome, OnOk, OnErr, MatchOption, Err};
 ghost use Rattle.desk_types.specs.Wire.{inner_of, reads_of, failures_of};
-ghost use Rattle.http_stream.specs.Cut.{EndsInside, TakesPortion, is_last};
+ghost use Rattle.http_stream.specs.Cut.{EndsInside, ReadsInside, TakesPortion, is_last};
 ghost use Rattle.http_stream.specs.Inbox.{IsFront, IsInbox, fuel, source};
 ghost use Rattle.http_stream.specs.Portions.{IsSeen, IsTaken, method_of, portion_of, target_of};
 
@@ -39,6 +39,7 @@ pub fn take_portion<R: Read>(
     ensures taken { IfOk result (λ next. IfSome next (λ taken. IsTaken inbox.new.block taken)) }
     ensures portion { IfOk result (λ next. MatchOption next (IfSome (source inbox.old (R.remaining (inner_of input.old))) EndsInside)
         (λ taken. TakesPortion (source inbox.old (R.remaining (inner_of input.old))) (portion_of inbox.new.block taken) (source inbox.new (R.remaining (inner_of input.new))))) }
+    ensures unread { OnErr result (ReadsInside (source inbox.old (R.remaining (inner_of input.old))) (R.remaining (inner_of input.new))) }
     ensures falls { IfOk result (λ next. IfSome next (λ taken. is_last (portion_of inbox.new.block taken) ≡ false
         → fuel most_reads (reads_of input.new) inbox.new < fuel most_reads (reads_of input.old) inbox.old)) }
     ensures few_reads { reads_of input.new ≤ most_reads }
@@ -70,6 +71,7 @@ fn take_request<R: Read>(
     ensures taken { IfOk result (λ next. IfSome next (λ taken. IsTaken inbox.new.block taken)) }
     ensures portion { IfOk result (λ next. MatchOption next (IfSome (source inbox.old (R.remaining (inner_of input.old))) EndsInside)
         (λ taken. TakesPortion (source inbox.old (R.remaining (inner_of input.old))) (portion_of inbox.new.block taken) (source inbox.new (R.remaining (inner_of input.new))))) }
+    ensures unread { OnErr result (ReadsInside (source inbox.old (R.remaining (inner_of input.old))) (R.remaining (inner_of input.new))) }
     ensures falls { IfOk result (λ next. IfSome next (λ taken. is_last (portion_of inbox.new.block taken) ≡ false
         → fuel most_reads (reads_of input.new) inbox.new < fuel most_reads (reads_of input.old) inbox.old)) }
     ensures few_reads { reads_of input.new ≤ most_reads }

@@ -76,10 +76,10 @@ pub fn serve<R: Read, W: Write, A: Handler>(
     ensures kept { OnOk result (FailsNever input.old input.new output.old output.new) }
     ensures few_reads { reads_of input.new ≤ reads_of input.old + MOST_READS }
     ensures read { (served : Served) → result ≡ Err (ServeFault.Read served) → IsShown (ServeFault.Read served) input.old input.new output.old output.new
-        × ForLists A.Stands A.Trusts handler.old handler.new (λ G H. AnsweredFront (A.rule G.rules G.greatest) (R.remaining (inner_of input.old))
+        × ForLists A.Stands A.Trusts handler.old handler.new (λ G H. AnsweredFront (A.rule G.rules G.greatest) (R.remaining (inner_of input.old)) (R.remaining (inner_of input.new))
         G.history (W.contents (inner_of output.old)) H (W.contents (inner_of output.new)) served) }
     ensures too_many { (served : Served) → result ≡ Err (ServeFault.TooManyReads served) → IsShown (ServeFault.TooManyReads served) input.old input.new output.old output.new
-        × ForLists A.Stands A.Trusts handler.old handler.new (λ G H. AnsweredFront (A.rule G.rules G.greatest) (R.remaining (inner_of input.old))
+        × ForLists A.Stands A.Trusts handler.old handler.new (λ G H. AnsweredFront (A.rule G.rules G.greatest) (R.remaining (inner_of input.old)) (R.remaining (inner_of input.new))
         G.history (W.contents (inner_of output.old)) H (W.contents (inner_of output.new)) served) }
     ensures write { (served : Served) → result ≡ Err (ServeFault.Write served) → IsShown (ServeFault.Write served) input.old input.new output.old output.new
         × ForLists A.Stands A.Trusts handler.old handler.new (λ G H. AnsweredInto (A.rule G.rules G.greatest) (R.remaining (inner_of input.old))

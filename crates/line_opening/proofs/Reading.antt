@@ -1,5 +1,5 @@
 -- What was read of the version and of the list, told of what was committed before.
-use Rattle.std.proofs.Common.{◌≡◌, ◌≢◌, ◌≤◌, ◌∙◌, inr, ℕ, ℤ, pos, true, IsTrue, Option, Some, None, refl, sym, ap, subst}
+use Rattle.std.proofs.Common.{◌≡◌, ◌≢◌, ◌≤◌, ◌∙◌, inl, inr, ℕ, ℤ, pos, true, IsTrue, Option, Some, None, refl, sym, ap, subst}
 use Rattle.std.specs.Prelude.{if◌then◌else◌, ◌==◌}
 use Rattle.std.specs.List.{list_any}
 use Rattle.sqlite.specs.Effect.{Database}
@@ -45,13 +45,13 @@ module _ (old : State) where
 
 module _ (rules : Rules) (old : State) where
   pub no_greatest : (v : Version) → ((greatest : ℕ) → IsGreatest v.greatest greatest → ⊥) → Reads old (λ db. IsVersionOf (version_in db) (Some v)) → IsNoDeskBy rules old
-  no_greatest v none r = inr (inr (inr (record { was_open = r.was_open; are = λ schema number greatest is. none greatest (great (r.are schema) number greatest is) })))
+  no_greatest v none r = inr (inl (record { was_open = r.was_open; are = λ schema number greatest is. none greatest (great (r.are schema) number greatest is) }))
     where
       great : IsVersionOf (version_in old.committed) (Some v) → (number : ℤ) (greatest : ℕ) → IsVersion old.committed number greatest → IsGreatest v.greatest greatest
       great row number greatest is = let both = sym row ∙ is.row in record { same = cc; least = is.least; most = is.most }
 
   pub no_version : Reads old (λ db. IsVersionOf (version_in db) None) → IsNoDeskBy rules old
-  no_version r = inr (inr (inr (record { was_open = r.was_open; are = λ schema number greatest is. r.are schema number (pos greatest) is.row })))
+  no_version r = inr (inl (record { was_open = r.was_open; are = λ schema number greatest is. r.are schema number (pos greatest) is.row }))
 
   pub other_version : (v : Version) (greatest : ℕ) → v.number ≢ pos (version_of rules) → IsGreatest v.greatest greatest → Reads old (λ db. IsVersionOf (version_in db) (Some v)) → IsFaultBy rules old (OtherVersion v.number)
   other_version v greatest other great r = let is = version_read old v v.number greatest refl great r in (other, record { was_open = is.was_open; are = λ schema. (greatest, is.are schema) })

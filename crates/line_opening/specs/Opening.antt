@@ -50,11 +50,16 @@ IsNamedBy rules old = (list_any is_version old.now.schema.tables ≡ true) × (l
 abbrev pub IsNamed : State → Type 0
 IsNamed = IsNamedBy Two
 
--- a table of the version or a column of it is missing, in version 1 there is one named `found`, or `version` has no such row
+-- the database says that it is of the version
+abbrev pub IsOfBy : Rules → State → Type 0
+IsOfBy rules old = Reads old (λ db. (greatest : ℕ) × IsVersion db (pos (version_of rules)) greatest)
+
+-- the table `version` or a column of it is missing, it has no such row, or it says this version, and another of its tables or a column of it is missing; in version 1 so it is where there is a table named `found`
 abbrev pub IsNoDeskBy : Rules → State → Type 0
 IsNoDeskBy rules old =
-    (list_any is_version old.now.schema.tables ≡ false) ⊎ (list_any is_accepted old.now.schema.tables ≡ false) ⊎ (has_state rules old.now.schema.tables ≡ false)
+    (list_any is_version old.now.schema.tables ≡ false)
     ⊎ Reads old (λ db. (number : ℤ) (greatest : ℕ) → IsVersion db number greatest → ⊥)
+    ⊎ (((list_any is_accepted old.now.schema.tables ≡ false) ⊎ (has_state rules old.now.schema.tables ≡ false)) × IsOfBy rules old)
 
 -- the fault is not one of the list or of another table
 abbrev pub IsOfVersion : OpenFault → Type 0

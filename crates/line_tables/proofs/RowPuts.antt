@@ -1,5 +1,5 @@
 -- What the statements make of the state tables.
-use Rattle.std.proofs.Common.{◌≡◌, ◌∙◌, ◌||◌, ◌&&◌, if◌then◌else◌, ℕ, ℤ, pos, Bool, List, [], ◌∷◌, drop, length, true, false, IsTrue, Some, None, refl, ap, ap₂, subst, sym}
+use Rattle.std.proofs.Common.{◌≡◌, ◌∙◌, inl, inr, ◌||◌, ◌&&◌, if◌then◌else◌, ℕ, ℤ, pos, Bool, List, [], ◌∷◌, drop, length, slice_get, true, false, IsTrue, Some, None, refl, ap, ap₂, subst, sym}
 use Rattle.std.proofs.lemmas.Bool.{and_parts, and_from}
 use Rattle.sqlite.specs.declared.types.Value.TheVariants.{Null, Int, Real, Text, Blob}
 use Rattle.sqlite.specs.declared.types.Value.{Value}
@@ -10,11 +10,16 @@ use Rattle.sqlite_schema.specs.Rules.{equal}
 use Rattle.sqlite.specs.Cast.{cast_row}
 use Rattle.sqlite_rules.specs.Edit.{with_rowid, next_rowid, id_in}
 use Rattle.sqlite.specs.Rowids.TheVariants.{Chosen}
+use Rattle.sqlite_rules.specs.Action.{works}
+use Rattle.sqlite_schema.specs.declared.schema.Keys.TheVariants.{Enforced}
+use Rattle.sqlite_schema.specs.declared.schema.Table.{Table}
 use Rattle.sqlite_rules.proofs.TableLemmas.{int_is}
 use Rattle.sqlite_trees.specs.Tree.{rowid}
 use Rattle.sqlite_trees.specs.View.{is_int}
-use Rattle.sqlite.specs.Term.{col}
+use Rattle.sqlite.specs.Term.{Term, col}
 use Rattle.sqlite.specs.State.{State}
+use Rattle.sqlite.specs.Held.{state}
+use Rattle.sqlite_trees.specs.declared.store.Store.{Ghosts}
 use Rattle.desk_types.specs.Id.{Name, same}
 use Rattle.desk_types.specs.declared.sheet.SheetRow.{SheetRow}
 use Rattle.state_tables.specs.declared.edit.RowEdit.TheVariants.{TakeSheetRow, TakeMount, PutPart, PutAlternate, PutSheetRow, PutSelected, PutReel, PutMount, PutBoard, PutFound}
@@ -23,7 +28,7 @@ use Rattle.state_tables.specs.declared.row.MountRow.{MountRow}
 use Rattle.state_tables.specs.declared.row.BoardRow.{BoardRow}
 use Rattle.line_tables.specs.Line.{line_schema, part, alternate, sheet_row, selected, reel, mount, board, found}
 use Rattle.line_tables.specs.StateRows.{columns, has_text, has_pair, has_sheet_place, unit_if, part_columns, alternate_columns, sheet_columns, selected_columns, reel_columns, mount_columns, board_columns, found_columns, since_or_none, flag}
-use Rattle.line_tables.specs.Calls.{Runs, Changes, WritesRow}
+use Rattle.line_tables.specs.Calls.{Runs, Changes, ChangesOrPuts, WritesRow}
 use Rattle.line_tables.proofs.Inserts.{Inserted, insert_does}
 use Rattle.line_tables.proofs.Puts.{quiet, cast_int, cast_null}
 use Rattle.line_tables.proofs.Changes.{Changed, renewed, shows_of, passing, delete_does, update_does}
@@ -31,7 +36,7 @@ use Rattle.line_tables.proofs.Finds.{and_true}
 use Rattle.line_tables.proofs.Altering.{without, put_in, Alters, alters_then, alters_writes}
 use Rattle.line_tables.proofs.Keyed.{changed, added, one_text, one_pair, one_sheet_place, own_text, own_int, same_pair, same_sheet_place, tells_text, tells_pair, tells_sheet_place}
 use Rattle.line_tables.proofs.Alterations.{deletes, inserts, updates_none, updates_one}
-use Rattle.line_tables.proofs.RowTexts.{delete_part, part_tests, delete_part_is, delete_alternate, alternate_tests, delete_alternate_is, delete_sheet_row, sheet_row_tests, delete_sheet_row_is, delete_selected, selected_tests, delete_selected_is, delete_mount, mount_tests, delete_mount_is, delete_board, board_tests, delete_board_is, delete_found, found_tests, delete_found_is, insert_part, part_terms, insert_part_is, insert_alternate, alternate_terms, insert_alternate_is, insert_sheet_row, sheet_row_terms, insert_sheet_row_is, insert_selected, selected_terms, insert_selected_is, insert_reel, reel_terms, insert_reel_is, insert_board, board_terms, insert_board_is, insert_found, found_terms, insert_found_is, insert_mount, mount_terms, insert_mount_is, update_reel, reel_renewed, update_reel_is, reel_tests}
+use Rattle.line_tables.proofs.RowTexts.{delete_part, part_tests, delete_part_is, delete_alternate, alternate_tests, delete_alternate_is, delete_sheet_row, sheet_row_tests, delete_sheet_row_is, delete_mount, mount_tests, delete_mount_is, insert_part, part_terms, insert_part_is, insert_alternate, alternate_terms, insert_alternate_is, insert_sheet_row, sheet_row_terms, insert_sheet_row_is, insert_selected, selected_terms, insert_selected_is, insert_reel, reel_terms, insert_reel_is, insert_board, board_terms, insert_board_is, insert_found, found_terms, insert_found_is, insert_mount, mount_terms, insert_mount_is, IsUpdate, key_tests, update_selected, selected_renewed, update_selected_is, update_reel, reel_renewed, update_reel_is, update_board, board_renewed, update_board_is, update_found, found_renewed, update_found_is}
 
 module _ (old new : State) where
   pub takes_part : (p : Name) → Runs delete_part (Text p ∷ []) old new → Alters part (without (has_text 0 p)) old new
@@ -49,25 +54,10 @@ module _ (old new : State) where
       deletes sheet_row (has_sheet_place (p, m, n)) sheet_row_tests (col 1 0 ∷ []) (Text p ∷ Text m ∷ Int (pos n) ∷ []) old new (λ r. ap (λ c. has_text 0 p (columns sheet_row r) && (has_text 1 m (columns sheet_row r) && c)) (and_true _)) (λ r. refl) ran.shown.was_open
       (λ has. delete_does delete_sheet_row (Text p ∷ Text m ∷ Int (pos n) ∷ []) old new line_schema has 4 sheet_row sheet_row_tests (col 1 0 ∷ []) refl (quiet 7) delete_sheet_row_is.1 ran.count ran.executed delete_sheet_row_is.0)
 
-  pub takes_selected : (m : Name) → Runs delete_selected (Text m ∷ []) old new → Alters selected (without (has_text 0 m)) old new
-  takes_selected m ran =
-      deletes selected (has_text 0 m) selected_tests (col 1 0 ∷ []) (Text m ∷ []) old new (λ r. and_true _) (λ r. refl) ran.shown.was_open
-      (λ has. delete_does delete_selected (Text m ∷ []) old new line_schema has 5 selected selected_tests (col 1 0 ∷ []) refl (quiet 9) delete_selected_is.1 ran.count ran.executed delete_selected_is.0)
-
   pub takes_mount : (r : Name) → Runs delete_mount (Text r ∷ []) old new → Alters mount (without (has_text 3 r)) old new
   takes_mount r ran =
       deletes mount (has_text 3 r) mount_tests (col 1 0 ∷ []) (Text r ∷ []) old new (λ r. and_true _) (λ r. refl) ran.shown.was_open
       (λ has. delete_does delete_mount (Text r ∷ []) old new line_schema has 7 mount mount_tests (col 1 0 ∷ []) refl (quiet 13) delete_mount_is.1 ran.count ran.executed delete_mount_is.0)
-
-  pub takes_board : (b : Name) → Runs delete_board (Text b ∷ []) old new → Alters board (without (has_text 0 b)) old new
-  takes_board b ran =
-      deletes board (has_text 0 b) board_tests (col 1 0 ∷ []) (Text b ∷ []) old new (λ r. and_true _) (λ r. refl) ran.shown.was_open
-      (λ has. delete_does delete_board (Text b ∷ []) old new line_schema has 8 board board_tests (col 1 0 ∷ []) refl (quiet 15) delete_board_is.1 ran.count ran.executed delete_board_is.0)
-
-  pub takes_found : (r : Name) → Runs delete_found (Text r ∷ []) old new → Alters found (without (has_text 0 r)) old new
-  takes_found r ran =
-      deletes found (has_text 0 r) found_tests (col 1 0 ∷ []) (Text r ∷ []) old new (λ r. and_true _) (λ r. refl) ran.shown.was_open
-      (λ has. delete_does delete_found (Text r ∷ []) old new line_schema has 10 found found_tests (col 1 0 ∷ []) refl (quiet 21) delete_found_is.1 ran.count ran.executed delete_found_is.0)
 
   part_cast : (p : Name) → cast_row part (Null ∷ part_columns p) ≡ Null ∷ part_columns p
   part_cast p = rw (cast_null) refl
@@ -152,6 +142,48 @@ module _ (old new : State) where
   pub puts_mount : (row : MountRow) → Runs insert_mount (mount_columns row) old new → Alters mount (λ rows. mount_columns row ∷ rows) old new
   puts_mount row ran = inserts mount (mount_kept row) (mount_columns row) (λ rows. mount_kept row) old new (λ rows. ap (with_rowid Chosen rows) (mount_cast row)) (λ rows. refl) (λ rows. refl) ran.shown.was_open (mount_in row ran)
 
+-- ---- a row in the place of that with its key, which is its first column
+
+equal_text : (v : Value) (k : List ℕ) → equal Binary v (Text k) ≡ true → v ≡ Text k
+unfolding binary value_cmp
+equal_text Null k h = absurd (cc)
+equal_text (Int n) k h = absurd (cc)
+equal_text (Real x) k h = absurd (cc)
+equal_text (Blob b) k h = absurd (cc)
+equal_text (Text t) k h = ap Text (one_text 0 t k (Text t ∷ []) (own_text t) h)
+
+module _ (table : Table) (at : ℕ) (key : Name) (rest : Row) (terms : List Term) (update insert : List ℕ) (listed : slice_get line_schema.tables at ≡ Some table)
+    (silent : (olds news : List Row) → works line_schema Enforced 0 table.tree olds news ≡ []) (is : IsUpdate update at table.tree terms)
+    (by_key : (r : Row) → passing key_tests (Text key ∷ rest) r ≡ has_text 0 key (columns table r))
+    (shown : (r : Row) → shows_of table.tree key_tests terms (Text key ∷ rest) r ≡ column r 0 ∷ column r 0 ∷ column r 1 ∷ rest)
+    (cast : (id : ℤ) → cast_row table (Int id ∷ Text key ∷ rest) ≡ Int id ∷ Text key ∷ rest) (kept : (id : ℤ) → columns table (Int id ∷ Text key ∷ rest) ≡ Text key ∷ rest)
+    (puts : (b c : State) → Runs insert (Text key ∷ rest) b c → Alters table (λ rows. (Text key ∷ rest) ∷ rows) b c) where
+  abbrev values : Row
+  values = Text key ∷ rest
+
+  -- the row with the key keeps it, and its rowid
+  renews : (r : Row) → passing key_tests values r ≡ true → IsTrue (is_int (rowid r))
+      → let news = cast_row table (drop 1 (shows_of table.tree key_tests terms values r)) in IsTrue (is_int (rowid news)) × (columns table news ≡ values)
+  renews r passes keyed =
+      let id = id_in (rowid r) in
+      let rid : column r 0 ≡ Int id = int_is (rowid r) keyed in
+      let same : column r 1 ≡ Text key = equal_text (column r 1) key (and_parts _ _ passes).0 in
+      let is : cast_row table (drop 1 (shows_of table.tree key_tests terms values r)) ≡ Int id ∷ values =
+      ap (λ s. cast_row table (drop 1 s)) (shown r) ∙ ap₂ (λ a b. cast_row table (a ∷ b ∷ rest)) rid same ∙ cast id in
+      (subst (λ x. IsTrue (is_int (rowid x))) (sym is) refl, ap (columns table) is ∙ kept id)
+
+  does : (count : ℕ) (a b : State) → Changes count update values a b → a.now.schema ≡ line_schema → (h : Changed line_schema table key_tests terms values (renewed table) a b) × (count ≡ length h.found)
+  does count a b ran has = update_does update values a b line_schema has at table key_tests terms listed silent is.1 count ran.executed is.0
+
+  pub in_place : {S : Type 0} (g : Ghosts S) (a c : State) → ChangesOrPuts g update insert values a c → Alters table (put_in (has_text 0 key) values) a c
+  in_place g a c did = elim did [
+    | inl one ↦ updates_one table (has_text 0 key) key_tests terms values values a c by_key (λ r. ap rowid (shown r)) one.shown.was_open 1 (does 1 a c one) renews refl
+    | inr (between, none, ran) ↦
+        let b = state g between in
+        let out = updates_none table (has_text 0 key) key_tests terms values values a b by_key (λ r. ap rowid (shown r)) none.shown.was_open 0 (does 0 a b none) refl in
+        alters_then table (without (has_text 0 key)) (λ rows. values ∷ rows) a b c out (puts b c ran)
+  ]
+
 -- ---- the edits
 
 unit_or : (a b : Bool) → unit_if (a || b) ≡ (if a then Some tt else unit_if b)
@@ -167,21 +199,6 @@ pub alternate_put : (p q : Name) (a b c : State) → Runs delete_alternate (Text
 alternate_put p q a b c gone ran =
     alters_writes (PutAlternate p q) alternate (put_in (has_pair (p, q)) (alternate_columns (p, q))) a c refl (λ all. all.1.0) (λ t was k new perm. record { parts = k.parts refl; alternates = changed has_pair (λ pair _. alternate_columns pair) one_pair same_pair tells_pair (p, q) (Some tt) _ _ (λ pair. unit_if (t.alternates pair.0 pair.1)) _ (and_from _ _ (own_text p) (own_text q), tt) (λ l. unit_or _ _) perm was.alternates; sheets = k.sheets refl; selected = k.selected refl; reels = k.reels refl; mounts = k.mounts refl; boards = k.boards refl; placements = k.placements refl; found = k.found refl })
     (alters_then alternate (without (has_pair (p, q))) (λ rows. alternate_columns (p, q) ∷ rows) a b c (takes_alternate a b p q gone) (puts_alternate b c p q ran))
-
-pub selected_put : (m p : Name) (a b c : State) → Runs delete_selected (Text m ∷ []) a b → Runs insert_selected (selected_columns m p) b c → WritesRow (PutSelected m p) a c
-selected_put m p a b c gone ran =
-    alters_writes (PutSelected m p) selected (put_in (has_text 0 m) (selected_columns m p)) a c refl (λ all. all.1.1.1.0) (λ t was k new perm. record { parts = k.parts refl; alternates = k.alternates refl; sheets = k.sheets refl; selected = changed (has_text 0) selected_columns (one_text 0) same tells_text m (Some p) _ _ t.selected _ (own_text m, tt) (λ l. refl) perm was.selected; reels = k.reels refl; mounts = k.mounts refl; boards = k.boards refl; placements = k.placements refl; found = k.found refl })
-    (alters_then selected (without (has_text 0 m)) (λ rows. selected_columns m p ∷ rows) a b c (takes_selected a b m gone) (puts_selected b c m p ran))
-
-pub board_put : (row : BoardRow) (a b c : State) → Runs delete_board (Text row.board ∷ []) a b → Runs insert_board (board_columns row) b c → WritesRow (PutBoard row) a c
-board_put row a b c gone ran =
-    alters_writes (PutBoard row) board (put_in (has_text 0 row.board) (board_columns row)) a c refl (λ all. all.1.1.1.1.1.1.0) (λ t was k new perm. record { parts = k.parts refl; alternates = k.alternates refl; sheets = k.sheets refl; selected = k.selected refl; reels = k.reels refl; mounts = k.mounts refl; boards = changed (has_text 0) (λ _ row. board_columns row) (one_text 0) same tells_text row.board (Some row) _ _ t.boards _ (own_text row.board, tt) (λ l. refl) perm was.boards; placements = k.placements refl; found = k.found refl })
-    (alters_then board (without (has_text 0 row.board)) (λ rows. board_columns row ∷ rows) a b c (takes_board a b row.board gone) (puts_board b c row ran))
-
-pub found_put : (r : Name) (n : ℕ) (a b c : State) → Runs delete_found (Text r ∷ []) a b → Runs insert_found (found_columns r n) b c → WritesRow (PutFound r n) a c
-found_put r n a b c gone ran =
-    alters_writes (PutFound r n) found (put_in (has_text 0 r) (found_columns r n)) a c refl (λ all. all.1.1.1.1.1.1.1.0) (λ t was k new perm. record { parts = k.parts refl; alternates = k.alternates refl; sheets = k.sheets refl; selected = k.selected refl; reels = k.reels refl; mounts = k.mounts refl; boards = k.boards refl; placements = k.placements refl; found = changed (has_text 0) found_columns (one_text 0) same tells_text r (Some n) _ _ t.found _ (own_text r, tt) (λ l. refl) perm was.found })
-    (alters_then found (without (has_text 0 r)) (λ rows. found_columns r n ∷ rows) a b c (takes_found a b r gone) (puts_found b c r n ran))
 
 pub sheet_row_taken : (p m : Name) (n : ℕ) (a c : State) → Runs delete_sheet_row (Text p ∷ Text m ∷ Int (pos n) ∷ []) a c → WritesRow (TakeSheetRow p m n) a c
 sheet_row_taken p m n a c ran =
@@ -203,53 +220,26 @@ mount_put row a c ran =
     alters_writes (PutMount row) mount (λ rows. mount_columns row ∷ rows) a c refl (λ all. all.1.1.1.1.1.0) (λ t was k new perm. record { parts = k.parts refl; alternates = k.alternates refl; sheets = k.sheets refl; selected = k.selected refl; reels = k.reels refl; mounts = added (has_text 3) (λ _ row. mount_columns row) (one_text 3) same tells_text row.reel row _ _ t.mounts _ new (own_text row.reel) (λ l. refl) perm was.mounts; boards = k.boards refl; placements = k.placements refl; found = k.found refl })
     (puts_mount a c row ran)
 
--- ---- reels
+pub selected_put : {S : Type 0} (g : Ghosts S) (m p : Name) (a c : State) → ChangesOrPuts g update_selected insert_selected (selected_columns m p) a c → WritesRow (PutSelected m p) a c
+selected_put g m p a c did =
+    alters_writes (PutSelected m p) selected (put_in (has_text 0 m) (selected_columns m p)) a c refl (λ all. all.1.1.1.0) (λ t was k new perm. record { parts = k.parts refl; alternates = k.alternates refl; sheets = k.sheets refl; selected = changed (has_text 0) selected_columns (one_text 0) same tells_text m (Some p) _ _ t.selected _ (own_text m, tt) (λ l. refl) perm was.selected; reels = k.reels refl; mounts = k.mounts refl; boards = k.boards refl; placements = k.placements refl; found = k.found refl })
+    (in_place selected 5 m (Text p ∷ []) selected_renewed update_selected insert_selected refl (quiet 9) update_selected_is (λ r. and_true _) (λ r. refl) (λ id. rw (cast_int id) refl) (λ id. refl) (λ b c. puts_selected b c m p) g a c did)
 
-equal_text : (v : Value) (k : List ℕ) → equal Binary v (Text k) ≡ true → v ≡ Text k
-unfolding binary value_cmp
-equal_text Null k h = absurd (cc)
-equal_text (Int n) k h = absurd (cc)
-equal_text (Real x) k h = absurd (cc)
-equal_text (Blob b) k h = absurd (cc)
-equal_text (Text t) k h = ap Text (one_text 0 t k (Text t ∷ []) (own_text t) h)
+pub board_put : {S : Type 0} (g : Ghosts S) (row : BoardRow) (a c : State) → ChangesOrPuts g update_board insert_board (board_columns row) a c → WritesRow (PutBoard row) a c
+board_put g row a c did =
+    alters_writes (PutBoard row) board (put_in (has_text 0 row.board) (board_columns row)) a c refl (λ all. all.1.1.1.1.1.1.0) (λ t was k new perm. record { parts = k.parts refl; alternates = k.alternates refl; sheets = k.sheets refl; selected = k.selected refl; reels = k.reels refl; mounts = k.mounts refl; boards = changed (has_text 0) (λ _ row. board_columns row) (one_text 0) same tells_text row.board (Some row) _ _ t.boards _ (own_text row.board, tt) (λ l. refl) perm was.boards; placements = k.placements refl; found = k.found refl })
+    (in_place board 8 row.board (drop 1 (board_columns row)) board_renewed update_board insert_board refl (quiet 15) update_board_is (λ r. and_true _) (λ r. refl) (λ id. rw (cast_int id) refl) (λ id. refl) (λ b c. puts_board b c row) g a c did)
+
+pub found_put : {S : Type 0} (g : Ghosts S) (r : Name) (n : ℕ) (a c : State) → ChangesOrPuts g update_found insert_found (found_columns r n) a c → WritesRow (PutFound r n) a c
+found_put g r n a c did =
+    alters_writes (PutFound r n) found (put_in (has_text 0 r) (found_columns r n)) a c refl (λ all. all.1.1.1.1.1.1.1.0) (λ t was k new perm. record { parts = k.parts refl; alternates = k.alternates refl; sheets = k.sheets refl; selected = k.selected refl; reels = k.reels refl; mounts = k.mounts refl; boards = k.boards refl; placements = k.placements refl; found = changed (has_text 0) found_columns (one_text 0) same tells_text r (Some n) _ _ t.found _ (own_text r, tt) (λ l. refl) perm was.found })
+    (in_place found 10 r (Int (pos n) ∷ []) found_renewed update_found insert_found refl (quiet 21) update_found_is (λ r. and_true _) (λ r. refl) (λ id. rw (cast_int id, cast_int (pos n)) refl) (λ id. refl) (λ b c. puts_found b c r n) g a c did)
 
 reel_kept : (row : ReelRow) (id : ℤ) → cast_row reel (Int id ∷ reel_columns row) ≡ Int id ∷ reel_columns row
 reel_kept row id =
     rw (cast_int id, cast_int (pos row.label), cast_int (pos row.received), cast_int (pos row.placed), cast_int (pos row.scrapped), cast_int (pos row.remaining), cast_int (pos row.used), cast_int (since_or_none row.open_since), cast_int (flag row.baked)) refl
 
--- the row of the reel keeps its rowid and its name
-reel_renews : (row : ReelRow) (r : Row) → passing reel_tests (reel_columns row) r ≡ true → IsTrue (is_int (rowid r))
-    → let news = cast_row reel (drop 1 (shows_of 11 reel_tests reel_renewed (reel_columns row) r)) in IsTrue (is_int (rowid news)) × (columns reel news ≡ reel_columns row)
-reel_renews row r passes keyed =
-    let id = id_in (rowid r) in
-    let rid : column r 0 ≡ Int id = int_is (rowid r) keyed in
-    let same : column r 1 ≡ Text row.reel = equal_text (column r 1) row.reel (and_parts _ _ passes).0 in
-    let is : cast_row reel (drop 1 (shows_of 11 reel_tests reel_renewed (reel_columns row) r)) ≡ Int id ∷ reel_columns row = ap₂ (λ a b. cast_row reel (a ∷ b ∷ drop 1 (reel_columns row))) rid same ∙ reel_kept row id in
-    (subst (λ x. IsTrue (is_int (rowid x))) (sym is) refl, ap (columns reel) is)
-
--- where no row was changed none is of this reel, and where one was it has these columns now
-record UpdatesReel (row : ReelRow) (count : ℕ) (old new : State) : Type 0 where
-  none : count ≡ 0 → Alters reel (without (has_text 0 row.reel)) old new
-  one : count ≡ 1 → Alters reel (put_in (has_text 0 row.reel) (reel_columns row)) old new
-
-reel_updates : (row : ReelRow) (count : ℕ) (a b : State) → Changes count update_reel (reel_columns row) a b → UpdatesReel row count a b
-reel_updates row count a b ran =
-    let did : a.now.schema ≡ line_schema → (h : Changed line_schema reel reel_tests reel_renewed (reel_columns row) (renewed reel) a b) × (count ≡ length h.found) =
-    λ has. update_does update_reel (reel_columns row) a b line_schema has 6 reel reel_tests reel_renewed refl (quiet 11) update_reel_is.1 count ran.executed update_reel_is.0 in
-    record {
-      none = updates_none reel (has_text 0 row.reel) reel_tests reel_renewed (reel_columns row) (reel_columns row) a b (λ r. and_true _) (λ r. refl) ran.shown.was_open count did;
-      one = updates_one reel (has_text 0 row.reel) reel_tests reel_renewed (reel_columns row) (reel_columns row) a b (λ r. and_true _) (λ r. refl) ran.shown.was_open count did (reel_renews row);
-    }
-
--- a reel's row is put in the place of that with its name
-puts_in_reel : (row : ReelRow) (a c : State) → Alters reel (put_in (has_text 0 row.reel) (reel_columns row)) a c → WritesRow (PutReel row) a c
-puts_in_reel row a c did =
+pub reel_put : {S : Type 0} (g : Ghosts S) (row : ReelRow) (a c : State) → ChangesOrPuts g update_reel insert_reel (reel_columns row) a c → WritesRow (PutReel row) a c
+reel_put g row a c did =
     alters_writes (PutReel row) reel (put_in (has_text 0 row.reel) (reel_columns row)) a c refl (λ all. all.1.1.1.1.0) (λ t was k new perm. record { parts = k.parts refl; alternates = k.alternates refl; sheets = k.sheets refl; selected = k.selected refl; reels = changed (has_text 0) (λ _ row. reel_columns row) (one_text 0) same tells_text row.reel (Some row) _ _ t.reels _ (own_text row.reel, tt) (λ l. refl) perm was.reels; mounts = k.mounts refl; boards = k.boards refl; placements = k.placements refl; found = k.found refl })
-    did
-
--- no row was changed, and then one is put in
-pub reel_put : (row : ReelRow) (a b c : State) → Changes 0 update_reel (reel_columns row) a b → Runs insert_reel (reel_columns row) b c → WritesRow (PutReel row) a c
-reel_put row a b c first ran = puts_in_reel row a c (alters_then reel (without (has_text 0 row.reel)) (λ rows. reel_columns row ∷ rows) a b c ((reel_updates row 0 a b first).none refl) (puts_reel b c row ran))
-
-pub reel_changed : (row : ReelRow) (a b : State) → Changes 1 update_reel (reel_columns row) a b → WritesRow (PutReel row) a b
-reel_changed row a b ran = puts_in_reel row a b ((reel_updates row 1 a b ran).one refl)
+    (in_place reel 6 row.reel (drop 1 (reel_columns row)) reel_renewed update_reel insert_reel refl (quiet 11) update_reel_is (λ r. and_true _) (λ r. refl) (reel_kept row) (λ id. refl) (λ b c. puts_reel b c row) g a c did)

@@ -56,16 +56,6 @@ pub delete_sheet_row_is : IsDelete delete_sheet_row 4 7 sheet_row_tests
 unfolding understood everything
 delete_sheet_row_is = (refl, (refl, refl))
 
-abbrev pub delete_selected : List ℕ
-delete_selected = codes "DELETE FROM selected WHERE machine = ?1"
-
-abbrev pub selected_tests : List Term
-selected_tests = is_param 1 0 ∷ []
-
-pub delete_selected_is : IsDelete delete_selected 5 9 selected_tests
-unfolding understood everything
-delete_selected_is = (refl, (refl, refl))
-
 abbrev pub delete_mount : List ℕ
 delete_mount = codes "DELETE FROM mount WHERE reel = ?1"
 
@@ -75,26 +65,6 @@ mount_tests = is_param 4 0 ∷ []
 pub delete_mount_is : IsDelete delete_mount 7 13 mount_tests
 unfolding understood everything
 delete_mount_is = (refl, (refl, refl))
-
-abbrev pub delete_board : List ℕ
-delete_board = codes "DELETE FROM board WHERE board = ?1"
-
-abbrev pub board_tests : List Term
-board_tests = is_param 1 0 ∷ []
-
-pub delete_board_is : IsDelete delete_board 8 15 board_tests
-unfolding understood everything
-delete_board_is = (refl, (refl, refl))
-
-abbrev pub delete_found : List ℕ
-delete_found = codes "DELETE FROM found WHERE reel = ?1"
-
-abbrev pub found_tests : List Term
-found_tests = is_param 1 0 ∷ []
-
-pub delete_found_is : IsDelete delete_found 10 21 found_tests
-unfolding understood everything
-delete_found_is = (refl, (refl, refl))
 
 abbrev pub insert_part : List ℕ
 insert_part = codes "INSERT INTO part VALUES (?1)"
@@ -197,16 +167,51 @@ pub insert_placements_is : IsInsert insert_placements 9 placements_terms 9
 unfolding understood everything
 insert_placements_is = (refl, (refl, refl))
 
+-- the first value of the row is the first parameter
+abbrev pub key_tests : List Term
+key_tests = is_param 1 0 ∷ []
+
+-- the text changes the rows of the table at the place, with the tree, that pass that test, to these terms
+abbrev pub IsUpdate : List ℕ → ℕ → ℕ → List Term → Type 0
+IsUpdate sql at tree renewed = (command_of (understood line_schema sql) ≡ Update at (record { lets = []; body = rows_from tree key_tests renewed })) × IsPlain (understood line_schema sql)
+
+abbrev pub update_selected : List ℕ
+update_selected = codes "UPDATE selected SET product = ?2 WHERE machine = ?1"
+
+-- the rowid that it had, and then the row
+abbrev pub selected_renewed : List Term
+selected_renewed = col 1 0 ∷ col 1 0 ∷ col 1 1 ∷ col 0 1 ∷ []
+
+pub update_selected_is : IsUpdate update_selected 5 9 selected_renewed
+unfolding understood everything
+update_selected_is = (refl, (refl, refl))
+
 abbrev pub update_reel : List ℕ
 update_reel = codes "UPDATE reel SET part = ?2, lot = ?3, level = ?4, label = ?5, received = ?6, placed = ?7, scrapped = ?8, remaining = ?9, used = ?10, open_since = ?11, baked = ?12 WHERE reel = ?1"
 
-abbrev pub reel_tests : List Term
-reel_tests = is_param 1 0 ∷ []
-
--- the rowid that it had, and then the row
 abbrev pub reel_renewed : List Term
 reel_renewed = col 1 0 ∷ col 1 0 ∷ col 1 1 ∷ col 0 1 ∷ col 0 2 ∷ col 0 3 ∷ col 0 4 ∷ col 0 5 ∷ col 0 6 ∷ col 0 7 ∷ col 0 8 ∷ col 0 9 ∷ col 0 10 ∷ col 0 11 ∷ []
 
-pub update_reel_is : (command_of (understood line_schema update_reel) ≡ Update 6 (record { lets = []; body = rows_from 11 reel_tests reel_renewed })) × IsPlain (understood line_schema update_reel)
+pub update_reel_is : IsUpdate update_reel 6 11 reel_renewed
 unfolding understood everything
 update_reel_is = (refl, (refl, refl))
+
+abbrev pub update_board : List ℕ
+update_board = codes "UPDATE board SET product = ?2, machine = ?3 WHERE board = ?1"
+
+abbrev pub board_renewed : List Term
+board_renewed = col 1 0 ∷ col 1 0 ∷ col 1 1 ∷ col 0 1 ∷ col 0 2 ∷ []
+
+pub update_board_is : IsUpdate update_board 8 15 board_renewed
+unfolding understood everything
+update_board_is = (refl, (refl, refl))
+
+abbrev pub update_found : List ℕ
+update_found = codes "UPDATE found SET pieces = ?2 WHERE reel = ?1"
+
+abbrev pub found_renewed : List Term
+found_renewed = col 1 0 ∷ col 1 0 ∷ col 1 1 ∷ col 0 1 ∷ []
+
+pub update_found_is : IsUpdate update_found 10 21 found_renewed
+unfolding understood everything
+update_found_is = (refl, (refl, refl))

@@ -1,5 +1,5 @@
 -- What the calls do to the tables, what they find in them, and what a crash may leave.
-use Rattle.std.specs.Prelude.{◌≡◌, ◌&&◌, IsTrue, ℕ, ℤ, pos, Bool, true, false, List, [], ◌∷◌, map, Ok, Option, Some, None, drop}
+use Rattle.std.specs.Prelude.{◌≡◌, ◌⊎◌, ◌&&◌, IsTrue, ℕ, ℤ, pos, Bool, true, false, List, [], ◌∷◌, map, Ok, Option, Some, None, drop}
 use Rattle.std.specs.List.{AllByRecursion}
 use Rattle.sqlite.specs.declared.types.Value.TheVariants.{Int, Text}
 use Rattle.std.specs.Ordering.{is_gt}
@@ -105,6 +105,10 @@ pub record Runs (sql : List ℕ) (params : Row) (old new : State) : Type 0 where
 pub record Changes (count : ℕ) (sql : List ℕ) (params : Row) (old new : State) : Type 0 where
   pub executed : Executes sql params old new (Ok count)
   pub shown : Shows old new new.now old.committed true
+
+-- one row was changed by the first statement, or none was and then the second ran
+abbrev pub ChangesOrPuts : {S : Type 0} → Ghosts S → List ℕ → List ℕ → Row → State → State → Type 0
+ChangesOrPuts g update insert params old new = Changes 1 update params old new ⊎ ((between : Held _) × Changes 0 update params old (state g between) × Runs insert params (state g between) new)
 
 -- the query shows these rows, in a transaction of its own that sees what is committed
 pub record Selects {S : Type 0} (g : Ghosts S) (sql : List ℕ) (params : Row) (old : Held S) (rows : List Row) : Type 0 where

@@ -4,15 +4,12 @@ ghost use Rattle.std.specs.Prelude.{◌≡◌, OnOk};
 ghost use Rattle.sqlite.specs.State.{HasCleanDisk, Survives, KeepsCommit};
 ghost use Rattle.sqlite.specs.Held.{state};
 ghost use Rattle.state_tables.specs.declared.edit.RowEdit.TheVariants as RowEdit;
-ghost use Rattle.state_tables.specs.declared.row.ReelRow.{ReelRow};
 ghost use Rattle.line_tables.specs.Calls.{WritesRow};
-ghost use Rattle.sqlite.specs.Values.{bound};
-ghost use Rattle.line_tables.specs.StateRows.{reel_columns};
 
-use crate::statement::{run, run_counted};
+use crate::statement::{change_or_put, run};
 use crate::values::{int, or_empty, since};
 use desk_types::Id;
-use sqlite::types::{ToSql, ValueRef};
+use sqlite::types::ToSql;
 use sqlite::{Alter, Error, Transaction, params};
 use state_tables::{BoardRow, MountRow, ReelRow};
 
@@ -24,8 +21,10 @@ pub fn put_reel<S: Alter>(tx: &mut Transaction<'_, S>, row: &ReelRow) -> Result<
     ensures kept { HasCleanDisk (state S.Store tx.new.conn.now) → KeepsCommit (state S.Store tx.old.conn.now) (state S.Store tx.new.conn.now) }
     ensures survives { Survives (state S.Store tx.old.conn.now) (state S.Store tx.new.conn.now) (λ _. ⊥) }
 {
-    change_reel(
+    change_or_put(
         tx,
+        "UPDATE reel SET part = ?2, lot = ?3, level = ?4, label = ?5, received = ?6, placed = ?7, scrapped = ?8, remaining = ?9, used = ?10, open_since = ?11, baked = ?12 WHERE reel = ?1",
+        "INSERT INTO reel VALUES (?1, ?2, ?3, ?4, ?5, ?6, ?7, ?8, ?9, ?10, ?11, ?12)",
         &[
             row.reel.as_str().to_sql(),
             row.part.as_str().to_sql(),
@@ -41,29 +40,6 @@ pub fn put_reel<S: Alter>(tx: &mut Transaction<'_, S>, row: &ReelRow) -> Result<
             row.baked.to_sql(),
         ],
     )
-}
-
-/// Changes the row of the reel that the values begin with, or puts it in where there is none.
-fn change_reel<S: Alter>(tx: &mut Transaction<'_, S>, values: &[ValueRef<'_>]) -> Result<(), Error>
-    ensures same_reference { tx.new.conn.ghost_name ≡ tx.old.conn.ghost_name }
-    ensures done { HasCleanDisk (state S.Store tx.new.conn.now) → OnOk result ((row : ReelRow) → bound values.now ≡ reel_columns row → WritesRow (RowEdit.PutReel row) (state S.Store tx.old.conn.now) (state S.Store tx.new.conn.now)) }
-    ensures kept { HasCleanDisk (state S.Store tx.new.conn.now) → KeepsCommit (state S.Store tx.old.conn.now) (state S.Store tx.new.conn.now) }
-    ensures survives { Survives (state S.Store tx.old.conn.now) (state S.Store tx.new.conn.now) (λ _. ⊥) }
-{
-    let changed = run_counted(
-        tx,
-        "UPDATE reel SET part = ?2, lot = ?3, level = ?4, label = ?5, received = ?6, placed = ?7, scrapped = ?8, remaining = ?9, used = ?10, open_since = ?11, baked = ?12 WHERE reel = ?1",
-        values,
-    )?;
-    match changed {
-        0 => run(
-            tx,
-            "INSERT INTO reel VALUES (?1, ?2, ?3, ?4, ?5, ?6, ?7, ?8, ?9, ?10, ?11, ?12)",
-            values,
-        ),
-        1 => Ok(()),
-        _ => Err(Error::InvalidQuery),
-    }
 }
 
 /// Takes the reel off where it is mounted, if it is.
@@ -99,20 +75,16 @@ pub fn put_mount<S: Alter>(tx: &mut Transaction<'_, S>, row: &MountRow) -> Resul
     )
 }
 
-/// A board, in the place of its row where it has one.
+/// A board. Its row, where it has one, is changed in its place.
 pub fn put_board<S: Alter>(tx: &mut Transaction<'_, S>, row: &BoardRow) -> Result<(), Error>
     ensures same_reference { tx.new.conn.ghost_name ≡ tx.old.conn.ghost_name }
     ensures done { HasCleanDisk (state S.Store tx.new.conn.now) → OnOk result (WritesRow (RowEdit.PutBoard row.now) (state S.Store tx.old.conn.now) (state S.Store tx.new.conn.now)) }
     ensures kept { HasCleanDisk (state S.Store tx.new.conn.now) → KeepsCommit (state S.Store tx.old.conn.now) (state S.Store tx.new.conn.now) }
     ensures survives { Survives (state S.Store tx.old.conn.now) (state S.Store tx.new.conn.now) (λ _. ⊥) }
 {
-    run(
+    change_or_put(
         tx,
-        "DELETE FROM board WHERE board = ?1",
-        params![row.board.as_str()],
-    )?;
-    run(
-        tx,
+        "UPDATE board SET product = ?2, machine = ?3 WHERE board = ?1",
         "INSERT INTO board VALUES (?1, ?2, ?3)",
         params![
             row.board.as_str(),

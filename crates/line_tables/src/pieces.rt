@@ -11,7 +11,7 @@ ghost use Rattle.line_tables.specs.Placing.{placing, placement_kept, ArePlacing}
 ghost use Rattle.line_tables.specs.Calls.{Writes, WritesRow};
 
 use crate::edit::Edit;
-use crate::statement::run;
+use crate::statement::{change_or_put, run};
 use crate::values::{int, placement_id};
 use desk_types::Id;
 use sqlite::types::{ToSql, ValueRef};
@@ -100,13 +100,9 @@ pub fn put_found<S: Alter>(tx: &mut Transaction<'_, S>, reel: &Id, pieces: u64) 
     ensures kept { HasCleanDisk (state S.Store tx.new.conn.now) → KeepsCommit (state S.Store tx.old.conn.now) (state S.Store tx.new.conn.now) }
     ensures survives { Survives (state S.Store tx.old.conn.now) (state S.Store tx.new.conn.now) (λ _. ⊥) }
 {
-    run(
+    change_or_put(
         tx,
-        "DELETE FROM found WHERE reel = ?1",
-        params![reel.as_str()],
-    )?;
-    run(
-        tx,
+        "UPDATE found SET pieces = ?2 WHERE reel = ?1",
         "INSERT INTO found VALUES (?1, ?2)",
         &[reel.as_str().to_sql(), int(pieces)?],
     )

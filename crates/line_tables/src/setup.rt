@@ -6,7 +6,7 @@ ghost use Rattle.sqlite.specs.Held.{state};
 ghost use Rattle.state_tables.specs.declared.edit.RowEdit.TheVariants as RowEdit;
 ghost use Rattle.line_tables.specs.Calls.{WritesRow};
 
-use crate::statement::run;
+use crate::statement::{change_or_put, run};
 use crate::values::{int, spaced};
 use desk_types::{Id, SheetRow};
 use sqlite::types::{ToSql, ValueRef};
@@ -114,13 +114,9 @@ pub fn put_selected<S: Alter>(
     ensures kept { HasCleanDisk (state S.Store tx.new.conn.now) → KeepsCommit (state S.Store tx.old.conn.now) (state S.Store tx.new.conn.now) }
     ensures survives { Survives (state S.Store tx.old.conn.now) (state S.Store tx.new.conn.now) (λ _. ⊥) }
 {
-    run(
+    change_or_put(
         tx,
-        "DELETE FROM selected WHERE machine = ?1",
-        params![machine.as_str()],
-    )?;
-    run(
-        tx,
+        "UPDATE selected SET product = ?2 WHERE machine = ?1",
         "INSERT INTO selected VALUES (?1, ?2)",
         params![machine.as_str(), product.as_str()],
     )

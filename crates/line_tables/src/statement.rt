@@ -4,7 +4,7 @@ ghost use Rattle.std.specs.Prelude.{◌≡◌, OnOk, IfOk};
 ghost use Rattle.sqlite.specs.State.{HasCleanDisk, Survives, KeepsCommit};
 ghost use Rattle.sqlite.specs.Values.{bound};
 ghost use Rattle.sqlite.specs.Held.{state};
-ghost use Rattle.line_tables.specs.Calls.{Runs, Changes};
+ghost use Rattle.line_tables.specs.Calls.{Runs, Changes, ChangesOrPuts};
 
 use sqlite::types::ValueRef;
 use sqlite::{Alter, Error, Transaction};
@@ -38,4 +38,25 @@ pub fn run_counted<S: Alter>(
     ensures survives { Survives (state S.Store tx.old.conn.now) (state S.Store tx.new.conn.now) (λ _. ⊥) }
 {
     tx.execute(sql, values)
+}
+
+/// Changes a row by the first statement, or puts it in by the second where there was none to change.
+/// Two changed rows are an error.
+pub fn change_or_put<S: Alter>(
+    tx: &mut Transaction<'_, S>,
+    update: &str,
+    insert: &str,
+    values: &[ValueRef<'_>],
+) -> Result<(), Error>
+    ensures same_reference { tx.new.conn.ghost_name ≡ tx.old.conn.ghost_name }
+    ensures done { HasCleanDisk (state S.Store tx.new.conn.now) → OnOk result (ChangesOrPuts S.Store update.now insert.now (bound values.now) (state S.Store tx.old.conn.now) (state S.Store tx.new.conn.now)) }
+    ensures kept { HasCleanDisk (state S.Store tx.new.conn.now) → KeepsCommit (state S.Store tx.old.conn.now) (state S.Store tx.new.conn.now) }
+    ensures survives { Survives (state S.Store tx.old.conn.now) (state S.Store tx.new.conn.now) (λ _. ⊥) }
+{
+    let changed = run_counted(tx, update, values)?;
+    match changed {
+        0 => run(tx, insert, values),
+        1 => Ok(()),
+        _ => Err(Error::InvalidQuery),
+    }
 }

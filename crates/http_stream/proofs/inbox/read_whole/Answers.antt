@@ -1,7 +1,7 @@
 use Rattle.std.proofs.Common.{◌≡◌, ◌∙◌, ◌≤◌, ◌-◌, ℕ, take, length, subst, sym, arith, append-nil}
 use Rattle.std.proofs.lemmas.List.{length-take}
 use Rattle.std.specs.Io.KnownBytes.{Consumes}
-use Rattle.std.proofs.KnownBytes.{Consumes-trans}
+use Rattle.std.proofs.KnownBytes.{Consumes-trans, Consumes-kept}
 use Rattle.desk_types.specs.Wire.{inner_of}
 use Rattle.http_stream.proofs.Sources.{take-put_mid_some, put_mid_room}
 use Rattle.http_stream.proofs.inbox.read_whole.Goals as goal
@@ -34,3 +34,16 @@ loop-got-preserved g c =
       more_reads = omega (arith, c.read.ensures.reads, inv.more_reads, c.if-reads-most_reads.false, c.reads.ensures, c.ranges.most_reads.fits);
       failures = c.in-Ok.ensures.kept ∙ inv.failures;
     }
+
+pub returns-then-reads-most_reads-clause-unread : goal.returns-then-reads-most_reads-clause-unread
+returns-then-reads-most_reads-clause-unread g c =
+    let room = c.loop-got.room in
+    (take c.loop-got.got room, omega (arith, length-take c.loop-got.got room, c.loop-got.auto.room, c.loop-got-test.true), c.loop-got.invariant.bytes)
+
+pub returns-in-Err-clause-unread : goal.returns-in-Err-clause-unread
+returns-in-Err-clause-unread g c =
+    let room = c.loop-got.room in (
+      take c.loop-got.got room,
+      omega (arith, length-take c.loop-got.got room, c.loop-got.auto.room, c.loop-got-test.true),
+      Consumes-kept (g.R.Read.remaining (inner_of c.args.wire.now)) (g.R.Read.remaining (inner_of c.loop-got.wire)) (g.R.Read.remaining (inner_of c.read.new.self)) (take c.loop-got.got room) c.loop-got.invariant.bytes c.in-Err.ensures.bytes,
+    )

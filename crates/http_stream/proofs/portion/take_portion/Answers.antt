@@ -1,7 +1,8 @@
 use Rattle.std.proofs.Common.{subst}
+use Rattle.std.proofs.lemmas.Result.{on_err_weaker}
 use Rattle.desk_types.specs.Wire.{inner_of}
 use Rattle.http_stream.specs.Inbox.{source, pending, IsFront}
-use Rattle.http_stream.proofs.Portions.{takes_bad, takes_large}
+use Rattle.http_stream.proofs.Portions.{takes_bad, takes_large, keeps_inside}
 use Rattle.http_stream.proofs.portion.take_portion.Goals as goal
 
 pub returns-in-Bad-clause-portion : goal.returns-in-Bad-clause-portion
@@ -15,3 +16,8 @@ returns-in-TooLarge-clause-portion g c =
     let known = g.R.Read.remaining (inner_of c.front.new.wire) in
     let told = subst (IsFront c.front.new.self known) c.in-TooLarge.is c.in_ok-front.ensures.front in
     takes_large (source c.args.inbox.now (g.R.Read.remaining (inner_of c.args.input.now))) (pending c.front.new.self) known c.in_ok-front.ensures.source told.0 told.1
+
+pub returns-in-Head-clause-unread : goal.returns-in-Head-clause-unread
+returns-in-Head-clause-unread g c = on_err_weaker c.take_request.result
+    (λ inside. keeps_inside (source c.args.inbox.now (g.R.Read.remaining (inner_of c.args.input.now))) (source c.front.new.self (g.R.Read.remaining (inner_of c.front.new.wire))) (g.R.Read.remaining (inner_of c.take_request.new.input))
+    c.in_ok-front.ensures.source inside) c.take_request.ensures.unread

@@ -1,12 +1,12 @@
-use Rattle.std.proofs.Common.{◌≡◌, ◌∙◌, ◌+◌, List, ℕ, sym, ap, subst, take, drop, Ok}
+use Rattle.std.proofs.Common.{rules, ◌≡◌, ◌∙◌, ◌+◌, List, ℕ, sym, ap, subst, take, drop, Ok}
 use Rattle.desk_types.specs.Wire.{inner_of}
 use Rattle.http_stream.specs.declared.inbox.Inbox.{Inbox}
 use Rattle.http_stream.specs.declared.inbox.BodyTaken.{BodyTaken}
 use Rattle.http_stream.specs.declared.inbox.BodyTaken.TheVariants as body
-use Rattle.http_stream.specs.Inbox.{source, seen_bytes, TakesBody}
-use Rattle.http_stream.specs.Cut.{whole, TakesPortion}
+use Rattle.http_stream.specs.Inbox.{source, seen_bytes, ReadsFewer, TakesBody}
+use Rattle.http_stream.specs.Cut.{whole, ReadsInside, TakesPortion}
 use Rattle.http_stream.specs.Portions.{method_of, target_of}
-use Rattle.http_stream.proofs.Portions.{sees, takes_whole, takes_starved, takes_unread, ends_in_body}
+use Rattle.http_stream.proofs.Portions.{sees, takes_whole, takes_starved, takes_unread, ends_in_body, stops_in_body}
 use Rattle.http_stream.proofs.portion.take_request.Goals as goal
 
 pub returns-in-Err-clause-portion : goal.returns-in-Err-clause-portion
@@ -58,3 +58,16 @@ returns-in-NoMemory-clause-portion g c =
     let got = subst (λ (x : Inbox). TakesBody (source x known) c.in-Ok.length body.NoMemory new) c.pass.ensures got in
     takes_starved (drop box.at (take box.end box.block)) (seen_bytes box.block seen) (drop seen.to (take box.end box.block)) (drop (box.at + seen.head.len) (take box.end box.block)) seen.head f.0 known new c.in-Ok.length s
     c.in-Ok.is got.0 got.1
+
+pub returns-in_err-bytes-in-Ok-clause-unread : goal.returns-in_err-bytes-in-Ok-clause-unread
+returns-in_err-bytes-in-Ok-clause-unread g c =
+    let box = c.args.inbox.now in
+    let seen = c.args.seen in
+    let known = g.R.Read.remaining (inner_of c.args.input.now) in
+    let new = g.R.Read.remaining (inner_of c.body.new.wire) in
+    let f = c.requires.seen in
+    let s = sees box.block box.at box.end seen.from seen.to seen.head f.0 f.1 f.2 f.3 f.4 f.5 in
+    let got = subst (λ (x : Inbox). ReadsFewer (source x known) new c.in-Ok.length) c.pass.ensures c.in_err-bytes-in-Ok.ensures.unread in
+    let stops : ReadsInside (source box known) new = stops_in_body (drop box.at (take box.end box.block)) (seen_bytes box.block seen) (drop seen.to (take box.end box.block)) (drop (box.at + seen.head.len) (take box.end box.block)) seen.head f.0 known new c.in-Ok.length s
+    c.in-Ok.is got in
+    search rules

@@ -1,12 +1,9 @@
-use Rattle.std.proofs.Common.{arith}
 use Rattle.std.proofs.lemmas.Result.{on_ok_weaker}
-use Rattle.sqlite.specs.State.{HasCleanDisk}
 use Rattle.sqlite.specs.Held.{state}
 use Rattle.line_tables.proofs.RowPuts.{found_put}
 use Rattle.line_tables.proofs.pieces.put_found.Goals as goal
 
 pub returns-clause-done : goal.returns-clause-done
 returns-clause-done g c clean =
-    let early : HasCleanDisk (state g.S.Store c.run.new.tx.conn.now) = omega (arith, c.run-2.ensures.survives.clean) in
-    on_ok_weaker c.run-2.result (λ ran. found_put c.args.reel.now c.args.pieces (state g.S.Store c.args.tx.now.conn.now) (state g.S.Store c.run.new.tx.conn.now) (state g.S.Store c.run-2.new.tx.conn.now) (rw (c.params-to_sql.ensures, c.as_str.ensures) at (c.in_ok-run.ensures.ran early))
-    (rw (c.to_sql.ensures, c.as_str-2.ensures, c.in_ok-int.ensures) at ran)) (c.run-2.ensures.ran clean)
+    on_ok_weaker c.change_or_put.result (λ did. found_put g.S.Store c.args.reel.now c.args.pieces (state g.S.Store c.args.tx.now.conn.now) (state g.S.Store c.change_or_put.new.tx.conn.now)
+    (rw (c.to_sql.ensures, c.as_str.ensures, c.in_ok-int.ensures) at did)) (c.change_or_put.ensures.done clean)

@@ -1,0 +1,16 @@
+use Rattle.std.proofs.Common.{◌≡◌, ◌≤◌, ◌-◌, ◌%◌, drop, length}
+use Rattle.std.specs.Cmp.Lexicographic.{slice_cmp}
+use Rattle.std.specs.Ordering.{nat_cmp}
+use Rattle.desk_types.proofs.fixed.order.Given as goal
+
+-- whole words were passed, and what is left of the arrays is ordered as they are
+abbrev pub invariant-loop-at : goal.invariant-loop-at
+invariant-loop-at l =
+    record {
+      whole : l.at % 8 ≡ 0;
+      inside : l.at ≤ length l.a;
+      rest : slice_cmp nat_cmp l.a l.b ≡ slice_cmp nat_cmp (drop l.at l.a) (drop l.at l.b);
+    }
+
+abbrev pub decreases-loop-at : goal.decreases-loop-at
+decreases-loop-at l = length l.a - l.at

@@ -1,0 +1,11 @@
+use Rattle.std.proofs.Common.{sym, ◌∙◌}
+use Rattle.std.specs.Cmp.Lexicographic.{slice_cmp}
+use Rattle.std.specs.Ordering.{nat_cmp}
+use Rattle.desk_types.proofs.Words.{kept-order}
+use Rattle.desk_types.proofs.id.IdOrd.cmp.Goals as goal
+
+pub returns : goal.returns
+returns c =
+    c.order.ensures
+    ∙ sym (kept-order _ _ _ _ _ c.self.invariant.padded c.other.invariant.padded c.self.invariant.is_id.fits c.other.invariant.is_id.fits c.self.invariant.is_id.printable c.other.invariant.is_id.printable)
+    ∙ (λ t. slice_cmp nat_cmp (c.self.view_is t) (c.other.view_is t))
