@@ -7,9 +7,11 @@
 
 mod feeding;
 mod inbox;
+mod law;
 mod line;
 mod message;
 
 pub use feeding::feed;
+pub use law::repeats_act_once;
 pub use line::LineAnswer;
 pub use message::{Told, answer_command};
