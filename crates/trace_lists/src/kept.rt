@@ -32,12 +32,13 @@ pub fn make_room<T: Drop>(
 ) -> Result<(), AllocError>
     ensures { (n : Name) → kept_at map.new n ≡ kept_at map.old n }
 {
-    if let Some(kept) = map.get_mut(name) {
-        kept.items.reserve(more)?;
-        return Ok(());
+    match map.get_mut(name) {
+        Some(kept) => kept.items.reserve(more)?,
+        None => {
+            let items = Vec::with_capacity(alloc, more)?;
+            map.insert(*name, Kept { items })?;
+        }
     }
-    let items = Vec::with_capacity(alloc, more)?;
-    map.insert(*name, Kept { items })?;
     Ok(())
 }
 
@@ -50,13 +51,14 @@ pub fn keep<T: Drop>(
 ) -> Result<(), AllocError>
     ensures { (n : Name) → OnOk result (kept_at map.new n ≡ kept_at map.old n ++ (if same name.now n then thing ∷ [] else [])) }
 {
-    if let Some(kept) = map.get_mut(name) {
-        kept.items.push(thing)?;
-        return Ok(());
+    match map.get_mut(name) {
+        Some(kept) => kept.items.push(thing)?,
+        None => {
+            let mut items = Vec::new(alloc);
+            items.push(thing)?;
+            map.insert(*name, Kept { items })?;
+        }
     }
-    let mut items = Vec::new(alloc);
-    items.push(thing)?;
-    map.insert(*name, Kept { items })?;
     Ok(())
 }
 

@@ -1,6 +1,6 @@
 //! What an accepted change puts into the lists.
 
-ghost use Rattle.std.specs.Prelude.{◌≡◌, ◌++◌, ◌≤◌, ◌&&◌, ◌∷◌, [], ℕ, if◌then◌else◌, map, length, OnOk};
+ghost use Rattle.std.specs.Prelude.{◌≡◌, ◌++◌, ◌&&◌, ◌∷◌, [], ℕ, if◌then◌else◌, map, length, OnOk};
 ghost use Rattle.desk_types.specs.Id.{Name, same};
 ghost use Rattle.desk_types.specs.Pieces.{is_placed};
 ghost use Rattle.trace_lists.specs.Lists.{kept_at, key_of, keys_of_installs};
@@ -77,9 +77,9 @@ pub fn note_pieces(
     install: Install,
     takes: &[Take],
 ) -> Result<(), AllocError>
-    requires { install.pieces ≤ length takes.now }
-    ensures lots { (n : Name) (minute : ℕ) → length takes.now ≡ install.pieces → OnOk result (map key_of (kept_at lots.new n) ≡ map key_of (kept_at lots.old n) ++ keys_in (λ p. same p.lot n) install.number minute 1 takes.now) }
-    ensures overdue { (minute : ℕ) → length takes.now ≡ install.pieces → OnOk result (map key_of overdue.new.items ≡ map key_of overdue.old.items ++ keys_in (λ p. p.overdue) install.number minute 1 takes.now) }
+    requires { install.pieces ≡ length takes.now }
+    ensures lots { (n : Name) (minute : ℕ) → OnOk result (map key_of (kept_at lots.new n) ≡ map key_of (kept_at lots.old n) ++ keys_in (λ p. same p.lot n) install.number minute 1 takes.now) }
+    ensures overdue { (minute : ℕ) → OnOk result (map key_of overdue.new.items ≡ map key_of overdue.old.items ++ keys_in (λ p. p.overdue) install.number minute 1 takes.now) }
 {
     for i in 0..install.pieces {
         let piece = Piece {
