@@ -1,19 +1,19 @@
 -- What the texts that make the tables mean.
 use Rattle.std.proofs.Common.{◌≡◌, Bool, true, false, List, ℕ, [], ◌∷◌, codes, pos, Ok, refl}
-use Rattle.sqlite.specs.Compile.{table_defined_by, index_defined_by}
-use Rattle.sqlite.specs.Command.TheVariants.{CreateTable, CreateIndex, Insert, Update}
+use Rattle.sqlite.specs.Compile.{table_defined_by}
+use Rattle.sqlite.specs.Command.TheVariants.{CreateTable, Insert, Update}
 use Rattle.sqlite.specs.Source.TheVariants.{Values}
 use Rattle.sqlite.specs.Term.{Term, lit, col}
 use Rattle.sqlite.specs.declared.types.Value.TheVariants.{Null, Int}
 use Rattle.sqlite.specs.Listing.{understood}
 use Rattle.sqlite_tied.specs.Compute.{everything}
-use Rattle.sqlite.specs.Change.{created, indexed}
+use Rattle.sqlite.specs.Change.{created}
 use Rattle.sqlite.specs.Schema.{Schema}
 use Rattle.sqlite.specs.Table.{Table}
 use Rattle.sqlite.proofs.Callers.{IsPlain, command_of, statement_of}
 use Rattle.line_tables.proofs.FindTexts.{rows_from}
 use Rattle.desk_types.specs.declared.rules.Rules.TheVariants.{One, Two}
-use Rattle.line_tables.specs.Line.{version, accepted, part, alternate, sheet_row, selected, reel, mount, board, placement, placement_reel, placement_overdue, found_by, first_of_line, line_schema, schema_of}
+use Rattle.line_tables.specs.Line.{version, accepted, part, alternate, sheet_row, selected, reel, mount, board, placement, found_by, first_of_line, line_schema, schema_of}
 
 -- the text makes this table, but for its tree, in a database of the schema
 abbrev pub IsCreate : Schema → List ℕ → Table → Type 0
@@ -118,28 +118,6 @@ placement_is = (refl, refl, (refl, refl), refl)
 
 pub placement_makes : created (first_of_line 9 8) (record placement { tree = 0 }) ≡ first_of_line 10 9
 placement_makes = refl
-
-abbrev pub index_text : List ℕ
-index_text = codes "CREATE INDEX placement_reel ON placement (reel)"
-
-pub index_is : (command_of (understood (first_of_line 10 9) index_text) ≡ CreateIndex 9) × (statement_of index_text (understood (first_of_line 10 9) index_text) ≡ index_text) × IsPlain (understood (first_of_line 10 9) index_text)
-    × (index_defined_by placement index_text ≡ Ok (record placement_reel { tree = 0 }))
-unfolding understood everything
-index_is = (refl, refl, (refl, refl), refl)
-
-pub index_makes : indexed (first_of_line 10 9) placement (record placement_reel { tree = 0 }) ≡ first_of_line 10 10
-index_makes = refl
-
-abbrev pub overdue_text : List ℕ
-overdue_text = codes "CREATE INDEX placement_overdue ON placement (overdue)"
-
-pub overdue_is : (command_of (understood (first_of_line 10 10) overdue_text) ≡ CreateIndex 9) × (statement_of overdue_text (understood (first_of_line 10 10) overdue_text) ≡ overdue_text) × IsPlain (understood (first_of_line 10 10) overdue_text)
-    × (index_defined_by placement overdue_text ≡ Ok (record placement_overdue { tree = 0 }))
-unfolding understood everything
-overdue_is = (refl, refl, (refl, refl), refl)
-
-pub overdue_makes : indexed (first_of_line 10 10) placement (record placement_overdue { tree = 0 }) ≡ first_of_line 10 11
-overdue_makes = refl
 
 abbrev pub found_text : List ℕ
 found_text = codes "CREATE TABLE found (reel TEXT NOT NULL, pieces INTEGER NOT NULL, PRIMARY KEY (reel), CHECK (pieces >= 1)) STRICT"

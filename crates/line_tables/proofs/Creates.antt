@@ -1,17 +1,14 @@
 -- What CREATE TABLE and CREATE INDEX do, for any schema in which the text means one.
-use Rattle.std.proofs.Common.{◌≡◌, ◌≢◌, Bool, ◌∷◌, ◌++◌, ◌==◌, not, true, pos, map, ℕ, List, [], false, None, Some, Ok, Result, slice_get, refl, sym, ap, subst, ◌∙◌}
+use Rattle.std.proofs.Common.{◌≡◌, ◌≢◌, Bool, ◌∷◌, ◌++◌, ◌==◌, not, true, pos, map, ℕ, List, [], false, None, Ok, Result, refl, sym, ap, subst, ◌∙◌}
 use Rattle.std.specs.List.{AllByRecursion, list_all}
 use Rattle.sqlite.specs.Table.{Table}
 use Rattle.sqlite.specs.Schema.{Schema}
-use Rattle.sqlite.specs.Compile.{index_defined_by}
-use Rattle.sqlite.specs.Command.TheVariants.{CreateTable, CreateIndex}
-use Rattle.sqlite_schema.specs.declared.schema.Index.{Index}
-use Rattle.sqlite.specs.Change.{created, indexed, next_tree, KeepsRows}
-use Rattle.sqlite.specs.Does.{Tally, Does, AtPlace, Defines, MakesIndex, lacks_sequence}
+use Rattle.sqlite.specs.Command.TheVariants.{CreateTable}
+use Rattle.sqlite.specs.Change.{created, next_tree, KeepsRows}
+use Rattle.sqlite.specs.Does.{Tally, lacks_sequence}
 use Rattle.sqlite.specs.Effect.{Database, IsDatabase}
-use Rattle.sqlite.specs.Listing.{understood}
-use Rattle.sqlite.specs.State.{State, Writes, mode_of}
-use Rattle.sqlite.proofs.Callers.{IsPlain, command_of, statement_of, runs_as}
+use Rattle.sqlite.specs.State.{State, Writes}
+use Rattle.sqlite.proofs.Callers.{runs_as}
 use Rattle.line_tables.proofs.Inserts.{went, same_value, insert_does}
 use Rattle.std.proofs.lemmas.Bool.{and_parts}
 use Rattle.line_tables.proofs.Altering.{state_tables, other_tree, holds_blank}
@@ -21,9 +18,9 @@ use Rattle.sqlite_trees.specs.Tree.{Trees, put_row}
 use Rattle.sqlite_rules.specs.Edit.{with_rowid}
 use Rattle.sqlite.specs.Rowids.TheVariants.{Chosen}
 use Rattle.line_tables.proofs.Puts.{cast_int, cast_null, quiet}
-use Rattle.line_tables.proofs.CreateTexts.{IsCreate, version_text, version_is, accepted_text, accepted_is, part_text, part_is, alternate_text, alternate_is, sheet_row_text, sheet_row_is, selected_text, selected_is, reel_text, reel_is, mount_text, mount_is, board_text, board_is, placement_text, placement_is, index_text, index_is, overdue_text, overdue_is, found_text, found_is, insert_version, version_terms, insert_version_is}
+use Rattle.line_tables.proofs.CreateTexts.{IsCreate, version_text, version_is, accepted_text, accepted_is, part_text, part_is, alternate_text, alternate_is, sheet_row_text, sheet_row_is, selected_text, selected_is, reel_text, reel_is, mount_text, mount_is, board_text, board_is, placement_text, placement_is, found_text, found_is, insert_version, version_terms, insert_version_is}
 use Rattle.desk_types.specs.declared.rules.Rules.TheVariants.{One, Two}
-use Rattle.line_tables.specs.Line.{no_schema, line_schema, schema_of, first_of_line, found_tree, found_by, version, accepted, part, alternate, sheet_row, selected, reel, mount, board, placement, placement_reel, placement_overdue}
+use Rattle.line_tables.specs.Line.{no_schema, line_schema, schema_of, first_of_line, found_tree, found_by, version, accepted, part, alternate, sheet_row, selected, reel, mount, board, placement}
 use Rattle.line_tables.specs.Rows.{Holds, blank, version_columns}
 use Rattle.line_tables.specs.Calls.{Runs, Makes, IsBare, Extends, Grows, AddsFound}
 
@@ -67,26 +64,6 @@ creates_bare sql old new schema table is counts ran = record {
       record { schema = grows.schema; empty = bare_more schema _ (record table { tree = next_tree schema }) old.now new.now grows bare };
 }
 
--- there is one index more
-pub indexes_bare : (sql : List ℕ) (old new : State) (schema : Schema) (at : ℕ) (table : Table) (index : Index) → slice_get schema.tables at ≡ Some table
-    → (command_of (understood schema sql) ≡ CreateIndex at) × (statement_of sql (understood schema sql) ≡ sql) × IsPlain (understood schema sql) × (index_defined_by table sql ≡ Ok index) → Runs sql [] old new
-    → Extends schema (indexed schema table index) old new
-indexes_bare sql old new schema at table index listed is ran = record {
-  was_open = ran.shown.was_open;
-  bare = λ bare.
-      let has = bare.schema in
-      let w = subst (λ t. Writes old new None (CreateIndex at) t [] ran.count) is.1 (runs_as sql [] old new schema has (CreateIndex at) is.0 is.2 ran.count ran.executed) in
-      let out : Tally × Database = (w.tally, new.now) in
-      let there = subst (λ s. Does old.step_limit (mode_of old) [] (record old.now { schema = s }) sql None (CreateIndex at) (Ok out)) has w.changed in
-      let on = subst (λ o. AtPlace (λ t. Defines (mode_of old) (MakesIndex sql (record old.now { schema = schema }) t)) o (Ok out)) listed there in
-      let all = went on in
-      let made = all.1 in
-      let both : ◌≡◌ {A = Result Index _} (Ok made.index) (Ok index) = sym made.defined ∙ is.3 in
-      let same : made.index ≡ index = cc in
-      let now : new.now ≡ all.0 = ap (λ (p : Tally × Database). p.1) (same_value all.2) in
-      subst (IsBare (indexed schema table index)) (sym now) (record { schema = made.is ∙ ap (indexed schema table) same; empty = still_empty schema.tables old.now.trees all.0.trees made.rows bare.empty });
-}
-
 -- each text in its turn
 makes_version : (old new : State) → Runs version_text [] old new → Extends (first_of_line 0 0) (first_of_line 1 0) old new
 makes_version old new = creates_bare version_text old new (first_of_line 0 0) version version_is refl
@@ -118,12 +95,6 @@ makes_board old new = creates_bare board_text old new (first_of_line 8 7) board 
 makes_placement : (old new : State) → Runs placement_text [] old new → Extends (first_of_line 9 8) (first_of_line 10 9) old new
 makes_placement old new = creates_bare placement_text old new (first_of_line 9 8) placement placement_is refl
 
-makes_index : (old new : State) → Runs index_text [] old new → Extends (first_of_line 10 9) (first_of_line 10 10) old new
-makes_index old new = indexes_bare index_text old new (first_of_line 10 9) 9 placement (record placement_reel { tree = 0 }) refl index_is
-
-makes_overdue : (old new : State) → Runs overdue_text [] old new → Extends (first_of_line 10 10) (first_of_line 10 11) old new
-makes_overdue old new = indexes_bare overdue_text old new (first_of_line 10 10) 9 placement (record placement_overdue { tree = 0 }) refl overdue_is
-
 pub adds_found : (old new : State) → Runs found_text [] old new → AddsFound old new
 adds_found old new ran = record { was_open = ran.shown.was_open; added = by }
   where
@@ -143,8 +114,8 @@ makes_setup a b c d e r1 r2 r3 r4 = extends_then _ _ _ a d e (extends_then _ _ _
 pub makes_floor : (a b c d : State) → Runs reel_text [] a b → Runs mount_text [] b c → Runs board_text [] c d → Extends (first_of_line 6 5) (first_of_line 9 8) a d
 makes_floor a b c d r1 r2 r3 = extends_then _ _ _ a c d (extends_then _ _ _ a b c (makes_reel a b r1) (makes_mount b c r2)) (makes_board c d r3)
 
-pub makes_pieces : (a b c d e : State) → Runs placement_text [] a b → Runs index_text [] b c → Runs overdue_text [] c d → AddsFound d e → Extends (first_of_line 9 8) line_schema a e
-makes_pieces a b c d e r1 r2 r3 r4 = extends_then _ _ _ a d e (extends_then _ _ _ a c d (extends_then _ _ _ a b c (makes_placement a b r1) (makes_index b c r2)) (makes_overdue c d r3)) (makes_found true d e r4)
+pub makes_pieces : (a b c : State) → Runs placement_text [] a b → AddsFound b c → Extends (first_of_line 9 8) line_schema a c
+makes_pieces a b c r1 r2 = extends_then _ _ _ a b c (makes_placement a b r1) (makes_found false b c r2)
 
 -- what was empty is so in the trees that stay
 still_bare : (tree : ℕ) (tables : List Table) (old new : Trees) → list_all (λ t. not (t.tree == tree)) tables ≡ true → AllByRecursion (λ t. t.tree ≢ tree → new t.tree ≡ old t.tree) tables → AllByRecursion (λ t. old t.tree ≡ []) tables
@@ -158,11 +129,11 @@ version_cast greatest = rw (cast_int (pos 1), cast_int (pos 2), cast_int (pos gr
 -- the one row of `version` is put in
 puts_version : (greatest : ℕ) (old new : State) → Runs insert_version (Int (pos greatest) ∷ []) old new → IsBare line_schema old.now → (new.now.schema ≡ line_schema) × Holds new.now (blank greatest) × IsDatabase new.now
 puts_version greatest old new ran bare =
-    let put = insert_does insert_version (Int (pos greatest) ∷ []) old new line_schema bare.schema 0 version version_terms 4 refl refl refl insert_version_is.0 insert_version_is.1 ran.count ran.executed (quiet true 0 []) in
+    let put = insert_does insert_version (Int (pos greatest) ∷ []) old new line_schema bare.schema 0 version version_terms 4 refl refl refl insert_version_is.0 insert_version_is.1 ran.count ran.executed (quiet false 0 []) in
     let row = Int (pos 1) ∷ Null ∷ Int (pos 2) ∷ Int (pos greatest) ∷ [] in
     let is : new.now.trees 0 ≡ row ∷ [] = put.step.rows ∙ ap (λ r. put_row (with_rowid Chosen (old.now.trees 0) r) (old.now.trees 0)) (version_cast greatest) ∙ ap (λ l. put_row row l) bare.empty.0 in
-    let others : AllByRecursion (λ t. new.now.trees t.tree ≡ []) (accepted ∷ state_tables true) = still_bare 0 (accepted ∷ state_tables true) old.now.trees new.now.trees refl put.step.tables.1 bare.empty.1 in
-    (put.same, holds_blank true greatest new.now put.same (ap (map version_columns) is) others, put.sound)
+    let others : AllByRecursion (λ t. new.now.trees t.tree ≡ []) (accepted ∷ state_tables false) = still_bare 0 (accepted ∷ state_tables false) old.now.trees new.now.trees refl put.step.tables.1 bare.empty.1 in
+    (put.same, holds_blank false greatest new.now put.same (ap (map version_columns) is) others, put.sound)
 
 pub makes_all : (greatest : ℕ) (a b c : State) → Extends no_schema line_schema a b → Runs insert_version (Int (pos greatest) ∷ []) b c → Makes greatest a c
 makes_all greatest a b c made put =

@@ -128,7 +128,7 @@ placement_reel = record { name = codes "placement_reel"; tree = 19; table = 17; 
 abbrev pub placement_overdue : Index
 placement_overdue = record { name = codes "placement_overdue"; tree = 20; table = 17; columns = 8 ∷ []; order = plain; is_unique = false }
 
--- A file is of one of two layouts: with these two indexes, or without them.
+-- A file is of one of two layouts: with these two indexes, as files were made once, or without them.
 abbrev pub placement_indexes : Bool → List Index
 placement_indexes true = placement_reel ∷ placement_overdue ∷ []
 placement_indexes false = []
@@ -188,9 +188,9 @@ is_indexed schema = list_any (λ index. index.table == 17 && not index.is_unique
 abbrev pub tree_in : Table → Schema → ℕ
 tree_in table schema = if nat_le table.tree 18 || is_indexed schema then table.tree else table.tree - 2
 
--- as a new file is made
+-- as a new file is made: without the two indexes
 abbrev pub line_schema : Schema
-line_schema = schema_of Two true
+line_schema = schema_of Two false
 
 -- the first of its tables and of its indexes
 abbrev pub first_of_line : ℕ → ℕ → Schema

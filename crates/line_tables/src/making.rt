@@ -48,7 +48,7 @@ fn make_all<S: Alter>(tx: &mut Transaction<'_, S>, greatest: u32) -> Result<(), 
     )
 }
 
-/// All tables with their indexes, and no row.
+/// All tables with the indexes of their rules, and no row.
 fn make_tables<S: Alter>(tx: &mut Transaction<'_, S>) -> Result<(), Error>
     ensures same_reference { tx.new.conn.ghost_name ≡ tx.old.conn.ghost_name }
     ensures made { HasCleanDisk (state S.Store tx.new.conn.now) → OnOk result (Extends no_schema line_schema (state S.Store tx.old.conn.now) (state S.Store tx.new.conn.now)) }
@@ -143,12 +143,6 @@ fn make_pieces<S: Alter>(tx: &mut Transaction<'_, S>) -> Result<(), Error>
     run(
         tx,
         "CREATE TABLE placement (number INTEGER NOT NULL, place INTEGER NOT NULL, board TEXT NOT NULL, designator TEXT NOT NULL, machine TEXT NOT NULL, slot TEXT NOT NULL, reel TEXT NOT NULL REFERENCES reel, overdue INTEGER NOT NULL, UNIQUE (board, designator)) STRICT",
-        &[],
-    )?;
-    run(tx, "CREATE INDEX placement_reel ON placement (reel)", &[])?;
-    run(
-        tx,
-        "CREATE INDEX placement_overdue ON placement (overdue)",
         &[],
     )?;
     make_found(tx)
