@@ -1,0 +1,17 @@
+use Rattle.std.proofs.Common.{ap, ◌∙◌}
+use Rattle.sqlite.specs.Effect.{Database}
+use Rattle.sqlite.specs.Files.{file_state}
+use Rattle.memory_store.proofs.Truth.{stays_clean, finds_none}
+use Rattle.memory_store.proofs.opening.open.Goals as goal
+
+pub returns-in-Ok : goal.returns-in-Ok
+returns-in-Ok c =
+    let clean = stays_clean c.in-Ok.conn in
+    let opened = c.in-Ok.ensures.opened clean in
+    let found = c.in-Ok.ensures.found clean in
+    let sound = (opened.1 opened.0.is_open).1 in
+    let none = finds_none _ (file_state c.in-Ok.conn).committed sound (rw c.new-2.ensures.empty at found.reads) in
+    record {
+      empty = (opened.0, opened.1, ap (λ (db : Database). db.schema) opened.0.clean ∙ none);
+      mode = c.in-Ok.ensures.fresh.autocommit;
+    }
