@@ -134,7 +134,7 @@ def tell(text):
 
 def build():
     """Proves and builds the program; where that fails, all that rt said is told, and the tool ends with its status."""
-    tell(f"{NAME}: proving and building the program, some 40 minutes on four cores where nothing is proved yet")
+    tell(f"{NAME}: proving and building the program, some 40 minutes on four cores; `make demo` shows it at work before that")
     progress, said, began = Progress(), [], time.time_ns()
     # rt runs what it built: once, for its help
     words, how = ["rt", "run", "--", "--help"], {"stdin": subprocess.DEVNULL, "stdout": subprocess.DEVNULL}
