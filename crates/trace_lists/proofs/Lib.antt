@@ -1,0 +1,4 @@
+pub mod Installs
+pub mod Keeping
+pub mod Keys
+pub mod Minutes

@@ -1,0 +1,73 @@
+//! Lists by names.
+
+ghost use Rattle.std.specs.Prelude.{◌≡◌, ◌++◌, ◌∷◌, [], if◌then◌else◌, OnOk};
+ghost use Rattle.desk_types.specs.Id.{Name, same};
+ghost use Rattle.trace_lists.specs.Lists.{kept_at};
+
+use desk_types::Id;
+use std::alloc::{AllocError, Global};
+use std::collections::BTreeMap;
+use std::marker::Model;
+
+/// What is kept under one name, the oldest first.
+#[derive(Drop)]
+pub struct Kept<T> {
+    pub items: Vec<T>,
+}
+
+impl<T> Model for Kept<T> {
+    ghost use Rattle.std.specs.Prelude.{List};
+
+    ghost Value = { List T };
+
+    ghost view = { λ a. a.items.items };
+}
+
+/// Sees to memory for so many things more under a name.
+pub fn make_room<T: Drop>(
+    alloc: Global,
+    map: &mut BTreeMap<Id, Kept<T>>,
+    name: &Id,
+    more: usize,
+) -> Result<(), AllocError>
+    ensures { (n : Name) → kept_at map.new n ≡ kept_at map.old n }
+{
+    match map.get_mut(name) {
+        Some(kept) => kept.items.reserve(more)?,
+        None => {
+            let items = Vec::with_capacity(alloc, more)?;
+            map.insert(*name, Kept { items })?;
+        }
+    }
+    Ok(())
+}
+
+/// Puts a thing to the others of its name.
+pub fn keep<T: Drop>(
+    alloc: Global,
+    map: &mut BTreeMap<Id, Kept<T>>,
+    name: &Id,
+    thing: T,
+) -> Result<(), AllocError>
+    ensures { (n : Name) → OnOk result (kept_at map.new n ≡ kept_at map.old n ++ (if same name.now n then thing ∷ [] else [])) }
+{
+    match map.get_mut(name) {
+        Some(kept) => kept.items.push(thing)?,
+        None => {
+            let mut items = Vec::new(alloc);
+            items.push(thing)?;
+            map.insert(*name, Kept { items })?;
+        }
+    }
+    Ok(())
+}
+
+/// What is kept under the name.
+pub fn kept_under<'a, T>(map: &'a BTreeMap<Id, Kept<T>>, name: &Id) -> &'a [T]
+    ensures { result.now ≡ kept_at map.now name.now }
+{
+    match map.get(name) {
+        Some(kept) => kept.items.as_slice(),
+        None => &[],
+    }
+}

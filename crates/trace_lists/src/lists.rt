@@ -1,0 +1,123 @@
+//! The lists.
+
+ghost use Rattle.std.specs.Prelude.{◌≡◌, ◌+◌, [], map, length, OnOk};
+ghost use Rattle.desk_types.specs.Id.{same};
+ghost use Rattle.desk_types.specs.History.{History, accept};
+ghost use Rattle.desk_types.specs.Outcome.{change_of};
+ghost use Rattle.trace_lists.specs.Lists.{IsListed, key_of, keys_of_installs, keys_where, minute_of};
+
+use crate::kept::{Kept, kept_under};
+use crate::noting::{note_install, note_pieces, room_for_install, room_for_pieces};
+use desk_types::{Change, Id, Minute};
+use std::alloc::{AllocError, Global};
+use std::collections::BTreeMap;
+
+/// A placed piece: the number of its entry, and its place in the message. Both count from 1.
+#[derive(Clone, Copy, Debug, PartialEq, Eq)]
+pub struct Piece {
+    pub number: u32,
+    pub place: u32,
+}
+
+/// An install on a board: the number of its entry, and how many pieces it placed, in places from 1.
+#[derive(Clone, Copy, Debug, PartialEq, Eq)]
+pub struct Install {
+    pub number: u32,
+    pub pieces: u32,
+}
+
+/// The placed pieces of each lot, the installs on each board, the placed pieces of reels whose floor
+/// life was used up, and the effective minutes of the entries; each list from the oldest on. A piece
+/// takes 8 bytes by its lot and 8 more where it is overdue, an install 8, and an entry 4.
+#[derive(Drop)]
+pub struct TraceLists {
+    alloc: Global,
+    lots: BTreeMap<Id, Kept<Piece>>,
+    boards: BTreeMap<Id, Kept<Install>>,
+    overdue: Vec<Piece>,
+    minutes: Vec<u32>,
+}
+
+impl TraceLists {
+    /// The lists where nothing is accepted. Takes no memory.
+    pub fn new(alloc: Global) -> TraceLists
+        ensures listed { IsListed result [] }
+    {
+        TraceLists {
+            alloc,
+            lots: BTreeMap::new(alloc),
+            boards: BTreeMap::new(alloc),
+            overdue: Vec::new(alloc),
+            minutes: Vec::new(alloc),
+        }
+    }
+
+    /// Takes the memory that noting the change will want. It lists what it listed, also after an `Err`.
+    pub fn reserve(&mut self, change: &Change) -> Result<(), AllocError>
+        ensures same { (H : History) → IsListed self.old H → IsListed self.new H }
+    {
+        let takes = change.takes();
+        self.minutes.reserve(1)?;
+        self.overdue.reserve(takes.len())?;
+        room_for_install(self.alloc, &mut self.boards, &change.stamped.command)?;
+        room_for_pieces(self.alloc, &mut self.lots, takes)?;
+        Ok(())
+    }
+
+    /// Notes the change, accepted under this number. After an `Err` nothing is known of the lists: drop
+    /// them.
+    pub fn note(&mut self, number: u32, change: &Change) -> Result<(), AllocError>
+        ensures listed { (H : History) → IsListed self.old H → number ≡ length H + 1 → change.now ≡ change_of H change.now.stamped → OnOk result (IsListed self.new (accept H change.now.stamped)) }
+    {
+        let takes = change.takes();
+        let Ok(pieces) = u32::try_from(takes.len()) else {
+            return Err(AllocError);
+        };
+        let install = Install { number, pieces };
+        self.minutes.push(change.minute().get() as u32)?;
+        note_install(
+            self.alloc,
+            &mut self.boards,
+            &change.stamped.command,
+            install,
+        )?;
+        note_pieces(
+            self.alloc,
+            &mut self.lots,
+            &mut self.overdue,
+            install,
+            takes,
+        )?;
+        Ok(())
+    }
+
+    /// The placed pieces of the lot.
+    pub fn of_lot(&self, lot: &Id) -> &[Piece]
+        ensures listed { (H : History) → IsListed self.now H → map key_of result.now ≡ keys_where (λ p. same p.lot lot.now) H }
+    {
+        kept_under(&self.lots, lot)
+    }
+
+    /// The installs on the board.
+    pub fn of_board(&self, board: &Id) -> &[Install]
+        ensures listed { (H : History) → IsListed self.now H → keys_of_installs result.now ≡ keys_where (λ p. same p.board board.now) H }
+    {
+        kept_under(&self.boards, board)
+    }
+
+    /// The placed pieces of reels whose floor life was used up.
+    pub fn overdue(&self) -> &[Piece]
+        ensures listed { (H : History) → IsListed self.now H → map key_of result.now ≡ keys_where (λ p. p.overdue) H }
+    {
+        self.overdue.as_slice()
+    }
+
+    /// The effective minute of the entry of this number, where there is one.
+    pub fn minute(&self, number: u32) -> Option<Minute>
+        ensures listed { (H : History) → IsListed self.now H → result ≡ minute_of H number }
+    {
+        let before = number.checked_sub(1)?;
+        let minute = self.minutes.get(before as usize)?;
+        Minute::new(u64::from(*minute))
+    }
+}

@@ -1,0 +1,113 @@
+//! What an accepted change puts into the lists.
+
+ghost use Rattle.std.specs.Prelude.{◌≡◌, ◌++◌, ◌&&◌, ◌∷◌, [], ℕ, if◌then◌else◌, map, length, OnOk};
+ghost use Rattle.desk_types.specs.Id.{Name, same};
+ghost use Rattle.desk_types.specs.Pieces.{is_placed};
+ghost use Rattle.trace_lists.specs.Lists.{kept_at, key_of, keys_of_installs};
+ghost use Rattle.trace_lists.specs.Noting.{keys_in, install_keys};
+
+use crate::kept::{Kept, keep, make_room};
+use crate::lists::{Install, Piece};
+use desk_types::{Command, Id, Purpose, Take};
+use std::alloc::{AllocError, Global};
+use std::collections::BTreeMap;
+
+/// Sees to memory for the install of a command.
+pub fn room_for_install(
+    alloc: Global,
+    boards: &mut BTreeMap<Id, Kept<Install>>,
+    command: &Command,
+) -> Result<(), AllocError>
+    ensures { (n : Name) → kept_at boards.new n ≡ kept_at boards.old n }
+{
+    if let Command::MaterialsInstalled { board, .. } = command {
+        make_room(alloc, boards, board, 1)?;
+    }
+    Ok(())
+}
+
+/// Sees to memory for the pieces that are placed: for each lot, as if all of them were of it. Pieces
+/// that follow each other are mostly of one lot, and the look-up is made once for those.
+pub fn room_for_pieces(
+    alloc: Global,
+    lots: &mut BTreeMap<Id, Kept<Piece>>,
+    takes: &[Take],
+) -> Result<(), AllocError>
+    ensures { (n : Name) → kept_at lots.new n ≡ kept_at lots.old n }
+{
+    for i in 0..takes.len() {
+        let take = &takes[i];
+        if is_placed(take) && (i == 0 || takes[i - 1].lot != take.lot) {
+            make_room(alloc, lots, &take.lot, takes.len())?;
+        }
+    }
+    Ok(())
+}
+
+/// Whether a piece was placed.
+fn is_placed(take: &Take) -> bool
+    ensures { result ≡ is_placed take.now.purpose }
+{
+    match take.purpose {
+        Purpose::Placed { .. } => true,
+        _ => false,
+    }
+}
+
+/// Puts the install of a command to those on its board.
+pub fn note_install(
+    alloc: Global,
+    boards: &mut BTreeMap<Id, Kept<Install>>,
+    command: &Command,
+    install: Install,
+) -> Result<(), AllocError>
+    ensures { (n : Name) → OnOk result (keys_of_installs (kept_at boards.new n) ≡ keys_of_installs (kept_at boards.old n) ++ install_keys n command.now install) }
+{
+    if let Command::MaterialsInstalled { board, .. } = command {
+        keep(alloc, boards, board, install)?;
+    }
+    Ok(())
+}
+
+/// Puts the placed pieces to those of their lots, and the overdue ones to the others of their kind.
+pub fn note_pieces(
+    alloc: Global,
+    lots: &mut BTreeMap<Id, Kept<Piece>>,
+    overdue: &mut Vec<Piece>,
+    install: Install,
+    takes: &[Take],
+) -> Result<(), AllocError>
+    requires { install.pieces ≡ length takes.now }
+    ensures lots { (n : Name) (minute : ℕ) → OnOk result (map key_of (kept_at lots.new n) ≡ map key_of (kept_at lots.old n) ++ keys_in (λ p. same p.lot n) install.number minute 1 takes.now) }
+    ensures overdue { (minute : ℕ) → OnOk result (map key_of overdue.new.items ≡ map key_of overdue.old.items ++ keys_in (λ p. p.overdue) install.number minute 1 takes.now) }
+{
+    for i in 0..install.pieces {
+        let piece = Piece {
+            number: install.number,
+            place: i + 1,
+        };
+        note_piece(alloc, lots, overdue, piece, &takes[i as usize])?;
+    }
+    Ok(())
+}
+
+/// Puts a placed piece to those of its lot, and to the overdue ones where it is one.
+fn note_piece(
+    alloc: Global,
+    lots: &mut BTreeMap<Id, Kept<Piece>>,
+    overdue: &mut Vec<Piece>,
+    piece: Piece,
+    take: &Take,
+) -> Result<(), AllocError>
+    ensures lots { (n : Name) → OnOk result (kept_at lots.new n ≡ kept_at lots.old n ++ (if is_placed take.now.purpose && same take.now.lot n then piece ∷ [] else [])) }
+    ensures overdue { OnOk result (overdue.new.items ≡ overdue.old.items ++ (if is_placed take.now.purpose && take.now.overdue then piece ∷ [] else [])) }
+{
+    if !is_placed(take) {
+        return Ok(());
+    }
+    keep(alloc, lots, &take.lot, piece)?;
+    if take.overdue {
+        overdue.push(piece)?;
+    }
+    Ok(())
+}
