@@ -71,12 +71,12 @@ def proved_in_turn():
 
 
 def sources():
-    """The files that the program is built of."""
+    """The files that the program is built of, and their folders, whose times tell of files that are gone."""
     yield CRATES.with_suffix(".txt")
     yield ROOT / "HANDLES"
     for crate in proved_in_turn():
         for part in ("src", "specs", "proofs"):
-            yield from (it for it in (CRATES / crate / part).rglob("*") if it.is_file())
+            yield from (it for it in (CRATES / crate / part, *(CRATES / crate / part).rglob("*")) if it.exists())
 
 
 def newest():
@@ -203,4 +203,7 @@ def main():
 
 
 if __name__ == "__main__":
-    main()
+    try:
+        main()
+    except KeyboardInterrupt:
+        sys.exit(130)
