@@ -1,58 +1,53 @@
-# make demo    proves, builds and runs the program on five messages, and prints its answers
-# make build   proves and builds the program, crates/tracedesk/out/tracedesk
-# make test    proves every crate and its tests from nothing, tries the wrong bodies that the prover
-#              must refuse, runs the tests and the program, and then runs the worked rows on it
-.PHONY: demo build test
-demo:
-	@tools/tracedesk feed < examples/first-line.jsonl
-build:
-	@tools/tracedesk --help > /dev/null
-test:
+# `make` prints the rows of this file that have ##: each target, what it does, how long it takes on four cores, and what it
+# wants beside Python 3: rt is Rattle's kit, and the others are packages of Debian 12.
+# The program is that of PROGRAM=FILE, else crates/tracedesk/out/tracedesk as long as no source is newer; where neither is
+# there, it is proved and built first (tools/program.py).
+.PHONY: help demo build test wrong-bodies day plant-recall client-test torture damage fail-each bench pictures docs dist plant-test
+row = sed -n 's/^\($(1)\):\( *\)\#\# /make \1\2/p' $(firstword $(MAKEFILE_LIST))
+say = @$(call row,$@) >&2
+
+help:          ## prints these rows
+	@echo "make TARGET [PROGRAM=FILE]  what it does | how long, on four cores | what it wants beside Python 3: rt is Rattle's kit"
+	@$(call row,[a-z-]*)
+demo:          ## the answers to five messages: at once where a program is there, else by a run before its proof | 3 min | rt
+	@tools/demo
+build:         ## proves and builds the program, and prints its path | 40 min, then at once | rt
+	@tools/program.py --build
+test:          ## the tests: proves everything from nothing, tries wrong bodies, runs the tests and the worked rows | 1 h | rt curl
+	$(say)
 	@tools/test
-
-# make wrong-bodies   tries all wrong bodies, also those that the gate leaves out, and the wrong programs:
-#                     each has to be refused. Half an hour on crates that are proved
-.PHONY: wrong-bodies
-wrong-bodies:
+wrong-bodies:  ## tries all wrong bodies, those outside the tests too, and the wrong programs: each has to be refused | 30 min | rt
+	$(say)
 	@tools/wrong-bodies
-
-# None of these is in the gate, but that rows run the page of `make day` and a short client-test. Each needs Python 3, most
-# the program too (make build, or PROGRAM=FILE in the environment), and the Debian packages in brackets.
-# make day             feeds a made-up shift to a desk, and prints what is asked of it: docs/day.md
-# make plant-recall    three lines in one PostgreSQL, and a recall over them: docs/plant.md   (postgresql)
-# make torture         kills the program 200 times, fails its disk, looks at its order of calls   (strace)
-# make client-test     kills `serve` twenty times under examples/client.py
-# make damage          cuts and zeroes a desk's file page by page
-# make fail-each       fails every read, write, sync and allocation in turn, and the power at each change   (cc)
-# make bench           what a day costs, beside stock SQLite   (time)
-# make pictures        docs/crates.svg and docs/splice.svg
-# make docs            out/docs: the documents and the definitions as HTML and one PDF   (pandoc weasyprint)
-# make dist            dist/tracedesk-VERSION-x86_64.tar.gz: the proved program and what a plant installs beside it,
-#                      without the prover   (pandoc binutils)
-# make plant-test      tries that package on a fresh Debian 12 of its own, and every command of docs/operations.md;
-#                      it wants root and some minutes, and names the packages that it installs   (debootstrap iproute2)
-.PHONY: day plant-recall client-test torture damage fail-each bench pictures docs dist plant-test
-day:
+day:           ## feeds a made-up shift to a desk, and prints what is asked of it: docs/day.md | 10 s
 	@examples/day
-plant-recall:
+plant-recall:  ## three lines in one PostgreSQL, and a recall over them: docs/plant.md | 1 min | postgresql
+	$(say)
 	@examples/plant/try
-torture:
+client-test:   ## kills `serve` twenty times under examples/client.py | 10 s
+	@examples/client-test
+torture:       ## kills the program 200 times, fails its disk, looks at its order of calls | 3 min | strace
+	$(say)
 	@tools/torture
 	@tools/torture --planted --kills 20
-client-test:
-	@examples/client-test
-damage:
+damage:        ## cuts and zeroes a desk's file page by page, and audits it | 3 min
+	$(say)
 	@tools/damage
-fail-each:
+fail-each:     ## fails every read, write, sync and allocation in turn, and the power at each change | 1 h | gcc libc6-dev
+	$(say)
 	@tools/fail-each
 	@tools/fail-each --planted
-bench:
+bench:         ## what a day costs, beside stock SQLite | 10 min | time
+	$(say)
 	@tools/bench
-pictures:
+pictures:      ## docs/crates.svg and docs/splice.svg | 1 s
 	@tools/pictures
-docs:
+docs:          ## out/docs: the documents and the definitions as HTML and one PDF | 1 min | pandoc weasyprint
+	$(say)
 	@tools/print-docs
-dist:
+dist:          ## dist/tracedesk-VERSION-x86_64.tar.gz: the program and what a plant installs beside it | 10 s | pandoc binutils
+	$(say)
 	@tools/dist
-plant-test: build
+plant-test:    ## tries that package on a fresh Debian 12 of its own, as root | 10 min | debootstrap iproute2 pandoc binutils
+	$(say)
 	@tools/plant-test

@@ -1,7 +1,7 @@
 """Takes the examples out of docs/messages.md: the first line of each is a message and the second its answer.
 
-It also looks that each of the seventeen messages has one, and that the page names each refusal and each fault
-that some row shows.
+It also looks that each of the seventeen messages has one, that the page names each refusal and each fault that some
+row shows, and that docs/files.md names each fault of an import that some row shows.
 """
 import pathlib
 import re
@@ -18,4 +18,9 @@ answers = "".join(it.read_text(encoding="utf-8") for it in (ROOT / "rows").glob(
 shown = set(re.findall(r'"(?:Refusal|Fault)":"(\w+)"', answers))
 unnamed = [name for name in sorted(shown) if f"| `{name}` |" not in page]
 assert not unnamed, f"the page does not name {', '.join(unnamed)}"
+files = (ROOT / "docs/files.md").read_text(encoding="utf-8")
+rows = [it.read_text(encoding="utf-8") for it in (ROOT / "rows").glob("*/row.json")]
+shown = {name for row in rows if '"import-' in row and '"serve"' not in row for name in re.findall(r'"Fault": "(\w+)"', row)}
+unnamed = [name for name in sorted(shown) if f"| `{name}` |" not in files]
+assert shown and not unnamed, f"docs/files.md does not name {', '.join(unnamed)}"
 write(examples)
