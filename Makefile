@@ -30,14 +30,14 @@ torture:       ## kills the program 200 times, fails its disk, looks at its orde
 	$(say)
 	@tools/torture
 	@tools/torture --planted --kills 20
-damage:        ## cuts and zeroes a desk's file page by page, and audits it | 3 min
+damage:        ## cuts and zeroes a desk's file page by page, and audits it | 1 min
 	$(say)
 	@tools/damage
-fail-each:     ## fails every read, write, sync and allocation in turn, and the power at each change | 1 h | gcc libc6-dev
+fail-each:     ## fails every read, write, sync and allocation in turn, and the power at each change | 15 min | gcc libc6-dev
 	$(say)
 	@tools/fail-each
 	@tools/fail-each --planted
-bench:         ## what a day costs, beside stock SQLite | 10 min | time
+bench:         ## what a day costs, beside stock SQLite | 5 min | time
 	$(say)
 	@tools/bench
 pictures:      ## docs/crates.svg and docs/splice.svg | 1 s
