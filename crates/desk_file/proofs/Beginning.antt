@@ -29,9 +29,9 @@ use Rattle.line_schema.specs.Versions.{IsMigrated}
 use Rattle.desk_file.specs.Files.{IsFoundIn, IsOfOne, HasLineAlone, HasTables, HasNoTable, FindsNoTable, Begins}
 
 -- the tables of each version have our names
-named_by : (rules : Rules) → list_any has_name (schema_of rules).tables ≡ true
+named_by : (rules : Rules) (indexed : Bool) → list_any has_name (schema_of rules indexed).tables ≡ true
 unfolding same_name
-named_by rules = refl
+named_by rules indexed = refl
 
 module _ (image : Image) (s : State) (finds : FindsIn image s) (opens : Opens s) (live : IsLive s) where
   -- what is committed is what the files hold
@@ -47,7 +47,7 @@ module _ (image : Image) (s : State) (finds : FindsIn image s) (opens : Opens s)
   made_begins greatest nameless alone =
       let seen : s.now.schema ≡ s.committed.schema = ap (λ (db : Database). db.schema) opens.clean in
       elim (alone s.committed found) [
-        | inl ours ↦ absurd (true≢false (sym (named_by ours.0) ∙ ap (λ (x : Schema). list_any has_name x.tables) (sym (seen ∙ ours.1)) ∙ nameless))
+        | inl ours ↦ absurd (true≢false (sym (named_by ours.0 ours.1) ∙ ap (λ (x : Schema). list_any has_name x.tables) (sym (seen ∙ ours.2)) ∙ nameless))
         | inr none ↦ (inr ((s.committed, found, none), refl, refl), is_blank_of s.now.schema (seen ∙ none))
       ]
 
@@ -60,7 +60,7 @@ module _ (image : Image) (s : State) (finds : FindsIn image s) (opens : Opens s)
       → Begins image make greatest H × (is_ours s.committed.schema ≡ true)
   opened_begins make greatest H named reads alone =
       elim (alone s.committed found) [
-        | inl ours ↦ (inl (s.committed, found, reads.are ours), is_ours_of s.committed.schema (reads.are ours).schema)
+        | inl ours ↦ let held = reads.are ours in (inl (s.committed, found, held), is_ours_of s.committed.schema held.indexed held.schema)
         | inr none ↦ absurd (not_bare Two named none)
       ]
 
@@ -79,7 +79,7 @@ module _ (image : Image) (trees : Trees) (t : Tables) (holds : ∥ HoldsDatabase
   held db f = held_at t trees tables db f.sound (∥∥₁_elim holds (Trees-set _ _) (f.same trees))
 
   pub line_alone : HasLineAlone image
-  line_alone db f = inl (Two, (held db f).schema)
+  line_alone db f = let tables = held db f in inl (Two, tables.indexed, tables.schema)
 
 -- and a run begins with their list
 pub same_list : (image : Image) (trees : Trees) (greatest : ℕ) (H : History) → ((G H : History) → IsJudged Two G → IsJudged Two H → IsPermutation (rows_of G) (rows_of H) → G ≡ H)
@@ -92,11 +92,11 @@ same_list image trees greatest H tell holds tables judged make next H' (inl has)
     (sym number, tell H' H judged' judged (IsPermutation-trans _ _ _ (IsPermutation-sym _ _ has.2.accepted) was.accepted))
 same_list image trees greatest H tell holds tables judged make next H' (inr (none, made, empty)) judged' =
     let was = held image trees (tables_of greatest H) holds tables none.0 none.1 in
-    absurd (true≢false (sym (named_by Two) ∙ ap (λ (x : Schema). list_any has_name x.tables) (sym was.schema ∙ none.2)))
+    absurd (true≢false (sym (named_by Two was.indexed) ∙ ap (λ (x : Schema). list_any has_name x.tables) (sym was.schema ∙ none.2)))
 
 -- with no table nothing is read
 pub reads_none : (image : Image) (greatest : ℕ) (H : History) → Begins image None greatest H → FindsNoTable image → ⊥
-reads_none image greatest H (inl has) none = true≢false (sym (named_by Two) ∙ ap (λ (x : Schema). list_any has_name x.tables) (sym has.2.schema ∙ none has.0 has.1))
+reads_none image greatest H (inl has) none = true≢false (sym (named_by Two has.2.indexed) ∙ ap (λ (x : Schema). list_any has_name x.tables) (sym has.2.schema ∙ none has.0 has.1))
 reads_none image greatest H (inr (bare, made, empty)) none = absurd (cc)
 
 -- a run that may make no desk begins as one that may

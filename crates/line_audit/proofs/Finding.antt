@@ -10,7 +10,8 @@ use Rattle.sqlite.specs.Query.{output}
 use Rattle.sqlite_trees.specs.declared.store.Store.{Ghosts}
 use Rattle.sqlite.specs.Held.{Held, state}
 use Rattle.line_tables.specs.StateRows.{columns, rows_in}
-use Rattle.line_tables.proofs.FindTexts.{IsSelect, rows_from, count_from}
+use Rattle.line_tables.specs.Line.{tree_in}
+use Rattle.line_tables.proofs.FindTexts.{IsSelectBy, rows_from, count_from}
 use Rattle.line_tables.proofs.Finds.{finds_rows, one_order}
 use Rattle.line_tables.proofs.Numbers.{finds_count}
 use Rattle.line_audit.specs.Alone.{ShowsOnly, FindsAlone, ShowsCount, Counts}
@@ -23,14 +24,14 @@ alone_as passed shown row b same is = (
 )
 
 -- a query of a table of ours by a test of its columns tells whether the row is the one that passes
-pub finds_alone : {S : Type 0} (g : Ghosts S) (sql : List ℕ) (table : Table) (test project : List Term) (names : List (List ℕ)) → IsSelect sql (rows_from table.tree test project) names → (params : Row) (has : Row → Bool)
-    → ((r : Row) → list_all (holds (params ∷ r ∷ [])) test ≡ has (columns table r)) → ((r : Row) → (output (rows_from table.tree test project) (params ∷ r ∷ [])).1 ≡ columns table r)
+pub finds_alone : {S : Type 0} (g : Ghosts S) (sql : List ℕ) (table : Table) (test project : List Term) (names : List (List ℕ)) → IsSelectBy sql (λ schema. rows_from (tree_in table schema) test project) names → (params : Row) (has : Row → Bool)
+    → ((r : Row) → list_all (holds (params ∷ r ∷ [])) test ≡ has (columns table r)) → ((r : Row) → (output (rows_from 0 test project) (params ∷ r ∷ [])).1 ≡ columns table r)
     → (old : Held S) (row : Row) (b : Bool) → ShowsOnly g sql params old row b → FindsAlone table has row (state g old) b
 finds_alone g sql table test project names is params has passes out old row b shows =
     let rows = shows.0 in
-    let found = finds_rows g sql table.tree test project names is params (columns table) has passes out old rows shows.1 in
+    let found = finds_rows g sql (tree_in table) test project names is params (columns table) has passes out old rows shows.1 in
     record { was_open = found.was_open; are = λ schema. alone_as (filter has (rows_in table (state g old).committed)) rows row b (found.are schema) shows.2 }
 
 -- a query of a table of ours counts its rows
-pub counts_rows : {S : Type 0} (g : Ghosts S) (sql : List ℕ) (table : Table) (names : List (List ℕ)) → IsSelect sql (count_from table.tree) names → (old : Held S) (n : ℕ) → ShowsCount g sql old n → Counts table (state g old) n
-counts_rows g sql table names is old n shows = finds_count g sql table.tree names is (columns table) old shows.0 n shows.1 shows.2 shows.3
+pub counts_rows : {S : Type 0} (g : Ghosts S) (sql : List ℕ) (table : Table) (names : List (List ℕ)) → IsSelectBy sql (λ schema. count_from (tree_in table schema)) names → (old : Held S) (n : ℕ) → ShowsCount g sql old n → Counts table (state g old) n
+counts_rows g sql table names is old n shows = finds_count g sql (tree_in table) names is (columns table) old shows.0 n shows.1 shows.2 shows.3

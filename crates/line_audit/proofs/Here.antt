@@ -56,7 +56,7 @@ run_places = col 1 1 ∷ col 1 2 ∷ col 1 3 ∷ col 1 4 ∷ col 1 5 ∷ col 1 6
 
 run_is : IsSelect select_run (rows_from 17 run_test run_places) (codes "number" ∷ codes "place" ∷ codes "board" ∷ codes "designator" ∷ codes "machine" ∷ codes "slot" ∷ codes "reel" ∷ codes "overdue" ∷ [])
 unfolding understood everything
-run_is rules = inl (refl, refl, (refl, refl))
+run_is rules indexed = inl (refl, refl, (refl, refl))
 
 here_of : (db : Database) (ps : List PlacementRow) → AllByRecursion (Has (rows_in line.placement db)) (map placement_columns ps) → AreHere db ps
 here_of db [] h = tt

@@ -1,5 +1,5 @@
 -- What the texts mean, and what they find.
-use Rattle.std.proofs.Common.{◌&&◌, ℕ, Bool, List, [], ◌∷◌, codes, refl, ap, pos, inl, inr}
+use Rattle.std.proofs.Common.{◌&&◌, ℕ, Bool, true, false, List, [], ◌∷◌, codes, refl, ap, pos, inl, inr}
 use Rattle.sqlite.specs.Term.{Term, col, op2}
 use Rattle.sqlite.specs.Collation.TheVariants.{Binary}
 use Rattle.sqlite_sql.specs.declared.ops.BinaryOp.TheVariants.{Compare}
@@ -14,7 +14,7 @@ use Rattle.desk_types.specs.Id.{Name}
 use Rattle.state_tables.specs.declared.row.PlacementRow.{PlacementRow}
 use Rattle.line_tables.specs.Line as line
 use Rattle.line_tables.specs.StateRows.{columns, has_text, has_int, has_pair, has_sheet_place}
-use Rattle.line_tables.proofs.FindTexts.{IsSelect, rows_from, count_from}
+use Rattle.line_tables.proofs.FindTexts.{IsSelect, IsSelectBy, rows_from, count_from}
 use Rattle.line_tables.proofs.Finds.{and_true}
 use Rattle.line_audit.specs.Alone.{ShowsOnly, FindsAlone, ShowsCount, Counts}
 use Rattle.line_audit.specs.Placed.{has_placement}
@@ -36,7 +36,7 @@ part_places = col 1 1 ∷ []
 
 part_is : IsSelect select_part (rows_from 3 part_test part_places) (codes "part" ∷ [])
 unfolding understood everything
-part_is rules = inl (refl, refl, (refl, refl))
+part_is rules indexed = inl (refl, refl, (refl, refl))
 
 abbrev select_alternate : List ℕ
 select_alternate = codes "SELECT part, alternate FROM alternate WHERE part = ?1 AND alternate = ?2"
@@ -49,7 +49,7 @@ alternate_places = col 1 1 ∷ col 1 2 ∷ []
 
 alternate_is : IsSelect select_alternate (rows_from 5 alternate_test alternate_places) (codes "part" ∷ codes "alternate" ∷ [])
 unfolding understood everything
-alternate_is rules = inl (refl, refl, (refl, refl))
+alternate_is rules indexed = inl (refl, refl, (refl, refl))
 
 abbrev select_selected : List ℕ
 select_selected = codes "SELECT machine, product FROM selected WHERE machine = ?1"
@@ -62,7 +62,7 @@ selected_places = col 1 1 ∷ col 1 2 ∷ []
 
 selected_is : IsSelect select_selected (rows_from 9 selected_test selected_places) (codes "machine" ∷ codes "product" ∷ [])
 unfolding understood everything
-selected_is rules = inl (refl, refl, (refl, refl))
+selected_is rules indexed = inl (refl, refl, (refl, refl))
 
 abbrev select_reel : List ℕ
 select_reel = codes "SELECT reel, part, lot, level, label, received, placed, scrapped, remaining, used, open_since, baked FROM reel WHERE reel = ?1"
@@ -75,7 +75,7 @@ reel_places = col 1 1 ∷ col 1 2 ∷ col 1 3 ∷ col 1 4 ∷ col 1 5 ∷ col 1 
 
 reel_is : IsSelect select_reel (rows_from 11 reel_test reel_places) (codes "reel" ∷ codes "part" ∷ codes "lot" ∷ codes "level" ∷ codes "label" ∷ codes "received" ∷ codes "placed" ∷ codes "scrapped" ∷ codes "remaining" ∷ codes "used" ∷ codes "open_since" ∷ codes "baked" ∷ [])
 unfolding understood everything
-reel_is rules = inl (refl, refl, (refl, refl))
+reel_is rules indexed = inl (refl, refl, (refl, refl))
 
 abbrev select_mount : List ℕ
 select_mount = codes "SELECT since, machine, slot, reel FROM mount WHERE reel = ?1"
@@ -88,7 +88,7 @@ mount_places = col 1 0 ∷ col 1 2 ∷ col 1 3 ∷ col 1 4 ∷ []
 
 mount_is : IsSelect select_mount (rows_from 13 mount_test mount_places) (codes "since" ∷ codes "machine" ∷ codes "slot" ∷ codes "reel" ∷ [])
 unfolding understood everything
-mount_is rules = inl (refl, refl, (refl, refl))
+mount_is rules indexed = inl (refl, refl, (refl, refl))
 
 abbrev select_board : List ℕ
 select_board = codes "SELECT board, product, machine FROM board WHERE board = ?1"
@@ -101,7 +101,7 @@ board_places = col 1 1 ∷ col 1 2 ∷ col 1 3 ∷ []
 
 board_is : IsSelect select_board (rows_from 15 board_test board_places) (codes "board" ∷ codes "product" ∷ codes "machine" ∷ [])
 unfolding understood everything
-board_is rules = inl (refl, refl, (refl, refl))
+board_is rules indexed = inl (refl, refl, (refl, refl))
 
 abbrev select_found : List ℕ
 select_found = codes "SELECT reel, pieces FROM found WHERE reel = ?1"
@@ -112,10 +112,11 @@ found_test = is_param 1 0 ∷ []
 abbrev found_places : List Term
 found_places = col 1 1 ∷ col 1 2 ∷ []
 
-found_is : IsSelect select_found (rows_from 21 found_test found_places) (codes "reel" ∷ codes "pieces" ∷ [])
+found_is : IsSelectBy select_found (λ schema. rows_from (line.tree_in line.found schema) found_test found_places) (codes "reel" ∷ codes "pieces" ∷ [])
 unfolding understood everything listing_schema
-found_is One = inr refl
-found_is Two = inl (refl, refl, (refl, refl))
+found_is One indexed = inr refl
+found_is Two true = inl (refl, refl, (refl, refl))
+found_is Two false = inl (refl, refl, (refl, refl))
 
 abbrev select_sheet_row : List ℕ
 select_sheet_row = codes "SELECT product, machine, place, slot, part, designators FROM sheet_row WHERE product = ?1 AND machine = ?2 AND place = ?3"
@@ -128,7 +129,7 @@ sheet_row_places = col 1 1 ∷ col 1 2 ∷ col 1 3 ∷ col 1 4 ∷ col 1 5 ∷ c
 
 sheet_row_is : IsSelect select_sheet_row (rows_from 7 sheet_row_test sheet_row_places) (codes "product" ∷ codes "machine" ∷ codes "place" ∷ codes "slot" ∷ codes "part" ∷ codes "designators" ∷ [])
 unfolding understood everything
-sheet_row_is rules = inl (refl, refl, (refl, refl))
+sheet_row_is rules indexed = inl (refl, refl, (refl, refl))
 
 abbrev select_placement : List ℕ
 select_placement = codes "SELECT number, place, board, designator, machine, slot, reel, overdue FROM placement WHERE board = ?1 AND designator = ?2 AND number = ?3 AND place = ?4"
@@ -141,71 +142,72 @@ placement_places = col 1 1 ∷ col 1 2 ∷ col 1 3 ∷ col 1 4 ∷ col 1 5 ∷ c
 
 placement_is : IsSelect select_placement (rows_from 17 placement_test placement_places) (codes "number" ∷ codes "place" ∷ codes "board" ∷ codes "designator" ∷ codes "machine" ∷ codes "slot" ∷ codes "reel" ∷ codes "overdue" ∷ [])
 unfolding understood everything
-placement_is rules = inl (refl, refl, (refl, refl))
+placement_is rules indexed = inl (refl, refl, (refl, refl))
 
 abbrev count_part : List ℕ
 count_part = codes "SELECT count(*) FROM part"
 
 count_part_is : IsSelect count_part (count_from 3) (codes "count(*)" ∷ [])
 unfolding understood everything
-count_part_is rules = inl (refl, refl, (refl, refl))
+count_part_is rules indexed = inl (refl, refl, (refl, refl))
 
 abbrev count_alternate : List ℕ
 count_alternate = codes "SELECT count(*) FROM alternate"
 
 count_alternate_is : IsSelect count_alternate (count_from 5) (codes "count(*)" ∷ [])
 unfolding understood everything
-count_alternate_is rules = inl (refl, refl, (refl, refl))
+count_alternate_is rules indexed = inl (refl, refl, (refl, refl))
 
 abbrev count_sheet_row : List ℕ
 count_sheet_row = codes "SELECT count(*) FROM sheet_row"
 
 count_sheet_row_is : IsSelect count_sheet_row (count_from 7) (codes "count(*)" ∷ [])
 unfolding understood everything
-count_sheet_row_is rules = inl (refl, refl, (refl, refl))
+count_sheet_row_is rules indexed = inl (refl, refl, (refl, refl))
 
 abbrev count_selected : List ℕ
 count_selected = codes "SELECT count(*) FROM selected"
 
 count_selected_is : IsSelect count_selected (count_from 9) (codes "count(*)" ∷ [])
 unfolding understood everything
-count_selected_is rules = inl (refl, refl, (refl, refl))
+count_selected_is rules indexed = inl (refl, refl, (refl, refl))
 
 abbrev count_reel : List ℕ
 count_reel = codes "SELECT count(*) FROM reel"
 
 count_reel_is : IsSelect count_reel (count_from 11) (codes "count(*)" ∷ [])
 unfolding understood everything
-count_reel_is rules = inl (refl, refl, (refl, refl))
+count_reel_is rules indexed = inl (refl, refl, (refl, refl))
 
 abbrev count_mount : List ℕ
 count_mount = codes "SELECT count(*) FROM mount"
 
 count_mount_is : IsSelect count_mount (count_from 13) (codes "count(*)" ∷ [])
 unfolding understood everything
-count_mount_is rules = inl (refl, refl, (refl, refl))
+count_mount_is rules indexed = inl (refl, refl, (refl, refl))
 
 abbrev count_board : List ℕ
 count_board = codes "SELECT count(*) FROM board"
 
 count_board_is : IsSelect count_board (count_from 15) (codes "count(*)" ∷ [])
 unfolding understood everything
-count_board_is rules = inl (refl, refl, (refl, refl))
+count_board_is rules indexed = inl (refl, refl, (refl, refl))
 
 abbrev count_placement : List ℕ
 count_placement = codes "SELECT count(*) FROM placement"
 
 count_placement_is : IsSelect count_placement (count_from 17) (codes "count(*)" ∷ [])
 unfolding understood everything
-count_placement_is rules = inl (refl, refl, (refl, refl))
+count_placement_is rules indexed = inl (refl, refl, (refl, refl))
 
 abbrev count_found : List ℕ
 count_found = codes "SELECT count(*) FROM found"
 
-count_found_is : IsSelect count_found (count_from 21) (codes "count(*)" ∷ [])
+count_found_is : IsSelectBy count_found (λ schema. count_from (line.tree_in line.found schema)) (codes "count(*)" ∷ [])
 unfolding understood everything listing_schema
-count_found_is One = inr refl
-count_found_is Two = inl (refl, refl, (refl, refl))
+count_found_is One indexed = inr refl
+count_found_is Two true = inl (refl, refl, (refl, refl))
+count_found_is Two false = inl (refl, refl, (refl, refl))
 
 module _ {S : Type 0} (g : Ghosts S) (old : Held S) (row : Row) (b : Bool) where
   pub part_alone : (part : Name) → ShowsOnly g select_part (Text part ∷ []) old row b → FindsAlone line.part (has_text 0 part) row (state g old) b

@@ -123,16 +123,19 @@ pub opened_holds : {D : Type 0} (F : D → History → Type 0) (K : D → Rules)
 opened_holds F K Clean old rules opened H o named settled clean =
     let version = o.version clean in record {
       was_open = version.was_open;
-      are = λ ours. record {
-        schema = ours_whole rules old.committed.schema ours (subst (λ (db : Database). has_state rules db.schema.tables ≡ true) (settled version.was_open) named.2);
-        version = (version.are ours).row;
-        accepted = ((o.rows clean).are ours).same;
-        state = (o.state clean).are ours;
-        apart = (o.apart clean).are ours;
-      };
+      are = λ ours.
+          let whole = ours_whole rules old.committed.schema ours (subst (λ (db : Database). has_state rules db.schema.tables ≡ true) (settled version.was_open) named.2) in
+          record {
+            indexed = whole.0;
+            schema = whole.1;
+            version = (version.are ours).row;
+            accepted = ((o.rows clean).are ours).same;
+            state = (o.state clean).are ours;
+            apart = (o.apart clean).are ours;
+          };
     }
 
 -- and it is lawful
 pub opened_lawful : {D : Type 0} (F : D → History → Type 0) (K : D → Rules) (Clean : Type 0) (old : State) (opened : Opened D) (H : History) → IsOpened F K Clean old Two opened H → Clean → IsTrue (is_ours old.committed.schema)
     → IsLawful Two opened.greatest H
-opened_lawful F K Clean old opened H o clean own = ((o.rows clean).are (Two, ours_is old.committed.schema own)).lawful
+opened_lawful F K Clean old opened H o clean own = let ours = ours_is old.committed.schema own in ((o.rows clean).are (Two, ours.0, ours.1)).lawful

@@ -122,7 +122,7 @@ module _ {S D : Type 0} (g : Ghosts S) (F : D → History → Type 0) (K : D →
     mode = mode;
     lawful = λ clean own. lawful_on L.greatest L.history change.stamped (s.lawful (early clean) own) judged (first clean own) (omega (arith, room, s.count, s.greatest));
     tables = λ clean own is_open.
-        subst (Holds (state g new.conn).committed) after (done clean (tables_of L.greatest L.history) (s.tables (early clean) own (was_open clean)) fresh);
+        subst (Holds (state g new.conn).committed) after (done clean (tables_of L.greatest L.history) (s.tables (early clean) own (was_open clean)) fresh).1;
   }
     where
       judged : IsJudged Two (accept L.history change.stamped)
@@ -151,7 +151,7 @@ survives_both old mid new P Q one two = survives_then old mid new P Q (λ _. ⊤
 -- what a crash may leave of edits, where the tables were those of the list
 module _ (old : State) (tables after : Tables) (edits : List Edit) (is : edited edits tables ≡ after) (new : AreNew edits tables) (holds : HasCleanDisk old → IsTrue old.is_open → Holds old.committed tables) where
   pub left_on : HasCleanDisk old → (trees : Trees) → LeavesEdited edits old trees → HoldsAt after trees
-  left_on clean trees left = subst (λ t. HoldsAt t trees) is (left.holds tables (holds clean left.was_open) new)
+  left_on clean trees left = subst (λ t. HoldsAt t trees) is (left.holds tables (holds clean left.was_open) new).0
 
   pub survives_on : (next : State) → Survives old next (LeavesEdited edits old) → Survives old next (HoldsAt after)
   survives_on next h = survives_weaker old next _ _ (λ clean trees left. left_on (omega (arith, h.clean, clean)) trees left) h

@@ -19,11 +19,12 @@ use Rattle.sqlite_rules.proofs.ListLemmas.{has_filtered}
 use Rattle.sqlite_trees.specs.Tree.{rowid, put_row}
 use Rattle.sqlite_trees.specs.View.{is_int}
 use Rattle.sqlite.specs.State.{State}
-use Rattle.line_tables.specs.Line.{line_schema}
-use Rattle.line_tables.specs.StateRows.{columns, rows_in}
+use Rattle.desk_types.specs.declared.rules.Rules.TheVariants.{Two}
+use Rattle.line_tables.specs.Line.{schema_of}
+use Rattle.line_tables.specs.StateRows.{columns}
 use Rattle.line_tables.specs.Rowids.{AreApart}
 use Rattle.line_tables.proofs.Apart.{apart_put, apart_filter, taken}
-use Rattle.line_tables.proofs.Altering.{without, put_in, IsKept, Steps, Alters}
+use Rattle.line_tables.proofs.Altering.{without, put_in, rows_at, IsKept, Steps, Alters}
 use Rattle.line_tables.proofs.Inserts.{Inserted}
 use Rattle.line_tables.proofs.Changes.{Changed, passing, shows_of, renewed}
 use Rattle.line_tables.proofs.Puts.{put_permutes, not_taken}
@@ -47,7 +48,7 @@ module _ (table : Table) (has : Row → Bool) (old new : Database) (rows : List 
 
 -- a row whose rowid is free is one more
 pub rows_more : (table : Table) (left : List Row) (n values : Row) (rows : List Row) (new : Database) → IsPermutation (map (columns table) left) rows → is_taken left n ≡ false → columns table n ≡ values → new.trees table.tree ≡ put_row n left
-    → IsPermutation (rows_in table new) (values ∷ rows)
+    → IsPermutation (rows_at table new) (values ∷ rows)
 rows_more table left n values rows new same free shown is =
     subst (λ l. IsPermutation (map (columns table) l) (values ∷ rows)) (sym is)
     (IsPermutation-trans _ _ _ (IsPermutation-map (columns table) _ _ (put_permutes left n free)) (subst (λ v. IsPermutation (v ∷ map (columns table) left) (values ∷ rows)) (sym shown) (IsPermutation-cons values _ _ same)))
@@ -58,9 +59,9 @@ kept_more table left n values rows new same apart free keyed shown is = record {
 
 -- ---- DELETE
 
-pub deletes : (table : Table) (has : Row → Bool) (tests project : List Term) (params : Row) (old new : State) → ((r : Row) → passing tests params r ≡ has (columns table r))
-    → ((r : Row) → rowid (shows_of table.tree tests project params r) ≡ rowid r) → IsTrue old.is_open → (old.now.schema ≡ line_schema → Changed line_schema table tests project params (λ _. []) old new) → Alters table (without has) old new
-deletes table has tests project params old new is begins was_open did = record {
+pub deletes : (indexed : Bool) (table : Table) (has : Row → Bool) (tests project : List Term) (params : Row) (old new : State) → ((r : Row) → passing tests params r ≡ has (columns table r))
+    → ((r : Row) → rowid (shows_of table.tree tests project params r) ≡ rowid r) → IsTrue old.is_open → (old.now.schema ≡ schema_of Two indexed → Changed (schema_of Two indexed) table tests project params (λ _. []) old new) → Alters indexed table (without has) old new
+deletes indexed table has tests project params old new is begins was_open did = record {
   steps = record { was_open = was_open; same = λ ours. (did ours).same; sound = λ ours. (did ours).sound; others = λ ours. (did ours).others };
   rows = λ ours rows was.
       let h = did ours in
@@ -83,17 +84,17 @@ one_of_map f [] y h = absurd (cc)
 one_of_map f (x ∷ []) y h = let same : f x ≡ y = cc in (x, refl, same)
 one_of_map f (x ∷ z ∷ xs) y h = absurd (cc)
 
-module _ (table : Table) (has : Row → Bool) (tests project : List Term) (params values : Row) (old new : State) (is : (r : Row) → passing tests params r ≡ has (columns table r))
+module _ (indexed : Bool) (table : Table) (has : Row → Bool) (tests project : List Term) (params values : Row) (old new : State) (is : (r : Row) → passing tests params r ≡ has (columns table r))
     (begins : (r : Row) → rowid (shows_of table.tree tests project params r) ≡ rowid r) (was_open : IsTrue old.is_open) (count : ℕ)
-    (did : old.now.schema ≡ line_schema → (h : Changed line_schema table tests project params (renewed table) old new) × (count ≡ length h.found)) where
+    (did : old.now.schema ≡ schema_of Two indexed → (h : Changed (schema_of Two indexed) table tests project params (renewed table) old new) × (count ≡ length h.found)) where
   abbrev show : Row → Row
   show = shows_of table.tree tests project params
 
-  updates : Steps table old new
+  updates : Steps indexed table old new
   updates = record { was_open = was_open; same = λ ours. (did ours).0.same; sound = λ ours. (did ours).0.sound; others = λ ours. (did ours).0.others }
 
   -- no row was changed
-  pub updates_none : count ≡ 0 → Alters table (without has) old new
+  pub updates_none : count ≡ 0 → Alters indexed table (without has) old new
   updates_none none = record {
     steps = updates;
     rows = λ ours rows was.
@@ -107,7 +108,7 @@ module _ (table : Table) (has : Row → Bool) (tests project : List Term) (param
 
   -- one row was changed
   pub updates_one : ((r : Row) → passing tests params r ≡ true → IsTrue (is_int (rowid r)) → IsTrue (is_int (rowid (cast_row table (drop 1 (show r))))) × (columns table (cast_row table (drop 1 (show r))) ≡ values))
-      → count ≡ 1 → Alters table (put_in has values) old new
+      → count ≡ 1 → Alters indexed table (put_in has values) old new
   updates_one renews one = record {
     steps = updates;
     rows = λ ours rows was.
@@ -135,8 +136,8 @@ pub truth_is : (b : Bool) → is_true (from_truth (Some b)) ≡ b
 truth_is true = refl
 truth_is false = refl
 
-module _ (table : Table) (r values : Row) (n : List Row → Row) (old new : State) (cast : (rows : List Row) → with_rowid Chosen rows (cast_row table r) ≡ n rows) (keyed : (rows : List Row) → IsTrue (is_int (rowid (n rows))))
-    (shown : (rows : List Row) → columns table (n rows) ≡ values) (went : Inserted line_schema table (r ∷ []) old new) where
+module _ (indexed : Bool) (table : Table) (r values : Row) (n : List Row → Row) (old new : State) (cast : (rows : List Row) → with_rowid Chosen rows (cast_row table r) ≡ n rows) (keyed : (rows : List Row) → IsTrue (is_int (rowid (n rows))))
+    (shown : (rows : List Row) → columns table (n rows) ≡ values) (went : Inserted (schema_of Two indexed) table (r ∷ []) old new) where
   abbrev db : List Row
   db = old.now.trees table.tree
 
@@ -146,19 +147,19 @@ module _ (table : Table) (r values : Row) (n : List Row → Row) (old new : Stat
   put : new.now.trees table.tree ≡ put_row (n db) db
   put = went.step.rows ∙ ap (λ x. put_row x db) (cast db)
 
-  pub one_more : IsPermutation (rows_in table new.now) (values ∷ rows_in table old.now)
-  one_more = rows_more table db (n db) values (rows_in table old.now) new.now (IsPermutation-refl (rows_in table old.now)) free (shown db) put
+  pub one_more : IsPermutation (rows_at table new.now) (values ∷ rows_at table old.now)
+  one_more = rows_more table db (n db) values (rows_at table old.now) new.now (IsPermutation-refl (rows_at table old.now)) free (shown db) put
 
   more : (rows : List Row) → IsKept table old.now rows → IsKept table new.now (values ∷ rows)
   more rows was = kept_more table db (n db) values rows new.now was.same was.apart free (keyed db) (shown db) put
 
-pub inserted_steps : (table : Table) (rows : List Row) (old new : State) → IsTrue old.is_open → (old.now.schema ≡ line_schema → Inserted line_schema table rows old new) → Steps table old new
-inserted_steps table rows old new was_open did = record { was_open = was_open; same = λ ours. (did ours).same; sound = λ ours. (did ours).sound; others = λ ours. (did ours).step.tables }
+pub inserted_steps : (indexed : Bool) (table : Table) (rows : List Row) (old new : State) → IsTrue old.is_open → (old.now.schema ≡ schema_of Two indexed → Inserted (schema_of Two indexed) table rows old new) → Steps indexed table old new
+inserted_steps indexed table rows old new was_open did = record { was_open = was_open; same = λ ours. (did ours).same; sound = λ ours. (did ours).sound; others = λ ours. (did ours).step.tables }
 
 -- a row is one more
-pub inserts : (table : Table) (r values : Row) (n : List Row → Row) (old new : State) → ((rows : List Row) → with_rowid Chosen rows (cast_row table r) ≡ n rows) → ((rows : List Row) → IsTrue (is_int (rowid (n rows))))
-    → ((rows : List Row) → columns table (n rows) ≡ values) → IsTrue old.is_open → (old.now.schema ≡ line_schema → Inserted line_schema table (r ∷ []) old new) → Alters table (λ rows. values ∷ rows) old new
-inserts table r values n old new cast keyed shown was_open did = record {
-  steps = inserted_steps table (r ∷ []) old new was_open did;
-  rows = λ ours rows was. more table r values n old new cast keyed shown (did ours) rows was;
+pub inserts : (indexed : Bool) (table : Table) (r values : Row) (n : List Row → Row) (old new : State) → ((rows : List Row) → with_rowid Chosen rows (cast_row table r) ≡ n rows) → ((rows : List Row) → IsTrue (is_int (rowid (n rows))))
+    → ((rows : List Row) → columns table (n rows) ≡ values) → IsTrue old.is_open → (old.now.schema ≡ schema_of Two indexed → Inserted (schema_of Two indexed) table (r ∷ []) old new) → Alters indexed table (λ rows. values ∷ rows) old new
+inserts indexed table r values n old new cast keyed shown was_open did = record {
+  steps = inserted_steps indexed table (r ∷ []) old new was_open did;
+  rows = λ ours rows was. more indexed table r values n old new cast keyed shown (did ours) rows was;
 }

@@ -1,10 +1,10 @@
 -- One table is changed, and no other: what that makes of all tables.
-use Rattle.std.proofs.Common.{◌≡◌, ◌≢◌, ◌∙◌, inl, inr, ℕ, List, [], ◌∷◌, map, filter, Bool, true, not, ◌&&◌, ◌==◌, IsTrue, Option, None, refl, sym, ap, subst}
+use Rattle.std.proofs.Common.{◌≡◌, ◌≢◌, ◌∙◌, inl, inr, ℕ, List, [], ◌∷◌, map, filter, Bool, true, false, not, ◌&&◌, ◌==◌, IsTrue, Option, None, refl, sym, ap, subst}
 use Rattle.std.specs.Option.{option_map, option_to_list}
 use Rattle.std.specs.List.{AllByRecursion, list_all}
 use Rattle.std.specs.List.Sorted.{IsPermutation}
 use Rattle.std.proofs.lemmas.List.Sorted.{IsPermutation-refl}
-use Rattle.std.proofs.lemmas.Bool.{cases_Bool, and_parts, eq-eqb, eqb-true}
+use Rattle.std.proofs.lemmas.Bool.{cases_Bool, and_parts, and_from, eq-eqb, eqb-true}
 use Rattle.sqlite_value.specs.Order.{Row}
 use Rattle.sqlite_schema.specs.declared.schema.Table.{Table}
 use Rattle.sqlite.specs.Effect.{Database, IsDatabase}
@@ -12,21 +12,36 @@ use Rattle.sqlite_trees.specs.Tree.{Trees}
 use Rattle.sqlite.specs.State.{State}
 use Rattle.desk_types.specs.Placements.{takes_of}
 use Rattle.desk_types.specs.Pieces.{found_of}
-use Rattle.desk_types.specs.declared.rules.Rules.TheVariants.{Two}
+use Rattle.desk_types.specs.declared.rules.Rules.{Rules}
+use Rattle.desk_types.specs.declared.rules.Rules.TheVariants.{One, Two}
 use Rattle.state_tables.specs.declared.edit.RowEdit.{RowEdit}
 use Rattle.state_tables.specs.Tables.{Tables as StateTables}
 use Rattle.state_tables.specs.Edits.{with_edit as state_with, IsNew as IsNewRow}
-use Rattle.line_tables.specs.Line.{line_schema, line_tables, version, accepted, part, alternate, sheet_row, selected, reel, mount, board, placement, found}
-use Rattle.line_tables.specs.StateRows.{AreRows, rows_in, columns, HoldsState, HoldsParts, HoldsAlternates, HoldsSheets, HoldsSelected, HoldsReels, HoldsMounts, HoldsBoards, HoldsPlacements, HoldsFound}
+use Rattle.line_tables.specs.Line.{schema_of, tables_of, tree_in, version, accepted, part, alternate, sheet_row, selected, reel, mount, board, placement, found, found_by, found_tree}
+use Rattle.line_tables.specs.StateRows.{AreRows, rows_in, kept_in, columns, HoldsState, HoldsParts, HoldsAlternates, HoldsSheets, HoldsSelected, HoldsReels, HoldsMounts, HoldsBoards, HoldsPlacements, HoldsFound}
 use Rattle.line_tables.specs.Rowids.{AreApart, AreAllApart, changed_tables}
 use Rattle.line_tables.specs.Rows.{Tables, Holds, blank, version_columns, accepted_columns, version_row}
 use Rattle.line_tables.specs.Calls.{WritesRow}
 use Rattle.line_tables.proofs.Apart.{apart_none}
 
-abbrev pub state_tables : List Table
-state_tables = part ∷ alternate ∷ sheet_row ∷ selected ∷ reel ∷ mount ∷ board ∷ placement ∷ found ∷ []
+abbrev pub state_tables : Bool → List Table
+state_tables indexed = part ∷ alternate ∷ sheet_row ∷ selected ∷ reel ∷ mount ∷ board ∷ placement ∷ found_by indexed ∷ []
 
 -- ---- the rows of one table
+
+-- the rows in the table's own tree, by their columns
+abbrev pub rows_at : Table → Database → List Row
+rows_at table db = map (columns table) (db.trees table.tree)
+
+tree_by : (rules : Rules) (indexed : Bool) → tree_in found (schema_of rules indexed) ≡ found_tree indexed
+tree_by One true = refl
+tree_by One false = refl
+tree_by Two true = refl
+tree_by Two false = refl
+
+-- the rows of `found` are in its tree in the layout
+pub found_kept : (rules : Rules) (indexed : Bool) (db : Database) → db.schema ≡ schema_of rules indexed → kept_in found db ≡ db.trees (found_tree indexed)
+found_kept rules indexed db has = ap (λ n. db.trees n) (ap (tree_in found) has ∙ tree_by rules indexed)
 
 -- the rows without those that have a key
 abbrev pub without : (Row → Bool) → List Row → List Row
@@ -38,20 +53,20 @@ put_in has row rows = row ∷ without has rows
 
 -- the table has these rows in some order, and each has a rowid of its own
 pub record IsKept (table : Table) (db : Database) (rows : List Row) : Type 0 where
-  pub same : IsPermutation (rows_in table db) rows
+  pub same : IsPermutation (rows_at table db) rows
   pub apart : AreApart (db.trees table.tree)
 
--- where the database has our schema: inside a transaction no table but this one was changed, and the trees list the schema
-pub record Steps (table : Table) (old new : State) : Type 0 where
+-- where the database has our schema in a layout: inside a transaction no table but this one was changed, and the trees list the schema
+pub record Steps (indexed : Bool) (table : Table) (old new : State) : Type 0 where
   pub was_open : IsTrue old.is_open
-  pub same : old.now.schema ≡ line_schema → new.now.schema ≡ line_schema
-  pub sound : old.now.schema ≡ line_schema → IsDatabase new.now
-  pub others : old.now.schema ≡ line_schema → AllByRecursion (λ t. t.tree ≢ table.tree → new.now.trees t.tree ≡ old.now.trees t.tree) line_tables
+  pub same : old.now.schema ≡ schema_of Two indexed → new.now.schema ≡ schema_of Two indexed
+  pub sound : old.now.schema ≡ schema_of Two indexed → IsDatabase new.now
+  pub others : old.now.schema ≡ schema_of Two indexed → AllByRecursion (λ t. t.tree ≢ table.tree → new.now.trees t.tree ≡ old.now.trees t.tree) (tables_of Two indexed)
 
 -- and the rows of this table were changed so
-pub record Alters (table : Table) (change : List Row → List Row) (old new : State) : Type 0 where
-  pub steps : Steps table old new
-  pub rows : old.now.schema ≡ line_schema → (rows : List Row) → IsKept table old.now rows → IsKept table new.now (change rows)
+pub record Alters (indexed : Bool) (table : Table) (change : List Row → List Row) (old new : State) : Type 0 where
+  pub steps : Steps indexed table old new
+  pub rows : old.now.schema ≡ schema_of Two indexed → (rows : List Row) → IsKept table old.now rows → IsKept table new.now (change rows)
 
 others_then : (tree : ℕ) (tables : List Table) (a b c : Trees) → AllByRecursion (λ t. t.tree ≢ tree → b t.tree ≡ a t.tree) tables → AllByRecursion (λ t. t.tree ≢ tree → c t.tree ≡ b t.tree) tables
     → AllByRecursion (λ t. t.tree ≢ tree → c t.tree ≡ a t.tree) tables
@@ -59,13 +74,13 @@ others_then tree [] a b c p q = tt
 others_then tree (t ∷ ts) a b c p q = (λ other. q.0 other ∙ p.0 other, others_then tree ts a b c p.1 q.1)
 
 -- one change and then another of one table
-pub alters_then : (table : Table) (f g : List Row → List Row) (a b c : State) → Alters table f a b → Alters table g b c → Alters table (λ rows. g (f rows)) a c
-alters_then table f g a b c p q = record {
+pub alters_then : (indexed : Bool) (table : Table) (f g : List Row → List Row) (a b c : State) → Alters indexed table f a b → Alters indexed table g b c → Alters indexed table (λ rows. g (f rows)) a c
+alters_then indexed table f g a b c p q = record {
   steps = record {
     was_open = p.steps.was_open;
     same = λ has. q.steps.same (p.steps.same has);
     sound = λ has. q.steps.sound (p.steps.same has);
-    others = λ has. others_then table.tree line_tables a.now.trees b.now.trees c.now.trees (p.steps.others has) (q.steps.others (p.steps.same has));
+    others = λ has. others_then table.tree (tables_of Two indexed) a.now.trees b.now.trees c.now.trees (p.steps.others has) (q.steps.others (p.steps.same has));
   };
   rows = λ has rows was. q.rows (p.steps.same has) (f rows) (p.rows has rows was);
 }
@@ -76,11 +91,20 @@ pub other_tree : (a b : ℕ) → not (a == b) ≡ true → a ≢ b
 other_tree a b h e = let same : (a == b) ≡ true = eq-eqb a b e in cc
 
 module _ {K R : Type 0} {has : K → Row → Bool} {cols : K → R → Row} {f : K → Option R} (table : Table) where
-  pub stays : (old new : Database) → new.trees table.tree ≡ old.trees table.tree → AreRows has cols (rows_in table old) f → AreRows has cols (rows_in table new) f
+  pub stays : (old new : Database) → kept_in table new ≡ kept_in table old → AreRows has cols (rows_in table old) f → AreRows has cols (rows_in table new) f
   stays old new is h = subst (λ l. AreRows has cols (map (columns table) l) f) (sym is) h
 
-  pub nothing : (db : Database) → db.trees table.tree ≡ [] → ((key : K) → f key ≡ None) → AreRows has cols (rows_in table db) f
+  pub nothing : (db : Database) → kept_in table db ≡ [] → ((key : K) → f key ≡ None) → AreRows has cols (rows_in table db) f
   nothing db is none = subst (λ l. AreRows has cols (map (columns table) l) f) (sym is) (record { found = λ key. sym (ap (λ o. option_to_list (option_map (cols key) o)) (none key)); keyed = tt })
+
+other_found : (indexed : Bool) (tree : ℕ) → (not (21 == tree) && not (19 == tree)) ≡ true → found_tree indexed ≢ tree
+other_found true tree h = other_tree 21 tree (and_parts _ _ h).0
+other_found false tree h = other_tree 19 tree (and_parts _ _ h).1
+
+-- a tree that is that of `found` in neither layout
+pub far_from_found : (indexed : Bool) (tree : ℕ) → (not (tree == 21) && not (tree == 19)) ≡ true → not (tree == found_tree indexed) ≡ true
+far_from_found true tree h = (and_parts _ _ h).0
+far_from_found false tree h = (and_parts _ _ h).1
 
 -- each table but that with the tree is as it was
 pub record OthersHold (tree : ℕ) (db : Database) (t : StateTables) : Type 0 where
@@ -92,23 +116,36 @@ pub record OthersHold (tree : ℕ) (db : Database) (t : StateTables) : Type 0 wh
   pub mounts : not (13 == tree) ≡ true → HoldsMounts db t
   pub boards : not (15 == tree) ≡ true → HoldsBoards db t
   pub placements : not (17 == tree) ≡ true → HoldsPlacements db t
-  pub found : not (21 == tree) ≡ true → HoldsFound db t
+  pub found : (not (21 == tree) && not (19 == tree)) ≡ true → HoldsFound db t
 
-pub others_hold : (tree : ℕ) (old new : Database) (t : StateTables) → AllByRecursion (λ u. u.tree ≢ tree → new.trees u.tree ≡ old.trees u.tree) line_tables → HoldsState old t → OthersHold tree new t
-others_hold tree old new t others was = record {
-  parts = λ h. stays part old new (others.1.1.0 (other_tree 3 tree h)) was.parts;
-  alternates = λ h. stays alternate old new (others.1.1.1.0 (other_tree 5 tree h)) was.alternates;
-  sheets = λ h. stays sheet_row old new (others.1.1.1.1.0 (other_tree 7 tree h)) was.sheets;
-  selected = λ h. stays selected old new (others.1.1.1.1.1.0 (other_tree 9 tree h)) was.selected;
-  reels = λ h. stays reel old new (others.1.1.1.1.1.1.0 (other_tree 11 tree h)) was.reels;
-  mounts = λ h. stays mount old new (others.1.1.1.1.1.1.1.0 (other_tree 13 tree h)) was.mounts;
-  boards = λ h. stays board old new (others.1.1.1.1.1.1.1.1.0 (other_tree 15 tree h)) was.boards;
-  placements = λ h. stays placement old new (others.1.1.1.1.1.1.1.1.1.0 (other_tree 17 tree h)) was.placements;
-  found = λ h. stays found old new (others.1.1.1.1.1.1.1.1.1.1.0 (other_tree 21 tree h)) was.found;
+-- the trees of all tables but this one stay, in a layout that stays
+pub record IsElsewhere (indexed : Bool) (tree : ℕ) (old new : Database) : Type 0 where
+  pub was : old.schema ≡ schema_of Two indexed
+  pub is : new.schema ≡ schema_of Two indexed
+  pub others : AllByRecursion (λ u. u.tree ≢ tree → new.trees u.tree ≡ old.trees u.tree) (tables_of Two indexed)
+
+pub elsewhere : (indexed : Bool) (table : Table) (old new : State) → Steps indexed table old new → old.now.schema ≡ schema_of Two indexed → IsElsewhere indexed table.tree old.now new.now
+elsewhere indexed table old new step has = record { was = has; is = step.same has; others = step.others has }
+
+-- so the rows of `found` stay
+found_stays : (indexed : Bool) (tree : ℕ) (old new : Database) → IsElsewhere indexed tree old new → (not (21 == tree) && not (19 == tree)) ≡ true → kept_in found new ≡ kept_in found old
+found_stays indexed tree old new e h = found_kept Two indexed new e.is ∙ e.others.1.1.1.1.1.1.1.1.1.1.0 (other_found indexed tree h) ∙ sym (found_kept Two indexed old e.was)
+
+pub others_hold : (indexed : Bool) (tree : ℕ) (old new : Database) (t : StateTables) → IsElsewhere indexed tree old new → HoldsState old t → OthersHold tree new t
+others_hold indexed tree old new t e was = record {
+  parts = λ h. stays part old new (e.others.1.1.0 (other_tree 3 tree h)) was.parts;
+  alternates = λ h. stays alternate old new (e.others.1.1.1.0 (other_tree 5 tree h)) was.alternates;
+  sheets = λ h. stays sheet_row old new (e.others.1.1.1.1.0 (other_tree 7 tree h)) was.sheets;
+  selected = λ h. stays selected old new (e.others.1.1.1.1.1.0 (other_tree 9 tree h)) was.selected;
+  reels = λ h. stays reel old new (e.others.1.1.1.1.1.1.0 (other_tree 11 tree h)) was.reels;
+  mounts = λ h. stays mount old new (e.others.1.1.1.1.1.1.1.0 (other_tree 13 tree h)) was.mounts;
+  boards = λ h. stays board old new (e.others.1.1.1.1.1.1.1.1.0 (other_tree 15 tree h)) was.boards;
+  placements = λ h. stays placement old new (e.others.1.1.1.1.1.1.1.1.1.0 (other_tree 17 tree h)) was.placements;
+  found = λ h. stays found old new (found_stays indexed tree old new e h) was.found;
 }
 
 -- rows of a changed table that are apart, beside those of all others
-module _ (tree : ℕ) (old new : Database) (others : AllByRecursion (λ u. u.tree ≢ tree → new.trees u.tree ≡ old.trees u.tree) line_tables) (this : AreApart (old.trees tree) → AreApart (new.trees tree)) where
+module _ (indexed : Bool) (tree : ℕ) (old new : Database) (e : IsElsewhere indexed tree old new) (this : AreApart (old.trees tree) → AreApart (new.trees tree)) where
   still_apart : (table : Table) → (table.tree ≢ tree → new.trees table.tree ≡ old.trees table.tree) → AreApart (old.trees table.tree) → AreApart (new.trees table.tree)
   still_apart table other was = elim (cases_Bool (table.tree == tree)) [
     | inl it ↦
@@ -117,13 +154,17 @@ module _ (tree : ℕ) (old new : Database) (others : AllByRecursion (λ u. u.tre
     | inr it ↦ subst AreApart (sym (other (other_tree table.tree tree (ap not it)))) was
   ]
 
+  found_apart : AreApart (kept_in found old) → AreApart (kept_in found new)
+  found_apart was = subst AreApart (sym (found_kept Two indexed new e.is)) (still_apart (found_by indexed) e.others.1.1.1.1.1.1.1.1.1.1.0 (subst AreApart (found_kept Two indexed old e.was) was))
+
   pub all_apart : AreAllApart old → AreAllApart new
-  all_apart was = (still_apart part others.1.1.0 was.0, (still_apart alternate others.1.1.1.0 was.1.0, (still_apart sheet_row others.1.1.1.1.0 was.1.1.0, (still_apart selected others.1.1.1.1.1.0 was.1.1.1.0, (still_apart reel others.1.1.1.1.1.1.0 was.1.1.1.1.0, (still_apart mount others.1.1.1.1.1.1.1.0 was.1.1.1.1.1.0, (still_apart board others.1.1.1.1.1.1.1.1.0 was.1.1.1.1.1.1.0, (still_apart found others.1.1.1.1.1.1.1.1.1.1.0 was.1.1.1.1.1.1.1.0, tt))))))))
+  all_apart was = (still_apart part e.others.1.1.0 was.0, (still_apart alternate e.others.1.1.1.0 was.1.0, (still_apart sheet_row e.others.1.1.1.1.0 was.1.1.0, (still_apart selected e.others.1.1.1.1.1.0 was.1.1.1.0, (still_apart reel e.others.1.1.1.1.1.1.0 was.1.1.1.1.0, (still_apart mount e.others.1.1.1.1.1.1.1.0 was.1.1.1.1.1.0, (still_apart board e.others.1.1.1.1.1.1.1.1.0 was.1.1.1.1.1.1.0, (found_apart was.1.1.1.1.1.1.1.0, tt))))))))
 
 -- where the changed table is none of these
-pub all_apart_but : (tree : ℕ) (old new : Database) → AllByRecursion (λ u. u.tree ≢ tree → new.trees u.tree ≡ old.trees u.tree) line_tables → list_all (λ (u : Table). not (u.tree == tree)) changed_tables ≡ true → AreAllApart old → AreAllApart new
-all_apart_but tree old new others none was =
-    let n0 = and_parts _ _ none in
+pub all_apart_but : (indexed : Bool) (tree : ℕ) (old new : Database) → IsElsewhere indexed tree old new → list_all (λ (u : Table). not (u.tree == tree)) (found_by false ∷ changed_tables) ≡ true → AreAllApart old → AreAllApart new
+all_apart_but indexed tree old new e none was =
+    let m = and_parts _ _ none in
+    let n0 = and_parts _ _ m.1 in
     let n1 = and_parts _ _ n0.1 in
     let n2 = and_parts _ _ n1.1 in
     let n3 = and_parts _ _ n2.1 in
@@ -131,67 +172,80 @@ all_apart_but tree old new others none was =
     let n5 = and_parts _ _ n4.1 in
     let n6 = and_parts _ _ n5.1 in
     let n7 = and_parts _ _ n6.1 in
-    (subst AreApart (sym (others.1.1.0 (other_tree 3 tree n0.0))) was.0, (subst AreApart (sym (others.1.1.1.0 (other_tree 5 tree n1.0))) was.1.0, (subst AreApart (sym (others.1.1.1.1.0 (other_tree 7 tree n2.0))) was.1.1.0, (subst AreApart (sym (others.1.1.1.1.1.0 (other_tree 9 tree n3.0))) was.1.1.1.0, (subst AreApart (sym (others.1.1.1.1.1.1.0 (other_tree 11 tree n4.0))) was.1.1.1.1.0, (subst AreApart (sym (others.1.1.1.1.1.1.1.0 (other_tree 13 tree n5.0))) was.1.1.1.1.1.0, (subst AreApart (sym (others.1.1.1.1.1.1.1.1.0 (other_tree 15 tree n6.0))) was.1.1.1.1.1.1.0, (subst AreApart (sym (others.1.1.1.1.1.1.1.1.1.1.0 (other_tree 21 tree n7.0))) was.1.1.1.1.1.1.1.0, tt))))))))
+    let found_is = found_stays indexed tree old new e (and_from _ _ n7.0 m.0) in
+    (subst AreApart (sym (e.others.1.1.0 (other_tree 3 tree n0.0))) was.0, (subst AreApart (sym (e.others.1.1.1.0 (other_tree 5 tree n1.0))) was.1.0, (subst AreApart (sym (e.others.1.1.1.1.0 (other_tree 7 tree n2.0))) was.1.1.0, (subst AreApart (sym (e.others.1.1.1.1.1.0 (other_tree 9 tree n3.0))) was.1.1.1.0, (subst AreApart (sym (e.others.1.1.1.1.1.1.0 (other_tree 11 tree n4.0))) was.1.1.1.1.0, (subst AreApart (sym (e.others.1.1.1.1.1.1.1.0 (other_tree 13 tree n5.0))) was.1.1.1.1.1.0, (subst AreApart (sym (e.others.1.1.1.1.1.1.1.1.0 (other_tree 15 tree n6.0))) was.1.1.1.1.1.1.0, (subst AreApart (sym found_is) was.1.1.1.1.1.1.1.0, tt))))))))
 
 -- ---- all tables
 
 -- the list alone grows
-pub list_grows : (row : Row) (old new : Database) (t : Tables) → Holds old t → new.schema ≡ line_schema → AllByRecursion (λ u. u.tree ≢ 1 → new.trees u.tree ≡ old.trees u.tree) line_tables
-    → IsPermutation (rows_in accepted new) (row ∷ t.accepted) → Holds new (record t { accepted = row ∷ t.accepted })
-list_grows row old new t was has others list =
-    let k = others_hold 1 old new t.state others was.state in
+pub list_grows : (row : Row) (old new : Database) (t : Tables) → (was : Holds old t) → IsElsewhere was.indexed 1 old new → IsPermutation (rows_in accepted new) (row ∷ t.accepted) → Holds new (record t { accepted = row ∷ t.accepted })
+list_grows row old new t was e list =
+    let k = others_hold was.indexed 1 old new t.state e was.state in
     record {
-      schema = has;
-      version = ap (map version_columns) (others.0 (other_tree 0 1 refl)) ∙ was.version;
+      indexed = was.indexed;
+      schema = e.is;
+      version = ap (map version_columns) (e.others.0 (other_tree 0 1 refl)) ∙ was.version;
       accepted = list;
       state = record { parts = k.parts refl; alternates = k.alternates refl; sheets = k.sheets refl; selected = k.selected refl; reels = k.reels refl; mounts = k.mounts refl; boards = k.boards refl; placements = k.placements refl; found = k.found refl };
-      apart = all_apart_but 1 old new others refl was.apart;
+      apart = all_apart_but was.indexed 1 old new e refl was.apart;
     }
 
 -- every table is empty but `version`
-pub holds_blank : (greatest : ℕ) (db : Database) → db.schema ≡ line_schema → rows_in version db ≡ version_row Two greatest ∷ [] → AllByRecursion (λ u. db.trees u.tree ≡ []) (accepted ∷ state_tables) → Holds db (blank greatest)
+pub holds_blank : (indexed : Bool) (greatest : ℕ) (db : Database) → db.schema ≡ schema_of Two indexed → rows_in version db ≡ version_row Two greatest ∷ [] → AllByRecursion (λ u. db.trees u.tree ≡ []) (accepted ∷ state_tables indexed) → Holds db (blank greatest)
 unfolding takes_of found_of
-holds_blank greatest db has one empty = record {
-  schema = has;
-  version = one;
-  accepted = subst (λ l. IsPermutation (map accepted_columns l) []) (sym empty.0) (IsPermutation-refl []);
-  state = record {
-    parts = nothing part db empty.1.0 (λ key. refl);
-    alternates = nothing alternate db empty.1.1.0 (λ key. refl);
-    sheets = nothing sheet_row db empty.1.1.1.0 (λ key. refl);
-    selected = nothing selected db empty.1.1.1.1.0 (λ key. refl);
-    reels = nothing reel db empty.1.1.1.1.1.0 (λ key. refl);
-    mounts = nothing mount db empty.1.1.1.1.1.1.0 (λ key. refl);
-    boards = nothing board db empty.1.1.1.1.1.1.1.0 (λ key. refl);
-    placements = nothing placement db empty.1.1.1.1.1.1.1.1.0 (λ key. refl);
-    found = nothing found db empty.1.1.1.1.1.1.1.1.1.0 (λ key. refl);
-  };
-  apart = (subst AreApart (sym empty.1.0) apart_none, (subst AreApart (sym empty.1.1.0) apart_none, (subst AreApart (sym empty.1.1.1.0) apart_none, (subst AreApart (sym empty.1.1.1.1.0) apart_none, (subst AreApart (sym empty.1.1.1.1.1.0) apart_none, (subst AreApart (sym empty.1.1.1.1.1.1.0) apart_none, (subst AreApart (sym empty.1.1.1.1.1.1.1.0) apart_none, (subst AreApart (sym empty.1.1.1.1.1.1.1.1.1.0) apart_none, tt))))))));
-}
+holds_blank indexed greatest db has one empty =
+    let none = found_kept Two indexed db has ∙ empty.1.1.1.1.1.1.1.1.1.0 in
+    record {
+      indexed = indexed;
+      schema = has;
+      version = one;
+      accepted = subst (λ l. IsPermutation (map accepted_columns l) []) (sym empty.0) (IsPermutation-refl []);
+      state = record {
+        parts = nothing part db empty.1.0 (λ key. refl);
+        alternates = nothing alternate db empty.1.1.0 (λ key. refl);
+        sheets = nothing sheet_row db empty.1.1.1.0 (λ key. refl);
+        selected = nothing selected db empty.1.1.1.1.0 (λ key. refl);
+        reels = nothing reel db empty.1.1.1.1.1.0 (λ key. refl);
+        mounts = nothing mount db empty.1.1.1.1.1.1.0 (λ key. refl);
+        boards = nothing board db empty.1.1.1.1.1.1.1.0 (λ key. refl);
+        placements = nothing placement db empty.1.1.1.1.1.1.1.1.0 (λ key. refl);
+        found = nothing found db none (λ key. refl);
+      };
+      apart = (subst AreApart (sym empty.1.0) apart_none, (subst AreApart (sym empty.1.1.0) apart_none, (subst AreApart (sym empty.1.1.1.0) apart_none, (subst AreApart (sym empty.1.1.1.1.0) apart_none, (subst AreApart (sym empty.1.1.1.1.1.0) apart_none, (subst AreApart (sym empty.1.1.1.1.1.1.0) apart_none, (subst AreApart (sym empty.1.1.1.1.1.1.1.0) apart_none, (subst AreApart (sym none) apart_none, tt))))))));
+    }
 
-module _ (e : RowEdit) (table : Table) (old new : State) (sole : (not (0 == table.tree) && not (1 == table.tree)) ≡ true) (step : Steps table old new) where
+module _ (e : RowEdit) (table : Bool → Table) (old new : State) (sole : (indexed : Bool) → (not (0 == (table indexed).tree) && not (1 == (table indexed).tree)) ≡ true) (step : (indexed : Bool) → Steps indexed (table indexed) old new) where
   -- an edit writes what its statements do to the rows of its table
-  pub writes : (old.now.schema ≡ line_schema → AreAllApart old.now → AreAllApart new.now) → ((t : StateTables) → old.now.schema ≡ line_schema → HoldsState old.now t → AreAllApart old.now → IsNewRow e t → HoldsState new.now (state_with e t)) → WritesRow e old new
+  pub writes : ((indexed : Bool) → old.now.schema ≡ schema_of Two indexed → AreAllApart old.now → AreAllApart new.now)
+      → ((indexed : Bool) (t : StateTables) → old.now.schema ≡ schema_of Two indexed → HoldsState old.now t → AreAllApart old.now → IsNewRow e t → HoldsState new.now (state_with e t)) → WritesRow e old new
   writes apart state = record {
-    was_open = step.was_open;
+    was_open = (step true).was_open;
     done = λ t was fresh.
-        let others = step.others was.schema in
-        let is = and_parts _ _ sole in
-        record {
-          schema = step.same was.schema;
-          version = ap (map version_columns) (others.0 (other_tree 0 table.tree is.0)) ∙ was.version;
-          accepted = subst (λ l. IsPermutation (map accepted_columns l) t.accepted) (sym (others.1.0 (other_tree 1 table.tree is.1))) was.accepted;
-          state = state t.state was.schema was.state was.apart fresh.0;
-          apart = apart was.schema was.apart;
-        };
-    sound = λ t was fresh. step.sound was.schema;
+        let i = was.indexed in
+        let others = (step i).others was.schema in
+        let is = and_parts _ _ (sole i) in
+        let now = (step i).same was.schema in (
+          now ∙ sym was.schema,
+          record {
+            indexed = i;
+            schema = now;
+            version = ap (map version_columns) (others.0 (other_tree 0 (table i).tree is.0)) ∙ was.version;
+            accepted = subst (λ l. IsPermutation (map accepted_columns l) t.accepted) (sym (others.1.0 (other_tree 1 (table i).tree is.1))) was.accepted;
+            state = state i t.state was.schema was.state was.apart fresh.0;
+            apart = apart i was.schema was.apart;
+          },
+        );
+    sound = λ t was fresh. (step was.indexed).sound was.schema;
   }
 
 -- the same of a table whose rows are apart
-pub alters_writes : (e : RowEdit) (table : Table) (change : List Row → List Row) (old new : State) → (not (0 == table.tree) && not (1 == table.tree)) ≡ true → (AreAllApart old.now → AreApart (old.now.trees table.tree))
-    → ((t : StateTables) → HoldsState old.now t → OthersHold table.tree new.now t → IsNewRow e t → IsPermutation (rows_in table new.now) (change (rows_in table old.now)) → HoldsState new.now (state_with e t)) → Alters table change old new → WritesRow e old new
+pub alters_writes : (e : RowEdit) (table : Bool → Table) (change : List Row → List Row) (old new : State) → ((indexed : Bool) → (not (0 == (table indexed).tree) && not (1 == (table indexed).tree)) ≡ true)
+    → ((indexed : Bool) → old.now.schema ≡ schema_of Two indexed → AreAllApart old.now → AreApart (old.now.trees (table indexed).tree))
+    → ((indexed : Bool) (t : StateTables) → IsElsewhere indexed (table indexed).tree old.now new.now → HoldsState old.now t → OthersHold (table indexed).tree new.now t → IsNewRow e t → IsPermutation (rows_at (table indexed) new.now) (change (rows_at (table indexed) old.now)) → HoldsState new.now (state_with e t))
+    → ((indexed : Bool) → Alters indexed (table indexed) change old new) → WritesRow e old new
 alters_writes e table change old new sole pick state did =
-    let kept : old.now.schema ≡ line_schema → AreApart (old.now.trees table.tree) → IsKept table new.now (change (rows_in table old.now)) =
-    λ has apart. did.rows has (rows_in table old.now) (record { same = IsPermutation-refl (rows_in table old.now); apart = apart }) in
-    writes e table old new sole did.steps (λ has all. all_apart table.tree old.now new.now (did.steps.others has) (λ apart. (kept has apart).apart) all)
-    (λ t has was all fresh. state t was (others_hold table.tree old.now new.now t (did.steps.others has) was) fresh (kept has (pick all)).same)
+    let kept : (i : Bool) → old.now.schema ≡ schema_of Two i → AreApart (old.now.trees (table i).tree) → IsKept (table i) new.now (change (rows_at (table i) old.now)) =
+    λ i has apart. (did i).rows has (rows_at (table i) old.now) (record { same = IsPermutation-refl (rows_at (table i) old.now); apart = apart }) in
+    let beside = λ (i : Bool) (has : old.now.schema ≡ schema_of Two i). elsewhere i (table i) old new (did i).steps has in
+    writes e table old new sole (λ i. (did i).steps) (λ i has all. all_apart i (table i).tree old.now new.now (beside i has) (λ apart. (kept i has apart).apart) all)
+    (λ i t has was all fresh. state i t (beside i has) was (others_hold i (table i).tree old.now new.now t (beside i has) was) fresh (kept i has (pick i has all)).same)

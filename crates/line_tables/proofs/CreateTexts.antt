@@ -1,5 +1,5 @@
 -- What the texts that make the tables mean.
-use Rattle.std.proofs.Common.{◌≡◌, List, ℕ, [], ◌∷◌, codes, pos, Ok, refl}
+use Rattle.std.proofs.Common.{◌≡◌, Bool, true, false, List, ℕ, [], ◌∷◌, codes, pos, Ok, refl}
 use Rattle.sqlite.specs.Compile.{table_defined_by, index_defined_by}
 use Rattle.sqlite.specs.Command.TheVariants.{CreateTable, CreateIndex, Insert, Update}
 use Rattle.sqlite.specs.Source.TheVariants.{Values}
@@ -12,7 +12,8 @@ use Rattle.sqlite.specs.Schema.{Schema}
 use Rattle.sqlite.specs.Table.{Table}
 use Rattle.sqlite.proofs.Callers.{IsPlain, command_of, statement_of}
 use Rattle.line_tables.proofs.FindTexts.{rows_from}
-use Rattle.line_tables.specs.Line.{version, accepted, part, alternate, sheet_row, selected, reel, mount, board, placement, placement_reel, placement_overdue, found, first_of_line, line_schema}
+use Rattle.desk_types.specs.declared.rules.Rules.TheVariants.{One, Two}
+use Rattle.line_tables.specs.Line.{version, accepted, part, alternate, sheet_row, selected, reel, mount, board, placement, placement_reel, placement_overdue, found_by, first_of_line, line_schema, schema_of}
 
 -- the text makes this table, but for its tree, in a database of the schema
 abbrev pub IsCreate : Schema → List ℕ → Table → Type 0
@@ -143,12 +144,14 @@ overdue_makes = refl
 abbrev pub found_text : List ℕ
 found_text = codes "CREATE TABLE found (reel TEXT NOT NULL, pieces INTEGER NOT NULL, PRIMARY KEY (reel), CHECK (pieces >= 1)) STRICT"
 
-pub found_is : IsCreate (first_of_line 10 11) found_text found
+pub found_is : (indexed : Bool) → IsCreate (schema_of One indexed) found_text (found_by indexed)
 unfolding understood everything
-found_is = (refl, refl, (refl, refl), refl)
+found_is true = (refl, refl, (refl, refl), refl)
+found_is false = (refl, refl, (refl, refl), refl)
 
-pub found_makes : created (first_of_line 10 11) (record found { tree = 0 }) ≡ first_of_line 11 12
-found_makes = refl
+pub found_makes : (indexed : Bool) → created (schema_of One indexed) (record (found_by indexed) { tree = 0 }) ≡ schema_of Two indexed
+found_makes true = refl
+found_makes false = refl
 
 abbrev pub insert_version : List ℕ
 insert_version = codes "INSERT INTO version VALUES (1, 2, ?1)"
@@ -167,6 +170,6 @@ update_version = codes "UPDATE version SET number = 2"
 abbrev pub version_renewed : List Term
 version_renewed = col 1 0 ∷ col 1 0 ∷ lit Null ∷ lit (Int (pos 2)) ∷ col 1 3 ∷ []
 
-pub update_version_is : (command_of (understood line_schema update_version) ≡ Update 0 (record { lets = []; body = rows_from 0 [] version_renewed })) × IsPlain (understood line_schema update_version)
+pub update_version_is : (indexed : Bool) → (command_of (understood (schema_of Two indexed) update_version) ≡ Update 0 (record { lets = []; body = rows_from 0 [] version_renewed })) × IsPlain (understood (schema_of Two indexed) update_version)
 unfolding understood everything
-update_version_is = (refl, (refl, refl))
+update_version_is indexed = (refl, (refl, refl))

@@ -1,5 +1,5 @@
 -- What CREATE TABLE and CREATE INDEX do, for any schema in which the text means one.
-use Rattle.std.proofs.Common.{◌≡◌, ◌≢◌, ◌∷◌, ◌++◌, ◌==◌, not, true, pos, map, ℕ, List, [], false, None, Some, Ok, Result, slice_get, refl, sym, ap, subst, ◌∙◌}
+use Rattle.std.proofs.Common.{◌≡◌, ◌≢◌, Bool, ◌∷◌, ◌++◌, ◌==◌, not, true, pos, map, ℕ, List, [], false, None, Some, Ok, Result, slice_get, refl, sym, ap, subst, ◌∙◌}
 use Rattle.std.specs.List.{AllByRecursion, list_all}
 use Rattle.sqlite.specs.Table.{Table}
 use Rattle.sqlite.specs.Schema.{Schema}
@@ -22,8 +22,8 @@ use Rattle.sqlite_rules.specs.Edit.{with_rowid}
 use Rattle.sqlite.specs.Rowids.TheVariants.{Chosen}
 use Rattle.line_tables.proofs.Puts.{cast_int, cast_null, quiet}
 use Rattle.line_tables.proofs.CreateTexts.{IsCreate, version_text, version_is, accepted_text, accepted_is, part_text, part_is, alternate_text, alternate_is, sheet_row_text, sheet_row_is, selected_text, selected_is, reel_text, reel_is, mount_text, mount_is, board_text, board_is, placement_text, placement_is, index_text, index_is, overdue_text, overdue_is, found_text, found_is, insert_version, version_terms, insert_version_is}
-use Rattle.desk_types.specs.declared.rules.Rules.TheVariants.{One}
-use Rattle.line_tables.specs.Line.{no_schema, line_schema, schema_of, first_of_line, version, accepted, part, alternate, sheet_row, selected, reel, mount, board, placement, placement_reel, placement_overdue, found}
+use Rattle.desk_types.specs.declared.rules.Rules.TheVariants.{One, Two}
+use Rattle.line_tables.specs.Line.{no_schema, line_schema, schema_of, first_of_line, found_tree, found_by, version, accepted, part, alternate, sheet_row, selected, reel, mount, board, placement, placement_reel, placement_overdue}
 use Rattle.line_tables.specs.Rows.{Holds, blank, version_columns}
 use Rattle.line_tables.specs.Calls.{Runs, Makes, IsBare, Extends, Grows, AddsFound}
 
@@ -125,10 +125,14 @@ makes_overdue : (old new : State) → Runs overdue_text [] old new → Extends (
 makes_overdue old new = indexes_bare overdue_text old new (first_of_line 10 10) 9 placement (record placement_overdue { tree = 0 }) refl overdue_is
 
 pub adds_found : (old new : State) → Runs found_text [] old new → AddsFound old new
-adds_found old new ran = record { was_open = ran.shown.was_open; added = creates found_text old new (schema_of One) found found_is refl ran }
+adds_found old new ran = record { was_open = ran.shown.was_open; added = by }
+  where
+    by : (i : Bool) → old.now.schema ≡ schema_of One i → Grows (schema_of One i) (schema_of Two i) (found_tree i) old.now new.now
+    by true = creates found_text old new (schema_of One true) (found_by true) (found_is true) refl ran
+    by false = creates found_text old new (schema_of One false) (found_by false) (found_is false) refl ran
 
-makes_found : (old new : State) → AddsFound old new → Extends (first_of_line 10 11) (first_of_line 11 12) old new
-makes_found old new h = record { was_open = h.was_open; bare = λ bare. let grows = h.added bare.schema in record { schema = grows.schema; empty = bare_more (schema_of One) line_schema found old.now new.now grows bare } }
+makes_found : (i : Bool) (old new : State) → AddsFound old new → Extends (schema_of One i) (schema_of Two i) old new
+makes_found i old new h = record { was_open = h.was_open; bare = λ bare. let grows = h.added i bare.schema in record { schema = grows.schema; empty = bare_more (schema_of One i) (schema_of Two i) (found_by i) old.now new.now grows bare } }
 
 pub makes_list : (a b c : State) → Runs version_text [] a b → Runs accepted_text [] b c → Extends (first_of_line 0 0) (first_of_line 2 1) a c
 makes_list a b c r1 r2 = extends_then _ _ _ a b c (makes_version a b r1) (makes_accepted b c r2)
@@ -139,8 +143,8 @@ makes_setup a b c d e r1 r2 r3 r4 = extends_then _ _ _ a d e (extends_then _ _ _
 pub makes_floor : (a b c d : State) → Runs reel_text [] a b → Runs mount_text [] b c → Runs board_text [] c d → Extends (first_of_line 6 5) (first_of_line 9 8) a d
 makes_floor a b c d r1 r2 r3 = extends_then _ _ _ a c d (extends_then _ _ _ a b c (makes_reel a b r1) (makes_mount b c r2)) (makes_board c d r3)
 
-pub makes_pieces : (a b c d e : State) → Runs placement_text [] a b → Runs index_text [] b c → Runs overdue_text [] c d → AddsFound d e → Extends (first_of_line 9 8) (first_of_line 11 12) a e
-makes_pieces a b c d e r1 r2 r3 r4 = extends_then _ _ _ a d e (extends_then _ _ _ a c d (extends_then _ _ _ a b c (makes_placement a b r1) (makes_index b c r2)) (makes_overdue c d r3)) (makes_found d e r4)
+pub makes_pieces : (a b c d e : State) → Runs placement_text [] a b → Runs index_text [] b c → Runs overdue_text [] c d → AddsFound d e → Extends (first_of_line 9 8) line_schema a e
+makes_pieces a b c d e r1 r2 r3 r4 = extends_then _ _ _ a d e (extends_then _ _ _ a c d (extends_then _ _ _ a b c (makes_placement a b r1) (makes_index b c r2)) (makes_overdue c d r3)) (makes_found true d e r4)
 
 -- what was empty is so in the trees that stay
 still_bare : (tree : ℕ) (tables : List Table) (old new : Trees) → list_all (λ t. not (t.tree == tree)) tables ≡ true → AllByRecursion (λ t. t.tree ≢ tree → new t.tree ≡ old t.tree) tables → AllByRecursion (λ t. old t.tree ≡ []) tables
@@ -152,15 +156,15 @@ pub version_cast : (greatest : ℕ) → cast_row version (Int (pos 1) ∷ Null �
 version_cast greatest = rw (cast_int (pos 1), cast_int (pos 2), cast_int (pos greatest), cast_null) refl
 
 -- the one row of `version` is put in
-puts_version : (greatest : ℕ) (old new : State) → Runs insert_version (Int (pos greatest) ∷ []) old new → IsBare line_schema old.now → Holds new.now (blank greatest) × IsDatabase new.now
+puts_version : (greatest : ℕ) (old new : State) → Runs insert_version (Int (pos greatest) ∷ []) old new → IsBare line_schema old.now → (new.now.schema ≡ line_schema) × Holds new.now (blank greatest) × IsDatabase new.now
 puts_version greatest old new ran bare =
-    let put = insert_does insert_version (Int (pos greatest) ∷ []) old new line_schema bare.schema 0 version version_terms 4 refl refl refl insert_version_is.0 insert_version_is.1 ran.count ran.executed (quiet 0 []) in
+    let put = insert_does insert_version (Int (pos greatest) ∷ []) old new line_schema bare.schema 0 version version_terms 4 refl refl refl insert_version_is.0 insert_version_is.1 ran.count ran.executed (quiet true 0 []) in
     let row = Int (pos 1) ∷ Null ∷ Int (pos 2) ∷ Int (pos greatest) ∷ [] in
     let is : new.now.trees 0 ≡ row ∷ [] = put.step.rows ∙ ap (λ r. put_row (with_rowid Chosen (old.now.trees 0) r) (old.now.trees 0)) (version_cast greatest) ∙ ap (λ l. put_row row l) bare.empty.0 in
-    let others : AllByRecursion (λ t. new.now.trees t.tree ≡ []) (accepted ∷ state_tables) = still_bare 0 (accepted ∷ state_tables) old.now.trees new.now.trees refl put.step.tables.1 bare.empty.1 in
-    (holds_blank greatest new.now put.same (ap (map version_columns) is) others, put.sound)
+    let others : AllByRecursion (λ t. new.now.trees t.tree ≡ []) (accepted ∷ state_tables true) = still_bare 0 (accepted ∷ state_tables true) old.now.trees new.now.trees refl put.step.tables.1 bare.empty.1 in
+    (put.same, holds_blank true greatest new.now put.same (ap (map version_columns) is) others, put.sound)
 
 pub makes_all : (greatest : ℕ) (a b c : State) → Extends no_schema line_schema a b → Runs insert_version (Int (pos greatest) ∷ []) b c → Makes greatest a c
 makes_all greatest a b c made put =
-    let all : a.now.schema ≡ no_schema → Holds c.now (blank greatest) × IsDatabase c.now = λ has. puts_version greatest b c put (made.bare (record { schema = has; empty = tt })) in
-    record { was_open = made.was_open; done = λ has. (all has).0; sound = λ has. (all has).1 }
+    let all : a.now.schema ≡ no_schema → (c.now.schema ≡ line_schema) × Holds c.now (blank greatest) × IsDatabase c.now = λ has. puts_version greatest b c put (made.bare (record { schema = has; empty = tt })) in
+    record { was_open = made.was_open; done = λ has. let h = all has in (h.0, h.1); sound = λ has. (all has).2 }

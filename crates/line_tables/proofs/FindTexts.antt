@@ -1,5 +1,5 @@
 -- What the texts that read mean.
-use Rattle.std.proofs.Common.{◌≡◌, ◌⊎◌, inl, is_ok, List, ℕ, [], ◌∷◌, codes, refl, false, None, Some, pos, negsuc}
+use Rattle.std.proofs.Common.{◌≡◌, ◌⊎◌, inl, is_ok, Bool, List, ℕ, [], ◌∷◌, codes, refl, false, None, Some, pos, negsuc}
 use Rattle.sqlite.specs.Command.TheVariants.{Select}
 use Rattle.sqlite.specs.Term.{Term, lit, col, op2}
 use Rattle.sqlite.specs.Query.{Query, inner, end}
@@ -25,9 +25,13 @@ rows_from tree filter project = record { from = inner tree end; filter = filter;
 abbrev pub IsSelectIn : Schema → List ℕ → Query → List (List ℕ) → Type 0
 IsSelectIn schema sql q names = (command_of (understood schema sql) ≡ Select (record { lets = []; body = q }) names) × (reads_listing schema sql ≡ false) × IsPlain (understood schema sql)
 
--- so it does in our schema of each version, or it is no statement there
+-- so it does in our schema of each version and layout, or it is no statement there
+abbrev pub IsSelectBy : List ℕ → (Schema → Query) → List (List ℕ) → Type 0
+IsSelectBy sql q names = (rules : Rules) (indexed : Bool) → IsSelectIn (schema_of rules indexed) sql (q (schema_of rules indexed)) names ⊎ (is_ok (understood (schema_of rules indexed) sql) ≡ false)
+
+-- and it means the same query in each
 abbrev pub IsSelect : List ℕ → Query → List (List ℕ) → Type 0
-IsSelect sql q names = (rules : Rules) → IsSelectIn (schema_of rules) sql q names ⊎ (is_ok (understood (schema_of rules) sql) ≡ false)
+IsSelect sql q names = IsSelectBy sql (λ _. q) names
 
 -- the places of the columns of `accepted` in a kept row
 abbrev pub accepted_places : List Term
@@ -44,7 +48,7 @@ uid_query = rows_from 1 (op2 (Compare Eq Binary) (col 1 2) (col 0 0) ∷ []) acc
 
 pub select_uid_is : IsSelect select_uid uid_query accepted_names
 unfolding understood everything
-select_uid_is rules = inl (refl, refl, (refl, refl))
+select_uid_is rules indexed = inl (refl, refl, (refl, refl))
 
 abbrev pub select_number : List ℕ
 select_number = codes "SELECT number, uid, source, own, effective, command, detail FROM accepted WHERE number = ?1"
@@ -54,7 +58,7 @@ number_query = rows_from 1 (op2 (Compare Eq Binary) (col 1 0) (col 0 0) ∷ []) 
 
 pub select_number_is : IsSelect select_number number_query accepted_names
 unfolding understood everything
-select_number_is rules = inl (refl, refl, (refl, refl))
+select_number_is rules indexed = inl (refl, refl, (refl, refl))
 
 abbrev pub select_before : List ℕ
 select_before = codes "SELECT number FROM accepted WHERE uid = ?1 AND number < ?2"
@@ -64,7 +68,7 @@ before_query = rows_from 1 (op2 (Compare Eq Binary) (col 1 2) (col 0 0) ∷ op2 
 
 pub select_before_is : IsSelect select_before before_query (codes "number" ∷ [])
 unfolding understood everything
-select_before_is rules = inl (refl, refl, (refl, refl))
+select_before_is rules indexed = inl (refl, refl, (refl, refl))
 
 abbrev pub select_version : List ℕ
 select_version = codes "SELECT one, number, greatest FROM version"
@@ -74,7 +78,7 @@ version_query = rows_from 0 [] (col 1 0 ∷ col 1 2 ∷ col 1 3 ∷ [])
 
 pub select_version_is : IsSelect select_version version_query (codes "one" ∷ codes "number" ∷ codes "greatest" ∷ [])
 unfolding understood everything
-select_version_is rules = inl (refl, refl, (refl, refl))
+select_version_is rules indexed = inl (refl, refl, (refl, refl))
 
 abbrev pub select_least : List ℕ
 select_least = codes "SELECT number FROM accepted ORDER BY number LIMIT 1"
@@ -84,7 +88,7 @@ least_query = record { from = inner 1 end; filter = []; group = None; project = 
 
 pub select_least_is : IsSelect select_least least_query (codes "number" ∷ [])
 unfolding understood everything
-select_least_is rules = inl (refl, refl, (refl, refl))
+select_least_is rules indexed = inl (refl, refl, (refl, refl))
 
 abbrev pub select_count : List ℕ
 select_count = codes "SELECT count(*) FROM accepted"
@@ -101,4 +105,4 @@ count_query = count_from 1
 
 pub select_count_is : IsSelect select_count count_query (codes "count(*)" ∷ [])
 unfolding understood everything
-select_count_is rules = inl (refl, refl, (refl, refl))
+select_count_is rules indexed = inl (refl, refl, (refl, refl))

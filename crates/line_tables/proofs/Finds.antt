@@ -25,7 +25,7 @@ use Rattle.sqlite.specs.Schema.{Schema}
 use Rattle.line_tables.specs.Line.{IsOurs, schema_of}
 use Rattle.line_tables.specs.Rows.{accepted_columns, version_columns, accepted_in, version_in}
 use Rattle.line_tables.specs.Calls.{Selects, Reads, has_uid, has_number, is_before, only, IsVersionOf}
-use Rattle.line_tables.proofs.FindTexts.{IsSelect, IsSelectIn, rows_from, select_uid, uid_query, select_uid_is, select_number, number_query, select_number_is, select_before, before_query, select_before_is, select_version, version_query, select_version_is, accepted_names}
+use Rattle.line_tables.proofs.FindTexts.{IsSelect, IsSelectBy, IsSelectIn, rows_from, select_uid, uid_query, select_uid_is, select_number, number_query, select_number_is, select_before, before_query, select_before_is, select_version, version_query, select_version_is, accepted_names}
 
 -- what a query shows is its answer over what is committed
 answer_in : {S : Type 0} (g : Ghosts S) (schema : Schema) (sql : List ℕ) (q : Query) (names : List (List ℕ)) → IsSelectIn schema sql q names → (params : Row) (old : Held S) (rows : List Row) → Selects g sql params old rows → (state g old).committed.schema ≡ schema
@@ -39,13 +39,17 @@ not_shown : (schema : Schema) (sql : List ℕ) (params : Row) (old new : State) 
 unfolding Shown
 not_shown schema sql params old new rows h has none = true≢false (ap is_ok (sym h.1.is ∙ ap (λ s. understood s sql) has) ∙ none)
 
--- the same in our schema of each version
+-- the same in our schema of each version and layout
+pub answer_by : {S : Type 0} (g : Ghosts S) (sql : List ℕ) (q : Schema → Query) (names : List (List ℕ)) → IsSelectBy sql q names → (params : Row) (old : Held S) (rows : List Row) → Selects g sql params old rows → IsOurs (state g old).committed.schema
+    → IsAnswer (q (state g old).committed.schema) (overlay (state g old).committed.trees []) params rows
+answer_by g sql q names is params old rows h (rules, indexed, has) = elim (is rules indexed) [
+  | inl means ↦ subst (λ s. IsAnswer (q s) (overlay (state g old).committed.trees []) params rows) (sym has) (answer_in g (schema_of rules indexed) sql (q (schema_of rules indexed)) names means params old rows h has)
+  | inr none ↦ absurd (not_shown (schema_of rules indexed) sql params _ _ rows h.shown (ap (λ (db : Database). db.schema) h.settled ∙ has) none)
+]
+
 pub answer_of : {S : Type 0} (g : Ghosts S) (sql : List ℕ) (q : Query) (names : List (List ℕ)) → IsSelect sql q names → (params : Row) (old : Held S) (rows : List Row) → Selects g sql params old rows → IsOurs (state g old).committed.schema
     → IsAnswer q (overlay (state g old).committed.trees []) params rows
-answer_of g sql q names is params old rows h (rules, has) = elim (is rules) [
-  | inl means ↦ answer_in g (schema_of rules) sql q names means params old rows h has
-  | inr none ↦ absurd (not_shown (schema_of rules) sql params _ _ rows h.shown (ap (λ (db : Database). db.schema) h.settled ∙ has) none)
-]
+answer_of g sql q names is = answer_by g sql (λ _. q) names is
 
 -- what is shown of the rows that pass
 abbrev pub shown_of : Query → Row → List Row → List Row
@@ -84,13 +88,15 @@ pub overlay_none : (db : Trees) (tree : ℕ) → overlay db [] tree ≡ db tree
 overlay_none db tree = elim (nat_le (2 ^ 31) tree) as (λ b. unwrap_or (if b then None else None) (db tree) ≡ db tree) [ true ↦ refl | false ↦ refl ]
 
 -- the rows that pass a test of their columns are found
-pub finds_rows : {S : Type 0} (g : Ghosts S) (sql : List ℕ) (tree : ℕ) (test project : List Term) (names : List (List ℕ)) → IsSelect sql (rows_from tree test project) names → (params : Row) (columns : Row → Row) (has : Row → Bool)
-    → ((r : Row) → list_all (holds (params ∷ r ∷ [])) test ≡ has (columns r)) → ((r : Row) → (output (rows_from tree test project) (params ∷ r ∷ [])).1 ≡ columns r)
-    → (old : Held S) (rows : List Row) → Selects g sql params old rows → Reads (state g old) (λ db. IsPermutation (filter has (map columns (db.trees tree))) rows)
+pub finds_rows : {S : Type 0} (g : Ghosts S) (sql : List ℕ) (tree : Schema → ℕ) (test project : List Term) (names : List (List ℕ)) → IsSelectBy sql (λ schema. rows_from (tree schema) test project) names → (params : Row) (columns : Row → Row) (has : Row → Bool)
+    → ((r : Row) → list_all (holds (params ∷ r ∷ [])) test ≡ has (columns r)) → ((r : Row) → (output (rows_from 0 test project) (params ∷ r ∷ [])).1 ≡ columns r)
+    → (old : Held S) (rows : List Row) → Selects g sql params old rows → Reads (state g old) (λ db. IsPermutation (filter has (map columns (db.trees (tree db.schema)))) rows)
 finds_rows g sql tree test project names is params columns has passes out old rows h = record {
   was_open = h.was_open;
-  are = λ schema. subst (λ l. IsPermutation l rows) (ap (shown_of (rows_from tree test project) params) (overlay_none (state g old).committed.trees tree) ∙ shown_is (rows_from tree test project) params columns (λ r. r) has passes out ((state g old).committed.trees tree) ∙ whole _)
-      (rows_answer tree test project (overlay (state g old).committed.trees []) params rows (answer_of g sql (rows_from tree test project) names is params old rows h schema));
+  are = λ schema.
+      let at = tree (state g old).committed.schema in
+      subst (λ l. IsPermutation l rows) (ap (shown_of (rows_from at test project) params) (overlay_none (state g old).committed.trees at) ∙ shown_is (rows_from at test project) params columns (λ r. r) has passes out ((state g old).committed.trees at) ∙ whole _)
+      (rows_answer at test project (overlay (state g old).committed.trees []) params rows (answer_by g sql (λ schema. rows_from (tree schema) test project) names is params old rows h schema));
 }
 
 pub finds_uid : {S : Type 0} (g : Ghosts S) (uid : List ℕ) (old : Held S) (rows : List Row) → Selects g select_uid (Text uid ∷ []) old rows → Reads (state g old) (λ db. IsPermutation (filter (has_uid uid) (accepted_in db)) rows)

@@ -1,5 +1,5 @@
 -- What a crash may leave after a commit.
-use Rattle.std.proofs.Common.{◌≡◌, ℕ, List, true, IsTrue, sym, subst}
+use Rattle.std.proofs.Common.{◌≡◌, ◌∙◌, ℕ, List, true, IsTrue, sym, ap, subst}
 use Rattle.sqlite_trees.specs.Tree.{Trees}
 use Rattle.sqlite_trees.specs.declared.store.Store.{Ghosts}
 use Rattle.sqlite.specs.Effect.{Database}
@@ -19,14 +19,21 @@ module _ {S : Type 0} (g : Ghosts S) (old last : Held S) (trees : Trees) where
       → LeavesEdited edits (state g old) trees
   leaves_edited edits settled w is = record {
     was_open = w.was_open;
-    holds = λ tables holds fresh. let held = subst (λ (db : Database). Holds db tables) (sym (settled w.was_open)) holds in ((state g last).now, w.done tables held fresh, w.sound tables held fresh, is);
+    holds = λ tables holds fresh.
+        let same = settled w.was_open in
+        let held = subst (λ (db : Database). Holds db tables) (sym same) holds in
+        let done = w.done tables held fresh in
+        (((state g last).now, done.1, w.sound tables held fresh, is), done.0 ∙ ap (λ (db : Database). db.schema) same);
   }
 
   pub leaves_blank : (greatest : ℕ) → Makes greatest (state g (record old { in_transaction = true })) (state g last) → trees ≡ (state g last).now.trees → LeavesBlank greatest (state g old) trees
-  leaves_blank greatest w is = record { was_open = w.was_open; holds = λ blank. ((state g last).now, w.done blank, w.sound blank, is) }
+  leaves_blank greatest w is = record { was_open = w.was_open; holds = λ blank. let done = w.done blank in (((state g last).now, done.1, w.sound blank, is), done.0) }
 
   pub leaves_migrated : (IsTrue (state g old).is_open → (state g old).now ≡ (state g old).committed) → Migrates (state g (record old { in_transaction = true })) (state g last) → trees ≡ (state g last).now.trees → LeavesMigrated (state g old) trees
   leaves_migrated settled w is = record {
     was_open = w.was_open;
-    holds = λ tables holds. let held = subst (λ (db : Database). HoldsBy One db tables) (sym (settled w.was_open)) holds in ((state g last).now, w.done.holds tables held, w.sound tables held, is);
+    holds = λ tables holds.
+        let same = settled w.was_open in
+        let held = subst (λ (db : Database). HoldsBy One db tables) (sym same) holds in
+        (((state g last).now, w.done.holds tables held, w.sound tables held, is), λ indexed has. w.done.layout indexed (ap (λ (db : Database). db.schema) same ∙ has));
   }

@@ -1,5 +1,5 @@
 -- A database of version 1 becomes one of version 2.
-use Rattle.std.proofs.Common.{◌≡◌, ◌≢◌, ◌∙◌, ◌++◌, IsTrue, inl, inr, ℕ, ℤ, List, [], ◌∷◌, map, filter, drop, not, ◌==◌, true, pos, refl, sym, ap, ap₂, subst}
+use Rattle.std.proofs.Common.{◌≡◌, ◌≢◌, ◌∙◌, ◌++◌, IsTrue, inl, inr, ℕ, ℤ, List, [], ◌∷◌, map, filter, drop, not, ◌==◌, Bool, true, false, pos, refl, sym, ap, ap₂, subst}
 use Rattle.std.specs.List.{AllByRecursion, list_all}
 use Rattle.std.specs.List.Sorted.{IsPermutation}
 use Rattle.std.proofs.lemmas.Bool.{and_parts}
@@ -15,12 +15,13 @@ use Rattle.sqlite_rules.specs.Edit.{without_all, put_all}
 use Rattle.sqlite_rules.specs.Calls.{ids_of}
 use Rattle.sqlite.specs.State.{State}
 use Rattle.desk_types.specs.declared.rules.Rules.TheVariants.{One, Two}
-use Rattle.line_tables.specs.Line.{line_schema, schema_of, version, part, alternate, sheet_row, selected, reel, mount, board, placement, found}
+use Rattle.line_tables.specs.Line.{schema_of, tables_of, version, part, alternate, sheet_row, selected, reel, mount, board, placement, found, found_by, found_tree}
 use Rattle.line_tables.specs.Rowids.{AreApart}
 use Rattle.line_tables.specs.Rows.{Tables, Holds, HoldsBy, version_columns, accepted_columns, version_row, version_in}
 use Rattle.line_tables.specs.Calls.{Runs, AddsFound, Grows, Migrates}
 use Rattle.line_tables.proofs.Apart.{apart_none, taken}
-use Rattle.line_tables.proofs.Altering.{other_tree, stays, nothing}
+use Rattle.line_tables.proofs.Altering.{other_tree, found_kept, stays, nothing}
+use Rattle.line_tables.specs.StateRows.{kept_in}
 use Rattle.line_tables.proofs.Alterations.{one_of_map}
 use Rattle.line_tables.proofs.Changes.{Changed, passing, shows_of, renewed, update_does}
 use Rattle.line_tables.proofs.Creates.{version_cast}
@@ -28,8 +29,8 @@ use Rattle.line_tables.proofs.Puts.{quiet}
 use Rattle.line_tables.proofs.CreateTexts.{update_version, version_renewed, update_version_is}
 
 -- the tables of version 1 but `version`
-abbrev rest : List Table
-rest = drop 1 (schema_of One).tables
+abbrev rest : Bool → List Table
+rest indexed = drop 1 (tables_of One indexed)
 
 -- one row alone is apart
 apart_one : (r : Row) (n : ℤ) → column r 0 ≡ Int n → AreApart (r ∷ [])
@@ -44,8 +45,8 @@ kept_on tree [] more a b c apart kept others = tt
 kept_on tree (u ∷ us) more a b c apart kept others = let is = and_parts _ _ apart in (others.0 (other_tree u.tree tree is.0) ∙ kept.0, kept_on tree us more a b c is.1 kept.1 others.1)
 
 -- the one row of `version` has the other number
-renews_version : (greatest : ℕ) (r : Row) (old new : State) → version_columns r ≡ version_row One greatest → old.now.trees 0 ≡ r ∷ [] → Changed line_schema version [] version_renewed [] (renewed version) old new → version_in new.now ≡ version_row Two greatest ∷ []
-renews_version greatest r old new columns is h =
+renews_version : (i : Bool) (greatest : ℕ) (r : Row) (old new : State) → version_columns r ≡ version_row One greatest → old.now.trees 0 ≡ r ∷ [] → Changed (schema_of Two i) version [] version_renewed [] (renewed version) old new → version_in new.now ≡ version_row Two greatest ∷ []
+renews_version i greatest r old new columns is h =
     let first : column r 0 ≡ Int (pos 1) = cc in
     let last : column r 3 ≡ Int (pos greatest) = cc in
     let show = shows_of 0 [] version_renewed [] in
@@ -55,26 +56,31 @@ renews_version greatest r old new columns is h =
     let row : cast_row version (drop 1 (show r)) ≡ Int (pos 1) ∷ Null ∷ Int (pos 2) ∷ Int (pos greatest) ∷ [] = ap₂ (λ a b. cast_row version (a ∷ Null ∷ Int (pos 2) ∷ b ∷ [])) first last ∙ version_cast greatest in
     ap (map version_columns) (h.rows ∙ ap₂ (λ l f. put_all l (renewed version f)) gone found ∙ ap (λ x. put_all [] (x ∷ [])) row)
 
-module _ (a b c : State) (added : AddsFound a b) (ran : Runs update_version [] b c) (has : a.now.schema ≡ schema_of One) where
-  grown : Grows (schema_of One) line_schema found.tree a.now b.now
-  grown = added.added has
+module _ (i : Bool) (a b c : State) (added : AddsFound a b) (ran : Runs update_version [] b c) (has : a.now.schema ≡ schema_of One i) where
+  grown : Grows (schema_of One i) (schema_of Two i) (found_tree i) a.now b.now
+  grown = added.added i has
 
-  changed : Changed line_schema version [] version_renewed [] (renewed version) b c
-  changed = (update_does update_version [] b c line_schema grown.schema 0 version [] version_renewed refl (quiet 0) update_version_is.1 ran.count ran.executed update_version_is.0).0
+  changed : Changed (schema_of Two i) version [] version_renewed [] (renewed version) b c
+  changed = (update_does update_version [] b c (schema_of Two i) grown.schema 0 version [] version_renewed refl (quiet i 0) (update_version_is i).1 ran.count ran.executed (update_version_is i).0).0
 
-  same : KeepsRows rest a.now.trees c.now.trees
-  same = kept_on 0 rest (found ∷ []) a.now.trees b.now.trees c.now.trees refl grown.kept.1 changed.others.1
+  same : KeepsRows (rest i) a.now.trees c.now.trees
+  same = kept_on 0 (rest i) (found_by i ∷ []) a.now.trees b.now.trees c.now.trees refl grown.kept.1 changed.others.1
 
-  empty : c.now.trees 21 ≡ []
-  empty = changed.others.1.1.1.1.1.1.1.1.1.1.0 (other_tree 21 0 refl) ∙ grown.empty
+  empty : kept_in found c.now ≡ []
+  empty = found_kept Two i c.now changed.same ∙ changed.others.1.1.1.1.1.1.1.1.1.1.0 (behind i) ∙ grown.empty
+    where
+      behind : (i : Bool) → found_tree i ≢ 0
+      behind true = other_tree 21 0 refl
+      behind false = other_tree 19 0 refl
 
   numbered : (greatest : ℕ) → version_in a.now ≡ version_row One greatest ∷ [] → version_in c.now ≡ version_row Two greatest ∷ []
   numbered greatest was =
       let row = one_of_map version_columns (a.now.trees 0) (version_row One greatest) was in
-      renews_version greatest row.0 b c row.2 (grown.kept.0 ∙ row.1) changed
+      renews_version i greatest row.0 b c row.2 (grown.kept.0 ∙ row.1) changed
 
   migrated : (t : Tables) → HoldsBy One a.now t → Holds c.now t
   migrated t was = record {
+    indexed = i;
     schema = changed.same;
     version = numbered t.greatest was.version;
     accepted = subst (λ l. IsPermutation (map accepted_columns l) t.accepted) (sym same.0) was.accepted;
@@ -95,6 +101,10 @@ module _ (a b c : State) (added : AddsFound a b) (ran : Runs update_version [] b
 pub migrates : (a b c : State) → AddsFound a b → Runs update_version [] b c → Migrates a c
 migrates a b c added ran = record {
   was_open = added.was_open;
-  done = record { holds = λ t was. migrated a b c added ran was.schema t was; same = same a b c added ran };
-  sound = λ t was. (changed a b c added ran was.schema).sound;
+  done = record {
+    holds = λ t was. migrated was.indexed a b c added ran was.schema t was;
+    layout = λ i has. (changed i a b c added ran has).same;
+    same = λ i has. same i a b c added ran has;
+  };
+  sound = λ t was. (changed was.indexed a b c added ran was.schema).sound;
 }

@@ -15,6 +15,7 @@ use Rattle.sqlite.specs.declared.types.Value.TheVariants.{Null, Int}
 use Rattle.sqlite.specs.declared.types.Value.{Value}
 use Rattle.sqlite_value.specs.Order.{Row, column}
 use Rattle.sqlite_trees.specs.Tree.{Trees}
+use Rattle.sqlite.specs.Schema.{Schema}
 use Rattle.sqlite.specs.Term.{Env}
 use Rattle.sqlite_sql.specs.Group.{Summarizes, IsSummary, value_over}
 use Rattle.sqlite.specs.Query.{Query, IsAnswer, output, output_cmp, Output}
@@ -27,8 +28,8 @@ use Rattle.sqlite.specs.Held.{Held, state}
 use Rattle.sqlite.proofs.Callers.{one_permutation}
 use Rattle.line_tables.specs.Rows.{accepted_columns, accepted_in}
 use Rattle.line_tables.specs.Calls.{Selects, Reads, number_row, IsLeast}
-use Rattle.line_tables.proofs.FindTexts.{select_least, least_query, select_least_is, IsSelect, select_count, count_from, count_all, select_count_is}
-use Rattle.line_tables.proofs.Finds.{answer_of, overlay_none}
+use Rattle.line_tables.proofs.FindTexts.{select_least, least_query, select_least_is, IsSelectBy, select_count, count_from, count_all, select_count_is}
+use Rattle.line_tables.proofs.Finds.{answer_of, answer_by, overlay_none}
 
 module _ {X : Type 0} (cmp : X → X → Ordering) (total : IsTotalOrder cmp) where
   abbrev AtMost : X → X → Type 0
@@ -148,11 +149,13 @@ count_is tree db shown a n is below =
     not_most n (length all) 9223372036854775807 (same_number n _ row) below ∙ envs_length rows
 
 -- the number of a table's rows is read, where it is below the greatest that SQL counts
-pub finds_count : {S : Type 0} (g : Ghosts S) (sql : List ℕ) (tree : ℕ) (names : List (List ℕ)) → IsSelect sql (count_from tree) names → (columns : Row → Row) (old : Held S) (rows : List Row) (n : ℕ) → Selects g sql [] old rows → rows ≡ (Int (pos n) ∷ []) ∷ []
-    → n < 9223372036854775807 → Reads (state g old) (λ db. n ≡ length (map columns (db.trees tree)))
+pub finds_count : {S : Type 0} (g : Ghosts S) (sql : List ℕ) (tree : Schema → ℕ) (names : List (List ℕ)) → IsSelectBy sql (λ schema. count_from (tree schema)) names → (columns : Row → Row) (old : Held S) (rows : List Row) (n : ℕ) → Selects g sql [] old rows → rows ≡ (Int (pos n) ∷ []) ∷ []
+    → n < 9223372036854775807 → Reads (state g old) (λ db. n ≡ length (map columns (db.trees (tree db.schema))))
 finds_count g sql tree names is columns old rows n h shown below = record {
   was_open = h.was_open;
-  are = λ schema. count_is tree (overlay (state g old).committed.trees []) rows (answer_of g sql (count_from tree) names is [] old rows h schema) n shown below ∙ ap length (overlay_none (state g old).committed.trees tree) ∙ sym (length-map ((state g old).committed.trees tree) columns);
+  are = λ schema.
+      let at = tree (state g old).committed.schema in
+      count_is at (overlay (state g old).committed.trees []) rows (answer_by g sql (λ schema. count_from (tree schema)) names is [] old rows h schema) n shown below ∙ ap length (overlay_none (state g old).committed.trees at) ∙ sym (length-map ((state g old).committed.trees at) columns);
 }
 
 pub finds_least_in : {S : Type 0} (g : Ghosts S) (old : Held S) (rows : List Row) (r : Result (Option ℤ) Error) → IfOk r (λ o. rows ≡ number_row o) → Selects g select_least [] old rows → IfOk r (λ o. Reads (state g old) (λ db. IsLeast (accepted_in db) o))
@@ -162,4 +165,4 @@ finds_least_in g old rows (Ok o) is h = finds_least g old rows o h is
 pub finds_count_in : {S : Type 0} (g : Ghosts S) (old : Held S) (rows : List Row) (r : Result ℕ Error) → IfOk r (λ n. rows ≡ (Int (pos n) ∷ []) ∷ []) → IfOk r (λ n. n < 9223372036854775807) → Selects g select_count [] old rows
     → IfOk r (λ n. Reads (state g old) (λ db. n ≡ length (accepted_in db)))
 finds_count_in g old rows (Err e) is below h = tt
-finds_count_in g old rows (Ok n) is below h = finds_count g select_count 1 _ select_count_is accepted_columns old rows n h is below
+finds_count_in g old rows (Ok n) is below h = finds_count g select_count (λ _. 1) _ select_count_is accepted_columns old rows n h is below

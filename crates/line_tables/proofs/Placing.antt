@@ -12,7 +12,8 @@ use Rattle.sqlite_rules.specs.Edit.{numbered, with_rowid, put_all, are_fresh}
 use Rattle.sqlite_trees.specs.Tree.{put_row}
 use Rattle.sqlite.specs.State.{State}
 use Rattle.state_tables.specs.declared.row.PlacementRow.{PlacementRow}
-use Rattle.line_tables.specs.Line.{line_schema, placement}
+use Rattle.desk_types.specs.declared.rules.Rules.TheVariants.{Two}
+use Rattle.line_tables.specs.Line.{schema_of, placement}
 use Rattle.line_tables.specs.Rowids.{placement_id}
 use Rattle.line_tables.specs.StateRows.{AreRows, columns, has_piece, placement_columns, flag}
 use Rattle.line_tables.specs.Placing.{placing, placement_kept, ArePlacing}
@@ -21,7 +22,7 @@ use Rattle.line_tables.specs.Rows.{Tables, Holds, AreNew, with_edit, edited, ver
 use Rattle.line_tables.specs.Calls.{Runs, Writes}
 use Rattle.line_tables.proofs.Inserts.{Inserted, insert_does}
 use Rattle.line_tables.proofs.Puts.{quiet, cast_int, put_permutes}
-use Rattle.line_tables.proofs.Altering.{others_hold, all_apart_but, other_tree}
+use Rattle.line_tables.proofs.Altering.{IsElsewhere, others_hold, all_apart_but, other_tree}
 use Rattle.line_tables.proofs.Keyed.{added, one_piece, own_int, same_piece, tells_piece}
 use Rattle.line_tables.proofs.RowTexts.{insert_placement, placement_terms, insert_placement_is, insert_placements, placements_terms, insert_placements_is}
 
@@ -62,54 +63,59 @@ pieces_in (row ∷ rows) db t was fresh new =
     (added has_piece (λ _ row. placement_columns row) one_piece same_piece tells_piece (row.number, row.place) row _ _ (λ piece. t.state.placements piece.0 piece.1) _ new.0 (and_from _ _ (own_int row.number) (own_int row.place)) (λ l. refl) one was) free.1 new.1
 
 -- the rows that a statement puts in are those of as many edits
-puts_pieces : (rows : List PlacementRow) (a c : State) → IsTrue a.is_open → (a.now.schema ≡ line_schema → Inserted line_schema placement (map placement_kept rows) a c) → Writes (map placing rows) a c
+puts_pieces : (rows : List PlacementRow) (a c : State) → IsTrue a.is_open → ((indexed : Bool) → a.now.schema ≡ schema_of Two indexed → Inserted (schema_of Two indexed) placement (map placement_kept rows) a c) → Writes (map placing rows) a c
 puts_pieces rows a c was_open did = record {
   was_open = was_open;
   done = λ t was new.
-      let went = did was.schema in
+      let i = was.indexed in
+      let went = did i was.schema in
       let db = a.now.trees 17 in
       let others = went.step.tables in
-      let k = others_hold 17 a.now c.now t.state others was.state in
+      let beside : IsElsewhere i 17 a.now c.now = record { was = was.schema; is = went.same; others = others } in
+      let k = others_hold i 17 a.now c.now t.state beside was.state in
       let fresh : are_fresh db (map placement_kept rows) ≡ true = subst (λ l. are_fresh db l ≡ true) (all_kept rows db) went.step.fresh in
-      let put : c.now.trees 17 ≡ put_all db (map placement_kept rows) = went.step.rows ∙ ap (put_all db) (all_kept rows db) in
-      subst (Holds c.now) (sym (edits_of rows t)) (record {
-        schema = went.same;
-        version = ap (map version_columns) (others.0 (other_tree 0 17 refl)) ∙ was.version;
-        accepted = subst (λ l. IsPermutation (map accepted_columns l) t.accepted) (sym (others.1.0 (other_tree 1 17 refl))) was.accepted;
-        state = record {
-          parts = k.parts refl;
-          alternates = k.alternates refl;
-          sheets = k.sheets refl;
-          selected = k.selected refl;
-          reels = k.reels refl;
-          mounts = k.mounts refl;
-          boards = k.boards refl;
-          placements = subst (λ l. HasPieces l (with_pieces rows t.state.placements)) (sym put) (pieces_in rows db t was.state.placements fresh new);
-          found = k.found refl;
-        };
-        apart = all_apart_but 17 a.now c.now others refl was.apart;
-      });
-  sound = λ t was new. (did was.schema).sound;
+      let put : c.now.trees 17 ≡ put_all db (map placement_kept rows) = went.step.rows ∙ ap (put_all db) (all_kept rows db) in (
+        went.same ∙ sym was.schema,
+        subst (Holds c.now) (sym (edits_of rows t)) (record {
+          indexed = i;
+          schema = went.same;
+          version = ap (map version_columns) (others.0 (other_tree 0 17 refl)) ∙ was.version;
+          accepted = subst (λ l. IsPermutation (map accepted_columns l) t.accepted) (sym (others.1.0 (other_tree 1 17 refl))) was.accepted;
+          state = record {
+            parts = k.parts refl;
+            alternates = k.alternates refl;
+            sheets = k.sheets refl;
+            selected = k.selected refl;
+            reels = k.reels refl;
+            mounts = k.mounts refl;
+            boards = k.boards refl;
+            placements = subst (λ l. HasPieces l (with_pieces rows t.state.placements)) (sym put) (pieces_in rows db t was.state.placements fresh new);
+            found = k.found refl;
+          };
+          apart = all_apart_but i 17 a.now c.now beside refl was.apart;
+        }),
+      );
+  sound = λ t was new. (did was.indexed was.schema).sound;
 }
 
 pub placement_put : (row : PlacementRow) (a c : State) → Runs insert_placement (placement_kept row) a c → Writes (placing row ∷ []) a c
 placement_put row a c ran =
     puts_pieces (row ∷ []) a c ran.shown.was_open
-    (λ has. insert_does insert_placement (placement_kept row) a c line_schema has 9 placement placement_terms 9 refl refl refl insert_placement_is.0 insert_placement_is.1 ran.count ran.executed (quiet 17 []))
+    (λ i has. insert_does insert_placement (placement_kept row) a c (schema_of Two i) has 9 placement placement_terms 9 refl refl refl (insert_placement_is i).0 (insert_placement_is i).1 ran.count ran.executed (quiet i 17 []))
 
 -- the parameters of the text for eight rows are the values of these
-eight_in : (rows : List PlacementRow) (a c : State) → length rows ≡ 8 → Runs insert_placements (flat_map placement_kept rows) a c → a.now.schema ≡ line_schema → Inserted line_schema placement (map placement_kept rows) a c
-eight_in (p ∷ q ∷ r ∷ s ∷ t ∷ u ∷ v ∷ w ∷ []) a c eight ran has =
-    insert_does insert_placements (flat_map placement_kept (p ∷ q ∷ r ∷ s ∷ t ∷ u ∷ v ∷ w ∷ [])) a c line_schema has 9 placement placements_terms 9 refl refl refl insert_placements_is.0 insert_placements_is.1 ran.count ran.executed (quiet 17 [])
-eight_in [] a c eight ran has = absurd (omega (arith, eight))
-eight_in (p ∷ []) a c eight ran has = absurd (omega (arith, eight))
-eight_in (p ∷ q ∷ []) a c eight ran has = absurd (omega (arith, eight))
-eight_in (p ∷ q ∷ r ∷ []) a c eight ran has = absurd (omega (arith, eight))
-eight_in (p ∷ q ∷ r ∷ s ∷ []) a c eight ran has = absurd (omega (arith, eight))
-eight_in (p ∷ q ∷ r ∷ s ∷ t ∷ []) a c eight ran has = absurd (omega (arith, eight))
-eight_in (p ∷ q ∷ r ∷ s ∷ t ∷ u ∷ []) a c eight ran has = absurd (omega (arith, eight))
-eight_in (p ∷ q ∷ r ∷ s ∷ t ∷ u ∷ v ∷ []) a c eight ran has = absurd (omega (arith, eight))
-eight_in (p ∷ q ∷ r ∷ s ∷ t ∷ u ∷ v ∷ w ∷ x ∷ more) a c eight ran has = absurd (omega (arith, eight))
+eight_in : (rows : List PlacementRow) (a c : State) → length rows ≡ 8 → Runs insert_placements (flat_map placement_kept rows) a c → (i : Bool) → a.now.schema ≡ schema_of Two i → Inserted (schema_of Two i) placement (map placement_kept rows) a c
+eight_in (p ∷ q ∷ r ∷ s ∷ t ∷ u ∷ v ∷ w ∷ []) a c eight ran i has =
+    insert_does insert_placements (flat_map placement_kept (p ∷ q ∷ r ∷ s ∷ t ∷ u ∷ v ∷ w ∷ [])) a c (schema_of Two i) has 9 placement placements_terms 9 refl refl refl (insert_placements_is i).0 (insert_placements_is i).1 ran.count ran.executed (quiet i 17 [])
+eight_in [] a c eight ran i has = absurd (omega (arith, eight))
+eight_in (p ∷ []) a c eight ran i has = absurd (omega (arith, eight))
+eight_in (p ∷ q ∷ []) a c eight ran i has = absurd (omega (arith, eight))
+eight_in (p ∷ q ∷ r ∷ []) a c eight ran i has = absurd (omega (arith, eight))
+eight_in (p ∷ q ∷ r ∷ s ∷ []) a c eight ran i has = absurd (omega (arith, eight))
+eight_in (p ∷ q ∷ r ∷ s ∷ t ∷ []) a c eight ran i has = absurd (omega (arith, eight))
+eight_in (p ∷ q ∷ r ∷ s ∷ t ∷ u ∷ []) a c eight ran i has = absurd (omega (arith, eight))
+eight_in (p ∷ q ∷ r ∷ s ∷ t ∷ u ∷ v ∷ []) a c eight ran i has = absurd (omega (arith, eight))
+eight_in (p ∷ q ∷ r ∷ s ∷ t ∷ u ∷ v ∷ w ∷ x ∷ more) a c eight ran i has = absurd (omega (arith, eight))
 
 pub eight_put : (rows : List PlacementRow) (a c : State) → length rows ≡ 8 → Runs insert_placements (flat_map placement_kept rows) a c → Writes (map placing rows) a c
 eight_put rows a c eight ran = puts_pieces rows a c ran.shown.was_open (eight_in rows a c eight ran)

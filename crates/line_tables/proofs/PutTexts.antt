@@ -1,5 +1,5 @@
 -- What the texts that write mean.
-use Rattle.std.proofs.Common.{◌≡◌, List, ℕ, [], ◌∷◌, codes, refl}
+use Rattle.std.proofs.Common.{◌≡◌, Bool, List, ℕ, [], ◌∷◌, codes, refl}
 use Rattle.sqlite.specs.Command.TheVariants.{Insert}
 use Rattle.sqlite.specs.Source.TheVariants.{Values}
 use Rattle.sqlite.specs.Term.{Term, lit, col}
@@ -7,7 +7,8 @@ use Rattle.sqlite.specs.declared.types.Value.TheVariants.{Null}
 use Rattle.sqlite.specs.Listing.{understood}
 use Rattle.sqlite_tied.specs.Compute.{everything}
 use Rattle.sqlite.proofs.Callers.{IsPlain, command_of}
-use Rattle.line_tables.specs.Line.{line_schema}
+use Rattle.desk_types.specs.declared.rules.Rules.TheVariants.{Two}
+use Rattle.line_tables.specs.Line.{schema_of}
 
 abbrev pub insert_accepted : List ℕ
 insert_accepted = codes "INSERT INTO accepted VALUES (?1, ?2, ?3, ?4, ?5, ?6, ?7)"
@@ -16,6 +17,6 @@ insert_accepted = codes "INSERT INTO accepted VALUES (?1, ?2, ?3, ?4, ?5, ?6, ?7
 abbrev pub accepted_terms : List Term
 accepted_terms = col 0 0 ∷ lit Null ∷ col 0 1 ∷ col 0 2 ∷ col 0 3 ∷ col 0 4 ∷ col 0 5 ∷ col 0 6 ∷ []
 
-pub insert_accepted_is : (command_of (understood line_schema insert_accepted) ≡ Insert 1 (Values accepted_terms 8)) × IsPlain (understood line_schema insert_accepted)
+pub insert_accepted_is : (indexed : Bool) → (command_of (understood (schema_of Two indexed) insert_accepted) ≡ Insert 1 (Values accepted_terms 8)) × IsPlain (understood (schema_of Two indexed) insert_accepted)
 unfolding understood everything
-insert_accepted_is = (refl, (refl, refl))
+insert_accepted_is indexed = (refl, (refl, refl))

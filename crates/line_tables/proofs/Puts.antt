@@ -25,7 +25,8 @@ use Rattle.sqlite.specs.Effect.{Database}
 use Rattle.line_tables.specs.declared.edit.Accepted.{Accepted}
 use Rattle.line_tables.specs.declared.edit.Edit.{Edit}
 use Rattle.line_tables.specs.declared.edit.Edit.TheVariants.{PutAccepted}
-use Rattle.line_tables.specs.Line.{line_schema, accepted}
+use Rattle.desk_types.specs.declared.rules.Rules.TheVariants.{Two}
+use Rattle.line_tables.specs.Line.{schema_of, tables_of, accepted}
 use Rattle.line_tables.specs.Rows.{Tables, Holds, AreNew, columns_of, accepted_columns, with_edit, edited}
 use Rattle.line_tables.specs.Calls.{Runs, Edits, Writes}
 use Rattle.line_tables.proofs.Inserts.{Inserted, insert_does}
@@ -45,9 +46,9 @@ unfolding unary
 cast_null = either _ Null
 
 -- no foreign key acts
-pub quiet : (tree : ℕ) (olds news : List Row) → works line_schema Enforced 0 tree olds news ≡ []
-quiet tree olds news =
-    elim (length news == 0) as (λ b. flat_map (λ child. filter_map (λ ref. work_by 0 tree (pairs olds news) child ref (deed_for Enforced b ref) (parent_key line_schema.tables ref)) child.references) line_schema.tables ≡ [])
+pub quiet : (indexed : Bool) (tree : ℕ) (olds news : List Row) → works (schema_of Two indexed) Enforced 0 tree olds news ≡ []
+quiet indexed tree olds news =
+    elim (length news == 0) as (λ b. flat_map (λ child. filter_map (λ ref. work_by 0 tree (pairs olds news) child ref (deed_for Enforced b ref) (parent_key (tables_of Two indexed) ref)) child.references) (tables_of Two indexed) ≡ [])
     [ true ↦ refl | false ↦ refl ]
 
 pub not_taken : (b : Bool) → (not b && true) ≡ true → b ≡ false
@@ -73,33 +74,38 @@ kept_row [] = []
 row_cast : (a : Accepted) → cast_row accepted (kept_row (columns_of a)) ≡ kept_row (columns_of a)
 row_cast a = rw (cast_int (pos a.number), cast_int (pos a.own), cast_int (pos a.effective), cast_null) refl
 
-inserted_edits : (a : Accepted) (old new : State) → Inserted line_schema accepted (kept_row (columns_of a) ∷ []) old new → (tables : Tables) → Holds old.now tables → Holds new.now (with_edit tables (PutAccepted a))
-inserted_edits a old new went tables holds =
-    let rows = old.now.trees 1 in
-    let row = kept_row (columns_of a) in
-    let news : with_rowid Chosen rows (cast_row accepted row) ≡ row = ap (with_rowid Chosen rows) (row_cast a) in
-    let free : is_taken rows row ≡ false = not_taken (is_taken rows row) (subst (λ r. (not (is_taken rows r) && true) ≡ true) news went.step.fresh) in
-    let put : new.now.trees 1 ≡ put_row row rows = went.step.rows ∙ ap (λ r. put_row r rows) news in
-    list_grows (columns_of a) old.now new.now tables holds went.same went.step.tables
-    (subst (λ t. IsPermutation (map accepted_columns t) (columns_of a ∷ tables.accepted)) (sym put)
-    (IsPermutation-trans _ _ _ (IsPermutation-map accepted_columns _ _ (put_permutes rows row free)) (IsPermutation-cons (columns_of a) _ _ holds.accepted)))
+module _ (a : Accepted) (old new : State) where
+  inserted_edits : (tables : Tables) → (holds : Holds old.now tables) → Inserted (schema_of Two holds.indexed) accepted (kept_row (columns_of a) ∷ []) old new → (new.now.schema ≡ old.now.schema) × Holds new.now (with_edit tables (PutAccepted a))
+  inserted_edits tables holds went =
+      let rows = old.now.trees 1 in
+      let row = kept_row (columns_of a) in
+      let news : with_rowid Chosen rows (cast_row accepted row) ≡ row = ap (with_rowid Chosen rows) (row_cast a) in
+      let free : is_taken rows row ≡ false = not_taken (is_taken rows row) (subst (λ r. (not (is_taken rows r) && true) ≡ true) news went.step.fresh) in
+      let put : new.now.trees 1 ≡ put_row row rows = went.step.rows ∙ ap (λ r. put_row r rows) news in (
+        went.same ∙ sym holds.schema,
+        list_grows (columns_of a) old.now new.now tables holds (record { was = holds.schema; is = went.same; others = went.step.tables })
+            (subst (λ t. IsPermutation (map accepted_columns t) (columns_of a ∷ tables.accepted)) (sym put)
+            (IsPermutation-trans _ _ _ (IsPermutation-map accepted_columns _ _ (put_permutes rows row free)) (IsPermutation-cons (columns_of a) _ _ holds.accepted))),
+      )
 
-pub puts_accepted : (a : Accepted) (old new : State) → Runs insert_accepted (columns_of a) old new → Writes (PutAccepted a ∷ []) old new
-puts_accepted a old new h =
-    let inserted : old.now.schema ≡ line_schema → Inserted line_schema accepted (kept_row (columns_of a) ∷ []) old new =
-    λ has. insert_does insert_accepted (columns_of a) old new line_schema has 1 accepted accepted_terms 8 refl refl refl insert_accepted_is.0 insert_accepted_is.1 h.count h.executed (quiet 1 []) in
-    record {
-      was_open = h.shown.was_open;
-      done = λ tables holds _. inserted_edits a old new (inserted holds.schema) tables holds;
-      sound = λ tables holds _. (inserted holds.schema).sound;
-    }
+  pub puts_accepted : Runs insert_accepted (columns_of a) old new → Writes (PutAccepted a ∷ []) old new
+  puts_accepted h =
+      let inserted : (indexed : Bool) → old.now.schema ≡ schema_of Two indexed → Inserted (schema_of Two indexed) accepted (kept_row (columns_of a) ∷ []) old new =
+      λ indexed has.
+      let means = insert_accepted_is indexed in
+      insert_does insert_accepted (columns_of a) old new (schema_of Two indexed) has 1 accepted accepted_terms 8 refl refl refl means.0 means.1 h.count h.executed (quiet indexed 1 []) in
+      record {
+        was_open = h.shown.was_open;
+        done = λ tables holds _. inserted_edits tables holds (inserted holds.indexed holds.schema);
+        sound = λ tables holds _. (inserted holds.indexed holds.schema).sound;
+      }
 
--- what is left of the edits, where the first of them are made: it makes of the tables that the one database holds what all make of those of the other
+-- what is left of the edits, where the first of them are made: it makes of the tables that the one database holds what all make of those of the other, whose layout it is
 abbrev pub Remain : List Edit → List Edit → Database → Database → Type 0
-Remain edits rest old now = (tables : Tables) → Holds old tables → AreNew edits tables → (mid : Tables) × Holds now mid × AreNew rest mid × (edited rest mid ≡ edited edits tables)
+Remain edits rest old now = (tables : Tables) → Holds old tables → AreNew edits tables → (mid : Tables) × Holds now mid × AreNew rest mid × (edited rest mid ≡ edited edits tables) × (now.schema ≡ old.schema)
 
 pub remain_none : (edits : List Edit) (old now : Database) → Remain edits [] old now → Edits edits old now
-remain_none edits old now was tables h new = let m = was tables h new in subst (Holds now) m.3 m.1
+remain_none edits old now was tables h new = let m = was tables h new in (m.4, subst (Holds now) m.3 m.1)
 
 new_parts : (xs ys : List Edit) (tables : Tables) → AreNew (xs ++ ys) tables → AreNew xs tables × AreNew ys (edited xs tables)
 new_parts [] ys tables h = (tt, h)
@@ -114,7 +120,8 @@ module _ (edits rest : List Edit) (n : ℕ) (old mid : Database) (was : Remain e
   remain_less new step tables h fresh =
       let m = was tables h fresh in
       let parts = new_parts (take n rest) (drop n rest) m.0 (subst (λ l. AreNew l m.0) (sym both) m.2) in
-      (edited (take n rest) m.0, step m.0 m.1 parts.0, parts.1, sym (fold-append with_edit m.0 (take n rest) (drop n rest)) ∙ ap (λ l. edited l m.0) both ∙ m.3)
+      let next = step m.0 m.1 parts.0 in
+      (edited (take n rest) m.0, next.1, parts.1, sym (fold-append with_edit m.0 (take n rest) (drop n rest)) ∙ ap (λ l. edited l m.0) both ∙ m.3, next.0 ∙ m.4)
 
   -- and the trees list the schema
   pub sound_less : (sound : Type 0) → ((tables : Tables) → Holds mid tables → AreNew (take n rest) tables → sound) → (tables : Tables) → Holds old tables → AreNew edits tables → sound

@@ -21,16 +21,19 @@ use Rattle.sqlite_trees.specs.View.{is_int}
 use Rattle.sqlite_trees.specs.declared.store.Store.{Ghosts}
 use Rattle.sqlite_schema.specs.declared.schema.Table.{Table}
 use Rattle.sqlite.specs.Effect.{Database}
+use Rattle.sqlite.specs.Schema.{Schema}
 use Rattle.sqlite.specs.Held.{Held, state}
 use Rattle.sqlite.specs.Query.{IsAnswer, Output, output}
 use Rattle.sqlite.specs.State.{State, KeepsCommit}
 use Rattle.line_tables.specs.Calls.{Reads}
 use Rattle.desk_types.specs.declared.rules.Rules.{Rules}
 use Rattle.desk_types.specs.declared.rules.Rules.TheVariants.{One, Two}
-use Rattle.line_tables.specs.Line.{IsOurs, found, found_tables}
+use Rattle.line_tables.specs.Line.{IsOurs, tree_in, found, found_tables}
+use Rattle.line_tables.specs.StateRows.{kept_in}
 use Rattle.line_tables.specs.Rowids.{AreApart, AreAllApartBy, changed_tables, changed_of}
 use Rattle.line_tables.specs.Rising.{AreRising, IsBefore, IsPast, Shows, AreTold, IsFoundTold}
-use Rattle.line_tables.proofs.Finds.{answer_of, shown_of, overlay_none}
+use Rattle.line_tables.proofs.Finds.{answer_by, shown_of, overlay_none}
+use Rattle.line_tables.proofs.FindTexts.{IsSelectBy}
 use Rattle.line_tables.proofs.Keeps.{keeps_same, keeps_then}
 use Rattle.line_tables.proofs.RowidTexts.{rowids_from, IsRowids, found_is}
 
@@ -148,14 +151,19 @@ ids_answer tree db rows a =
     subst (λ l. IsPermutation l rows) (ap (map show) kept ∙ ids_shown tree (db tree)) (subst (IsPermutation (map show a.kept)) (sym a.shown) same)
 
 module _ {S : Type 0} (g : Ghosts S) (old : Held S) where
-  pub tells : (sql : List ℕ) (tree : ℕ) (name : List ℕ) → IsRowids sql tree name → (b : Bool) → Shows g sql old b → Reads (state g old) (λ db. IsTrue b → AreApart (db.trees tree))
-  tells sql tree name is b h = record {
+  pub tells_by : (sql : List ℕ) (tree : Schema → ℕ) (name : List ℕ) → IsSelectBy sql (λ schema. rowids_from (tree schema)) (name ∷ []) → (b : Bool) → Shows g sql old b → Reads (state g old) (λ db. IsTrue b → AreApart (db.trees (tree db.schema)))
+  tells_by sql tree name is b h = record {
     was_open = h.1.was_open;
-    are = λ schema told. apart_shown ((state g old).committed.trees tree) h.0 (subst (λ l. IsPermutation (map id_of l) h.0) (overlay_none (state g old).committed.trees tree) (ids_answer tree _ h.0 (answer_of g sql (rowids_from tree) _ is [] old h.0 h.1 schema))) (h.2 told);
+    are = λ schema told.
+        let at = tree (state g old).committed.schema in
+        apart_shown ((state g old).committed.trees at) h.0 (subst (λ l. IsPermutation (map id_of l) h.0) (overlay_none (state g old).committed.trees at) (ids_answer at _ h.0 (answer_by g sql (λ schema. rowids_from (tree schema)) _ is [] old h.0 h.1 schema))) (h.2 told);
   }
 
+  pub tells : (sql : List ℕ) (tree : ℕ) (name : List ℕ) → IsRowids sql tree name → (b : Bool) → Shows g sql old b → Reads (state g old) (λ db. IsTrue b → AreApart (db.trees tree))
+  tells sql tree name is b h = tells_by sql (λ _. tree) name is b h
+
   pub tells_found : (b : Bool) → Shows g (codes "SELECT rowid FROM found ORDER BY rowid") old b → IsFoundTold Two b (state g old)
-  tells_found b h = let t = tells _ 21 _ found_is b h in record { was_open = t.was_open; are = λ ours told. (t.are ours told, tt) }
+  tells_found b h = let t = tells_by _ (tree_in found) _ found_is b h in record { was_open = t.was_open; are = λ ours told. (t.are ours told, tt) }
 
 -- what is committed is read after calls that keep it
 reads_before : (old mid : State) → KeepsCommit old mid → (Is : Database → Type 0) → Reads mid Is → Reads old Is
@@ -164,7 +172,7 @@ reads_before old mid kept Is r =
     record { was_open = kept.was_open r.was_open; are = λ ours. subst Is same (r.are (subst (λ (db : Database). IsOurs db.schema) (sym same) ours)) }
 
 -- what is told of one table and then of others
-told_more : (old mid : State) → KeepsCommit old mid → (table : Table) (tables : List Table) (a b : Bool) → Reads old (λ db. IsTrue a → AreApart (db.trees table.tree)) → Reads mid (AreTold b tables) → Reads old (AreTold (a && b) (table ∷ tables))
+told_more : (old mid : State) → KeepsCommit old mid → (table : Table) (tables : List Table) (a b : Bool) → Reads old (λ db. IsTrue a → AreApart (kept_in table db)) → Reads mid (AreTold b tables) → Reads old (AreTold (a && b) (table ∷ tables))
 told_more old mid kept table tables a b first others = record {
   was_open = first.was_open;
   are = λ schema told. let both = and_parts _ _ told in (first.are schema both.0, (reads_before old mid kept (AreTold b tables) others).are schema both.1);
@@ -174,20 +182,20 @@ told_none : (s : State) → IsTrue s.is_open → Reads s (AreTold true [])
 told_none s was_open = record { was_open = was_open; are = λ schema told. tt }
 
 -- what is told of four tables, one after the other
-pub told_four : (s1 s2 s3 s4 : State) → KeepsCommit s1 s2 → KeepsCommit s2 s3 → KeepsCommit s3 s4 → (t1 t2 t3 t4 : Table) (a b c d : Bool) → Reads s1 (λ db. IsTrue a → AreApart (db.trees t1.tree)) → Reads s2 (λ db. IsTrue b → AreApart (db.trees t2.tree))
-    → Reads s3 (λ db. IsTrue c → AreApart (db.trees t3.tree)) → Reads s4 (λ db. IsTrue d → AreApart (db.trees t4.tree)) → (all : Bool) → all ≡ (a && (b && (c && (d && true)))) → Reads s1 (AreTold all (t1 ∷ t2 ∷ t3 ∷ t4 ∷ []))
+pub told_four : (s1 s2 s3 s4 : State) → KeepsCommit s1 s2 → KeepsCommit s2 s3 → KeepsCommit s3 s4 → (t1 t2 t3 t4 : Table) (a b c d : Bool) → Reads s1 (λ db. IsTrue a → AreApart (kept_in t1 db)) → Reads s2 (λ db. IsTrue b → AreApart (kept_in t2 db))
+    → Reads s3 (λ db. IsTrue c → AreApart (kept_in t3 db)) → Reads s4 (λ db. IsTrue d → AreApart (kept_in t4 db)) → (all : Bool) → all ≡ (a && (b && (c && (d && true)))) → Reads s1 (AreTold all (t1 ∷ t2 ∷ t3 ∷ t4 ∷ []))
 told_four s1 s2 s3 s4 k1 k2 k3 t1 t2 t3 t4 a b c d r1 r2 r3 r4 all is =
     subst (λ x. Reads s1 (AreTold x (t1 ∷ t2 ∷ t3 ∷ t4 ∷ []))) (sym is)
     (told_more s1 s2 k1 t1 (t2 ∷ t3 ∷ t4 ∷ []) a _ r1 (told_more s2 s3 k2 t2 (t3 ∷ t4 ∷ []) b _ r2 (told_more s3 s4 k3 t3 (t4 ∷ []) c _ r3 (told_more s4 s4 (keeps_same s4) t4 [] d true r4 (told_none s4 r4.was_open)))))
 
 -- what is told of what counts found
-found_told : (old mid : State) → KeepsCommit old mid → (rules : Rules) (b : Bool) → IsFoundTold rules b mid → IsOurs old.committed.schema → AreTold b (found_tables rules) old.committed
+found_told : (old mid : State) → KeepsCommit old mid → (rules : Rules) (b : Bool) → IsFoundTold rules b mid → IsOurs old.committed.schema → AreTold b (found_tables rules true) old.committed
 found_told old mid kept One b told ours = λ is. tt
 found_told old mid kept Two b told ours = (reads_before old mid kept (AreTold b (found ∷ [])) told).are ours
 
 -- what is told of three tables, and then of what counts found
-pub told_three : (s1 s2 s3 s4 : State) → KeepsCommit s1 s2 → KeepsCommit s2 s3 → KeepsCommit s3 s4 → (t1 t2 t3 : Table) (rules : Rules) (a b c d : Bool) → Reads s1 (λ db. IsTrue a → AreApart (db.trees t1.tree)) → Reads s2 (λ db. IsTrue b → AreApart (db.trees t2.tree))
-    → Reads s3 (λ db. IsTrue c → AreApart (db.trees t3.tree)) → IsFoundTold rules d s4 → (all : Bool) → all ≡ (a && (b && (c && (d && true)))) → Reads s1 (AreTold all (t1 ∷ t2 ∷ t3 ∷ found_tables rules))
+pub told_three : (s1 s2 s3 s4 : State) → KeepsCommit s1 s2 → KeepsCommit s2 s3 → KeepsCommit s3 s4 → (t1 t2 t3 : Table) (rules : Rules) (a b c d : Bool) → Reads s1 (λ db. IsTrue a → AreApart (kept_in t1 db)) → Reads s2 (λ db. IsTrue b → AreApart (kept_in t2 db))
+    → Reads s3 (λ db. IsTrue c → AreApart (kept_in t3 db)) → IsFoundTold rules d s4 → (all : Bool) → all ≡ (a && (b && (c && (d && true)))) → Reads s1 (AreTold all (t1 ∷ t2 ∷ t3 ∷ found_tables rules true))
 told_three s1 s2 s3 s4 k1 k2 k3 t1 t2 t3 rules a b c d r1 r2 r3 last all is =
     let k13 = keeps_then s1 s2 s3 k1 k2 in
     record {
@@ -197,14 +205,14 @@ told_three s1 s2 s3 s4 k1 k2 k3 t1 t2 t3 rules a b c d r1 r2 r3 last all is =
           let e2 = and_parts _ _ e1.1 in
           let e3 = and_parts _ _ e2.1 in
           let e4 = and_parts _ _ e3.1 in
-          (r1.are ours e1.0, ((reads_before s1 s2 k1 (λ db. IsTrue b → AreApart (db.trees t2.tree)) r2).are ours e2.0, ((reads_before s1 s3 k13 (λ db. IsTrue c → AreApart (db.trees t3.tree)) r3).are ours e3.0, found_told s1 s4 (keeps_then s1 s3 s4 k13 k3) rules d last ours e4.0)));
+          (r1.are ours e1.0, ((reads_before s1 s2 k1 (λ db. IsTrue b → AreApart (kept_in t2 db)) r2).are ours e2.0, ((reads_before s1 s3 k13 (λ db. IsTrue c → AreApart (kept_in t3 db)) r3).are ours e3.0, found_told s1 s4 (keeps_then s1 s3 s4 k13 k3) rules d last ours e4.0)));
     }
 
 -- and of all of them
 pub told_all : (old mid : State) → KeepsCommit old mid → Reads old (AreTold true (take 4 changed_tables)) → (rules : Rules) (b : Bool) → Reads mid (AreTold b (drop 4 (changed_of rules))) → Reads old (λ db. IsTrue b → AreAllApartBy rules db)
 told_all old mid kept first rules b others = record {
   was_open = first.was_open;
-  are = λ ours told. all-append (λ (table : Table). AreApart (old.committed.trees table.tree)) (take 4 changed_tables) (drop 4 (changed_of rules)) (first.are ours refl) ((reads_before old mid kept (AreTold b (drop 4 (changed_of rules))) others).are ours told);
+  are = λ ours told. all-append (λ (table : Table). AreApart (kept_in table old.committed)) (take 4 changed_tables) (drop 4 (changed_of rules)) (first.are ours refl) ((reads_before old mid kept (AreTold b (drop 4 (changed_of rules))) others).are ours told);
 }
 
 pub told_false : (s : State) (Is : Database → Type 0) → IsTrue s.is_open → Reads s (λ db. IsTrue false → Is db)

@@ -1,5 +1,5 @@
 -- What the texts that read rowids mean.
-use Rattle.std.proofs.Common.{inl, inr, List, ℕ, [], ◌∷◌, codes, refl, false, None, pos, negsuc}
+use Rattle.std.proofs.Common.{inl, inr, List, ℕ, [], ◌∷◌, codes, refl, true, false, None, pos, negsuc}
 use Rattle.sqlite.specs.Term.{lit, col}
 use Rattle.sqlite.specs.Query.{Query, inner, end}
 use Rattle.sqlite.specs.Collation.TheVariants.{Binary}
@@ -8,7 +8,8 @@ use Rattle.sqlite_value.specs.Keys.{ascending}
 use Rattle.sqlite.specs.Listing.{understood, listing_schema}
 use Rattle.sqlite_tied.specs.Compute.{everything}
 use Rattle.desk_types.specs.declared.rules.Rules.TheVariants.{One, Two}
-use Rattle.line_tables.proofs.FindTexts.{IsSelect}
+use Rattle.line_tables.specs.Line.{found, tree_in}
+use Rattle.line_tables.proofs.FindTexts.{IsSelect, IsSelectBy}
 
 -- all rowids of a table, sorted
 abbrev pub rowids_from : ℕ → Query
@@ -20,34 +21,35 @@ IsRowids sql tree name = IsSelect sql (rowids_from tree) (name ∷ [])
 
 pub part_is : IsRowids (codes "SELECT rowid FROM part ORDER BY rowid") 3 (codes "rowid")
 unfolding understood everything
-part_is rules = inl (refl, refl, (refl, refl))
+part_is rules indexed = inl (refl, refl, (refl, refl))
 
 pub alternate_is : IsRowids (codes "SELECT rowid FROM alternate ORDER BY rowid") 5 (codes "rowid")
 unfolding understood everything
-alternate_is rules = inl (refl, refl, (refl, refl))
+alternate_is rules indexed = inl (refl, refl, (refl, refl))
 
 pub sheet_row_is : IsRowids (codes "SELECT rowid FROM sheet_row ORDER BY rowid") 7 (codes "rowid")
 unfolding understood everything
-sheet_row_is rules = inl (refl, refl, (refl, refl))
+sheet_row_is rules indexed = inl (refl, refl, (refl, refl))
 
 pub selected_is : IsRowids (codes "SELECT rowid FROM selected ORDER BY rowid") 9 (codes "rowid")
 unfolding understood everything
-selected_is rules = inl (refl, refl, (refl, refl))
+selected_is rules indexed = inl (refl, refl, (refl, refl))
 
 pub reel_is : IsRowids (codes "SELECT rowid FROM reel ORDER BY rowid") 11 (codes "rowid")
 unfolding understood everything
-reel_is rules = inl (refl, refl, (refl, refl))
+reel_is rules indexed = inl (refl, refl, (refl, refl))
 
 pub mount_is : IsRowids (codes "SELECT rowid FROM mount ORDER BY rowid") 13 (codes "since")
 unfolding understood everything
-mount_is rules = inl (refl, refl, (refl, refl))
+mount_is rules indexed = inl (refl, refl, (refl, refl))
 
 pub board_is : IsRowids (codes "SELECT rowid FROM board ORDER BY rowid") 15 (codes "rowid")
 unfolding understood everything
-board_is rules = inl (refl, refl, (refl, refl))
+board_is rules indexed = inl (refl, refl, (refl, refl))
 
 -- version 1 has no such table
-pub found_is : IsRowids (codes "SELECT rowid FROM found ORDER BY rowid") 21 (codes "rowid")
+pub found_is : IsSelectBy (codes "SELECT rowid FROM found ORDER BY rowid") (λ schema. rowids_from (tree_in found schema)) (codes "rowid" ∷ [])
 unfolding understood everything listing_schema
-found_is One = inr refl
-found_is Two = inl (refl, refl, (refl, refl))
+found_is One indexed = inr refl
+found_is Two true = inl (refl, refl, (refl, refl))
+found_is Two false = inl (refl, refl, (refl, refl))

@@ -24,13 +24,13 @@ use Rattle.line_tables.specs.declared.edit.Edit.TheVariants.{EditRow}
 use Rattle.state_tables.specs.declared.edit.RowEdit.{RowEdit}
 use Rattle.line_tables.specs.declared.version.Version.{Version}
 use Rattle.sqlite_catalog.specs.Change.{KeepsRows}
-use Rattle.desk_types.specs.declared.rules.Rules.TheVariants.{One}
-use Rattle.line_tables.specs.Line.{no_schema, IsOurs, schema_of, line_schema, found}
+use Rattle.desk_types.specs.declared.rules.Rules.TheVariants.{One, Two}
+use Rattle.line_tables.specs.Line.{no_schema, IsOurs, schema_of, tables_of, line_schema, found_tree}
 use Rattle.line_tables.specs.Rows.{Tables, Holds, HoldsBy, HoldsAt, columns_of, blank, edited, AreNew}
 
--- whatever tables the one database holds, the other holds them with the edits made
+-- whatever tables the one database holds, the other holds them with the edits made, in the same layout
 abbrev pub Edits : List Edit → Database → Database → Type 0
-Edits edits before after = (tables : Tables) → Holds before tables → AreNew edits tables → Holds after (edited edits tables)
+Edits edits before after = (tables : Tables) → Holds before tables → AreNew edits tables → (after.schema ≡ before.schema) × Holds after (edited edits tables)
 
 -- the connection was open, and the edits were made inside its transaction, whose trees list its schema
 pub record Writes (edits : List Edit) (old new : State) : Type 0 where
@@ -42,26 +42,27 @@ pub record Writes (edits : List Edit) (old new : State) : Type 0 where
 abbrev pub WritesRow : RowEdit → State → State → Type 0
 WritesRow edit old new = Writes (EditRow edit ∷ []) old new
 
--- a crash may leave the tables of the last commit with the edits made
+-- a crash may leave the tables of the last commit with the edits made, in the same layout
 pub record LeavesEdited (edits : List Edit) (old : State) (trees : Trees) : Type 0 where
   pub was_open : IsTrue old.is_open
-  pub holds : (tables : Tables) → Holds old.committed tables → AreNew edits tables → HoldsAt (edited edits tables) trees
+  pub holds : (tables : Tables) → Holds old.committed tables → AreNew edits tables → (left : HoldsAt (edited edits tables) trees) × (left.0.schema ≡ old.committed.schema)
 
--- a crash may leave the tables of an empty list, where there was no table before
+-- a crash may leave the tables of an empty list, in the layout of new files, where there was no table before
 pub record LeavesBlank (greatest : ℕ) (old : State) (trees : Trees) : Type 0 where
   pub was_open : IsTrue old.is_open
-  pub holds : old.now.schema ≡ no_schema → HoldsAt (blank greatest) trees
+  pub holds : old.now.schema ≡ no_schema → (left : HoldsAt (blank greatest) trees) × (left.0.schema ≡ line_schema)
 
--- the connection was open, and the tables of an empty list were made inside its transaction, where there was no table before; its trees list its schema
+-- the connection was open, and the tables of an empty list were made inside its transaction, in the layout of new files, where there was no table before; its trees list its schema
 pub record Makes (greatest : ℕ) (old new : State) : Type 0 where
   pub was_open : IsTrue old.is_open
-  pub done : old.now.schema ≡ no_schema → Holds new.now (blank greatest)
+  pub done : old.now.schema ≡ no_schema → (new.now.schema ≡ line_schema) × Holds new.now (blank greatest)
   pub sound : old.now.schema ≡ no_schema → IsDatabase new.now
 
--- Whatever tables the one database holds by version 1, the other holds by version 2, and no table but `version` has other rows.
+-- Whatever tables the one database holds by version 1, the other holds by version 2, in the same layout, and no table but `version` has other rows.
 pub record Migrated (before after : Database) : Type 0 where
   pub holds : (tables : Tables) → HoldsBy One before tables → Holds after tables
-  pub same : before.schema ≡ schema_of One → KeepsRows (drop 1 (schema_of One).tables) before.trees after.trees
+  pub layout : (indexed : Bool) → before.schema ≡ schema_of One indexed → after.schema ≡ schema_of Two indexed
+  pub same : (indexed : Bool) → before.schema ≡ schema_of One indexed → KeepsRows (drop 1 (tables_of One indexed)) before.trees after.trees
 
 -- the connection was open, and a database of version 1 became one of version 2 inside its transaction, whose trees list its schema
 pub record Migrates (old new : State) : Type 0 where
@@ -69,10 +70,10 @@ pub record Migrates (old new : State) : Type 0 where
   pub done : Migrated old.now new.now
   pub sound : (tables : Tables) → HoldsBy One old.now tables → IsDatabase new.now
 
--- a crash may leave the tables of the last commit, which was of version 1, as version 2 holds them
+-- a crash may leave the tables of the last commit, which was of version 1, as version 2 holds them, in the same layout
 pub record LeavesMigrated (old : State) (trees : Trees) : Type 0 where
   pub was_open : IsTrue old.is_open
-  pub holds : (tables : Tables) → HoldsBy One old.committed tables → HoldsAt tables trees
+  pub holds : (tables : Tables) → HoldsBy One old.committed tables → (left : HoldsAt tables trees) × ((indexed : Bool) → old.committed.schema ≡ schema_of One indexed → left.0.schema ≡ schema_of Two indexed)
 
 -- the database has this schema, and its tables have no row
 pub record IsBare (with : Schema) (db : Database) : Type 0 where
@@ -90,10 +91,10 @@ pub record Grows (before after : Schema) (tree : ℕ) (old new : Database) : Typ
   pub kept : KeepsRows before.tables old.trees new.trees
   pub empty : new.trees tree ≡ []
 
--- the connection was open, and a database of version 1 has the table `found` now
+-- the connection was open, and a database of version 1 has the table `found` now, in the same layout
 pub record AddsFound (old new : State) : Type 0 where
   pub was_open : IsTrue old.is_open
-  pub added : old.now.schema ≡ schema_of One → Grows (schema_of One) line_schema found.tree old.now new.now
+  pub added : (indexed : Bool) → old.now.schema ≡ schema_of One indexed → Grows (schema_of One indexed) (schema_of Two indexed) (found_tree indexed) old.now new.now
 
 -- the statement ran inside a transaction, which goes on
 pub record Runs (sql : List ℕ) (params : Row) (old new : State) : Type 0 where
@@ -117,7 +118,7 @@ pub record Selects {S : Type 0} (g : Ghosts S) (sql : List ℕ) (params : Row) (
   pub after : Held S
   pub shown : Shown sql params (state g (record old { in_transaction = true })) (state g after) rows
 
--- the connection was open, and what is committed is so, where it has our schema, of one version or the other
+-- the connection was open, and what is committed is so, where it has our schema, of either version and layout
 pub record Reads (old : State) (Is : Database → Type 0) : Type 0 where
   pub was_open : IsTrue old.is_open
   pub are : IsOurs old.committed.schema → Is old.committed

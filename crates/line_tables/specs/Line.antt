@@ -1,5 +1,6 @@
 -- The schema of the line's tables, written out: their columns, their keys, their rules and their indexes.
-use Rattle.std.specs.Prelude.{◌≡◌, Bool, true, false, ◌&&◌, ◌==◌, [], ◌∷◌, Some, None, codes, List, ℕ, pos, take}
+use Rattle.std.specs.Prelude.{◌≡◌, Bool, true, false, not, ◌&&◌, ◌||◌, ◌==◌, if◌then◌else◌, [], ◌∷◌, ◌++◌, Some, None, codes, List, ℕ, ◌-◌, nat_le, pos, take}
+use Rattle.std.specs.List.{list_any}
 use base.Stored.{Gv, gnil, gnum, gcons}
 use Rattle.sqlite.specs.Collation.TheVariants.{Binary}
 use Rattle.sqlite_value.specs.declared.keys.Order.{Order}
@@ -127,66 +128,81 @@ placement_reel = record { name = codes "placement_reel"; tree = 19; table = 17; 
 abbrev pub placement_overdue : Index
 placement_overdue = record { name = codes "placement_overdue"; tree = 20; table = 17; columns = 8 ∷ []; order = plain; is_unique = false }
 
+-- A file is of one of two layouts: with these two indexes, or without them.
+abbrev pub placement_indexes : Bool → List Index
+placement_indexes true = placement_reel ∷ placement_overdue ∷ []
+placement_indexes false = []
+
 -- so many pieces were found on the reel
 abbrev pub some_pieces : Term
 some_pieces = op2 (Compare Ge Binary) (col 1 2) (lit (Int (pos 1)))
 
+-- the tree of what counts found, which is made last, in either layout
+abbrev pub found_tree : Bool → ℕ
+found_tree indexed = if indexed then 21 else 19
+
+abbrev pub found_by : Bool → Table
+found_by indexed = record (by_columns (1 ∷ []) (table_of (codes "found") (found_tree indexed) (text (codes "reel") ∷ number (codes "pieces") ∷ []))) { checks = some_pieces ∷ [] }
+
+-- as it is where the placements have the two indexes
 abbrev pub found : Table
-found = record (by_columns (1 ∷ []) (table_of (codes "found") 21 (text (codes "reel") ∷ number (codes "pieces") ∷ []))) { checks = some_pieces ∷ [] }
+found = found_by true
 
 -- the schema of a database with no table
 abbrev pub no_schema : Schema
 no_schema = record { tables = []; indexes = []; views = [] }
 
 -- the table of what counts found, and its index: under rules One they find nothing
-abbrev pub found_tables : Rules → List Table
-found_tables One = []
-found_tables Two = found ∷ []
+abbrev pub found_tables : Rules → Bool → List Table
+found_tables One indexed = []
+found_tables Two indexed = found_by indexed ∷ []
 
-abbrev pub found_indexes : Rules → List Index
-found_indexes One = []
-found_indexes Two = listing.automatic found 0 (1 ∷ []) 22 ∷ []
+abbrev pub found_indexes : Rules → Bool → List Index
+found_indexes One indexed = []
+found_indexes Two indexed = listing.automatic (found_by indexed) 0 (1 ∷ []) (if indexed then 22 else 20) ∷ []
 
 -- all tables of the line under rules in the order in which they are made: the trees count up over a table, its indexes and the next table
-abbrev pub tables_of : Rules → List Table
-tables_of rules = version ∷ accepted ∷ part ∷ alternate ∷ sheet_row ∷ selected ∷ reel ∷ mount ∷ board ∷ placement ∷ found_tables rules
+abbrev pub tables_of : Rules → Bool → List Table
+tables_of rules indexed = version ∷ accepted ∷ part ∷ alternate ∷ sheet_row ∷ selected ∷ reel ∷ mount ∷ board ∷ placement ∷ found_tables rules indexed
 
--- the index of each PRIMARY KEY or UNIQUE, and those on the reels and the marks of placements
-abbrev pub indexes_of : Rules → List Index
-indexes_of rules =
+-- the index of each PRIMARY KEY or UNIQUE, and those on the reels and the marks of placements, where the layout has them
+abbrev pub indexes_of : Rules → Bool → List Index
+indexes_of rules indexed =
     listing.automatic accepted 0 (2 ∷ []) 2 ∷ listing.automatic part 0 (1 ∷ []) 4 ∷ listing.automatic alternate 0 (1 ∷ 2 ∷ []) 6 ∷ listing.automatic sheet_row 0 (1 ∷ 2 ∷ 3 ∷ []) 8
     ∷ listing.automatic selected 0 (1 ∷ []) 10 ∷ listing.automatic reel 0 (1 ∷ []) 12 ∷ listing.automatic mount 0 (4 ∷ []) 14 ∷ listing.automatic board 0 (1 ∷ []) 16
-    ∷ listing.automatic placement 0 (3 ∷ 4 ∷ []) 18 ∷ placement_reel ∷ placement_overdue ∷ found_indexes rules
+    ∷ listing.automatic placement 0 (3 ∷ 4 ∷ []) 18 ∷ placement_indexes indexed ++ found_indexes rules indexed
 
--- the tables of the line under rules, and no other object: version 1 goes with rules One, version 2 with rules Two
-abbrev pub schema_of : Rules → Schema
-schema_of rules = record { tables = tables_of rules; indexes = indexes_of rules; views = [] }
+-- the tables of the line under rules in a layout, and no other object: version 1 goes with rules One, version 2 with rules Two
+abbrev pub schema_of : Rules → Bool → Schema
+schema_of rules indexed = record { tables = tables_of rules indexed; indexes = indexes_of rules indexed; views = [] }
 
--- the schema is that of a version of the tables
+-- the schema is that of a version of the tables, in one layout or the other
 abbrev pub IsOurs : Schema → Type 0
-IsOurs schema = (rules : Rules) × (schema ≡ schema_of rules)
+IsOurs schema = (rules : Rules) × (indexed : Bool) × (schema ≡ schema_of rules indexed)
 
--- as they are made
-abbrev pub line_tables : List Table
-line_tables = tables_of Two
+-- whether the placements have an index that no rule of theirs asks for
+abbrev pub is_indexed : Schema → Bool
+is_indexed schema = list_any (λ index. index.table == 17 && not index.is_unique) schema.indexes
 
-abbrev pub line_indexes : List Index
-line_indexes = indexes_of Two
+-- The tree of a table of ours in a schema of ours. Where the placements have no index of their own, a table behind them comes two trees earlier.
+abbrev pub tree_in : Table → Schema → ℕ
+tree_in table schema = if nat_le table.tree 18 || is_indexed schema then table.tree else table.tree - 2
 
+-- as a new file is made
 abbrev pub line_schema : Schema
-line_schema = schema_of Two
+line_schema = schema_of Two true
 
--- the first of our tables and of our indexes
+-- the first of its tables and of its indexes
 abbrev pub first_of_line : ℕ → ℕ → Schema
-first_of_line tables indexes = record { tables = take tables line_tables; indexes = take indexes line_indexes; views = [] }
+first_of_line tables indexes = record { tables = take tables line_schema.tables; indexes = take indexes line_schema.indexes; views = [] }
 
 -- two schemas are one, columns and all: both have one code
 unfoldable pub is_same_schema : Schema → Schema → Bool
 is_same_schema a b = is_same_code (the_row.coded.code a) (the_row.coded.code b)
 
--- the schema is ours
+-- the schema is ours, of version 2, in one layout or the other
 abbrev pub is_ours : Schema → Bool
-is_ours schema = is_same_schema schema line_schema
+is_ours schema = is_same_schema schema (schema_of Two true) || is_same_schema schema (schema_of Two false)
 
 -- there is no table, index or view
 abbrev pub is_blank : Schema → Bool

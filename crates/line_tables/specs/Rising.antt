@@ -16,6 +16,7 @@ use Rattle.sqlite.specs.State.{State}
 use Rattle.desk_types.specs.declared.rules.Rules.{Rules}
 use Rattle.desk_types.specs.declared.rules.Rules.TheVariants.{One, Two}
 use Rattle.line_tables.specs.Line.{found}
+use Rattle.line_tables.specs.StateRows.{kept_in}
 use Rattle.line_tables.specs.Calls.{Reads, Selects}
 
 -- the number is above the last one, where there is one
@@ -37,7 +38,7 @@ Shows g sql old rising = (rows : List Row) × Selects g sql [] old rows × (IsTr
 
 -- the rows of each of the tables are apart, where it is told so
 abbrev pub AreTold : Bool → List Table → Database → Type 0
-AreTold apart tables db = IsTrue apart → AllByRecursion (λ table. AreApart (db.trees table.tree)) tables
+AreTold apart tables db = IsTrue apart → AllByRecursion (λ table. AreApart (kept_in table db)) tables
 
 -- so it is of the table of what counts found, where the rules have one
 abbrev pub IsFoundTold : Rules → Bool → State → Type 0

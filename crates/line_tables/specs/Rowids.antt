@@ -1,5 +1,5 @@
 -- Rows that their rowids tell apart.
-use Rattle.std.specs.Prelude.{◌≡◌, ℕ, ◌+◌, ◌*◌, IsTrue, List, ◌∷◌}
+use Rattle.std.specs.Prelude.{◌≡◌, ℕ, ◌+◌, ◌*◌, IsTrue, true, List, ◌∷◌}
 use Rattle.std.specs.List.{AllByRecursion}
 use Rattle.std.specs.declared.cmp.Ordering.TheVariants.{Equal}
 use Rattle.sqlite_value.specs.Order.{Row, value_cmp}
@@ -11,6 +11,7 @@ use Rattle.sqlite_trees.specs.View.{is_int}
 use Rattle.desk_types.specs.declared.rules.Rules.{Rules}
 use Rattle.desk_types.specs.declared.rules.Rules.TheVariants.{Two}
 use Rattle.line_tables.specs.Line.{part, alternate, sheet_row, selected, reel, mount, board, found_tables}
+use Rattle.line_tables.specs.StateRows.{kept_in}
 
 -- each row has an integer as its rowid, and no other row has it
 pub record AreApart (rows : List Row) : Type 0 where
@@ -19,14 +20,14 @@ pub record AreApart (rows : List Row) : Type 0 where
 
 -- the state tables whose rows are taken out or changed by their rowids: all but `placement`
 abbrev pub changed_of : Rules → List Table
-changed_of rules = part ∷ alternate ∷ sheet_row ∷ selected ∷ reel ∷ mount ∷ board ∷ found_tables rules
+changed_of rules = part ∷ alternate ∷ sheet_row ∷ selected ∷ reel ∷ mount ∷ board ∷ found_tables rules true
 
 abbrev pub changed_tables : List Table
 changed_tables = changed_of Two
 
 -- the rows of each of these tables are apart
 abbrev pub AreAllApartBy : Rules → Database → Type 0
-AreAllApartBy rules db = AllByRecursion (λ table. AreApart (db.trees table.tree)) (changed_of rules)
+AreAllApartBy rules db = AllByRecursion (λ table. AreApart (kept_in table db)) (changed_of rules)
 
 abbrev pub AreAllApart : Database → Type 0
 AreAllApart = AreAllApartBy Two

@@ -1,5 +1,5 @@
 -- The rows of the tables, and what edits make of them.
-use Rattle.std.specs.Prelude.{◌≡◌, ⊤, ℕ, pos, List, [], ◌∷◌, map, fold, string_bytes}
+use Rattle.std.specs.Prelude.{◌≡◌, ⊤, Bool, ℕ, pos, List, [], ◌∷◌, map, fold, string_bytes}
 use Rattle.std.specs.List.Sorted.{IsPermutation}
 use Rattle.sqlite.specs.declared.types.Value.TheVariants.{Int, Text}
 use Rattle.sqlite_value.specs.Order.{Row, column}
@@ -49,15 +49,16 @@ pub record Tables : Type 0 where
   pub accepted : List Row
   pub state : StateTables
 
--- the database has the schema of the rules, and these tables, and a rowid is that of one row
+-- the database has the schema of the rules in one layout, and these tables, and a rowid is that of one row
 pub record HoldsBy (rules : Rules) (db : Database) (tables : Tables) : Type 0 where
-  pub schema : db.schema ≡ schema_of rules
+  pub indexed : Bool
+  pub schema : db.schema ≡ schema_of rules indexed
   pub version : version_in db ≡ version_row rules tables.greatest ∷ []
   pub accepted : IsPermutation (accepted_in db) tables.accepted
   pub state : HoldsStateBy rules db tables.state
   pub apart : AreAllApartBy rules db
 
--- the tables as they are made
+-- the tables of version 2, as they are made
 abbrev pub Holds : Database → Tables → Type 0
 Holds = HoldsBy Two
 

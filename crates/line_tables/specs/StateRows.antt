@@ -68,9 +68,13 @@ found_columns reel pieces = Text reel ∷ Int (pos pieces) ∷ []
 abbrev pub columns : Table → Row → Row
 columns table r = map (λ at. column r (place_of table at)) (range_with_len 0 (length table.columns))
 
--- the rows of a table of ours
+-- the rows of a table of ours as they are kept
+abbrev pub kept_in : Table → Database → List Row
+kept_in table db = db.trees (line.tree_in table db.schema)
+
+-- and by their columns
 abbrev pub rows_in : Table → Database → List Row
-rows_in table db = map (columns table) (db.trees table.tree)
+rows_in table db = map (columns table) (kept_in table db)
 
 -- ---- keys
 

@@ -18,6 +18,7 @@ use sqlite::{Alter, Connection, Error, ErrorCode, Transaction, params};
 /// In an open transaction of the caller's nothing is done; a name that is taken is `NameTaken`.
 pub fn make<S: Alter>(conn: &mut Connection<S>, greatest: u32) -> Result<(), Error>
     ensures made { HasCleanDisk (state S.Store conn.new) → OnOk result ((state S.Store conn.old).now.schema ≡ no_schema → Holds (state S.Store conn.new).committed (blank greatest)) }
+    ensures layout { HasCleanDisk (state S.Store conn.new) → OnOk result ((state S.Store conn.old).now.schema ≡ no_schema → (state S.Store conn.new).committed.schema ≡ line_schema) }
     ensures stays_open { HasCleanDisk (state S.Store conn.new) → OnOk result (IsTrue (state S.Store conn.old).is_open × IsTrue (state S.Store conn.new).is_open) }
     ensures neither { HasCleanDisk (state S.Store conn.new) → OnErr result (KeepsCommit (state S.Store conn.old) (state S.Store conn.new)) }
     ensures alone { HasCleanDisk (state S.Store conn.new) → OnOk result ((trees : Trees) → (state S.Store conn.new).may_leave trees → LeavesBlank greatest (state S.Store conn.old) trees) }

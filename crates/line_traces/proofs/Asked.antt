@@ -19,8 +19,9 @@ use Rattle.sqlite.specs.declared.types.Value.TheVariants.{Text}
 use Rattle.line_tables.specs.Line as line
 use Rattle.line_tables.specs.Calls.{Selects}
 use Rattle.line_tables.specs.StateRows.{has_text, columns, rows_in}
-use Rattle.line_tables.proofs.FindTexts.{IsSelect, rows_from}
-use Rattle.line_tables.proofs.Finds.{answer_of, rows_answer, shown_of, shown_is, and_true, overlay_none}
+use Rattle.line_tables.specs.Line.{tree_in}
+use Rattle.line_tables.proofs.FindTexts.{IsSelectBy, rows_from}
+use Rattle.line_tables.proofs.Finds.{answer_by, rows_answer, shown_of, shown_is, and_true, overlay_none}
 use Rattle.line_traces.specs.Pieces.{is_board, is_lot}
 use Rattle.line_traces.specs.Committed.{HoldsList, Tells}
 use Rattle.line_traces.proofs.Named.{is_any, board-named, lot-named}
@@ -32,18 +33,19 @@ any-shown show passing rows same b is = ap not is ∙ ap (λ n. not (n == 0)) (l
 
 module _ {S : Type 0} (g : Ghosts S) (old : Held S) (rows : List Row) (b : Bool) where
   -- a query of one column by a test tells what holds just where some row of the table passes
-  asks : (sql : List ℕ) (table : Table) (test project : List Term) (names : List (List ℕ)) → IsSelect sql (rows_from table.tree test project) names → (params : Row) (has : Row → Bool) (show : Row → Row)
-      → ((r : Row) → list_all (holds (params ∷ r ∷ [])) test ≡ has (columns table r)) → ((r : Row) → (output (rows_from table.tree test project) (params ∷ r ∷ [])).1 ≡ show (columns table r))
+  asks : (sql : List ℕ) (table : Table) (test project : List Term) (names : List (List ℕ)) → IsSelectBy sql (λ schema. rows_from (tree_in table schema) test project) names → (params : Row) (has : Row → Bool) (show : Row → Row)
+      → ((r : Row) → list_all (holds (params ∷ r ∷ [])) test ≡ has (columns table r)) → ((r : Row) → (output (rows_from 0 test project) (params ∷ r ∷ [])).1 ≡ show (columns table r))
       → (of : History → Bool) → ((db : Database) (H : History) → HoldsList db H → is_any (filter has (rows_in table db)) ≡ of H)
       → Selects g sql params old rows → b ≡ (length rows == 0) → Tells of (state g old) (not b)
   asks sql table test project names text params has show passes out of named h is = record {
     was_open = h.was_open;
     are = λ schema H held.
         let db = (state g old).committed in
-        let q = rows_from table.tree test project in
+        let at = tree_in table db.schema in
+        let q = rows_from at test project in
         any-shown show (filter has (rows_in table db)) rows
-        (subst (λ l. IsPermutation l rows) (ap (shown_of q params) (overlay_none db.trees table.tree) ∙ shown_is q params (columns table) show has passes out (db.trees table.tree))
-        (rows_answer table.tree test project (overlay db.trees []) params rows (answer_of g sql q names text params old rows h schema))) b is
+        (subst (λ l. IsPermutation l rows) (ap (shown_of q params) (overlay_none db.trees at) ∙ shown_is q params (columns table) show has passes out (db.trees at))
+        (rows_answer at test project (overlay db.trees []) params rows (answer_by g sql (λ schema. rows_from (tree_in table schema) test project) names text params old rows h schema))) b is
         ∙ named db H held;
   }
 

@@ -41,7 +41,7 @@ on_board = op2 (Compare Eq Binary) (col 2 3) (col 0 0)
 
 pub select_on_is : IsSelect select_on (pieces_query on_board) pieces_names
 unfolding understood everything
-select_on_is rules = inl (refl, refl, (refl, refl))
+select_on_is rules indexed = inl (refl, refl, (refl, refl))
 
 abbrev pub select_of_lot : List ℕ
 select_of_lot = codes "SELECT p.number, p.place, p.board, p.designator, r.part, r.lot, p.reel, p.machine, p.slot, a.effective, p.overdue FROM reel r JOIN placement p ON r.reel = p.reel JOIN accepted a ON a.number = p.number WHERE r.lot = ?1 ORDER BY p.number, p.place"
@@ -52,7 +52,7 @@ of_lot = op2 (Compare Eq Binary) (col 1 3) (col 0 0)
 
 pub select_of_lot_is : IsSelect select_of_lot (pieces_query of_lot) pieces_names
 unfolding understood everything
-select_of_lot_is rules = inl (refl, refl, (refl, refl))
+select_of_lot_is rules indexed = inl (refl, refl, (refl, refl))
 
 abbrev pub select_overdue : List ℕ
 select_overdue = codes "SELECT p.number, p.place, p.board, p.designator, r.part, r.lot, p.reel, p.machine, p.slot, a.effective, p.overdue FROM reel r JOIN placement p ON r.reel = p.reel JOIN accepted a ON a.number = p.number WHERE p.overdue = 1 ORDER BY p.number, p.place"
@@ -63,7 +63,7 @@ is_overdue = op2 (Compare Eq Binary) (col 2 8) (lit (Int (pos 1)))
 
 pub select_overdue_is : IsSelect select_overdue (pieces_query is_overdue) pieces_names
 unfolding understood everything
-select_overdue_is rules = inl (refl, refl, (refl, refl))
+select_overdue_is rules indexed = inl (refl, refl, (refl, refl))
 
 -- ---- names
 
@@ -75,7 +75,7 @@ board_query = rows_from 15 (op2 (Compare Eq Binary) (col 1 1) (col 0 0) ∷ []) 
 
 pub select_board_is : IsSelect select_board board_query (codes "board" ∷ [])
 unfolding understood everything
-select_board_is rules = inl (refl, refl, (refl, refl))
+select_board_is rules indexed = inl (refl, refl, (refl, refl))
 
 abbrev pub select_reels : List ℕ
 select_reels = codes "SELECT reel FROM reel WHERE lot = ?1"
@@ -85,7 +85,7 @@ reels_query = rows_from 11 (op2 (Compare Eq Binary) (col 1 3) (col 0 0) ∷ []) 
 
 pub select_reels_is : IsSelect select_reels reels_query (codes "reel" ∷ [])
 unfolding understood everything
-select_reels_is rules = inl (refl, refl, (refl, refl))
+select_reels_is rules indexed = inl (refl, refl, (refl, refl))
 
 abbrev pub select_names : List ℕ
 select_names = codes "SELECT DISTINCT p.board FROM reel r JOIN placement p ON r.reel = p.reel WHERE r.lot = ?1 ORDER BY p.board"
@@ -106,4 +106,4 @@ names_query = record {
 
 pub select_names_is : IsSelect select_names names_query (codes "board" ∷ [])
 unfolding understood everything
-select_names_is rules = inl (refl, refl, (refl, refl))
+select_names_is rules indexed = inl (refl, refl, (refl, refl))

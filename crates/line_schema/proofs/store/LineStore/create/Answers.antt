@@ -19,4 +19,4 @@ returns-in-Ok-clause-stands g c = record {
 }
 
 pub returns-in-Ok-clause-alone : goal.returns-in-Ok-clause-alone
-returns-in-Ok-clause-alone g c clean own trees left = (c.in-Ok.ensures.alone clean trees left).holds (blank_is _ own)
+returns-in-Ok-clause-alone g c clean own trees left = ((c.in-Ok.ensures.alone clean trees left).holds (blank_is _ own)).0
