@@ -22,3 +22,4 @@ pub mod Migration
 pub mod RowidTexts
 pub mod Rising
 pub mod Placing
+pub mod Between

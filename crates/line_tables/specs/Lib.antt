@@ -6,3 +6,4 @@ pub mod StateRows
 pub mod Rowids
 pub mod Rising
 pub mod Placing
+pub mod Shown

@@ -1,0 +1,35 @@
+//! Placements by their rowids.
+
+ghost use Rattle.std.specs.Prelude.{◌≡◌, false, Err, IsTrue, IfOk};
+ghost use Rattle.sqlite.specs.declared.error.Error.TheVariants as Error;
+ghost use Rattle.sqlite.specs.declared.error.ErrorCode.TheVariants as code;
+ghost use Rattle.sqlite.specs.State.{HasCleanDisk, Survives, KeepsCommit};
+ghost use Rattle.sqlite.specs.Held.{state};
+ghost use Rattle.line_tables.specs.Line as line;
+ghost use Rattle.line_tables.specs.Calls.{Reads};
+ghost use Rattle.line_tables.specs.Shown.{AreOf};
+
+use crate::select::select;
+use sqlite::types::ValueRef;
+use sqlite::{Alter, Connection, Error, Row};
+
+/// The rows of `placement` whose rowids are between these two, both of them too, by rowid. In a file of
+/// ours a rowid goes by number and place; in any other it may be that of another piece, so whoever asks
+/// looks at each row.
+pub fn placements_between<S: Alter>(
+    conn: &mut Connection<S>,
+    first: i64,
+    last: i64,
+) -> Result<Vec<Row>, Error>
+    ensures shown { HasCleanDisk (state S.Store conn.new) → IfOk result (λ rows. Reads (state S.Store conn.old) (AreOf line.placement rows.items)) }
+    ensures kept { HasCleanDisk (state S.Store conn.new) → KeepsCommit (state S.Store conn.old) (state S.Store conn.new) }
+    ensures inside { IsTrue conn.old.in_transaction → (result ≡ Err (Error.SqliteFailure code.TransactionState)) × (conn.new ≡ conn.old) }
+    ensures mode { conn.old.in_transaction ≡ false → conn.new.in_transaction ≡ false }
+    ensures survives { Survives (state S.Store conn.old) (state S.Store conn.new) (λ _. ⊥) }
+{
+    select(
+        conn,
+        "SELECT number, place, board, designator, machine, slot, reel, overdue FROM placement WHERE rowid >= ?1 AND rowid <= ?2",
+        &[ValueRef::Int(first), ValueRef::Int(last)],
+    )
+}
