@@ -45,7 +45,7 @@ placement_places = col 1 1 ∷ col 1 2 ∷ col 1 3 ∷ col 1 4 ∷ col 1 5 ∷ c
 
 select_between_is : IsSelect select_between (rows_from 17 between_test placement_places) (codes "number" ∷ codes "place" ∷ codes "board" ∷ codes "designator" ∷ codes "machine" ∷ codes "slot" ∷ codes "reel" ∷ codes "overdue" ∷ [])
 unfolding understood everything
-select_between_is rules = inl (refl, refl, (refl, refl))
+select_between_is rules indexed = inl (refl, refl, (refl, refl))
 
 -- The rows between two rowids are of the table.
 pub shows-between : {S : Type 0} (g : Ghosts S) (old : Held S) (params : Row) (rows : List Row) → Selects g select_between params old rows → Reads (state g old) (AreOf line.placement rows)
