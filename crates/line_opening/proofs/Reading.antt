@@ -35,6 +35,7 @@ use Rattle.line_replay.proofs.Reading.{reads_as, reads_back}
 use Rattle.line_opening.specs.declared.fault.OpenFault.{OpenFault}
 use Rattle.line_opening.specs.declared.fault.OpenFault.TheVariants.{NotADesk, OtherVersion, NotLawful, TableDiffers, NotBlank, Unavailable}
 use Rattle.line_opening.specs.declared.opening.Opened.{Opened}
+use Rattle.trace_lists.specs.Lists.{IsListed}
 use Rattle.line_opening.specs.Opening.{IsGreatest, IsVersion, IsNoDeskBy, IsFaultBy, IsOpened, IsNamedBy, IsOfVersion, IsToldBy, told_as}
 
 -- ---- the row of `version`
@@ -94,10 +95,11 @@ none_found rules H judged is reel =
     ap (λ (n : ℕ). if n == 0 then None else Some n) (nothing-found H reel (subst (λ (r : Rules). IsJudged r H) is judged))
 
 pub opened_on : {D : Type 0} (F : D → History → Type 0) (K : D → Rules) (Before After : Type 0) (old mid : State) (rules : Rules) (desk : D) (beside : Beside) (count : ℕ) (opened : Opened D) (H : History) → (After → Before)
-    → IsReplayed F rules opened.greatest Before mid desk beside count H → K desk ≡ rules → opened.desk ≡ desk → opened.count ≡ count → opened.greatest ≤ MOST_ENTRIES → (After → KeepsCommit old mid)
+    → IsReplayed F rules opened.greatest Before mid desk beside count H → IsListed opened.lists H → K desk ≡ rules → opened.desk ≡ desk → opened.count ≡ count → opened.greatest ≤ MOST_ENTRIES → (After → KeepsCommit old mid)
     → (After → Reads old (λ db. IsVersion db (pos (version_of rules)) opened.greatest)) → (After → Reads old (λ db. IsVerdict (state_tables rules) db (state_of H) None)) → (After → Reads old (λ db. AreAllApartBy rules db)) → IsOpened F K After old rules opened H
-opened_on F K Before After old mid rules desk beside count opened H early r kept_by is counted bound kept version state apart = record {
+opened_on F K Before After old mid rules desk beside count opened H early r listed kept_by is counted bound kept version state apart = record {
   stands = subst (λ d. F d H) (sym is) r.stands;
+  lists = listed;
   rules = ap K is ∙ kept_by;
   judged = r.judged;
   count = counted ∙ sym r.counted;

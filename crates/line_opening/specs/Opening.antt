@@ -25,6 +25,7 @@ use Rattle.line_opening.specs.declared.fault.OpenFault.{OpenFault}
 use Rattle.line_opening.specs.declared.fault.OpenFault.TheVariants.{NotADesk, OtherVersion, NotLawful, TableDiffers, NotBlank, Unavailable}
 use Rattle.line_opening.specs.declared.opening.Opened.{Opened}
 use Rattle.line_audit.specs.declared.table.StateTable.{StateTable}
+use Rattle.trace_lists.specs.Lists.{IsListed}
 
 -- a fault of reading the list again, as a fault of opening
 abbrev pub told_as : ReplayFault → OpenFault
@@ -106,9 +107,10 @@ fault_text (TableDiffers table) = codes "TableDiffers " ++ name_of table
 fault_text NotBlank = codes "NotBlank"
 fault_text Unavailable = codes "Unavailable"
 
--- The desk stands by the rules for a judged list of so many entries, no more than the greatest number. On a clean disk, where the schema is ours, that is the greatest number of `version`, the list is lawful, its rows are those that are committed, the other tables are the list's, and their rowids tell their rows apart.
+-- The desk stands by the rules for a judged list of so many entries, no more than the greatest number, and the lists list it. On a clean disk, where the schema is ours, that is the greatest number of `version`, the list is lawful, its rows are those that are committed, the other tables are the list's, and their rowids tell their rows apart.
 pub record IsOpened {D : Type 0} (StandsFor : D → History → Type 0) (kept_rules : D → Rules) (Clean : Type 0) (old : State) (by : Rules) (opened : Opened D) (H : History) : Type 0 where
   pub stands : StandsFor opened.desk H
+  pub lists : IsListed opened.lists H
   pub rules : kept_rules opened.desk ≡ by
   pub judged : IsJudged by H
   pub count : opened.count ≡ length H

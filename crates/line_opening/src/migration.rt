@@ -41,6 +41,7 @@ pub fn migrate<S: Alter, D: Desk + Drop>(
     }
     let Opened {
         desk: _desk,
+        lists: _lists,
         count,
         greatest: _greatest,
     } = read_tables::<S, D>(alloc, conn, Rules::One)?;

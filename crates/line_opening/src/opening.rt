@@ -17,10 +17,12 @@ use line_replay::{Replayed, replay};
 use line_tables::{Version, are_apart, find_version, has_accepted, has_state, has_version};
 use sqlite::{Alter, Connection};
 use std::alloc::Global;
+use trace_lists::TraceLists;
 
-/// The desk of a list, how many entries it has, and how many it may have.
+/// The desk of a list, the lists beside it, how many entries it has, and how many it may have.
 pub struct Opened<D: Desk + Drop> {
     pub desk: D,
+    pub lists: TraceLists,
     pub count: u32,
     pub greatest: u32,
 }
@@ -51,6 +53,7 @@ pub fn read_tables<S: Alter, D: Desk + Drop>(
     }
     let Replayed {
         desk,
+        lists,
         count,
         beside,
     } = replay(alloc, conn, rules, greatest)?;
@@ -62,6 +65,7 @@ pub fn read_tables<S: Alter, D: Desk + Drop>(
     match other {
         None => Ok(Opened {
             desk,
+            lists,
             count,
             greatest,
         }),

@@ -15,7 +15,8 @@ use Rattle.line_replay.specs.Listed.{IsAt}
 use Rattle.line_replay.specs.declared.beside.Beside.{Beside}
 use Rattle.line_replay.specs.declared.fault.ReplayFault.{ReplayFault}
 use Rattle.line_replay.specs.declared.fault.ReplayFault.TheVariants.{NotLawful, Unavailable}
-use Rattle.line_replay.specs.Replay.{Goes, IsStuck, IsStop, IsTaken}
+use Rattle.line_replay.specs.Replay.{StandsListed, Goes, IsStuck, IsStop, IsTaken}
+use Rattle.trace_lists.specs.declared.lists.TraceLists.{TraceLists}
 use Rattle.line_replay.proofs.Adding.{beside_more}
 use Rattle.line_replay.proofs.Reading.{reads_back, reads_two}
 
@@ -81,3 +82,8 @@ fault_taken F rules greatest old mid Clean desk beside count H clean kept taken 
 fault_taken F rules greatest old mid Clean desk beside count H clean kept taken low f (inr stop) =
     let stuck = reads_back old mid _ kept stop.1 in
     inr (count + 1, stop.0, (H, taken.judged, omega (arith, taken.counted), low, record { was_open = stuck.was_open; are = λ schema. (taken.rows clean schema, stuck.are schema) }))
+
+-- what is taken into a desk with lists is taken into the desk
+pub desk-taken : {D : Type 0} {F : D → History → Type 0} {rules : Rules} {Clean : Type 0} {db : Database} {desk : D} {lists : TraceLists} {beside : Beside} {count : ℕ} {H : History}
+    → IsTaken (StandsListed F) rules Clean db (desk, lists) beside count H → IsTaken F rules Clean db desk beside count H
+desk-taken taken = record { stands = taken.stands.0; judged = taken.judged; counted = taken.counted; rows = taken.rows; others = taken.others }

@@ -18,6 +18,8 @@ use Rattle.line_replay.specs.declared.beside.Beside.{Beside}
 use Rattle.line_replay.specs.Beside.{IsBeside, Adds}
 use Rattle.line_rows.specs.Judging.{GoesOn, Lead}
 use Rattle.state_tables.specs.declared.edit.RowEdit.{RowEdit}
+use Rattle.trace_lists.specs.declared.lists.TraceLists.{TraceLists}
+use Rattle.trace_lists.specs.Lists.{IsListed}
 
 -- The desk stands for a judged list of so many entries, no more than the greatest number, and the rows beside it are the list's; on a clean disk the list is lawful, and the rows of accepted commands that are committed are its rows.
 pub record IsReplayed {D : Type 0} (StandsFor : D → History → Type 0) (rules : Rules) (greatest : ℕ) (Clean : Type 0) (old : State) (desk : D) (beside : Beside) (count : ℕ) (H : History) : Type 0 where
@@ -34,6 +36,10 @@ IsFaultOf rules greatest old (NotLawful n) = Reads old (λ db. StopsAt rules gre
 IsFaultOf rules greatest old Unavailable = ⊤
 
 -- ---- on the way
+
+-- A desk with the lists beside it stands for a list: so does the desk, and the lists list it.
+abbrev pub StandsListed : {D : Type 0} → (D → History → Type 0) → D × TraceLists → History → Type 0
+StandsListed StandsFor it H = StandsFor it.0 H × IsListed it.1 H
 
 -- there is no row, or the least number is 1
 abbrev pub IsNumbered : List Row → Type 0

@@ -9,6 +9,7 @@ ghost use Rattle.desk_types.specs.Judged.{IsJudged};
 ghost use Rattle.line_tables.specs.Rows.{Holds};
 ghost use Rattle.line_rows.specs.Rows.{tables_of};
 ghost use Rattle.line_replay.specs.Replay.{IsReplayed, IsFaultOf};
+ghost use Rattle.trace_lists.specs.Lists.{IsListed};
 
 use crate::beside::Beside;
 use crate::fault::ReplayFault;
@@ -17,10 +18,12 @@ use desk_types::{Desk, Rules};
 use line_rows::rows_tell_lists_apart;
 use sqlite::{Alter, Connection};
 use std::alloc::Global;
+use trace_lists::TraceLists;
 
-/// A desk, how many entries its list has, and the rows of the other tables.
+/// A desk, the lists beside it, how many entries its list has, and the rows of the other tables.
 pub struct Replayed<D: Desk + Drop> {
     pub desk: D,
+    pub lists: TraceLists,
     pub count: u32,
     pub beside: Beside,
 }
@@ -35,7 +38,7 @@ pub fn replay<S: Alter, D: Desk + Drop>(
     greatest: u32,
 ) -> Result<Replayed<D>, ReplayFault>
     requires bound { greatest ≤ MOST_ENTRIES }
-    ensures list { IfOk result (λ r. (H : History) × IsReplayed D.Stands rules greatest (HasCleanDisk (state S.Store conn.new)) (state S.Store conn.old) r.desk r.beside r.count H) }
+    ensures list { IfOk result (λ r. (H : History) × IsReplayed D.Stands rules greatest (HasCleanDisk (state S.Store conn.new)) (state S.Store conn.old) r.desk r.beside r.count H × IsListed r.lists H) }
     ensures rules { IfOk result (λ r. D.kept_rules r.desk ≡ rules) }
     ensures fault { HasCleanDisk (state S.Store conn.new) → IfErr result (IsFaultOf rules greatest (state S.Store conn.old)) }
     ensures kept { HasCleanDisk (state S.Store conn.new) → KeepsCommit (state S.Store conn.old) (state S.Store conn.new) }
@@ -44,14 +47,16 @@ pub fn replay<S: Alter, D: Desk + Drop>(
 {
     least_is_one(conn)?;
     let mut desk = D::fresh(alloc, rules);
+    let mut lists = TraceLists::new(alloc);
     let mut beside = Beside::new(alloc);
-    let count = take_rows(alloc, conn, &mut desk, &mut beside, greatest)?;
+    let count = take_rows(alloc, conn, &mut desk, &mut lists, &mut beside, greatest)?;
     let all = are_all(conn, count)?;
     if !all {
         return Err(ReplayFault::NotLawful(count + 1));
     }
     Ok(Replayed {
         desk,
+        lists,
         count,
         beside,
     })
@@ -67,8 +72,8 @@ pub fn rebuild<S: Alter, D: Desk + Drop>(
     greatest: u32,
 ) -> Option<Replayed<D>>
     requires bound { greatest ≤ MOST_ENTRIES }
-    ensures list { IfSome result (λ r. (H : History) × IsReplayed D.Stands rules greatest (HasCleanDisk (state S.Store conn.new)) (state S.Store conn.old) r.desk r.beside r.count H) }
-    ensures same { (G : History) → IsJudged rules G → (IsTrue (state S.Store conn.old).is_open → Holds (state S.Store conn.old).committed (tables_of greatest G)) → HasCleanDisk (state S.Store conn.new) → IfSome result (λ r. D.Stands r.desk G × (r.count ≡ length G)) }
+    ensures list { IfSome result (λ r. (H : History) × IsReplayed D.Stands rules greatest (HasCleanDisk (state S.Store conn.new)) (state S.Store conn.old) r.desk r.beside r.count H × IsListed r.lists H) }
+    ensures same { (G : History) → IsJudged rules G → (IsTrue (state S.Store conn.old).is_open → Holds (state S.Store conn.old).committed (tables_of greatest G)) → HasCleanDisk (state S.Store conn.new) → IfSome result (λ r. D.Stands r.desk G × (r.count ≡ length G) × IsListed r.lists G) }
     ensures rules { IfSome result (λ r. D.kept_rules r.desk ≡ rules) }
     ensures kept { HasCleanDisk (state S.Store conn.new) → KeepsCommit (state S.Store conn.old) (state S.Store conn.new) }
     ensures mode { conn.old.in_transaction ≡ false → conn.new.in_transaction ≡ false }

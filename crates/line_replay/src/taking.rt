@@ -15,7 +15,8 @@ ghost use Rattle.line_tables.specs.Calls.{Reads, is_before};
 ghost use Rattle.line_rows.specs.Judging.{GoesOn};
 ghost use Rattle.line_replay.specs.declared.fault.ReplayFault.TheVariants.{NotLawful, Unavailable};
 ghost use Rattle.line_replay.specs.Beside.{IsBeside};
-ghost use Rattle.line_replay.specs.Replay.{IsFaultOf, IsNumbered, IsStuck, Accepts, Goes, IsTaken, IsEnd, IsStop};
+ghost use Rattle.line_replay.specs.Replay.{IsFaultOf, IsNumbered, IsStuck, StandsListed, Accepts, Goes, IsTaken, IsEnd, IsStop};
+ghost use Rattle.trace_lists.specs.Lists.{IsListed};
 
 use crate::beside::Beside;
 use crate::fault::ReplayFault;
@@ -25,6 +26,7 @@ use line_tables::{count, is_repeat, least_number, row_at};
 use sqlite::{Alter, Connection, Row};
 use state_tables::RowEdits;
 use std::alloc::Global;
+use trace_lists::TraceLists;
 
 /// Asks that the least number is 1, where there is a row.
 pub fn least_is_one<S: Alter>(conn: &mut Connection<S>) -> Result<(), ReplayFault>
@@ -53,19 +55,21 @@ pub fn are_all<S: Alter>(conn: &mut Connection<S>, taken: u32) -> Result<bool, R
     Ok(count(conn)? == u64::from(taken))
 }
 
-/// Takes row after row, up to the greatest number, into a desk of an empty list, with the rows that
-/// the other tables should have. Answers how many.
+/// Takes row after row, up to the greatest number, into a desk and lists of an empty list, with the
+/// rows that the other tables should have. Answers how many.
 pub fn take_rows<S: Alter, D: Desk>(
     alloc: Global,
     conn: &mut Connection<S>,
     desk: &mut D,
+    lists: &mut TraceLists,
     beside: &mut Beside,
     greatest: u32,
 ) -> Result<u32, ReplayFault>
     requires fresh { D.Stands desk.old [] }
+    requires empty { IsListed lists.old [] }
     requires none { (db : Database) → IsBeside ⊤ db beside.old [] }
     requires bound { greatest ≤ MOST_ENTRIES }
-    ensures taken { IfOk result (λ n. (H : History) × (n ≤ greatest) × IsTaken D.Stands (D.kept_rules desk.old) (HasCleanDisk (state S.Store conn.new)) (state S.Store conn.old).committed desk.new beside.new n H) }
+    ensures taken { IfOk result (λ n. (H : History) × (n ≤ greatest) × IsTaken (StandsListed D.Stands) (D.kept_rules desk.old) (HasCleanDisk (state S.Store conn.new)) (state S.Store conn.old).committed (desk.new, lists.new) beside.new n H) }
     ensures ends { HasCleanDisk (state S.Store conn.new) → IfOk result (IsEnd greatest (state S.Store conn.old)) }
     ensures err { HasCleanDisk (state S.Store conn.new) → IfErr result (λ f. (f ≡ Unavailable) ⊎ ((n : ℕ) × (f ≡ NotLawful n) × IsStop (D.kept_rules desk.old) greatest (state S.Store conn.old) n)) }
     ensures rules { OnOk result (D.kept_rules desk.new ≡ D.kept_rules desk.old) }
@@ -74,7 +78,7 @@ pub fn take_rows<S: Alter, D: Desk>(
     ensures survives { Survives (state S.Store conn.old) (state S.Store conn.new) (λ _. ⊥) }
 {
     for number in 0..greatest {
-        let taken = take_row(alloc, conn, desk, beside, number + 1)?;
+        let taken = take_row(alloc, conn, desk, lists, beside, number + 1)?;
         if !taken {
             return Ok(number);
         }
@@ -87,11 +91,12 @@ fn take_row<S: Alter, D: Desk>(
     alloc: Global,
     conn: &mut Connection<S>,
     desk: &mut D,
+    lists: &mut TraceLists,
     beside: &mut Beside,
     number: u32,
 ) -> Result<bool, ReplayFault>
     requires room { HasRoom D.Stands desk.old 1 }
-    ensures ok { (H : History) → D.Stands desk.old H → length H + 1 ≡ number → IfOk result (Goes D.Stands (D.kept_rules desk.old) (HasCleanDisk (state S.Store conn.new)) (state S.Store conn.old) H beside.old desk.new beside.new) }
+    ensures ok { (H : History) → StandsListed D.Stands (desk.old, lists.old) H → length H + 1 ≡ number → IfOk result (Goes (StandsListed D.Stands) (D.kept_rules desk.old) (HasCleanDisk (state S.Store conn.new)) (state S.Store conn.old) H beside.old (desk.new, lists.new) beside.new) }
     ensures err { (H : History) → D.Stands desk.old H → length H + 1 ≡ number → HasCleanDisk (state S.Store conn.new) → IfErr result (λ f. (f ≡ Unavailable) ⊎ ((f ≡ NotLawful number) × Reads (state S.Store conn.old) (λ db. IsStuck (D.kept_rules desk.old) H (accepted_in db)))) }
     ensures rules { OnOk result (D.kept_rules desk.new ≡ D.kept_rules desk.old) }
     ensures kept { HasCleanDisk (state S.Store conn.new) → KeepsCommit (state S.Store conn.old) (state S.Store conn.new) }
@@ -101,7 +106,7 @@ fn take_row<S: Alter, D: Desk>(
     let found = row_at(conn, number)?;
     match found {
         Some(row) => {
-            let edits = accept_first(alloc, conn, desk, number, &row)?;
+            let edits = accept_first(alloc, conn, desk, lists, number, &row)?;
             beside.add(alloc, conn, u64::from(number), edits.as_slice())?;
             Ok(true)
         }
@@ -114,18 +119,19 @@ fn accept_first<S: Alter, D: Desk>(
     alloc: Global,
     conn: &mut Connection<S>,
     desk: &mut D,
+    lists: &mut TraceLists,
     number: u32,
     row: &Row,
 ) -> Result<RowEdits, ReplayFault>
     requires room { HasRoom D.Stands desk.old 1 }
-    ensures ok { (H : History) → D.Stands desk.old H → length H + 1 ≡ number → IfOk result (Accepts D.Stands (D.kept_rules desk.old) (HasCleanDisk (state S.Store conn.new)) (state S.Store conn.old) number row.now H desk.new) }
+    ensures ok { (H : History) → StandsListed D.Stands (desk.old, lists.old) H → length H + 1 ≡ number → IfOk result (Accepts (StandsListed D.Stands) (D.kept_rules desk.old) (HasCleanDisk (state S.Store conn.new)) (state S.Store conn.old) number row.now H (desk.new, lists.new)) }
     ensures err { (H : History) → D.Stands desk.old H → length H + 1 ≡ number → HasCleanDisk (state S.Store conn.new) → IfErr result (λ f. (f ≡ Unavailable) ⊎ ((f ≡ NotLawful number) × ((e : Entry) → GoesOn (D.kept_rules desk.old) H row.now e → Reads (state S.Store conn.old) (λ db. list_any (is_before e.stamped.uid number) (accepted_in db) ≡ true)))) }
     ensures rules { OnOk result (D.kept_rules desk.new ≡ D.kept_rules desk.old) }
     ensures kept { HasCleanDisk (state S.Store conn.new) → KeepsCommit (state S.Store conn.old) (state S.Store conn.new) }
     ensures mode { conn.old.in_transaction ≡ false → conn.new.in_transaction ≡ false }
     ensures survives { Survives (state S.Store conn.old) (state S.Store conn.new) (λ _. ⊥) }
 {
-    match accept_row(alloc, desk, u64::from(number), row) {
+    match accept_row(alloc, desk, lists, number, row) {
         Ok(Taken { uid, edits }) => {
             let repeated = is_repeat(conn, uid.as_str(), number)?;
             if repeated {

@@ -6,6 +6,7 @@ ghost use Rattle.desk_types.specs.Desk.{HasRoom};
 ghost use Rattle.desk_types.specs.History.{History};
 ghost use Rattle.line_rows.specs.declared.fault.RowFault.TheVariants.{NotLawful, NoMemory};
 ghost use Rattle.line_rows.specs.Judging.{GoesOn, Lead};
+ghost use Rattle.trace_lists.specs.Lists.{IsListed};
 
 use crate::fault::RowFault;
 use crate::reading::{says, stamped_of};
@@ -16,6 +17,7 @@ use state_rows::rows_of;
 use state_tables::RowEdits;
 use std::alloc::Global;
 use stored_texts::texts_tell_commands_apart;
+use trace_lists::TraceLists;
 
 /// The UniqueID of an accepted command, and its edits of the state tables.
 pub struct Taken {
@@ -24,16 +26,17 @@ pub struct Taken {
 }
 
 /// Accepts the command of the row once more, where it has this number and the row is just what
-/// accepting it gives, and answers its UniqueID and its edits. UniqueIDs are the caller's to compare, and so is
-/// the greatest number. After an `Err` nothing is known of the desk: drop it.
+/// accepting it gives, notes it in the lists, and answers its UniqueID and its edits. UniqueIDs are the caller's
+/// to compare, and so is the greatest number. After an `Err` nothing is known of the desk and the lists: drop them.
 pub fn accept_row<D: Desk>(
     alloc: Global,
     desk: &mut D,
-    number: u64,
+    lists: &mut TraceLists,
+    number: u32,
     row: &Row,
 ) -> Result<Taken, RowFault>
     requires room { HasRoom D.Stands desk.old 1 }
-    ensures ok { (H : History) → D.Stands desk.old H → length H + 1 ≡ number → IfOk result (λ it. (e : Entry) × (e.stamped.uid ≡ it.uid) × D.Stands desk.new (e ∷ H) × GoesOn (D.kept_rules desk.old) H row.now e × Lead it.edits H e) }
+    ensures ok { (H : History) → D.Stands desk.old H → length H + 1 ≡ number → IfOk result (λ it. (e : Entry) × (e.stamped.uid ≡ it.uid) × D.Stands desk.new (e ∷ H) × GoesOn (D.kept_rules desk.old) H row.now e × Lead it.edits H e × (IsListed lists.old H → IsListed lists.new (e ∷ H))) }
     ensures err { (H : History) → D.Stands desk.old H → length H + 1 ≡ number → IfErr result (λ f. (f ≡ NoMemory) ⊎ ((f ≡ NotLawful) × ((e : Entry) → GoesOn (D.kept_rules desk.old) H row.now e → ⊥))) }
     ensures rules { OnOk result (D.kept_rules desk.new ≡ D.kept_rules desk.old) }
 {
@@ -46,11 +49,12 @@ pub fn accept_row<D: Desk>(
         Ok(change) => {
             let uid = stamped.uid;
             let minute = change.minute.get();
-            let text = accepted_text(alloc, number, &uid, &change.detail)?;
-            if !says(row, number, minute, &text) {
+            let text = accepted_text(alloc, u64::from(number), &uid, &change.detail)?;
+            if !says(row, u64::from(number), minute, &text) {
                 return Err(RowFault::NotLawful);
             }
-            let edits = rows_of(alloc, &*desk, &change, number)?;
+            let edits = rows_of(alloc, &*desk, &change, u64::from(number))?;
+            lists.note(number, &change)?;
             desk.settle(change)?;
             Ok(Taken { uid, edits })
         }

@@ -1,5 +1,5 @@
 -- For which list a store stands after a call.
-use Rattle.std.proofs.Common.{◌≡◌, ◌∙◌, ◌+◌, ◌<◌, ◌≤◌, inl, refl, IsTrue, IfSome, IsSomeAnd, Option, Some, None, Result, Ok, Err, OnOk, OnErr, List, [], map, length, false, true≢false, sym, ap, subst, arith}
+use Rattle.std.proofs.Common.{◌≡◌, ◌∙◌, ◌+◌, ◌<◌, ◌≤◌, inl, refl, IsTrue, IfSome, IsSomeAnd, Option, Some, None, is_some, Result, Ok, Err, OnOk, OnErr, List, [], map, length, false, true≢false, sym, ap, subst, arith}
 use Rattle.std.specs.Prelude.{⊤}
 use Rattle.std.specs.List.{IsDistinct}
 use Rattle.std.proofs.lemmas.Map.Keys.{IsDistinct-cons}
@@ -33,6 +33,8 @@ use Rattle.line_rows.proofs.Judgements.{next_is, stamped_is}
 use Rattle.line_schema.specs.declared.store.LineStore.{LineStore}
 use Rattle.line_schema.specs.declared.unavailable.Unavailable.{Unavailable as Fault}
 use Rattle.line_schema.specs.Stands.{Kept, Stands, accepting}
+use Rattle.trace_lists.specs.declared.lists.TraceLists.{TraceLists}
+use Rattle.trace_lists.specs.Lists.{IsListed}
 
 -- a desk that may have judged it stands for the list
 pub judged_for : {D : Type 0} (F : D → History → Type 0) (K : D → Rules) (o : Option D) (H : History) (change : Change)
@@ -74,37 +76,26 @@ module _ {S D : Type 0} (g : Ghosts S) (F : D → History → Type 0) (K : D →
     within = s.within;
     judged = s.judged;
     desk = s.desk;
+    lists = s.lists;
+    beside = s.beside;
     mode = s.mode;
     lawful = λ clean own. absurd (true≢false (sym own));
     tables = λ clean own. absurd (true≢false (sym own));
   }
 
-  -- the connection read, and what is committed stayed
-  pub read_on : (old new : LineStore S D) → new.greatest ≡ old.greatest → new.count ≡ old.count → new.desk ≡ old.desk → new.conn.in_transaction ≡ false
-      → (HasCleanDisk (state g new.conn) → HasCleanDisk (state g old.conn)) → (HasCleanDisk (state g new.conn) → KeepsCommit (state g old.conn) (state g new.conn))
-      → (L : Kept) → Stands g F K old L → Stands g F K new L
-  read_on old new greatest count desk mode early kept L s = record {
-    greatest = greatest ∙ s.greatest;
-    bound = s.bound;
-    count = count ∙ s.count;
-    within = s.within;
-    judged = s.judged;
-    desk = subst (λ (o : Option D). IfSome o (λ d. F d L.history × (K d ≡ Two))) (sym desk) s.desk;
-    mode = mode;
-    lawful = λ clean own. s.lawful (early clean) own;
-    tables = λ clean own is_open. subst (λ (db : Database). Holds db (tables_of L.greatest L.history)) (sym ((kept clean).committed is_open)) (s.tables (early clean) own ((kept clean).was_open is_open));
-  }
-
-  -- the desk was made again
-  pub remade : (old new : LineStore S D) (d : D) (H : History) → new.greatest ≡ old.greatest → new.count ≡ length H → new.desk ≡ Some d → new.conn.in_transaction ≡ false → F d H → K d ≡ Two → IsJudged Two H
+  -- the desk and the lists were made again
+  pub remade : (old new : LineStore S D) (d : D) (l : TraceLists) (H : History) → new.greatest ≡ old.greatest → new.count ≡ length H → new.desk ≡ Some d → new.lists ≡ Some l → new.conn.in_transaction ≡ false
+      → F d H → IsListed l H → K d ≡ Two → IsJudged Two H
       → (L : Kept) → Stands g F K old L → length H ≤ L.greatest → Stands g F K new (record { greatest = L.greatest; history = H; own = false })
-  remade old new d H greatest count desk mode stands rules judged L s within = record {
+  remade old new d l H greatest count desk lists mode stands listed rules judged L s within = record {
     greatest = greatest ∙ s.greatest;
     bound = s.bound;
     count = count;
     within = within;
     judged = judged;
     desk = subst (λ (o : Option D). IfSome o (λ d. F d H × (K d ≡ Two))) (sym desk) (stands, rules);
+    lists = subst (λ (o : Option TraceLists). IfSome o (λ l. IsListed l H)) (sym lists) listed;
+    beside = ap is_some lists ∙ sym (ap is_some desk);
     mode = mode;
     lawful = λ clean own. absurd (true≢false (sym own));
     tables = λ clean own. absurd (true≢false (sym own));
@@ -114,17 +105,20 @@ module _ {S D : Type 0} (g : Ghosts S) (F : D → History → Type 0) (K : D →
   pub stands_on : (old new : LineStore S D) (L : Kept) (change : Change) (edits : List Edit) → Stands g F K old L → old.count < old.greatest
       → IsChange Two L.history change.stamped change → IsStamped change.stamped → IsMinute change.minute
       → new.count ≡ old.count + 1 → new.greatest ≡ old.greatest → new.conn.in_transaction ≡ false → IfSome new.desk (λ d. F d (accept L.history change.stamped) × (K d ≡ Two))
+      → IfSome new.lists (λ l. IsListed l (accept L.history change.stamped)) → is_some new.lists ≡ is_some new.desk
       → edited edits (tables_of L.greatest L.history) ≡ tables_of L.greatest (accept L.history change.stamped) → AreNew edits (tables_of L.greatest L.history)
       → (HasCleanDisk (state g new.conn) → HasCleanDisk (state g old.conn)) → (HasCleanDisk (state g new.conn) → Edits edits (state g old.conn).committed (state g new.conn).committed)
       → (HasCleanDisk (state g new.conn) → IsTrue (state g old.conn).is_open) → (HasCleanDisk (state g new.conn) → IsTrue L.own → earlier_answer L.history change.stamped ≡ None)
       → Stands g F K new (accepting L change.stamped)
-  stands_on old new L change edits s room is stamped minute count greatest mode desk after fresh early done was_open first = record {
+  stands_on old new L change edits s room is stamped minute count greatest mode desk lists beside after fresh early done was_open first = record {
     greatest = greatest ∙ s.greatest;
     bound = s.bound;
     count = omega (arith, count, s.count);
     within = omega (arith, room, s.count, s.greatest);
     judged = judged;
     desk = desk;
+    lists = lists;
+    beside = beside;
     mode = mode;
     lawful = λ clean own. lawful_on L.greatest L.history change.stamped (s.lawful (early clean) own) judged (first clean own) (omega (arith, room, s.count, s.greatest));
     tables = λ clean own is_open.

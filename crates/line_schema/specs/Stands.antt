@@ -19,6 +19,7 @@ use Rattle.line_tables.specs.Rows.{Holds, HoldsAt}
 use Rattle.line_rows.specs.Rows.{tables_of}
 use Rattle.line_schema.specs.declared.store.LineStore.{LineStore}
 use Rattle.line_schema.specs.declared.unavailable.Unavailable.{Unavailable as Fault}
+use Rattle.trace_lists.specs.Lists.{IsListed}
 
 -- what a store is seen as: the greatest number, the accepted entries, and whether the tables are its own, with no others beside them
 pub record Kept : Type 0 where
@@ -26,7 +27,7 @@ pub record Kept : Type 0 where
   pub history : History
   pub own : Bool
 
--- The store stands for the list by rules Two, which is judged: so does its desk, where it has one. Where the tables are its own and the disk is honest, the list is lawful, and what is committed are its tables.
+-- The store stands for the list by rules Two, which is judged: so does its desk, where it has one, and then it has lists beside it, which list the list. Where the tables are its own and the disk is honest, the list is lawful, and what is committed are its tables.
 pub record Stands {S D : Type 0} (g : Ghosts S) (StandsFor : D → History → Type 0) (kept_rules : D → Rules) (store : LineStore S D) (L : Kept) : Type 0 where
   pub greatest : store.greatest ≡ L.greatest
   pub bound : L.greatest ≤ MOST_ENTRIES
@@ -34,6 +35,8 @@ pub record Stands {S D : Type 0} (g : Ghosts S) (StandsFor : D → History → T
   pub within : length L.history ≤ L.greatest
   pub judged : IsJudged Two L.history
   pub desk : IfSome store.desk (λ d. StandsFor d L.history × (kept_rules d ≡ Two))
+  pub lists : IfSome store.lists (λ l. IsListed l L.history)
+  pub beside : is_some store.lists ≡ is_some store.desk
   pub mode : store.conn.in_transaction ≡ false
   pub lawful : HasCleanDisk (state g store.conn) → IsTrue L.own → IsLawful Two L.greatest L.history
   pub tables : HasCleanDisk (state g store.conn) → IsTrue L.own → IsTrue (state g store.conn).is_open → Holds (state g store.conn).committed (tables_of L.greatest L.history)

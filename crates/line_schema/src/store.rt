@@ -35,6 +35,7 @@ use line_rows::{Acceptance, answer_under, prepare};
 use line_tables::{append, find, has_our_name, make};
 use sqlite::{Alter, Connection};
 use std::alloc::Global;
+use trace_lists::TraceLists;
 
 /// A desk whose accepted commands are kept in the tables of a database. A command is answered
 /// Accepted once it is committed; after a restart the list is read again.
@@ -44,6 +45,7 @@ pub struct LineStore<S: Alter, D: Desk + Drop> {
     alloc: Global,
     conn: Connection<S>,
     desk: Option<D>,
+    lists: Option<TraceLists>,
     count: u32,
     greatest: u32,
 }
@@ -84,6 +86,7 @@ impl<S: Alter, D: Desk + Drop> LineStore<S, D> {
                 alloc,
                 conn,
                 desk: Some(D::fresh(alloc, Rules::Two)),
+                lists: Some(TraceLists::new(alloc)),
                 count: 0,
                 greatest,
             }),
@@ -118,6 +121,7 @@ impl<S: Alter, D: Desk + Drop> LineStore<S, D> {
             Ok(
                 Opened {
                     desk,
+                    lists,
                     count,
                     greatest,
                 },
@@ -125,6 +129,7 @@ impl<S: Alter, D: Desk + Drop> LineStore<S, D> {
                 alloc,
                 conn,
                 desk: Some(desk),
+                lists: Some(lists),
                 count,
                 greatest,
             }),
@@ -140,6 +145,7 @@ impl<S: Alter, D: Desk + Drop> LineStore<S, D> {
             alloc: _,
             conn,
             desk: _desk,
+            lists: _lists,
             count: _,
             greatest: _,
         } = self;
@@ -161,7 +167,8 @@ impl<S: Alter, D: Desk + Drop> LineStore<S, D> {
         self.desk.as_ref()
     }
 
-    /// Sees to it that the desk is at hand, by reading the tables where it isn't.
+    /// Sees to it that the desk is at hand, and the lists beside it, by reading the tables where they
+    /// aren't.
     pub fn ready(&mut self) -> Result<(), Unavailable>
         requires stands { (L : Kept) × Stands S.Store D.Stands D.kept_rules self.old L }
         ensures at_hand { IsTrue (has_desk self.old) → self.new ≡ self.old }
@@ -176,7 +183,7 @@ impl<S: Alter, D: Desk + Drop> LineStore<S, D> {
         self.remake()
     }
 
-    /// Makes the desk from the tables.
+    /// Makes the desk and the lists from the tables.
     fn remake(&mut self) -> Result<(), Unavailable>
         requires stands { (L : Kept) × Stands S.Store D.Stands D.kept_rules self.old L }
         ensures ok { OnOk result (IsTrue (has_desk self.new)) }
@@ -188,11 +195,13 @@ impl<S: Alter, D: Desk + Drop> LineStore<S, D> {
             Some(
                 Replayed {
                     desk,
+                    lists,
                     count,
                     beside: _beside,
                 },
             ) => {
                 self.desk = Some(desk);
+                self.lists = Some(lists);
                 self.count = count;
                 Ok(())
             }
@@ -287,8 +296,8 @@ impl<S: Alter, D: Desk + Drop> LineStore<S, D> {
         }
     }
 
-    /// Accepts what was judged: the answer and the edits are made, then the edits are committed, and
-    /// then the desk settles.
+    /// Accepts what was judged: the answer and the edits are made, and memory is taken for the lists;
+    /// then the edits are committed; and then the change is noted in the lists, and the desk settles.
     fn accept(&mut self, change: Change) -> Result<Answer, Unavailable>
         requires stands { (L : Kept) × Stands S.Store D.Stands D.kept_rules self.old L }
         requires room { self.old.count < self.old.greatest }
@@ -307,9 +316,16 @@ impl<S: Alter, D: Desk + Drop> LineStore<S, D> {
             return Err(Unavailable);
         };
         let Acceptance { text, edits } = prepare(self.alloc, number, desk, &change)?;
+        let Some(lists) = &mut self.lists else {
+            return Err(Unavailable);
+        };
+        lists.reserve(&change)?;
         append(self.alloc, &mut self.conn, edits.as_slice())?;
         self.count = number;
-        self.desk = settled(self.desk.take(), change);
+        if let Some((desk, lists)) = settled(self.desk.take(), self.lists.take(), number, change) {
+            self.desk = Some(desk);
+            self.lists = Some(lists);
+        }
         Ok(Answer::Accepted(u64::from(number), text))
     }
 }

@@ -24,7 +24,7 @@ returns-in-None-clause-ok g c =
     let list = c.in_ok-desk.ensures.list in
     let first = audited c.args.rules Before After old mid seen r.beside list.0 None early kept kept_on list.1.others (λ clean. rw c.in-None.is at (c.in_ok-other.ensures.verdict clean)) in (
       list.0,
-      opened_on g.D.Desk.Stands g.D.Desk.kept_rules Before After old mid c.args.rules r.desk r.beside r.count _ list.0 early list.1 c.in_ok-desk.ensures.rules refl refl c.in_ok-greatest.ensures.bound kept
+      opened_on g.D.Desk.Stands g.D.Desk.kept_rules Before After old mid c.args.rules r.desk r.beside r.count _ list.0 early list.1 list.2 c.in_ok-desk.ensures.rules refl refl c.in_ok-greatest.ensures.bound kept
           (λ clean. c.in_ok-greatest.ensures.ok (earlier (early clean))) first
           (λ clean. reads_back old last _ (keeps_then old mid last (kept clean) (c.replay.ensures.kept (early clean))) (reads_as last _ _ (λ db apart. apart c.if-not-apart.false) (c.in_ok-apart.ensures.apart (late clean)))),
     )

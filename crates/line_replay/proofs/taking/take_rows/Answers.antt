@@ -8,7 +8,7 @@ use Rattle.line_tables.proofs.Keeps.{keeps_then}
 use Rattle.line_replay.specs.declared.fault.ReplayFault.TheVariants.{NotLawful, Unavailable}
 use Rattle.line_tables.specs.Calls.{Reads}
 use Rattle.line_tables.specs.Rows.{accepted_in}
-use Rattle.line_replay.specs.Replay.{Goes, IsStuck}
+use Rattle.line_replay.specs.Replay.{StandsListed, Goes, IsStuck}
 use Rattle.line_replay.proofs.Adding.{beside_none}
 use Rattle.line_replay.proofs.Taken.{taken_more, fault_taken}
 use Rattle.line_replay.proofs.taking.take_rows.Goals as goal
@@ -20,7 +20,7 @@ loop-number-init g c =
       taken = (
         [],
         record {
-          stands = c.requires.fresh;
+          stands = (c.requires.fresh, c.requires.empty);
           judged = tt;
           counted = refl;
           rows = λ clean schema. tt;
@@ -34,7 +34,7 @@ loop-number-init g c =
 
 pub loop-number-preserved : goal.loop-number-preserved
 loop-number-preserved g c =
-    let F = g.D.Desk.Stands in
+    let F = StandsListed g.D.Desk.Stands in
     let old = state g.S.Store c.args.conn.now in
     let mid = state g.S.Store c.loop-number.conn in
     let new = state g.S.Store c.take_row.new.conn in
@@ -43,10 +43,10 @@ loop-number-preserved g c =
     let taken = was.taken.1 in
     let early : HasCleanDisk new → HasCleanDisk mid = λ clean. omega (arith, c.take_row.ensures.survives.clean) in
     let went = c.in_ok-taken.ensures.ok H taken.stands (omega (arith, taken.counted)) in
-    let again = subst (λ (r : Rules). Goes F r (HasCleanDisk new) mid H c.loop-number.beside c.take_row.new.desk c.take_row.new.beside c.in_ok-taken.taken) was.rules went in
-    let more = subst (λ (b : Bool). Goes F (g.D.Desk.kept_rules c.args.desk.now) (HasCleanDisk new) mid H c.loop-number.beside c.take_row.new.desk c.take_row.new.beside b) c.if-not-taken.false again in record {
+    let again = subst (λ (r : Rules). Goes F r (HasCleanDisk new) mid H c.loop-number.beside (c.take_row.new.desk, c.take_row.new.lists) c.take_row.new.beside c.in_ok-taken.taken) was.rules went in
+    let more = subst (λ (b : Bool). Goes F (g.D.Desk.kept_rules c.args.desk.now) (HasCleanDisk new) mid H c.loop-number.beside (c.take_row.new.desk, c.take_row.new.lists) c.take_row.new.beside b) c.if-not-taken.false again in record {
       rules = c.in_ok-taken.ensures.rules ∙ was.rules;
-      taken = taken_more F (g.D.Desk.kept_rules c.args.desk.now) old mid (HasCleanDisk mid) (HasCleanDisk new) early was.kept c.loop-number.desk c.take_row.new.desk c.loop-number.beside c.take_row.new.beside c.loop-number.number H taken more;
+      taken = taken_more F (g.D.Desk.kept_rules c.args.desk.now) old mid (HasCleanDisk mid) (HasCleanDisk new) early was.kept (c.loop-number.desk, c.loop-number.lists) (c.take_row.new.desk, c.take_row.new.lists) c.loop-number.beside c.take_row.new.beside c.loop-number.number H taken more;
       kept = λ clean. keeps_then old mid new (was.kept (early clean)) (c.take_row.ensures.kept clean);
       mode = λ is. c.take_row.ensures.mode (was.mode is);
       survives = survives_then old mid new _ _ (λ _. ⊥) (λ _ db none. none) (λ _ db none. none) was.survives c.take_row.ensures.survives;
@@ -64,6 +64,6 @@ returns-in_err-taken-clause-err g c clean =
     let early : HasCleanDisk mid = omega (arith, c.take_row.ensures.survives.clean, clean) in
     let low : n + 1 ≤ c.args.greatest = omega (arith, c.loop-number-test.true) in
     let p = err_from_is_err_and c.from_residual.result c.from_residual.ensures.1 in
-    let stop = c.in_err-taken.ensures.err H taken.stands (omega (arith, taken.counted)) clean in
+    let stop = c.in_err-taken.ensures.err H taken.stands.0 (omega (arith, taken.counted)) clean in
     let again = subst (λ (r : Rules). (f ≡ Unavailable) ⊎ ((f ≡ NotLawful (n + 1)) × Reads mid (λ db. IsStuck r H (accepted_in db)))) was.rules stop in
-    rw (p.1, p.2) (fault_taken g.D.Desk.Stands (g.D.Desk.kept_rules c.args.desk.now) c.args.greatest old mid (HasCleanDisk mid) c.loop-number.desk c.loop-number.beside n H early (was.kept early) taken low f again)
+    rw (p.1, p.2) (fault_taken (StandsListed g.D.Desk.Stands) (g.D.Desk.kept_rules c.args.desk.now) c.args.greatest old mid (HasCleanDisk mid) (c.loop-number.desk, c.loop-number.lists) c.loop-number.beside n H early (was.kept early) taken low f again)

@@ -2,7 +2,7 @@ use Rattle.std.proofs.Common.{◌≡◌, false}
 use Rattle.sqlite.specs.State.{HasCleanDisk, Survives, KeepsCommit}
 use Rattle.sqlite.specs.Held.{state}
 use Rattle.desk_types.specs.History.{History}
-use Rattle.line_replay.specs.Replay.{IsTaken}
+use Rattle.line_replay.specs.Replay.{StandsListed, IsTaken}
 use Rattle.line_replay.proofs.taking.take_rows.Given as goal
 
 abbrev pub invariant-loop-number : goal.invariant-loop-number
@@ -11,7 +11,7 @@ invariant-loop-number g l =
     let old = state g.S.Store l.fn.conn in
     let now = state g.S.Store l.conn in record {
       rules : kept_rules l.desk ≡ kept_rules l.fn.desk;
-      taken : (H : History) × IsTaken g.D.Desk.Stands (kept_rules l.fn.desk) (HasCleanDisk now) old.committed l.desk l.beside l.number H;
+      taken : (H : History) × IsTaken (StandsListed g.D.Desk.Stands) (kept_rules l.fn.desk) (HasCleanDisk now) old.committed (l.desk, l.lists) l.beside l.number H;
       kept : HasCleanDisk now → KeepsCommit old now;
       mode : l.fn.conn.in_transaction ≡ false → l.conn.in_transaction ≡ false;
       survives : Survives old now (λ _. ⊥);

@@ -1,5 +1,6 @@
-use Rattle.std.proofs.Common.{◌≡◌, inr, refl, sym, rules}
+use Rattle.std.proofs.Common.{◌≡◌, ◌∙◌, inr, refl, sym, ap, rules}
 use Rattle.desk_types.specs.History.{entry_of}
+use Rattle.desk_types.specs.Outcome.{change_of}
 use Rattle.line_rows.proofs.Judgements.{refused, unsaid, said, stamped_is}
 use Rattle.line_rows.proofs.judging.accept_row.Goals as goal
 
@@ -25,6 +26,7 @@ returns-in-Ok-clause-ok g c H stands numbered =
         lead = rw same at (c.in_ok-edits-in-Ok.ensures.lead H stands (sym numbered));
         new = c.in_ok-edits-in-Ok.ensures.new H stands (sym numbered);
       },
+      λ listed. rw same at (c.in_ok-note-in-Ok.ensures.listed H listed (sym numbered) (is.value ∙ ap (change_of H) (sym same))),
     )
 
 pub returns-in-Err-Refused-clause-err : goal.returns-in-Err-Refused-clause-err

@@ -11,6 +11,8 @@ returns-in-Ok-clause-stands g c = record {
   within = omega arith;
   judged = tt;
   desk = (c.fresh.ensures.stands, c.fresh.ensures.rules);
+  lists = c.new.ensures.listed;
+  beside = refl;
   mode = search rules;
   lawful = λ clean own. record { judged = tt; uids = none_yet; numbers = omega arith };
   tables = λ clean own is_open. c.in-Ok.ensures.made clean (blank_is _ own);

@@ -29,6 +29,8 @@ returns-in-Ok-clause-stands g c =
         within = o.within;
         judged = o.judged;
         desk = (o.stands, o.rules);
+        lists = o.lists;
+        beside = refl;
         mode = search rules;
         lawful = λ clean own. opened_lawful F K _ old c.in-Ok.field-0 all.0 o clean own;
         tables = λ clean own is_open. subst (λ (db : Database). Holds db (tables_of L.greatest L.history)) (sym ((c.read_tables.ensures.kept clean).committed is_open)) ((holds clean).are (let ours = ours_is old.committed.schema own in (Two, ours.0, ours.1)));
