@@ -15,7 +15,9 @@ use Rattle.sqlite_value.specs.Order.{Row, column}
 use Rattle.sqlite.specs.Effect.{Database}
 use Rattle.sqlite_keyed.proofs.ListLemmas.{all_weaker, map-map}
 use Rattle.desk_types.specs.declared.command.Entry.{Entry}
+use Rattle.desk_types.specs.declared.rules.Rules.TheVariants.{Two}
 use Rattle.desk_types.specs.History.{History, IsPrefix}
+use Rattle.desk_types.specs.Judged.{IsJudged}
 use Rattle.desk_types.specs.Setup.{receipt_of}
 use Rattle.desk_types.specs.View.{view_of}
 use Rattle.desk_types.specs.Placements.{Placement, placements_of}
@@ -41,7 +43,7 @@ use Rattle.line_traces.proofs.Listed.{rows-listed}
 abbrev pub piece_row : Placement → Row
 piece_row p = placement_columns (columns_of_piece p)
 
-both : (a b : Bool) → (a && b) ≡ true → (a ≡ true) × (b ≡ true)
+pub both : (a b : Bool) → (a && b) ≡ true → (a ≡ true) × (b ≡ true)
 both true b is = (refl, is)
 both false b is = cc
 
@@ -53,7 +55,7 @@ one-piece k l row first second =
     let place = one-int (column row 1) k.1 l.1 a.1 b.1 in
     ap₂ (λ m n. (m, n)) number place
 
-itself : (k : ℕ × ℕ) → is_at (by_piece k) k ≡ true
+pub itself : (k : ℕ × ℕ) → is_at (by_piece k) k ≡ true
 itself k = rw (tied_itself nat_cmp_total k.0, tied_itself nat_cmp_total k.1) refl
 
 one-number : (m n : ℕ) → nat_cmp m n ≡ Equal → m ≡ n
@@ -93,10 +95,15 @@ among : (P : Entry → Type 0) (later : List Entry) (e : Entry) (before : Histor
 among P [] e before all = all.0
 among P (x ∷ later) e before all = among P later e before all.1
 
+-- the receipt of its reel, before its entry, is that of the list
+pub receipt-there : (H : History) → IsJudged Two H → (p : Placement) → (right : IsRightlyPlaced H p) → receipt_of H p.reel ≡ Some right.receipt
+receipt-there H judged p right =
+    let before : IsPrefix right.before H = (right.accepted.0 ++ right.entry ∷ [], right.accepted.1 ∙ sym (append_assoc right.accepted.0 (right.entry ∷ []) right.before)) in
+    receipt-prefix right.before H p.reel before judged (rw right.received refl) ∙ right.received
+
 known-one : (db : Database) (H : History) → HoldsList db H → (p : Placement) → IsRightlyPlaced H p → IsKnown db p
 known-one db H held p right =
-    let before : IsPrefix right.before H = (right.accepted.0 ++ right.entry ∷ [], right.accepted.1 ∙ sym (append_assoc right.accepted.0 (right.entry ∷ []) right.before)) in
-    let receipt : receipt_of H p.reel ≡ Some right.receipt = receipt-prefix right.before H p.reel before held.judged (rw right.received refl) ∙ right.received in
+    let receipt = receipt-there H held.judged p right in
     let told = among (TellsMinute db) right.accepted.0 right.entry right.before (subst (AllByRecursion (TellsMinute db)) right.accepted.1 (recursion_from_All (TellsMinute db) H held.minutes)) in
     record {
       reel = columns_of (view_of H p.reel right.receipt);

@@ -11,3 +11,6 @@ pub mod Sets
 pub mod BoardsOf
 pub mod Converse
 pub mod Minutes
+pub mod ByKey
+pub mod Looks
+pub mod Telling

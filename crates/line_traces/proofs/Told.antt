@@ -1,19 +1,22 @@
 -- What two calls tell together.
-use Rattle.std.proofs.Common.{◌≡◌, ◌∙◌, Bool, true, false, Some, None, List, [], ◌∷◌, map, refl, sym, ap, ap₂, subst}
+use Rattle.std.proofs.Common.{◌≡◌, ◌∙◌, Bool, true, false, Option, Some, None, List, [], ◌∷◌, map, refl, sym, ap, ap₂, subst}
 use Rattle.std.specs.Prelude.{if◌then◌else◌}
 use Rattle.sqlite_value.specs.Order.{Row}
 use Rattle.sqlite.specs.Effect.{Database}
 use Rattle.sqlite.specs.State.{State, KeepsCommit}
 use Rattle.desk_types.specs.Id.{Name}
 use Rattle.desk_types.specs.History.{History}
+use Rattle.trace_lists.specs.declared.lists.TraceLists.{TraceLists}
+use Rattle.line_tables.specs.Calls.{Reads}
 use Rattle.line_tables.specs.StateRows.{flag}
 use Rattle.line_traces.specs.declared.row.PlacedRow.{PlacedRow}
-use Rattle.line_traces.specs.Committed.{HoldsList, Tells, shown, name_row}
+use Rattle.line_traces.specs.Committed.{Tells, shown, name_row}
+use Rattle.line_traces.specs.Beside.{TellsBeside}
 use Rattle.line_tables.specs.Line.{IsOurs}
 
 -- ---- rows
 
-one-flag : (b c : Bool) → flag b ≡ flag c → b ≡ c
+pub one-flag : (b c : Bool) → flag b ≡ flag c → b ≡ c
 one-flag true true is = refl
 one-flag false false is = refl
 one-flag true false is = cc
@@ -51,7 +54,7 @@ shown-one p q is =
 shown-name : (a b : Name) → name_row a ≡ name_row b → a ≡ b
 shown-name a b is = cc
 
-all-shown : {X : Type 0} (show : X → Row) → ((x y : X) → show x ≡ show y → x ≡ y) → (xs ys : List X) → map show xs ≡ map show ys → xs ≡ ys
+pub all-shown : {X Y : Type 0} (show : X → Y) → ((x y : X) → show x ≡ show y → x ≡ y) → (xs ys : List X) → map show xs ≡ map show ys → xs ≡ ys
 all-shown show one [] [] is = refl
 all-shown show one [] (y ∷ ys) is = cc
 all-shown show one (x ∷ xs) [] is = cc
@@ -62,11 +65,11 @@ all-shown show one (x ∷ xs) (y ∷ ys) is =
 
 -- ---- calls
 
--- what is told after a call that leaves the commit was so before it
-pub told-before : {X : Type 0} (of : History → X) (old new : State) (found : X) → KeepsCommit old new → Tells of new found → Tells of old found
-told-before of old new found kept told = record {
-  was_open = kept.was_open told.was_open;
-  are = λ schema H held. let same = kept.committed told.was_open in told.are (subst (λ (db : Database). IsOurs db.schema) (sym same) schema) H (subst (λ db. HoldsList db H) (sym same) held);
+-- what is read after a call that leaves the commit was so before it
+pub reads-before : (old mid : State) → KeepsCommit old mid → (Is : Database → Type 0) → Reads mid Is → Reads old Is
+reads-before old mid kept Is reads = record {
+  was_open = kept.was_open reads.was_open;
+  are = λ schema. let same = kept.committed reads.was_open in subst Is same (reads.are (subst (λ (db : Database). IsOurs db.schema) (sym same) schema));
 }
 
 -- what the rows show
@@ -80,9 +83,20 @@ pieces-told = shown-told shown shown-one
 pub names-told : (of : History → List Name) (old : State) (rows : List Row) (names : List Name) → Tells (λ H. map name_row (of H)) old rows → rows ≡ map name_row names → Tells of old names
 names-told = shown-told name_row shown-name
 
--- what is there is told, where a test has held
-pub there-told : {X : Type 0} (test : History → Bool) (of : History → X) (old : State) (found : X) → Tells test old true → Tells of old found → Tells (λ H. if test H then Some (of H) else None) old (Some found)
-there-told test of old found holds told = record {
-  was_open = told.was_open;
-  are = λ schema H held. ap Some (told.are schema H held) ∙ ap (λ b. if b then Some (of H) else None) (holds.are schema H held);
-}
+-- ---- beside a list
+
+module _ {D X : Type 0} (Stands : D → History → Type 0) (lists : Option TraceLists) (desk : Option D) (of : History → X) (old : State) where
+  -- what the tables alone tell
+  pub tells-beside : (found : X) → Tells of old found → TellsBeside Stands lists desk of old found
+  tells-beside found told = record { was_open = told.was_open; are = λ schema H beside. told.are schema H beside.held }
+
+  -- what is there is told, where a test has held,
+  pub there-told : (test : History → Bool) (found : X) → Tells test old true → TellsBeside Stands lists desk of old found → TellsBeside Stands lists desk (λ H. if test H then Some (of H) else None) old (Some found)
+  there-told test found holds told = record {
+    was_open = told.was_open;
+    are = λ schema H beside. ap Some (told.are schema H beside) ∙ ap (λ b. if b then Some (of H) else None) (holds.are schema H beside.held);
+  }
+
+  -- and none where it has not.
+  pub none-told : (test : History → Bool) → Tells test old false → TellsBeside Stands lists desk (λ H. if test H then Some (of H) else None) old None
+  none-told test fails = record { was_open = fails.was_open; are = λ schema H beside. ap (λ b. if b then Some (of H) else None) (fails.are schema H beside.held) }

@@ -66,10 +66,10 @@ shown_piece p = (Int (pos p.number) ∷ Int (pos p.place) ∷ [], shown (placed_
 int-nat : (m n : ℕ) → value_cmp (Int (pos m)) (Int (pos n)) ≡ nat_cmp m n
 int-nat m n = value_cmp-Int (pos m) (pos n) ∙ grind (arith, nat_tests)
 
-abbrev IsBefore : Placement → Placement → Type 0
+abbrev pub IsBefore : Placement → Placement → Type 0
 IsBefore p q = by_piece (p.number, p.place) (q.number, q.place) ≡ Less
 
-before-all : (p : Placement) (qs : List Placement) → AllByRecursion (λ key. by_piece (p.number, p.place) key ≡ Less) (keys_of (map entry_of qs)) → AllByRecursion (IsBefore p) qs
+pub before-all : (p : Placement) (qs : List Placement) → AllByRecursion (λ key. by_piece (p.number, p.place) key ≡ Less) (keys_of (map entry_of qs)) → AllByRecursion (IsBefore p) qs
 before-all p [] all = tt
 before-all p (q ∷ qs) (first, all) = (first, before-all p qs all)
 

@@ -1,12 +1,14 @@
 -- The placed pieces of a list as the calls tell them.
-use Rattle.std.specs.Prelude.{◌↔◌, Bool, false, Contains, Option, Some, None, List, [], map, if◌then◌else◌, unwrap_or}
-use Rattle.std.specs.List.{filter, list_any}
+use Rattle.std.specs.Prelude.{◌↔◌, ◌==◌, ◌&&◌, Bool, false, Contains, Option, Some, None, List, [], map, if◌then◌else◌, unwrap_or}
+use Rattle.std.specs.Option.{option_map}
+use Rattle.std.specs.List.{filter, find, list_any}
 use Rattle.desk_types.specs.declared.command.Command.{Command}
 use Rattle.desk_types.specs.declared.command.Command.TheVariants.{ReelReceived, WorkStarted}
 use Rattle.desk_types.specs.declared.command.Entry.{Entry}
 use Rattle.desk_types.specs.Id.{Name, same}
 use Rattle.desk_types.specs.History.{History}
 use Rattle.desk_types.specs.Placements.{Placement, placements_of, overdue_of, boards_of}
+use Rattle.trace_lists.specs.Lists.{Key}
 use Rattle.line_traces.specs.declared.row.PlacedRow.{PlacedRow}
 
 -- ---- rows
@@ -42,6 +44,10 @@ pieces_of_lot H lot = pieces_where (λ p. same p.lot lot) H
 -- the pieces of reels whose floor life was used up
 abbrev pub overdue_pieces : History → List PlacedRow
 overdue_pieces H = map placed_row (overdue_of H)
+
+-- the piece with this key: the number of its entry, and its place in the message
+abbrev pub piece_at : History → Key → Option PlacedRow
+piece_at H key = option_map placed_row (find (λ (p : Placement). p.number == key.0 && p.place == key.1) (placements_of H))
 
 -- ---- names
 

@@ -3,13 +3,14 @@
 ghost use Rattle.std.specs.Prelude.{◌≡◌, ℕ, ◌<◌, length, IfOk, map, pos};
 ghost use Rattle.sqlite.specs.declared.types.Value.TheVariants.{Int, Text};
 ghost use Rattle.sqlite_value.specs.Order.{column};
-ghost use Rattle.line_tables.specs.StateRows.{flag};
+ghost use Rattle.line_tables.specs.StateRows.{flag, placement_columns};
 ghost use Rattle.line_traces.specs.Committed.{shown, name_row};
 
 use crate::row::{PlacedRow, PlacedRows};
 use desk_types::{Designator, Id, IdList, Listing, Minute};
 use sqlite::types::{Type, ValueRef};
 use sqlite::{Error, Row};
+use state_tables::PlacementRow;
 use std::alloc::Global;
 
 /// The name in a column.
@@ -91,6 +92,26 @@ pub fn pieces(alloc: Global, rows: &[Row]) -> Result<PlacedRows, Error>
         pieces.push(piece(row)?)?;
     }
     Ok(Listing::new(pieces))
+}
+
+/// The row of `placement`. A value that is no name, number or flag is an error, and so is a row of another
+/// length.
+pub fn placement(row: &Row) -> Result<PlacementRow, Error>
+    ensures { IfOk result (λ placed. row.now ≡ placement_columns placed) }
+{
+    if row.column_count() != 8 {
+        return Err(Error::InvalidColumnIndex(8));
+    }
+    Ok(PlacementRow {
+        number: row.get(0)?,
+        place: row.get(1)?,
+        board: name(row, 2)?,
+        designator: designator(row, 3)?,
+        machine: name(row, 4)?,
+        slot: name(row, 5)?,
+        reel: name(row, 6)?,
+        overdue: yes_or_no(row, 7)?,
+    })
 }
 
 fn only_name(row: &Row) -> Result<Id, Error>

@@ -3,8 +3,10 @@
 //! an open transaction of the caller's it reads nothing.
 #![tactic(auto)]
 
+mod by_lists;
 mod decode;
 mod law;
+mod looked;
 mod pieces;
 mod row;
 mod traces;

@@ -1,18 +1,21 @@
-//! The queries.
+//! The queries. They need neither lists nor a desk.
 
-ghost use Rattle.std.specs.Prelude.{◌≡◌, false, Err, IsTrue, IfOk, map};
+ghost use Rattle.std.specs.Prelude.{◌≡◌, false, Err, IsTrue, IfOk};
 ghost use Rattle.sqlite.specs.declared.error.Error.TheVariants as Error;
 ghost use Rattle.sqlite.specs.declared.error.ErrorCode.TheVariants as code;
 ghost use Rattle.sqlite.specs.State.{HasCleanDisk, Survives, KeepsCommit};
 ghost use Rattle.sqlite.specs.Held.{state};
 ghost use Rattle.desk_types.specs.Placements.{boards_of};
 ghost use Rattle.line_traces.specs.Pieces.{pieces_on, pieces_of_lot, overdue_pieces, is_board, is_lot};
-ghost use Rattle.line_traces.specs.Committed.{Tells, shown, name_row};
+ghost use Rattle.line_traces.specs.Committed.{Tells};
 
-use desk_types::Id;
+use crate::decode::{names, pieces};
+use crate::row::PlacedRows;
+use desk_types::{Id, IdList};
 use line_tables::select::select;
 use sqlite::types::ValueRef;
-use sqlite::{Alter, Connection, Error, Row};
+use sqlite::{Alter, Connection, Error};
+use std::alloc::Global;
 
 /// Whether the board was started.
 pub fn has_board<S: Alter>(conn: &mut Connection<S>, board: &Id) -> Result<bool, Error>
@@ -46,62 +49,78 @@ pub fn has_lot<S: Alter>(conn: &mut Connection<S>, lot: &Id) -> Result<bool, Err
     Ok(!rows.is_empty())
 }
 
-/// The rows of the pieces on the board.
-pub fn board_pieces<S: Alter>(conn: &mut Connection<S>, board: &Id) -> Result<Vec<Row>, Error>
-    ensures rows { HasCleanDisk (state S.Store conn.new) → IfOk result (λ rows. Tells (λ H. map shown (pieces_on H board.now)) (state S.Store conn.old) rows.items) }
+/// The pieces on the board by number, then place.
+pub fn board_pieces<S: Alter>(
+    alloc: Global,
+    conn: &mut Connection<S>,
+    board: &Id,
+) -> Result<PlacedRows, Error>
+    ensures pieces { HasCleanDisk (state S.Store conn.new) → IfOk result (Tells (λ H. pieces_on H board.now) (state S.Store conn.old)) }
     ensures kept { HasCleanDisk (state S.Store conn.new) → KeepsCommit (state S.Store conn.old) (state S.Store conn.new) }
     ensures inside { IsTrue conn.old.in_transaction → (result ≡ Err (Error.SqliteFailure code.TransactionState)) × (conn.new ≡ conn.old) }
     ensures mode { conn.old.in_transaction ≡ false → conn.new.in_transaction ≡ false }
     ensures survives { Survives (state S.Store conn.old) (state S.Store conn.new) (λ _. ⊥) }
 {
-    select(
+    let rows = select(
         conn,
         "SELECT p.number, p.place, p.board, p.designator, r.part, r.lot, p.reel, p.machine, p.slot, a.effective, p.overdue FROM reel r JOIN placement p ON r.reel = p.reel JOIN accepted a ON a.number = p.number WHERE p.board = ?1 ORDER BY p.number, p.place",
         &[ValueRef::Text(board.as_bytes())],
-    )
+    )?;
+    pieces(alloc, rows.as_slice())
 }
 
-/// The rows of the pieces of the lot.
-pub fn lot_pieces<S: Alter>(conn: &mut Connection<S>, lot: &Id) -> Result<Vec<Row>, Error>
-    ensures rows { HasCleanDisk (state S.Store conn.new) → IfOk result (λ rows. Tells (λ H. map shown (pieces_of_lot H lot.now)) (state S.Store conn.old) rows.items) }
+/// The pieces of the lot by number, then place.
+pub fn lot_pieces<S: Alter>(
+    alloc: Global,
+    conn: &mut Connection<S>,
+    lot: &Id,
+) -> Result<PlacedRows, Error>
+    ensures pieces { HasCleanDisk (state S.Store conn.new) → IfOk result (Tells (λ H. pieces_of_lot H lot.now) (state S.Store conn.old)) }
     ensures kept { HasCleanDisk (state S.Store conn.new) → KeepsCommit (state S.Store conn.old) (state S.Store conn.new) }
     ensures inside { IsTrue conn.old.in_transaction → (result ≡ Err (Error.SqliteFailure code.TransactionState)) × (conn.new ≡ conn.old) }
     ensures mode { conn.old.in_transaction ≡ false → conn.new.in_transaction ≡ false }
     ensures survives { Survives (state S.Store conn.old) (state S.Store conn.new) (λ _. ⊥) }
 {
-    select(
+    let rows = select(
         conn,
         "SELECT p.number, p.place, p.board, p.designator, r.part, r.lot, p.reel, p.machine, p.slot, a.effective, p.overdue FROM reel r JOIN placement p ON r.reel = p.reel JOIN accepted a ON a.number = p.number WHERE r.lot = ?1 ORDER BY p.number, p.place",
         &[ValueRef::Text(lot.as_bytes())],
-    )
+    )?;
+    pieces(alloc, rows.as_slice())
 }
 
-/// The rows of the pieces of reels whose floor life was used up.
-pub fn overdue<S: Alter>(conn: &mut Connection<S>) -> Result<Vec<Row>, Error>
-    ensures rows { HasCleanDisk (state S.Store conn.new) → IfOk result (λ rows. Tells (λ H. map shown (overdue_pieces H)) (state S.Store conn.old) rows.items) }
+/// The pieces of reels whose floor life was used up, by number, then place.
+pub fn overdue<S: Alter>(alloc: Global, conn: &mut Connection<S>) -> Result<PlacedRows, Error>
+    ensures pieces { HasCleanDisk (state S.Store conn.new) → IfOk result (Tells overdue_pieces (state S.Store conn.old)) }
     ensures kept { HasCleanDisk (state S.Store conn.new) → KeepsCommit (state S.Store conn.old) (state S.Store conn.new) }
     ensures inside { IsTrue conn.old.in_transaction → (result ≡ Err (Error.SqliteFailure code.TransactionState)) × (conn.new ≡ conn.old) }
     ensures mode { conn.old.in_transaction ≡ false → conn.new.in_transaction ≡ false }
     ensures survives { Survives (state S.Store conn.old) (state S.Store conn.new) (λ _. ⊥) }
 {
-    select(
+    let rows = select(
         conn,
         "SELECT p.number, p.place, p.board, p.designator, r.part, r.lot, p.reel, p.machine, p.slot, a.effective, p.overdue FROM reel r JOIN placement p ON r.reel = p.reel JOIN accepted a ON a.number = p.number WHERE p.overdue = 1 ORDER BY p.number, p.place",
         &[],
-    )
+    )?;
+    pieces(alloc, rows.as_slice())
 }
 
-/// The rows of the boards that hold a piece of the lot.
-pub fn lot_names<S: Alter>(conn: &mut Connection<S>, lot: &Id) -> Result<Vec<Row>, Error>
-    ensures rows { HasCleanDisk (state S.Store conn.new) → IfOk result (λ rows. Tells (λ H. map name_row (boards_of H lot.now)) (state S.Store conn.old) rows.items) }
+/// The boards that hold a piece of the lot, each once and in byte order.
+pub fn lot_names<S: Alter>(
+    alloc: Global,
+    conn: &mut Connection<S>,
+    lot: &Id,
+) -> Result<IdList, Error>
+    ensures names { HasCleanDisk (state S.Store conn.new) → IfOk result (Tells (λ H. boards_of H lot.now) (state S.Store conn.old)) }
     ensures kept { HasCleanDisk (state S.Store conn.new) → KeepsCommit (state S.Store conn.old) (state S.Store conn.new) }
     ensures inside { IsTrue conn.old.in_transaction → (result ≡ Err (Error.SqliteFailure code.TransactionState)) × (conn.new ≡ conn.old) }
     ensures mode { conn.old.in_transaction ≡ false → conn.new.in_transaction ≡ false }
     ensures survives { Survives (state S.Store conn.old) (state S.Store conn.new) (λ _. ⊥) }
 {
-    select(
+    let rows = select(
         conn,
         "SELECT DISTINCT p.board FROM reel r JOIN placement p ON r.reel = p.reel WHERE r.lot = ?1 ORDER BY p.board",
         &[ValueRef::Text(lot.as_bytes())],
-    )
+    )?;
+    names(alloc, rows.as_slice())
 }

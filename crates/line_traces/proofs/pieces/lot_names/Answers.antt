@@ -1,7 +1,11 @@
 use Rattle.std.proofs.lemmas.Result.{IfOk-weaker}
+use Rattle.sqlite.specs.Held.{state}
+use Rattle.desk_types.specs.Placements.{boards_of}
 use Rattle.line_traces.proofs.BoardsOf.{finds-names}
+use Rattle.line_traces.proofs.Told.{names-told}
 use Rattle.line_traces.proofs.pieces.lot_names.Goals as goal
 
-pub returns-clause-rows : goal.returns-clause-rows
-returns-clause-rows g c clean =
-    IfOk-weaker c.select.result _ _ (λ rows. finds-names c.args.lot.now g.S.Store c.args.conn.now rows.items) (rw c.as_bytes.ensures.value at (c.select.ensures.shown clean))
+pub returns-clause-names : goal.returns-clause-names
+returns-clause-names g c clean =
+    let shown = finds-names c.args.lot.now g.S.Store c.args.conn.now _ (rw c.as_bytes.ensures.value at (c.in_ok-rows.ensures.shown clean)) in
+    IfOk-weaker c.names.result _ _ (λ names is. names-told (λ H. boards_of H c.args.lot.now) (state g.S.Store c.args.conn.now) _ names shown is) (rw c.as_slice.ensures.value at c.names.ensures)

@@ -1,6 +1,11 @@
 use Rattle.std.proofs.lemmas.Result.{IfOk-weaker}
+use Rattle.sqlite.specs.Held.{state}
+use Rattle.line_traces.specs.Pieces.{overdue_pieces}
+use Rattle.line_traces.proofs.Told.{pieces-told}
 use Rattle.line_traces.proofs.Traced.{finds-overdue}
 use Rattle.line_traces.proofs.pieces.overdue.Goals as goal
 
-pub returns-clause-rows : goal.returns-clause-rows
-returns-clause-rows g c clean = IfOk-weaker c.select.result _ _ (λ rows. finds-overdue g.S.Store c.args.conn.now rows.items) (c.select.ensures.shown clean)
+pub returns-clause-pieces : goal.returns-clause-pieces
+returns-clause-pieces g c clean =
+    let shown = finds-overdue g.S.Store c.args.conn.now _ (c.in_ok-rows.ensures.shown clean) in
+    IfOk-weaker c.pieces.result _ _ (λ pieces is. pieces-told overdue_pieces (state g.S.Store c.args.conn.now) _ pieces shown is) (rw c.as_slice.ensures.value at c.pieces.ensures)

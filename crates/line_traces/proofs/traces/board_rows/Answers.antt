@@ -1,18 +1,17 @@
-use Rattle.std.proofs.Common.{◌≡◌, true, arith, rules, subst}
+use Rattle.std.proofs.Common.{◌≡◌, true, arith, rules, subst, option_copied}
 use Rattle.sqlite.specs.State.{HasCleanDisk}
 use Rattle.sqlite.specs.Held.{state}
 use Rattle.line_traces.specs.Pieces.{is_board, pieces_on}
 use Rattle.line_traces.specs.Committed.{Tells}
-use Rattle.line_traces.proofs.Told.{told-before, pieces-told, there-told}
+use Rattle.line_traces.proofs.Told.{reads-before, there-told}
 use Rattle.line_traces.proofs.traces.board_rows.Goals as goal
 
 pub returns-clause-trace : goal.returns-clause-trace
 returns-clause-trace g c clean =
     let old = state g.S.Store c.args.conn.now in
     let mid = state g.S.Store c.has_board.new.conn in
-    let first : HasCleanDisk mid = omega (arith, c.board_pieces.ensures.survives.clean) in
+    let first : HasCleanDisk mid = omega (arith, c.pieces_of_board.ensures.survives.clean) in
     let is : c.in_ok-has_board.field-0 ≡ true = search rules in
     let named = subst (Tells (λ H. is_board H c.args.board.now) old) is (c.in_ok-has_board.ensures.found first) in
-    there-told (λ H. is_board H c.args.board.now) (λ H. pieces_on H c.args.board.now) old _ named (
-    told-before (λ H. pieces_on H c.args.board.now) old mid _ (c.has_board.ensures.kept first) (
-    pieces-told (λ H. pieces_on H c.args.board.now) mid _ _ (c.in_ok-rows.ensures.rows clean) (search rules)))
+    there-told g.D.Desk.Stands (option_copied c.args.lists) (option_copied c.args.desk) (λ H. pieces_on H c.args.board.now) old (λ H. is_board H c.args.board.now) _ named (
+    reads-before old mid (c.has_board.ensures.kept first) _ (c.in_ok-pieces_of_board.ensures.pieces clean))

@@ -1,0 +1,66 @@
+-- The pieces of a list by their keys.
+use Rattle.std.proofs.Common.{◌≡◌, ◌∙◌, ◌==◌, ◌&&◌, ℕ, Bool, true, false, Some, List, [], ◌∷◌, map, filter, find, refl, sym, ap, ap₂, true≢false, Less, is_eq}
+use Rattle.std.specs.Option.{option_map}
+use Rattle.std.specs.List.{AllByRecursion}
+use Rattle.std.specs.List.Sorted.{IsStrictlySortedBy}
+use Rattle.std.specs.Map.{keys_of}
+use Rattle.std.proofs.lemmas.Bool.{eqb-true, eq-eqb}
+use Rattle.sqlite_keyed.proofs.ListLemmas.{all_both, all-filter}
+use Rattle.desk_types.specs.declared.rules.Rules.TheVariants.{Two}
+use Rattle.desk_types.specs.History.{History}
+use Rattle.desk_types.specs.Judged.{IsJudged}
+use Rattle.desk_types.specs.Placements.{Placement, placements_of}
+use Rattle.state_rows.specs.Kept.{by_piece}
+use Rattle.state_rows.proofs.PlacedRows.{entry_of, pieces-ascend}
+use Rattle.trace_lists.specs.declared.lists.Piece.{Piece}
+use Rattle.trace_lists.specs.Lists.{Key, key_of, keys_where}
+use Rattle.line_traces.specs.declared.row.PlacedRow.{PlacedRow}
+use Rattle.line_traces.specs.Pieces.{placed_row, pieces_where, piece_at}
+use Rattle.line_traces.proofs.Known.{both, itself}
+use Rattle.line_traces.proofs.Traced.{IsBefore, before-all}
+use Rattle.line_traces.proofs.Told.{all-shown}
+
+-- ---- look-ups
+
+abbrev its_key : Placement → Key
+its_key p = (p.number, p.place)
+
+-- it has the key
+abbrev pub has_key : Key → Placement → Bool
+has_key key p = p.number == key.0 && p.place == key.1
+
+has-its : (p : Placement) → has_key (its_key p) p ≡ true
+has-its p = ap₂ (λ a b. a && b) (eq-eqb p.number p.number refl) (eq-eqb p.place p.place refl)
+
+other-key : (p q : Placement) → IsBefore p q → has_key (its_key q) p ≡ false
+other-key p q less = by (has_key (its_key q) p) refl
+  where
+    by : (b : Bool) → has_key (its_key q) p ≡ b → has_key (its_key q) p ≡ false
+    by true is =
+        let two = both (p.number == q.number) (p.place == q.place) is in
+        let one : its_key p ≡ its_key q = ap₂ (λ m n. (m, n)) (eqb-true p.number q.number two.0) (eqb-true p.place q.place two.1) in
+        absurd (true≢false (sym (itself (its_key q)) ∙ ap is_eq (ap (λ k. by_piece k (its_key q)) (sym one) ∙ less)))
+    by false is = is
+
+-- where keys rise, each piece is found by its own
+each-found : (ps : List Placement) → IsStrictlySortedBy by_piece (keys_of (map entry_of ps)) → AllByRecursion (λ p. find (has_key (its_key p)) ps ≡ Some p) ps
+unfolding IsStrictlySortedBy
+each-found [] sorted = tt
+each-found (p ∷ ps) (above, sorted) = (
+  rw (has-its p) refl,
+  all_both (IsBefore p) (λ q. find (has_key (its_key q)) ps ≡ Some q) (λ q. find (has_key (its_key q)) (p ∷ ps) ≡ Some q) (λ q less is. rw (other-key p q less) is) ps (before-all p ps above) (each-found ps sorted),
+)
+
+-- ---- the pieces that pass a test
+
+by-keys : (H : History) → IsJudged Two H → (test : Placement → Bool) → map (piece_at H) (keys_where test H) ≡ map Some (pieces_where test H)
+by-keys H judged test =
+    among (filter test (placements_of H)) (all-filter (λ p. find (has_key (its_key p)) (placements_of H) ≡ Some p) test (placements_of H) (each-found (placements_of H) (pieces-ascend H judged)))
+  where
+    among : (ps : List Placement) → AllByRecursion (λ p. find (has_key (its_key p)) (placements_of H) ≡ Some p) ps → map (piece_at H) (map its_key ps) ≡ map Some (map placed_row ps)
+    among [] all = refl
+    among (p ∷ ps) (first, all) = ap₂ (λ x xs. x ∷ xs) (ap (option_map placed_row) first) (among ps all)
+
+-- The pieces with the keys of those that pass are the pieces that pass.
+pub listed-pieces : (H : History) → IsJudged Two H → (test : Placement → Bool) (keys : List Key) (pieces : List PlacedRow) → keys ≡ keys_where test H → map Some pieces ≡ map (piece_at H) keys → pieces ≡ pieces_where test H
+listed-pieces H judged test keys pieces are told = all-shown Some (λ x y is. cc) pieces (pieces_where test H) (told ∙ ap (map (piece_at H)) are ∙ by-keys H judged test)

@@ -1,0 +1,6 @@
+use Rattle.std.proofs.Common.{◌≡◌, map, take}
+use Rattle.trace_lists.specs.Lists.{key_of, keys_of_installs}
+use Rattle.line_traces.proofs.by_lists.keys_of.Given as goal
+
+abbrev pub invariant-loop-install : goal.invariant-loop-install
+invariant-loop-install l = map key_of l.keys.items ≡ keys_of_installs (take l.install-index l.installs)

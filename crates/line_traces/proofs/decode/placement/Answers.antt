@@ -1,0 +1,9 @@
+use Rattle.std.proofs.Common.{◌≡◌, ◌∙◌, length, rules, refl}
+use Rattle.line_traces.proofs.Columns.{all-columns}
+use Rattle.line_traces.proofs.decode.placement.Goals as goal
+
+pub returns : goal.returns
+returns c =
+    let all : length c.args.row.now ≡ 8 = search rules in
+    all-columns c.args.row.now 8 all
+    ∙ rw (c.in_ok-get.ensures.ok.1, c.in_ok-get-2.ensures.ok.1, c.in_ok-name.ensures, c.in_ok-designator.ensures, c.in_ok-name-2.ensures, c.in_ok-name-3.ensures, c.in_ok-name-4.ensures, c.in_ok-yes_or_no.ensures) refl

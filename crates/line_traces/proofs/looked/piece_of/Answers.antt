@@ -1,0 +1,20 @@
+use Rattle.std.proofs.Common.{◌≡◌, ◌∙◌, Some, sym, ap, ap₂, subst, rules}
+use Rattle.sqlite_rules.specs.Lists.{Has}
+use Rattle.line_tables.specs.Line as line
+use Rattle.line_tables.specs.StateRows.{rows_in}
+use Rattle.trace_lists.specs.Lists.{Key, key_of, minute_of}
+use Rattle.line_traces.specs.Pieces.{piece_at}
+use Rattle.line_traces.proofs.Looks.{piece_with, row-tells}
+use Rattle.line_traces.proofs.looked.piece_of.Goals as goal
+
+pub returns : goal.returns
+returns g c db H beside here =
+    let row = c.in_ok-placed.placed in
+    let reel = c.in-Some.reel in
+    let effective = c.in-Some-minute.effective in
+    let number : row.number ≡ c.args.key.number = search rules in
+    let place : row.place ≡ c.args.key.place = search rules in
+    let its : (row.number, row.place) ≡ key_of c.args.key = ap₂ (λ m n. (m, n)) number place in
+    subst (λ (key : Key). piece_at H key ≡ Some (piece_with row reel effective)) its (
+    row-tells db H beside.held row (subst (Has (rows_in line.placement db)) c.in_ok-placed.ensures here) reel (c.in-Some.ensures H beside.stands) effective
+    (c.in-Some-minute.ensures.listed H beside.listed ∙ ap (minute_of H) (sym number)))

@@ -1,0 +1,24 @@
+use Rattle.std.proofs.Common.{◌≡◌, ◌++◌, Some, IsTrue, false, map, length}
+use Rattle.sqlite.specs.State.{HasCleanDisk, Survives, KeepsCommit}
+use Rattle.sqlite.specs.Held.{state}
+use Rattle.desk_types.specs.History.{History}
+use Rattle.line_tables.specs.Line.{IsOurs}
+use Rattle.trace_lists.specs.Lists.{key_of}
+use Rattle.line_traces.specs.Pieces.{piece_at}
+use Rattle.line_traces.specs.Beside.{HoldsBeside}
+use Rattle.line_traces.proofs.looked.pieces_at.Given as goal
+
+abbrev pub invariant-loop-left : goal.invariant-loop-left
+invariant-loop-left g l =
+    let old = state g.S.Store l.fn.conn in
+    let now = state g.S.Store l.conn in record {
+      opened : HasCleanDisk now → IsTrue old.is_open;
+      told : HasCleanDisk now → IsOurs old.committed.schema → (H : History) → HoldsBeside g.D.Desk.Stands (Some l.lists) (Some l.desk) old.committed H
+          → map Some l.pieces.items ++ map (piece_at H) (map key_of l.left) ≡ map (piece_at H) (map key_of l.keys);
+      kept : HasCleanDisk now → KeepsCommit old now;
+      mode : l.fn.conn.in_transaction ≡ false → l.conn.in_transaction ≡ false;
+      survives : Survives old now (λ _. ⊥);
+    }
+
+abbrev pub decreases-loop-left : goal.decreases-loop-left
+decreases-loop-left g l = length l.left

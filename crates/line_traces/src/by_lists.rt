@@ -1,0 +1,149 @@
+//! The pieces of a board, of a lot, and of overdue reels: by the lists beside a desk where they and the
+//! desk are at hand, and each row is found where they say, or else by a query.
+
+ghost use Rattle.std.specs.Prelude.{◌≡◌, ◌++◌, false, Err, IsTrue, IfOk, OnOk, map, option_copied};
+ghost use Rattle.sqlite.specs.declared.error.Error.TheVariants as Error;
+ghost use Rattle.sqlite.specs.declared.error.ErrorCode.TheVariants as code;
+ghost use Rattle.sqlite.specs.State.{HasCleanDisk, Survives, KeepsCommit};
+ghost use Rattle.sqlite.specs.Held.{state};
+ghost use Rattle.desk_types.specs.Placements.{boards_of, set_of};
+ghost use Rattle.trace_lists.specs.Lists.{key_of, keys_of_install, keys_of_installs};
+ghost use Rattle.line_traces.specs.declared.row.PlacedRow.{PlacedRow};
+ghost use Rattle.line_traces.specs.Pieces.{pieces_on, pieces_of_lot, overdue_pieces};
+ghost use Rattle.line_traces.specs.Beside.{TellsBeside};
+
+use crate::looked::pieces_at;
+use crate::pieces::{board_pieces, lot_names, lot_pieces, overdue};
+use crate::row::{PlacedRow, PlacedRows};
+use desk_types::{Desk, Id, IdList, Listing};
+use sqlite::{Alter, Connection, Error};
+use std::alloc::{AllocError, Global};
+use std::collections::BTreeSet;
+use trace_lists::{Install, Piece, TraceLists};
+
+/// The pieces on the board by number, then place.
+pub fn pieces_of_board<S: Alter, D: Desk>(
+    alloc: Global,
+    conn: &mut Connection<S>,
+    lists: Option<&TraceLists>,
+    desk: Option<&D>,
+    board: &Id,
+) -> Result<PlacedRows, Error>
+    ensures pieces { HasCleanDisk (state S.Store conn.new) → IfOk result (TellsBeside D.Stands (option_copied lists.entry) (option_copied desk.entry) (λ H. pieces_on H board.now) (state S.Store conn.old)) }
+    ensures kept { HasCleanDisk (state S.Store conn.new) → KeepsCommit (state S.Store conn.old) (state S.Store conn.new) }
+    ensures mode { conn.old.in_transaction ≡ false → conn.new.in_transaction ≡ false }
+    ensures survives { Survives (state S.Store conn.old) (state S.Store conn.new) (λ _. ⊥) }
+{
+    let (Some(lists), Some(desk)) = (lists, desk) else {
+        return board_pieces(alloc, conn, board);
+    };
+    let keys = keys_of(alloc, lists.of_board(board))?;
+    match pieces_at(alloc, conn, lists, desk, keys.as_slice())? {
+        Some(pieces) => Ok(pieces),
+        None => board_pieces(alloc, conn, board),
+    }
+}
+
+/// The pieces of the lot by number, then place.
+pub fn pieces_of_lot<S: Alter, D: Desk>(
+    alloc: Global,
+    conn: &mut Connection<S>,
+    lists: Option<&TraceLists>,
+    desk: Option<&D>,
+    lot: &Id,
+) -> Result<PlacedRows, Error>
+    ensures pieces { HasCleanDisk (state S.Store conn.new) → IfOk result (TellsBeside D.Stands (option_copied lists.entry) (option_copied desk.entry) (λ H. pieces_of_lot H lot.now) (state S.Store conn.old)) }
+    ensures kept { HasCleanDisk (state S.Store conn.new) → KeepsCommit (state S.Store conn.old) (state S.Store conn.new) }
+    ensures mode { conn.old.in_transaction ≡ false → conn.new.in_transaction ≡ false }
+    ensures survives { Survives (state S.Store conn.old) (state S.Store conn.new) (λ _. ⊥) }
+{
+    let (Some(lists), Some(desk)) = (lists, desk) else {
+        return lot_pieces(alloc, conn, lot);
+    };
+    let keys = lists.of_lot(lot);
+    match pieces_at(alloc, conn, lists, desk, keys)? {
+        Some(pieces) => Ok(pieces),
+        None => lot_pieces(alloc, conn, lot),
+    }
+}
+
+/// The boards that hold a piece of the lot, each once and in byte order.
+pub fn boards_of_lot<S: Alter, D: Desk>(
+    alloc: Global,
+    conn: &mut Connection<S>,
+    lists: Option<&TraceLists>,
+    desk: Option<&D>,
+    lot: &Id,
+) -> Result<IdList, Error>
+    ensures boards { HasCleanDisk (state S.Store conn.new) → IfOk result (TellsBeside D.Stands (option_copied lists.entry) (option_copied desk.entry) (λ H. boards_of H lot.now) (state S.Store conn.old)) }
+    ensures kept { HasCleanDisk (state S.Store conn.new) → KeepsCommit (state S.Store conn.old) (state S.Store conn.new) }
+    ensures mode { conn.old.in_transaction ≡ false → conn.new.in_transaction ≡ false }
+    ensures survives { Survives (state S.Store conn.old) (state S.Store conn.new) (λ _. ⊥) }
+{
+    let (Some(lists), Some(desk)) = (lists, desk) else {
+        return lot_names(alloc, conn, lot);
+    };
+    match pieces_at(alloc, conn, lists, desk, lists.of_lot(lot))? {
+        Some(pieces) => Ok(boards_among(alloc, pieces.as_slice())?),
+        None => lot_names(alloc, conn, lot),
+    }
+}
+
+/// The pieces of reels whose floor life was used up, by number, then place.
+pub fn pieces_overdue<S: Alter, D: Desk>(
+    alloc: Global,
+    conn: &mut Connection<S>,
+    lists: Option<&TraceLists>,
+    desk: Option<&D>,
+) -> Result<PlacedRows, Error>
+    ensures pieces { HasCleanDisk (state S.Store conn.new) → IfOk result (TellsBeside D.Stands (option_copied lists.entry) (option_copied desk.entry) overdue_pieces (state S.Store conn.old)) }
+    ensures kept { HasCleanDisk (state S.Store conn.new) → KeepsCommit (state S.Store conn.old) (state S.Store conn.new) }
+    ensures inside { IsTrue conn.old.in_transaction → (result ≡ Err (Error.SqliteFailure code.TransactionState)) × (conn.new ≡ conn.old) }
+    ensures mode { conn.old.in_transaction ≡ false → conn.new.in_transaction ≡ false }
+    ensures survives { Survives (state S.Store conn.old) (state S.Store conn.new) (λ _. ⊥) }
+{
+    let (Some(lists), Some(desk)) = (lists, desk) else {
+        return overdue(alloc, conn);
+    };
+    let keys = lists.overdue();
+    match pieces_at(alloc, conn, lists, desk, keys)? {
+        Some(pieces) => Ok(pieces),
+        None => overdue(alloc, conn),
+    }
+}
+
+/// The keys of the pieces of installs, install by install: each one's places from 1.
+fn keys_of(alloc: Global, installs: &[Install]) -> Result<Vec<Piece>, AllocError>
+    ensures { IfOk result (λ keys. map key_of keys.items ≡ keys_of_installs installs.now) }
+{
+    let mut keys = Vec::new(alloc);
+    for install in installs {
+        add_keys(&mut keys, *install)?;
+    }
+    Ok(keys)
+}
+
+/// Adds the keys of an install's pieces.
+fn add_keys(keys: &mut Vec<Piece>, install: Install) -> Result<(), AllocError>
+    ensures { OnOk result (map key_of keys.new.items ≡ map key_of keys.old.items ++ keys_of_install install) }
+{
+    for before in 0..install.pieces {
+        keys.push(Piece {
+            number: install.number,
+            place: before + 1,
+        })?;
+    }
+    Ok(())
+}
+
+/// The boards of the pieces, each once and in byte order.
+fn boards_among(alloc: Global, pieces: &[PlacedRow]) -> Result<IdList, AllocError>
+    ensures { IfOk result (λ boards. boards ≡ set_of (map (λ (p : PlacedRow). p.board) pieces.now)) }
+{
+    let mut boards = BTreeSet::new(alloc);
+    for piece in pieces.iter().rev() {
+        boards.insert(piece.board)?;
+    }
+    let names = boards.into_iter().collect(alloc)?;
+    Ok(Listing::new(names))
+}

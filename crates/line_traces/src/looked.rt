@@ -1,0 +1,203 @@
+//! Pieces that are looked up where the lists beside a desk say that they are. Each row is looked at: it
+//! has the number and the place that were asked for, or nothing is told by the lists.
+
+ghost use Rattle.std.specs.Prelude.{◌≡◌, ◌+◌, ◌++◌, ◌<◌, ◌≤◌, ◌↔◌, pos, false, Err, Some, IsTrue, IfOk, IfSome, OnOk, length, map};
+ghost use Rattle.sqlite.specs.declared.error.Error.TheVariants as Error;
+ghost use Rattle.sqlite.specs.declared.error.ErrorCode.TheVariants as code;
+ghost use Rattle.sqlite.specs.Effect.{Database};
+ghost use Rattle.sqlite.specs.State.{HasCleanDisk, Survives, KeepsCommit};
+ghost use Rattle.sqlite.specs.Held.{state};
+ghost use Rattle.sqlite_rules.specs.Lists.{Has};
+ghost use Rattle.desk_types.specs.History.{History};
+ghost use Rattle.line_tables.specs.Line as line;
+ghost use Rattle.line_tables.specs.Calls.{Reads};
+ghost use Rattle.line_tables.specs.Rowids.{placement_id};
+ghost use Rattle.line_tables.specs.Shown.{AreOf};
+ghost use Rattle.line_tables.specs.StateRows.{rows_in};
+ghost use Rattle.trace_lists.specs.Lists.{key_of};
+ghost use Rattle.line_traces.specs.Pieces.{piece_at};
+ghost use Rattle.line_traces.specs.Beside.{HoldsBeside, TellsBeside, AddsPieces};
+
+use crate::decode::placement;
+use crate::row::{PlacedRow, PlacedRows};
+use desk_types::{Desk, Listing};
+use line_tables::placements_between;
+use line_tables::select::select;
+use sqlite::{Alter, Connection, Error, Row};
+use std::alloc::Global;
+use trace_lists::{Piece, TraceLists};
+
+/// An error where the connection does not answer.
+fn ask<S: Alter>(conn: &mut Connection<S>) -> Result<(), Error>
+    ensures answers { HasCleanDisk (state S.Store conn.new) → OnOk result (IsTrue (state S.Store conn.old).is_open) }
+    ensures kept { HasCleanDisk (state S.Store conn.new) → KeepsCommit (state S.Store conn.old) (state S.Store conn.new) }
+    ensures inside { IsTrue conn.old.in_transaction → (result ≡ Err (Error.SqliteFailure code.TransactionState)) × (conn.new ≡ conn.old) }
+    ensures mode { conn.old.in_transaction ≡ false → conn.new.in_transaction ≡ false }
+    ensures survives { Survives (state S.Store conn.old) (state S.Store conn.new) (λ _. ⊥) }
+{
+    select(conn, "SELECT 1", &[])?;
+    Ok(())
+}
+
+/// The rowid of a piece in a file of ours.
+fn rowid_of(piece: Piece) -> i64
+    ensures { result ≡ pos (placement_id piece.number piece.place) }
+{
+    (u64::from(piece.number) * 65_536 + u64::from(piece.place)) as i64
+}
+
+/// The first pieces that stand one after the other in one message, and the others.
+fn split_run(pieces: &[Piece]) -> (&[Piece], &[Piece])
+    ensures whole { pieces.now ≡ result.0.now ++ result.1.now }
+    ensures some { 0 < length pieces.now → 0 < length result.0.now }
+{
+    let length = run_length(pieces);
+    (&pieces[..length], &pieces[length..])
+}
+
+/// How many pieces, from the first on, stand one after the other in one message.
+fn run_length(pieces: &[Piece]) -> usize
+    ensures within { result ≤ length pieces.now }
+    ensures some { 0 < length pieces.now → 0 < result }
+{
+    let [first, others @ ..] = pieces else {
+        return 0;
+    };
+    1 + more_places(*first, others)
+}
+
+/// How many of the others stand behind the first piece, each in the next place of its message.
+fn more_places(first: Piece, others: &[Piece]) -> usize
+    ensures { result ≤ length others.now }
+{
+    let mut last = first;
+    for (at, piece) in others.iter().enumerate() {
+        if !is_next(last, *piece) {
+            return at;
+        }
+        last = *piece;
+    }
+    others.len()
+}
+
+/// Whether the piece is of the same message as the last one, in the next place.
+fn is_next(last: Piece, piece: Piece) -> bool
+    ensures { IsTrue result ↔ (piece.number ≡ last.number) × (piece.place ≡ last.place + 1) }
+{
+    piece.number == last.number && piece.place > last.place && piece.place - last.place == 1
+}
+
+/// The piece that a row of `placement` tells, where the row is that of this number and place. Its part and
+/// its lot are those of its reel, and its minute is that of its entry.
+fn piece_of<D: Desk>(
+    lists: &TraceLists,
+    desk: &D,
+    key: Piece,
+    row: &Row,
+) -> Result<Option<PlacedRow>, Error>
+    ensures { IfOk result (λ found. IfSome found (λ piece. (db : Database) (H : History) → HoldsBeside D.Stands (Some lists.now) (Some desk.now) db H
+        → Has (rows_in line.placement db) row.now → piece_at H (key_of key) ≡ Some piece)) }
+{
+    let placed = placement(row)?;
+    if placed.number != u64::from(key.number) || placed.place != u64::from(key.place) {
+        return Ok(None);
+    }
+    let Some(reel) = desk.reel(&placed.reel) else {
+        return Ok(None);
+    };
+    let Some(effective) = lists.minute(key.number) else {
+        return Ok(None);
+    };
+    Ok(Some(PlacedRow {
+        number: placed.number,
+        place: placed.place,
+        board: placed.board,
+        designator: placed.designator,
+        part: reel.part,
+        lot: reel.lot,
+        reel: placed.reel,
+        machine: placed.machine,
+        slot: placed.slot,
+        effective,
+        overdue: placed.overdue,
+    }))
+}
+
+/// Adds the pieces that the rows tell, where each is that of its key. Whether it did: a row may be missing,
+/// or be that of another piece.
+fn add_rows<D: Desk>(
+    lists: &TraceLists,
+    desk: &D,
+    keys: &[Piece],
+    rows: &[Row],
+    pieces: &mut Vec<PlacedRow>,
+) -> Result<bool, Error>
+    ensures { IfOk result (λ all. IsTrue all → (db : Database) (H : History) → HoldsBeside D.Stands (Some lists.now) (Some desk.now) db H → AreOf line.placement rows.now db
+        → AddsPieces H (map key_of keys.now) pieces.old.items pieces.new.items) }
+{
+    for (at, key) in keys.iter().enumerate() {
+        let Some(row) = rows.get(at) else {
+            return Ok(false); // A row is missing.
+        };
+        let Some(piece) = piece_of(lists, desk, *key, row)? else {
+            return Ok(false);
+        };
+        pieces.push(piece)?;
+    }
+    Ok(true)
+}
+
+/// The rowids of the first and of the last piece of a run, in a file of ours.
+fn ends_of(run: &[Piece]) -> (i64, i64) {
+    match (run.first(), run.last()) {
+        (Some(first), Some(last)) => (rowid_of(*first), rowid_of(*last)),
+        _ => (1, 0),
+    }
+}
+
+/// Adds the pieces of a run, where the rows between its ends are theirs. Whether it did.
+fn add_run<S: Alter, D: Desk>(
+    conn: &mut Connection<S>,
+    lists: &TraceLists,
+    desk: &D,
+    run: &[Piece],
+    pieces: &mut Vec<PlacedRow>,
+) -> Result<bool, Error>
+    ensures added { HasCleanDisk (state S.Store conn.new) → IfOk result (λ all. Reads (state S.Store conn.old) (λ db. IsTrue all → (H : History) → HoldsBeside D.Stands (Some lists.now) (Some desk.now) db H
+        → AddsPieces H (map key_of run.now) pieces.old.items pieces.new.items)) }
+    ensures kept { HasCleanDisk (state S.Store conn.new) → KeepsCommit (state S.Store conn.old) (state S.Store conn.new) }
+    ensures mode { conn.old.in_transaction ≡ false → conn.new.in_transaction ≡ false }
+    ensures survives { Survives (state S.Store conn.old) (state S.Store conn.new) (λ _. ⊥) }
+{
+    let (first, last) = ends_of(run);
+    let rows = placements_between(conn, first, last)?;
+    add_rows(lists, desk, run, rows.as_slice(), pieces)
+}
+
+/// The pieces with these keys, in their order, by one query for each run of places; none where a row is
+/// missing or is that of another piece.
+pub fn pieces_at<S: Alter, D: Desk>(
+    alloc: Global,
+    conn: &mut Connection<S>,
+    lists: &TraceLists,
+    desk: &D,
+    keys: &[Piece],
+) -> Result<Option<PlacedRows>, Error>
+    ensures told { HasCleanDisk (state S.Store conn.new) → IfOk result (λ found. IfSome found (λ pieces. TellsBeside D.Stands (Some lists.now) (Some desk.now) (λ H. map (piece_at H) (map key_of keys.now)) (state S.Store conn.old) (map Some pieces))) }
+    ensures kept { HasCleanDisk (state S.Store conn.new) → KeepsCommit (state S.Store conn.old) (state S.Store conn.new) }
+    ensures inside { IsTrue conn.old.in_transaction → (result ≡ Err (Error.SqliteFailure code.TransactionState)) × (conn.new ≡ conn.old) }
+    ensures mode { conn.old.in_transaction ≡ false → conn.new.in_transaction ≡ false }
+    ensures survives { Survives (state S.Store conn.old) (state S.Store conn.new) (λ _. ⊥) }
+{
+    ask(conn)?;
+    let mut pieces = Vec::new(alloc);
+    let mut left = keys;
+    while !left.is_empty() {
+        let (run, rest) = split_run(left);
+        if !add_run(conn, lists, desk, run, &mut pieces)? {
+            return Ok(None);
+        }
+        left = rest;
+    }
+    Ok(Some(Listing::new(pieces)))
+}
