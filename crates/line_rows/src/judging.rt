@@ -49,11 +49,12 @@ pub fn accept_row<D: Desk>(
         Ok(change) => {
             let uid = stamped.uid;
             let minute = change.minute.get();
-            let text = accepted_text(alloc, u64::from(number), &uid, &change.detail)?;
-            if !says(row, u64::from(number), minute, &text) {
+            let entry_number = number as u64;
+            let text = accepted_text(alloc, entry_number, &uid, &change.detail)?;
+            if !says(row, entry_number, minute, &text) {
                 return Err(RowFault::NotLawful);
             }
-            let edits = rows_of(alloc, &*desk, &change, u64::from(number))?;
+            let edits = rows_of(alloc, &*desk, &change, entry_number)?;
             lists.note(number, &change)?;
             desk.settle(change)?;
             Ok(Taken { uid, edits })
