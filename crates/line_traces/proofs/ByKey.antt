@@ -1,5 +1,5 @@
 -- The pieces of a list by their keys.
-use Rattle.std.proofs.Common.{◌≡◌, ◌∙◌, ◌==◌, ◌&&◌, ℕ, Bool, true, false, Some, List, [], ◌∷◌, map, filter, find, refl, sym, ap, ap₂, true≢false, Less, is_eq}
+use Rattle.std.proofs.Common.{◌≡◌, ◌∙◌, ◌==◌, ◌&&◌, Bool, true, false, Some, List, [], ◌∷◌, map, filter, find, refl, sym, ap, ap₂, true≢false, is_eq}
 use Rattle.std.specs.Option.{option_map}
 use Rattle.std.specs.List.{AllByRecursion}
 use Rattle.std.specs.List.Sorted.{IsStrictlySortedBy}
@@ -12,8 +12,7 @@ use Rattle.desk_types.specs.Judged.{IsJudged}
 use Rattle.desk_types.specs.Placements.{Placement, placements_of}
 use Rattle.state_rows.specs.Kept.{by_piece}
 use Rattle.state_rows.proofs.PlacedRows.{entry_of, pieces-ascend}
-use Rattle.trace_lists.specs.declared.lists.Piece.{Piece}
-use Rattle.trace_lists.specs.Lists.{Key, key_of, keys_where}
+use Rattle.trace_lists.specs.Lists.{Key, keys_where}
 use Rattle.line_traces.specs.declared.row.PlacedRow.{PlacedRow}
 use Rattle.line_traces.specs.Pieces.{placed_row, pieces_where, piece_at}
 use Rattle.line_traces.proofs.Known.{both, itself}

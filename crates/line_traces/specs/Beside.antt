@@ -1,6 +1,5 @@
 -- What a database tells of a list, where the lists beside a desk and the desk are at hand.
 use Rattle.std.specs.Prelude.{◌≡◌, Option, Some, IfSome, List, ◌++◌, map}
-use Rattle.sqlite_value.specs.Order.{Row}
 use Rattle.sqlite.specs.Effect.{Database}
 use Rattle.sqlite.specs.State.{State}
 use Rattle.desk_types.specs.History.{History}

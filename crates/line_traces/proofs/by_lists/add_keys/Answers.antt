@@ -1,4 +1,4 @@
-use Rattle.std.proofs.Common.{◌≡◌, ◌∙◌, ◌++◌, ℕ, ◌+◌, [], ◌∷◌, map, sym, List, ap, append_assoc, arith}
+use Rattle.std.proofs.Common.{◌∙◌, ◌++◌, ℕ, ◌+◌, [], ◌∷◌, map, sym, List, ap, append_assoc, arith}
 use Rattle.std.specs.List.{range_with_len}
 use Rattle.std.proofs.lemmas.List.{map-append}
 use Rattle.std.proofs.lemmas.List.FromFn.{map-range_with_len_more}

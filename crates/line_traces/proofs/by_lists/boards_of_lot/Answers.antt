@@ -1,10 +1,9 @@
-use Rattle.std.proofs.Common.{◌≡◌, ◌∙◌, Some, map, sym, ap, subst₂, option_copied}
+use Rattle.std.proofs.Common.{◌∙◌, map, sym, ap, subst₂, option_copied}
 use Rattle.sqlite.specs.Held.{state}
 use Rattle.desk_types.specs.Id.{same}
 use Rattle.desk_types.specs.Placements.{boards_of, set_of}
 use Rattle.trace_lists.specs.Lists.{key_of}
 use Rattle.line_traces.specs.declared.row.PlacedRow.{PlacedRow}
-use Rattle.line_traces.specs.Pieces.{pieces_of_lot}
 use Rattle.line_traces.specs.Beside.{TellsBeside}
 use Rattle.line_traces.proofs.Telling.{listed-told, boards-told}
 use Rattle.line_traces.proofs.by_lists.boards_of_lot.Goals as goal

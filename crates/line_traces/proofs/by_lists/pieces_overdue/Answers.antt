@@ -1,4 +1,4 @@
-use Rattle.std.proofs.Common.{◌≡◌, ◌∙◌, Some, map, sym, ap, subst₂, option_copied}
+use Rattle.std.proofs.Common.{map, sym, ap, subst₂, option_copied}
 use Rattle.sqlite.specs.Held.{state}
 use Rattle.trace_lists.specs.Lists.{key_of}
 use Rattle.line_traces.specs.Pieces.{overdue_pieces}
