@@ -1,5 +1,5 @@
 -- What was read of the version and of the list, told of what was committed before.
-use Rattle.std.proofs.Common.{◌≡◌, ◌≢◌, ◌≤◌, ◌∙◌, inl, inr, ℕ, ℤ, pos, true, IsTrue, Option, Some, None, refl, sym, ap, subst}
+use Rattle.std.proofs.Common.{◌≡◌, ◌≢◌, ◌≤◌, ◌∙◌, ◌⊎◌, inl, inr, ℕ, ℤ, pos, true, IsTrue, IfErr, Result, Ok, Err, Option, Some, None, refl, sym, ap, subst}
 use Rattle.std.specs.Prelude.{if◌then◌else◌, ◌==◌}
 use Rattle.std.specs.List.{list_any}
 use Rattle.sqlite.specs.Effect.{Database}
@@ -55,6 +55,14 @@ module _ (rules : Rules) (old : State) where
 
   pub other_version : (v : Version) (greatest : ℕ) → v.number ≢ pos (version_of rules) → IsGreatest v.greatest greatest → Reads old (λ db. IsVersionOf (version_in db) (Some v)) → IsFaultBy rules old (OtherVersion v.number)
   other_version v greatest other great r = let is = version_read old v v.number greatest refl great r in (other, record { was_open = is.was_open; are = λ schema. (greatest, is.are schema) })
+
+  -- a row of `version` that tells no greatest number of this version
+  pub version_fault : (v : Version) (o : Option Version) (r : Result ℕ OpenFault) → o ≡ Some v
+      → IfErr r (λ f. ((f ≡ NotADesk) × ((greatest : ℕ) → IsGreatest v.greatest greatest → ⊥)) ⊎ ((f ≡ OtherVersion v.number) × (v.number ≢ pos (version_of rules)) × (greatest : ℕ) × IsGreatest v.greatest greatest))
+      → Reads old (λ db. IsVersionOf (version_in db) o) → IfErr r (IsFaultBy rules old)
+  version_fault v o (Ok n) some told read = tt
+  version_fault v o (Err f) some (inl (is, none)) read = subst (IsFaultBy rules old) (sym is) (no_greatest v none (subst (λ (x : Option Version). Reads old (λ db. IsVersionOf (version_in db) x)) some read))
+  version_fault v o (Err f) some (inr (is, other, greatest, great)) read = subst (IsFaultBy rules old) (sym is) (other_version v greatest other great (subst (λ (x : Option Version). Reads old (λ db. IsVersionOf (version_in db) x)) some read))
 
 -- ---- which faults are told of which files
 
@@ -121,16 +129,19 @@ pub opened_holds : {D : Type 0} (F : D → History → Type 0) (K : D → Rules)
 opened_holds F K Clean old rules opened H o named settled clean =
     let version = o.version clean in record {
       was_open = version.was_open;
-      are = λ ours. record {
-        schema = ours_whole rules old.committed.schema ours (subst (λ (db : Database). has_state rules db.schema.tables ≡ true) (settled version.was_open) named.2);
-        version = (version.are ours).row;
-        accepted = ((o.rows clean).are ours).same;
-        state = (o.state clean).are ours;
-        apart = (o.apart clean).are ours;
-      };
+      are = λ ours.
+          let whole = ours_whole rules old.committed.schema ours (subst (λ (db : Database). has_state rules db.schema.tables ≡ true) (settled version.was_open) named.2) in
+          record {
+            indexed = whole.0;
+            schema = whole.1;
+            version = (version.are ours).row;
+            accepted = ((o.rows clean).are ours).same;
+            state = (o.state clean).are ours;
+            apart = (o.apart clean).are ours;
+          };
     }
 
 -- and it is lawful
 pub opened_lawful : {D : Type 0} (F : D → History → Type 0) (K : D → Rules) (Clean : Type 0) (old : State) (opened : Opened D) (H : History) → IsOpened F K Clean old Two opened H → Clean → IsTrue (is_ours old.committed.schema)
     → IsLawful Two opened.greatest H
-opened_lawful F K Clean old opened H o clean own = ((o.rows clean).are (Two, ours_is old.committed.schema own)).lawful
+opened_lawful F K Clean old opened H o clean own = let ours = ours_is old.committed.schema own in ((o.rows clean).are (Two, ours.0, ours.1)).lawful

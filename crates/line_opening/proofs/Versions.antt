@@ -21,7 +21,10 @@ use Rattle.line_opening.proofs.Reading.{opened_holds}
 left_before : (old mid : State) (trees : Trees) → KeepsCommit old mid → LeavesMigrated mid trees → LeavesMigrated old trees
 left_before old mid trees kept left = record {
   was_open = kept.was_open left.was_open;
-  holds = λ tables holds. left.holds tables (subst (λ (db : Database). HoldsBy One db tables) (sym (kept.committed left.was_open)) holds);
+  holds = λ tables holds.
+      let same = kept.committed left.was_open in
+      let found = left.holds tables (subst (λ (db : Database). HoldsBy One db tables) (sym same) holds) in
+      (found.0, λ indexed has. found.1 indexed (ap (λ (db : Database). db.schema) same ∙ has));
 }
 
 pub survives_migration : (old mid new : State) → (HasCleanDisk new → KeepsCommit old mid) → Survives old mid (λ _. ⊥) → Survives mid new (LeavesMigrated mid) → Survives old new (LeavesMigrated old)
@@ -39,10 +42,11 @@ migrated_on F K Clean old mid new opened H o clean named settled kept done is_op
       let lawful = ((o.rows clean).are ours).lawful in
       record { judged = judged-by-two One H lawful.judged; uids = lawful.uids; numbers = lawful.numbers };
   before = before;
-  same = λ ours. ap (map accepted_columns) (done.same (held ours).schema).0 ∙ ap accepted_in same;
+  same = λ ours. ap (map accepted_columns) (done.same (held ours).indexed (held ours).schema).0 ∙ ap accepted_in same;
   after = λ ours. done.holds (tables_of opened.greatest H) (held ours);
+  layout = λ indexed has. done.layout indexed (ap (λ (db : Database). db.schema) same ∙ has);
   stays_open = is_open.1;
-  alone = λ trees may ours. (left trees may).holds (tables_of opened.greatest H) (held ours);
+  alone = λ trees may ours. ((left trees may).holds (tables_of opened.greatest H) (held ours)).0;
 }
   where
     before : Reads old (λ db. HoldsBy One db (tables_of opened.greatest H))
