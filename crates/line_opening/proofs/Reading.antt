@@ -1,5 +1,5 @@
 -- What was read of the version and of the list, told of what was committed before.
-use Rattle.std.proofs.Common.{◌≡◌, ◌≢◌, ◌≤◌, ◌∙◌, inl, inr, ℕ, ℤ, pos, true, IsTrue, Option, Some, None, refl, sym, ap, subst}
+use Rattle.std.proofs.Common.{◌≡◌, ◌≢◌, ◌≤◌, ◌∙◌, ◌⊎◌, inl, inr, ℕ, ℤ, pos, true, IsTrue, IfErr, Result, Ok, Err, Option, Some, None, refl, sym, ap, subst}
 use Rattle.std.specs.Prelude.{if◌then◌else◌, ◌==◌}
 use Rattle.std.specs.List.{list_any}
 use Rattle.sqlite.specs.Effect.{Database}
@@ -56,6 +56,14 @@ module _ (rules : Rules) (old : State) where
 
   pub other_version : (v : Version) (greatest : ℕ) → v.number ≢ pos (version_of rules) → IsGreatest v.greatest greatest → Reads old (λ db. IsVersionOf (version_in db) (Some v)) → IsFaultBy rules old (OtherVersion v.number)
   other_version v greatest other great r = let is = version_read old v v.number greatest refl great r in (other, record { was_open = is.was_open; are = λ schema. (greatest, is.are schema) })
+
+  -- a row of `version` that tells no greatest number of this version
+  pub version_fault : (v : Version) (o : Option Version) (r : Result ℕ OpenFault) → o ≡ Some v
+      → IfErr r (λ f. ((f ≡ NotADesk) × ((greatest : ℕ) → IsGreatest v.greatest greatest → ⊥)) ⊎ ((f ≡ OtherVersion v.number) × (v.number ≢ pos (version_of rules)) × (greatest : ℕ) × IsGreatest v.greatest greatest))
+      → Reads old (λ db. IsVersionOf (version_in db) o) → IfErr r (IsFaultBy rules old)
+  version_fault v o (Ok n) some told read = tt
+  version_fault v o (Err f) some (inl (is, none)) read = subst (IsFaultBy rules old) (sym is) (no_greatest v none (subst (λ (x : Option Version). Reads old (λ db. IsVersionOf (version_in db) x)) some read))
+  version_fault v o (Err f) some (inr (is, other, greatest, great)) read = subst (IsFaultBy rules old) (sym is) (other_version v greatest other great (subst (λ (x : Option Version). Reads old (λ db. IsVersionOf (version_in db) x)) some read))
 
 -- ---- which faults are told of which files
 
