@@ -1,0 +1,24 @@
+use Rattle.std.proofs.Common.{◌≡◌, ◌∙◌, inr, true, refl, sym, subst}
+use Rattle.std.specs.List.{list_any}
+use Rattle.sqlite.specs.Held.{state}
+use Rattle.desk_types.specs.Id.{Name}
+use Rattle.line_tables.specs.Calls.{Reads, is_before}
+use Rattle.line_tables.specs.Rows.{accepted_in}
+use Rattle.line_rows.specs.Rows.{entry_row}
+use Rattle.line_replay.proofs.Reading.{reads_as}
+use Rattle.line_replay.proofs.taking.accept_first.Goals as goal
+
+pub returns-then-repeated-clause-err : goal.returns-then-repeated-clause-err
+returns-then-repeated-clause-err g c H stands numbered clean =
+    let old = state g.S.Store c.args.conn.now in
+    let it = c.in-Ok.ensures.ok H stands numbered in
+    inr (
+      refl,
+      λ e goes.
+          let same : entry_row H it.0 ≡ entry_row H e = sym it.3.same ∙ goes.same in
+          let uid : it.0.stamped.uid ≡ e.stamped.uid = cc in
+          let read : c.as_str.result.now ≡ e.stamped.uid = c.as_str.ensures ∙ sym it.1 ∙ uid in
+          subst (λ (name : Name). Reads old (λ db. list_any (is_before name c.args.number) (accepted_in db) ≡ true)) read
+          (reads_as old (λ db. c.in_ok-repeated-in-Ok.repeated ≡ list_any (is_before c.as_str.result.now c.args.number) (accepted_in db))
+          (λ db. list_any (is_before c.as_str.result.now c.args.number) (accepted_in db) ≡ true) (λ db told. sym told ∙ c.if-repeated.true) (c.in_ok-repeated-in-Ok.ensures.found clean)),
+    )
