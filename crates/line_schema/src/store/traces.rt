@@ -1,5 +1,5 @@
-//! The pieces of a board, of a lot, and of overdue reels, by the tables that a store keeps. The desk is
-//! let be, and need not be at hand.
+//! The pieces of a board, of a lot, and of overdue reels, by the tables that a store keeps. The desk and
+//! the lists beside it say where to look, where they are at hand; they need not be, and are let be.
 
 ghost use Rattle.std.specs.Prelude.{◌≡◌, IsTrue, IfOk};
 ghost use Rattle.sqlite.specs.State.{HasCleanDisk, KeepsCommit, Survives};
@@ -24,7 +24,9 @@ impl<S: Alter, D: Desk + Drop> LineStore<S, D> {
         ensures unchanged { HasCleanDisk (state_of S.Store self.new) → KeepsCommit (state_of S.Store self.old) (state_of S.Store self.new) }
         ensures survives { Survives (state_of S.Store self.old) (state_of S.Store self.new) (λ _. ⊥) }
     {
-        Ok(line_traces::board_rows(self.alloc, &mut self.conn, board)?)
+        let lists = self.lists.as_ref();
+        let desk = self.desk.as_ref();
+        Ok(line_traces::board_rows(self.alloc, &mut self.conn, lists, desk, board)?)
     }
 
     /// The pieces of a lot by number, then place; none where no accepted command received a reel of the
@@ -36,7 +38,9 @@ impl<S: Alter, D: Desk + Drop> LineStore<S, D> {
         ensures unchanged { HasCleanDisk (state_of S.Store self.new) → KeepsCommit (state_of S.Store self.old) (state_of S.Store self.new) }
         ensures survives { Survives (state_of S.Store self.old) (state_of S.Store self.new) (λ _. ⊥) }
     {
-        Ok(line_traces::lot_rows(self.alloc, &mut self.conn, lot)?)
+        let lists = self.lists.as_ref();
+        let desk = self.desk.as_ref();
+        Ok(line_traces::lot_rows(self.alloc, &mut self.conn, lists, desk, lot)?)
     }
 
     /// The boards that hold a piece of a lot, each once and in byte order; none where no accepted
@@ -49,7 +53,9 @@ impl<S: Alter, D: Desk + Drop> LineStore<S, D> {
         ensures unchanged { HasCleanDisk (state_of S.Store self.new) → KeepsCommit (state_of S.Store self.old) (state_of S.Store self.new) }
         ensures survives { Survives (state_of S.Store self.old) (state_of S.Store self.new) (λ _. ⊥) }
     {
-        Ok(line_traces::lot_boards(self.alloc, &mut self.conn, lot)?)
+        let lists = self.lists.as_ref();
+        let desk = self.desk.as_ref();
+        Ok(line_traces::lot_boards(self.alloc, &mut self.conn, lists, desk, lot)?)
     }
 
     /// The pieces of reels whose floor life was used up, by number, then place.
@@ -60,6 +66,8 @@ impl<S: Alter, D: Desk + Drop> LineStore<S, D> {
         ensures unchanged { HasCleanDisk (state_of S.Store self.new) → KeepsCommit (state_of S.Store self.old) (state_of S.Store self.new) }
         ensures survives { Survives (state_of S.Store self.old) (state_of S.Store self.new) (λ _. ⊥) }
     {
-        Ok(line_traces::overdue_rows(self.alloc, &mut self.conn)?)
+        let lists = self.lists.as_ref();
+        let desk = self.desk.as_ref();
+        Ok(line_traces::overdue_rows(self.alloc, &mut self.conn, lists, desk)?)
     }
 }
