@@ -51,6 +51,8 @@ def understood(reader):
         reader.error("there is no program: name it by --program, or PROGRAM in the environment")
     if not asked.db.is_file():
         reader.error(f"there is no file {asked.db}: name the desk's file by --db")
+    if asked.archive == asked.db.parent:
+        reader.error("the archived desks have a folder of their own")
     return asked
 
 
