@@ -11,6 +11,8 @@ import subprocess
 import sys
 import time
 
+import copies
+
 NAME = pathlib.Path(sys.argv[0]).name
 DESK = pathlib.Path("/var/lib/tracedesk/desk")
 STOP, START, PORT = "systemctl stop tracedesk", "systemctl start tracedesk", 8080
@@ -58,9 +60,13 @@ def understood(reader):
 
 def ends_by_exception():
     """Lets SIGTERM and SIGHUP end the tool as a fault does, so that all is put back."""
+    numbers = signal.SIGTERM, signal.SIGHUP
+
     def end(number, _):
+        for it in numbers:
+            signal.signal(it, signal.SIG_IGN)
         raise Fault(f"it was stopped by {signal.Signals(number).name}")
-    for number in (signal.SIGTERM, signal.SIGHUP):
+    for number in numbers:
         signal.signal(number, end)
 
 
@@ -69,12 +75,27 @@ def alone(db):
     """Holds the desk's folder: one such tool at a time."""
     folder = os.open(db.parent, os.O_RDONLY | os.O_DIRECTORY)
     try:
-        fcntl.flock(folder, fcntl.LOCK_EX | fcntl.LOCK_NB)
+        try:
+            fcntl.flock(folder, fcntl.LOCK_EX | fcntl.LOCK_NB)
+        except BlockingIOError:
+            raise Fault(f"another roll-over or backup of {db} is running: wait until it has ended") from None
         yield
-    except BlockingIOError:
-        raise Fault(f"another roll-over or backup of {db} is running: wait until it has ended") from None
     finally:
         os.close(folder)
+
+
+def wait_until_closed(db, seconds):
+    """Waits until no run has a file open: a service that is still ending, or an audit whose caller was killed."""
+    end = time.monotonic() + seconds
+    with open(db, "rb") as file:
+        while True:
+            try:
+                fcntl.lockf(file, fcntl.LOCK_SH | fcntl.LOCK_NB, copies.LOCKED, copies.LOCKED_FROM)
+                return
+            except BlockingIOError:
+                if time.monotonic() > end:
+                    raise Fault(f"after {seconds} seconds a run still has {db} open: fuser {db} says which") from None
+            time.sleep(0.1)
 
 
 def start_seconds(pieces):
@@ -126,7 +147,7 @@ class Service:
 
     def __init__(self, asked):
         self.commands = {"stop": asked.stop, "start": asked.start}
-        self.port, self.drained, self.drain_seconds = asked.port, asked.drained, asked.drain_seconds
+        self.db, self.port, self.drained, self.drain_seconds = asked.db, asked.port, asked.drained, asked.drain_seconds
         self.stopped = None  # since when
 
     def drain(self):
@@ -145,12 +166,14 @@ class Service:
     def stop(self):
         self.stopped = time.monotonic()
         self.call("stop")
+        wait_until_closed(self.db, PATIENCE)
 
     def start(self, pieces=0):
-        """Starts the service, lets senders in once it answers, and returns how many seconds it was not there."""
-        self.call("start")
+        """Starts the service where it doesn't run, lets senders in once it answers, and returns how many seconds it was not there."""
         try:
-            self.wait(PATIENCE + 5 * start_seconds(pieces))
+            if not self.answers():
+                self.call("start")
+                self.wait(PATIENCE + 5 * start_seconds(pieces))
         finally:
             self.drained.unlink(missing_ok=True)
         return time.monotonic() - self.stopped if self.stopped else 0.0
