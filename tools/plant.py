@@ -43,7 +43,7 @@ def offer(reader):
     reader.add_argument("--drain-seconds", type=float, default=30, metavar="N", help="how long the last answers may take (30)")
 
 
-def understood(reader):
+def understood(reader, wants_desk=True):
     """The words of the command line, with whole paths; it ends where they can't be followed."""
     asked = reader.parse_args()
     asked.db = asked.db.absolute()
@@ -51,11 +51,18 @@ def understood(reader):
     asked.program = shutil.which(asked.program)
     if asked.program is None:
         reader.error("there is no program: name it by --program, or PROGRAM in the environment")
-    if not asked.db.is_file():
+    if wants_desk and not asked.db.is_file():
         reader.error(f"there is no file {asked.db}: name the desk's file by --db")
     if asked.archive == asked.db.parent:
         reader.error("the archived desks have a folder of their own")
     return asked
+
+
+def tell_fault(fault, kinds):
+    """Tells a fault, and before it the one in whose handling it came."""
+    for it in (fault.__context__, fault):
+        if isinstance(it, kinds):
+            tell(str(it) or "it was interrupted")
 
 
 def ends_by_exception():
