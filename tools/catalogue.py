@@ -24,6 +24,7 @@ HEADER = ("file", "sha256", "desk", "first_minute", "last_minute", "commands", "
 EPOCH = datetime.datetime(1970, 1, 1)
 CHUNK = 1 << 20
 LOGS = ("-wal", "-journal")
+LONGEST_EMPTY_LOG = 56  # bytes: the head of a log and that of a page, without the page
 
 
 class CatalogueError(Exception):
@@ -196,16 +197,23 @@ def path_of(path, archive):
 def check(path, archive):
     """Stops where an archive of the catalogue is not there, has a log, or is not the file that its line is of."""
     file = path_of(path, archive)
-    for tail in LOGS:
-        with contextlib.suppress(FileNotFoundError):
-            if os.stat(f"{file}{tail}").st_size:
-                raise CatalogueError(f"{file}: {file.name}{tail} lies beside it, and an archive stands whole without a log")
+    if log := log_of(file):
+        raise CatalogueError(f"{file}: {log.name} lies beside it, and an archive stands whole without a log")
     try:
         told = sha256_of(file)
     except OSError as fault:
         raise CatalogueError(f"{file}: {path} has a line of it, and it can't be read: {fault.strerror}") from fault
     if told != archive.sha256:
         raise CatalogueError(f"{file}: its checksum is {told}, and in {path} {archive.sha256}: take it from a backup")
+
+
+def log_of(file):
+    """The log beside a file that may hold something of it, or none. A run leaves an empty one."""
+    for tail in LOGS:
+        with contextlib.suppress(FileNotFoundError):
+            if os.stat(f"{file}{tail}").st_size > LONGEST_EMPTY_LOG:
+                return pathlib.Path(f"{file}{tail}")
+    return None
 
 
 def newest(archives, desk):
@@ -222,16 +230,31 @@ def add(path, archive):
 
     A catalogue that has this very line stays as it is.
     """
+    with changed(path) as archives:
+        if archive not in archives:
+            archives[:] = [it._replace(went_on_to=archive.file) if it.file == archive.went_on_from else it for it in archives]
+            archives.append(archive)
+
+
+def take_out(path, archive):
+    """Takes the line of an archive out that went on to none; the one before it goes on to the running desk again."""
+    with changed(path) as archives:
+        archives[:] = [it._replace(went_on_to="") if it.went_on_to == archive.file else it for it in archives if it != archive]
+
+
+@contextlib.contextmanager
+def changed(path):
+    """The archives of a catalogue, which is written anew where they were changed; for one change at a time."""
     path = pathlib.Path(path)
     folder = os.open(path.parent, os.O_RDONLY | os.O_DIRECTORY)
     try:
         fcntl.flock(folder, fcntl.LOCK_EX)
-        archives = read(path)
-        if archive in archives:
-            return
-        linked = [it._replace(went_on_to=archive.file) if it.file == archive.went_on_from else it for it in archives]
-        write(path, [*linked, archive])
-        os.fsync(folder)
+        before = read(path)
+        archives = list(before)
+        yield archives
+        if archives != before:
+            write(path, archives)
+            os.fsync(folder)
     finally:
         os.close(folder)
 
