@@ -144,6 +144,48 @@ def want_chains(path, lines):
                 raise CatalogueError(f"{path}, line {number}: {name} is {other}, and line {lines[other][0]} doesn't say so of {it.file}")
 
 
+class Survey(NamedTuple):
+    """A catalogue as it is read by those who ask the archives that it does name: its bytes, and what is wrong with it."""
+    text: bytes
+    archives: list
+    faults: list
+
+
+def survey(path):
+    """The archives of each line that can be read, and of each other line what is wrong with it."""
+    try:
+        text = pathlib.Path(path).read_bytes()
+        return survey_text(path, text, csv.reader(io.StringIO(text.decode(), newline=""), strict=True))
+    except OSError as fault:
+        return Survey(b"", [], [f"{path}: it can't be read: {fault.strerror}"])
+    except UnicodeDecodeError as fault:
+        return Survey(text, [], [f"{path}: it can't be read: {fault}"])
+
+
+def survey_text(path, text, rows):
+    lines, faults = {}, []
+    try:
+        if next(rows, None) != list(HEADER):
+            return Survey(text, [], [f"{path}, line 1: the header is not {','.join(HEADER)}"])
+        for row in rows:
+            try:
+                archive = archive_of(row)
+            except ValueError as fault:
+                faults.append(f"{path}, line {rows.line_num}: {fault}")
+                continue
+            if archive.file in lines:
+                faults.append(f"{path}, line {rows.line_num}: {archive.file} stands in line {lines[archive.file][0]} too")
+            lines.setdefault(archive.file, (rows.line_num, archive))
+    except csv.Error as fault:
+        faults.append(f"{path}, line {max(1, rows.line_num)} and those behind it: {fault}")
+    if not faults:
+        try:
+            want_chains(path, lines)
+        except CatalogueError as fault:
+            faults.append(str(fault))
+    return Survey(text, [archive for _, archive in lines.values()], faults)
+
+
 # --- The archives themselves
 
 
