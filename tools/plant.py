@@ -1,4 +1,4 @@
-"""What tools/rollover and tools/backup share: the program, the service of a desk, and the proxy in front of it."""
+"""What tools/rollover and tools/backup share: the program, the service of a desk, and the proxy in front of it.
 import contextlib
 import fcntl
 import http.client
@@ -11,6 +11,7 @@ import subprocess
 import sys
 import time
 
+import catalogue
 import copies
 
 NAME = pathlib.Path(sys.argv[0]).name
@@ -117,6 +118,14 @@ def keep(path):
         os.fsync(it)
     finally:
         os.close(it)
+
+
+def without_log(file):
+    """Takes the empty log away that a run left beside a file."""
+    if log := catalogue.log_of(file):
+        raise Fault(f"{log} holds something after a run that ended well")
+    for tail in catalogue.LOGS:
+        pathlib.Path(f"{file}{tail}").unlink(missing_ok=True)
 
 
 class Program:
