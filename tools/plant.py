@@ -1,4 +1,4 @@
-"""What tools/rollover and tools/backup share: the program, the service of a desk, and the proxy in front of it.
+"""What tools/rollover and tools/backup share: the program, the service of a desk, and the proxy in front of it."""
 import contextlib
 import fcntl
 import http.client
