@@ -11,6 +11,7 @@ import subprocess
 import sys
 import time
 
+import catalogue
 import copies
 
 NAME = pathlib.Path(sys.argv[0]).name
@@ -43,7 +44,7 @@ def offer(reader):
     reader.add_argument("--drain-seconds", type=float, default=30, metavar="N", help="how long the last answers may take (30)")
 
 
-def understood(reader):
+def understood(reader, wants_desk=True):
     """The words of the command line, with whole paths; it ends where they can't be followed."""
     asked = reader.parse_args()
     asked.db = asked.db.absolute()
@@ -51,11 +52,18 @@ def understood(reader):
     asked.program = shutil.which(asked.program)
     if asked.program is None:
         reader.error("there is no program: name it by --program, or PROGRAM in the environment")
-    if not asked.db.is_file():
+    if wants_desk and not asked.db.is_file():
         reader.error(f"there is no file {asked.db}: name the desk's file by --db")
     if asked.archive == asked.db.parent:
         reader.error("the archived desks have a folder of their own")
     return asked
+
+
+def tell_fault(fault, kinds):
+    """Tells a fault, and before it the one in whose handling it came."""
+    for it in (fault.__context__, fault):
+        if isinstance(it, kinds):
+            tell(str(it) or "it was interrupted")
 
 
 def ends_by_exception():
@@ -110,6 +118,14 @@ def keep(path):
         os.fsync(it)
     finally:
         os.close(it)
+
+
+def without_log(file):
+    """Takes the empty log away that a run left beside a file."""
+    if log := catalogue.log_of(file):
+        raise Fault(f"{log} holds something after a run that ended well")
+    for tail in catalogue.LOGS:
+        pathlib.Path(f"{file}{tail}").unlink(missing_ok=True)
 
 
 class Program:
