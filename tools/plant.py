@@ -21,6 +21,7 @@ DRAINED = pathlib.Path("/run/tracedesk-drained")  # packaging/nginx.conf looks f
 SECONDS_A_MILLION = 23  # of a start, for a million placed pieces: docs/figures.md
 QUIET = 1.0  # seconds without a connection, after which nobody waits for an answer any more
 CONNECTED = ("01", "08")  # in /proc/net/tcp: open, and closed by the client alone
+LONGEST_OTHER = 3600  # seconds that another roll-over or backup may take
 PATIENCE = 120  # seconds that a start may take beside what the pieces ask for
 
 
@@ -80,13 +81,10 @@ def ends_by_exception():
 
 @contextlib.contextmanager
 def alone(db):
-    """Holds the desk's folder: one such tool at a time."""
+    """Holds the desk's folder, once no other roll-over or backup has it."""
     folder = os.open(db.parent, os.O_RDONLY | os.O_DIRECTORY)
     try:
-        try:
-            fcntl.flock(folder, fcntl.LOCK_EX | fcntl.LOCK_NB)
-        except BlockingIOError:
-            raise Fault(f"another roll-over or backup of {db} is running: wait until it has ended") from None
+        wait_for_lock(lambda: fcntl.flock(folder, fcntl.LOCK_EX | fcntl.LOCK_NB), LONGEST_OTHER, f"another roll-over or backup of {db} is running")
         yield
     finally:
         os.close(folder)
@@ -94,16 +92,23 @@ def alone(db):
 
 def wait_until_closed(db, seconds):
     """Waits until no run has a file open: a service that is still ending, or an audit whose caller was killed."""
-    end = time.monotonic() + seconds
     with open(db, "rb") as file:
-        while True:
-            try:
-                fcntl.lockf(file, fcntl.LOCK_SH | fcntl.LOCK_NB, copies.LOCKED, copies.LOCKED_FROM)
-                return
-            except BlockingIOError:
-                if time.monotonic() > end:
-                    raise Fault(f"after {seconds} seconds a run still has {db} open: fuser {db} says which") from None
-            time.sleep(0.1)
+        wait_for_lock(lambda: fcntl.lockf(file, fcntl.LOCK_SH | fcntl.LOCK_NB, copies.LOCKED, copies.LOCKED_FROM), seconds, f"a run has {db} open")
+
+
+def wait_for_lock(take, seconds, held):
+    end, is_told = time.monotonic() + seconds, False
+    while True:
+        try:
+            take()
+            return
+        except BlockingIOError:
+            if time.monotonic() > end:
+                raise Fault(f"{held}, for {seconds} seconds now: end it, or wait for it") from None
+        if not is_told and time.monotonic() > end - seconds + QUIET:
+            tell(f"{held}; it is waited for")
+            is_told = True
+        time.sleep(0.1)
 
 
 def start_seconds(pieces):
