@@ -191,34 +191,35 @@ class Desk:
 
 
 def whole_lines(path):
-    """The whole lines of a file, which is made where there is none; what stands behind the last of them is cut off."""
+    """The whole lines of a file, which is made where there is none."""
     with open(path, "a+b") as it:
         it.seek(0)
-        held = it.read()
-        it.truncate(held.rfind(b"\n") + 1)
-    return held.split(b"\n")[:-1]
+        return it.read().split(b"\n")[:-1]
 
 
 def compare(messages, answers):
-    """Looks whether the answers that are there are those to the first messages: an answer names its message by UniqueID."""
+    """Looks whether the answers that are there are a desk's to the first messages: one may name its message by UniqueID."""
     if len(answers) > len(messages):
         raise BadFile(f"it has {len(answers)} answers, and there are {len(messages)} messages: name a new file for answers")
     for number, (line, answer) in enumerate(zip(messages, answers), 1):
-        told = read_object(answer).get("UniqueID")
-        if told is not None and told != read_object(line).get("UniqueID"):
-            raise BadFile(f"its line {number} answers {told}, which is not the message of that line: name a new file for answers")
+        told = read_object(answer)
+        if told.get("Answer") not in ANSWERS.values():
+            raise BadFile(f"its line {number} is no answer of a desk, so that message may not have been taken: cut the file before that line")
+        if "UniqueID" in told and told["UniqueID"] != read_object(line).get("UniqueID"):
+            raise BadFile(f"its line {number} answers {told['UniqueID']}, which is not the message of that line: name a new file for answers")
 
 
-def send_all(desk, messages, path, stops):
+def send_all(desk, messages, known, path, stops):
     """Sends what has no answer yet, and adds each answer to the file before the next message goes out."""
     with open(path, "ab") as answers:
-        for line in messages:
+        answers.truncate(sum(len(it) + 1 for it in known))  # a line that was cut goes
+        for line in messages[len(known):]:
             answer = desk.send(line)
             if stops and read_object(answer)["Answer"] in NOT_DONE:
                 raise Refused(answer.decode(errors="replace"))
             answers.write(answer + b"\n")
             answers.flush()
-            os.fdatasync(answers.fileno())
+            os.fsync(answers.fileno())
 
 
 def desk_of(asked):
@@ -270,14 +271,14 @@ def main():
     try:
         desk = desk_of(asked)
         messages = [line.rstrip(b"\r") for line in pathlib.Path(asked.messages).read_bytes().split(b"\n") if line.strip()]
-        answers = whole_lines(asked.answers)
-        compare(messages, answers)
+        known = whole_lines(asked.answers)
+        compare(messages, known)
     except BadFile as fault:
         sys.exit(stopped(2, f"{asked.answers}: {fault}"))
     except (OSError, UnicodeError) as fault:
         sys.exit(stopped(2, fault))
     try:
-        send_all(desk, messages[len(answers):], asked.answers, asked.stop_at_refusal)
+        send_all(desk, messages, known, asked.answers, asked.stop_at_refusal)
     except Refused as answer:
         sys.exit(stopped(1, answer))
     except GivenUp as why:
