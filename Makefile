@@ -24,7 +24,7 @@ day:           ## feeds a made-up shift to a desk, and prints what is asked of i
 plant-recall:  ## three lines in one PostgreSQL, and a recall over them: docs/plant.md | 1 min | postgresql
 	$(say)
 	@examples/plant/try
-client-test:   ## kills `serve` twenty times under examples/client.py | 10 s
+client-test:   ## kills `serve` twenty times under examples/client.py, and puts a proxy that fails before it | 20 s | openssl
 	@examples/client-test
 torture:       ## kills the program 200 times, fails its disk, looks at its order of calls | 3 min | strace
 	$(say)

@@ -1,17 +1,12 @@
 """The reports of a desk, by queries on its tables: for tools/ask, examples/day and examples/plant.
 
 A target is that of the reports (`/slots?machine=M1`), and the text is the CSV of docs/definitions.md, or one JSON
-object that says what was not found. Everything is read off a copy of the file by Python's sqlite3, so this is a
-second way to the same answers: where the program has `report`, examples/day compares the two.
+object that says what was not found. Everything is read by Python's sqlite3 off a copy of the file and its log
+(copies.py), so this is a second way to the same answers: examples/day compares the two.
 """
-import contextlib
 import csv
 import io
 import json
-import pathlib
-import shutil
-import sqlite3
-import tempfile
 import urllib.parse
 
 LIMITS = {"1": None, "2": 525_600, "2a": 40_320, "3": 10_080, "4": 4_320, "5": 2_880, "5a": 1_440}
@@ -24,14 +19,6 @@ DETAILS = {  # columns of a trace by what is asked and the detail
 
 class NotFound(Exception):
     pass
-
-
-@contextlib.contextmanager
-def opened(file):
-    """A copy of a desk's file, as a database; no run may have the file open."""
-    with tempfile.TemporaryDirectory() as room:
-        with contextlib.closing(sqlite3.connect(shutil.copy(file, pathlib.Path(room, "copy")))) as database:
-            yield database
 
 
 def csv_text(header, rows):

@@ -1,0 +1,57 @@
+"""A copy of a desk's file with its log: for tools that read a desk's tables.
+
+The newest commands of a desk may stand in its log alone: so it is after SIGTERM, by which the service stops, and after
+a kill. Who reads the file without it leaves them out, and is told nothing. So what is read is a copy of both, in a
+folder of its own, and the desk's own file and log stay as they are. A file that a run has open is refused.
+
+    with copies.opened("/var/lib/tracedesk/archive/desk-1") as database:
+        database.execute("SELECT count(*) FROM accepted")
+"""
+import contextlib
+import fcntl
+import os
+import pathlib
+import shutil
+import sqlite3
+import tempfile
+
+LOGS = ("-wal", "-journal")  # beside a desk's file, and part of it; the second only where its making was cut off
+LOCKED_FROM, LOCKED = 1 << 30, 512  # where SQLite's locks of a file lie
+
+
+class InUse(Exception):
+    """A run has the file open, so that a copy would be of no use."""
+
+    def __init__(self):
+        super().__init__("a run has it open: stop that, or name a copy of the file and its log")
+
+
+def copy(file, to):
+    """Copies a desk's file, and its log to the same name with the log's ending. No run can open the file meanwhile."""
+    file = os.path.realpath(file)  # a link has no log of its own
+    with open(file, "rb") as source:
+        try:
+            fcntl.lockf(source, fcntl.LOCK_SH | fcntl.LOCK_NB, LOCKED, LOCKED_FROM)
+        except BlockingIOError:
+            raise InUse() from None
+        with open(to, "xb") as target:  # not by name: the lock ends with the first closing of the file in this process
+            shutil.copyfileobj(source, target)
+        for log in LOGS:
+            if os.path.exists(file + log):
+                shutil.copyfile(file + log, f"{to}{log}")
+
+
+@contextlib.contextmanager
+def copied(file):
+    """The path of a copy, with its log beside it; both are gone afterwards."""
+    with tempfile.TemporaryDirectory(prefix="tracedesk-") as room:
+        to = pathlib.Path(room, "copy")
+        copy(file, to)
+        yield to
+
+
+@contextlib.contextmanager
+def opened(file):
+    """A copy, as a database."""
+    with copied(file) as copy_of_it, contextlib.closing(sqlite3.connect(copy_of_it)) as database:
+        yield database
