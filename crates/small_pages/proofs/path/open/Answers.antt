@@ -12,4 +12,8 @@ abbrev seen : List ℕ → List ℕ → Bool → List Event → List ℕ
 seen log db is_log history = (replay (cond is_log log db) history).seen
 
 pub returns-clause-found : goal.returns-clause-found
-returns-clause-found g c = ?
+returns-clause-found g c = λ clean.
+    let (log, db) = c.in-Ok.ensures.fresh in
+    let found = c.in-Ok-open_files.ensures.found clean in
+    let same = ap₂ image (ap₂ (seen g.T.Start.log g.T.Start.db) log.0 log.1) (ap₂ (seen g.T.Start.log g.T.Start.db) db.0 db.1) in
+    subst (λ i. FindsAs i (file_state c.in-Ok-open_files.conn)) same found
