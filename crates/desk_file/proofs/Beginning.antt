@@ -11,7 +11,6 @@ use Rattle.sqlite_schema.specs.Names.{same_name}
 use Rattle.sqlite_schema.specs.declared.schema.Schema.{Schema}
 use Rattle.sqlite.specs.Effect.{Database, IsDatabase}
 use Rattle.sqlite.specs.Files.{HoldsDatabase}
-use Rattle.sqlite.specs.Start.{FindsIn}
 use Rattle.sqlite.specs.State.{State, Opens, IsLive}
 use Rattle.desk_types.specs.declared.rules.Rules.{Rules}
 use Rattle.desk_types.specs.declared.rules.Rules.TheVariants.{One, Two}
@@ -26,6 +25,7 @@ use Rattle.line_tables.proofs.Ours.{is_blank_of, is_ours_of}
 use Rattle.line_rows.specs.Rows.{rows_of, tables_of}
 use Rattle.line_schema.specs.Opening.{IsNamed, IsNamedBy}
 use Rattle.line_schema.specs.Versions.{IsMigrated}
+use Rattle.small_pages.specs.Found.{FindsAs}
 use Rattle.desk_file.specs.Files.{IsFoundIn, IsOfOne, HasLineAlone, HasTables, HasNoTable, FindsNoTable, Begins}
 
 -- the tables of each version have our names
@@ -33,7 +33,7 @@ named_by : (rules : Rules) (indexed : Bool) → list_any has_name (schema_of rul
 unfolding same_name
 named_by rules indexed = refl
 
-module _ (image : Image) (s : State) (finds : FindsIn image s) (opens : Opens s) (live : IsLive s) where
+module _ (image : Image) (s : State) (finds : FindsAs image s) (opens : Opens s) (live : IsLive s) where
   -- what is committed is what the files hold
   found : IsFoundIn image s.committed
   found = record { sound = (live opens.is_open).1; reads = finds.reads; same = finds.holds }

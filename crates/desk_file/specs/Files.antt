@@ -9,9 +9,10 @@ use Rattle.sqlite_store.specs.declared.store.FileStore.{FileStore}
 use Rattle.sqlite_trees.specs.Tree.{Trees}
 use Rattle.sqlite.specs.Effect.{Database, IsDatabase}
 use Rattle.sqlite.specs.Closing.{HoldsAlone}
-use Rattle.sqlite.specs.Files.{HoldsDatabase, AreFoundIn, file_state, image_of, over_files}
+use Rattle.sqlite.specs.Files.{HoldsDatabase, file_state, image_of, over_files}
 use Rattle.sqlite.specs.Held.{Held}
 use Rattle.sqlite.specs.State.{HasCleanDisk}
+use Rattle.small_pages.specs.Found.{AreReadIn}
 use Rattle.desk_types.specs.declared.rules.Rules.{Rules}
 use Rattle.desk_types.specs.declared.rules.Rules.TheVariants.{One, Two}
 use Rattle.desk_types.specs.History.{History}
@@ -25,7 +26,7 @@ use Rattle.line_schema.specs.Stands.{Kept, Stands}
 -- an open of the files finds this database, whose trees list its schema: the one that the files hold or, where they hold nothing, an empty one
 pub record IsFoundIn (image : Image) (db : Database) : Type 0 where
   pub sound : IsDatabase db
-  pub reads : AreFoundIn image db.trees
+  pub reads : AreReadIn image db.trees
   pub same : (trees : Trees) → HoldsDatabase image trees → db.trees ≡ trees
 
 -- the files hold the tables of a line, of version 1 or of version 2, with none beside them, or no table at all

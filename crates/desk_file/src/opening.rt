@@ -4,7 +4,7 @@ ghost use Rattle.std.specs.Prelude.{◌≡◌, ◌≢◌, ◌≤◌, [], true, f
 ghost use Rattle.sqlite_wal.specs.Files.{image_at};
 ghost use Rattle.sqlite.specs.State.{HasCleanDisk};
 ghost use Rattle.sqlite.specs.Files.{file_state, over_files, IsOpened};
-ghost use Rattle.sqlite.specs.Start.{FindsIn};
+ghost use Rattle.small_pages.specs.Found.{FindsAs};
 ghost use Rattle.desk_types.specs.declared.desk.TheConstants.{MOST_ENTRIES};
 ghost use Rattle.desk_types.specs.History.{History};
 ghost use Rattle.sqlite_trees.specs.Tree.{Trees};
@@ -165,11 +165,11 @@ fn connect<T: Start>(
     start: T,
 ) -> Result<Connection<FileStore<FileFrom<T>>>, OpenFault>
     ensures opened { IfOk result (λ conn. HasCleanDisk (file_state conn) → IsOpened conn) }
-    ensures found { IfOk result (λ conn. HasCleanDisk (file_state conn) → FindsIn (image_at T.Start) (file_state conn)) }
+    ensures found { IfOk result (λ conn. HasCleanDisk (file_state conn) → FindsAs (image_at T.Start) (file_state conn)) }
     ensures mode { IfOk result (λ conn. conn.in_transaction ≡ false) }
     ensures err { IfErr result (λ fault. fault ≡ Fault.Unavailable) }
 {
-    match Connection::open_from(rt, path, false, start) {
+    match small_pages::open(rt, path, start) {
         Ok(conn) => Ok(conn),
         Err(_) => Err(OpenFault::Unavailable),
     }

@@ -1,0 +1,15 @@
+-- Files in which no database has been made.
+use Rattle.std.proofs.Common.{◌≡◌, ◌≤◌, sym, subst, arith}
+use Rattle.sqlite_wal.specs.Recovery.{Image}
+use Rattle.sqlite_pool.specs.Stored.{reserved}
+use Rattle.sqlite_pool.proofs.ProbeLemmas.{not_blank}
+use Rattle.sqlite_trees.specs.Tree.{Trees}
+use Rattle.sqlite.specs.Files.{HoldsDatabase}
+use Rattle.small_pages.specs.Found.{IsNew}
+
+-- they hold none, with pages of whatever size
+pub new_holds_none : (image : Image) (trees : Trees) → IsNew image → ¬ HoldsDatabase image trees
+new_holds_none image trees new held =
+    let few : reserved held.0 ≤ 8 = grind arith in
+    let large : 504 ≤ held.0 = omega (arith, held.1.0) in
+    not_blank held.0 image held.2.pages held.2.found large held.2.ours.file.sound _ (omega arith) new

@@ -1,0 +1,19 @@
+use Rattle.std.proofs.Common.{ℕ, Bool, cond, List, ap₂, subst}
+use Rattle.sqlite_disk.specs.Events.{Event, replay}
+use Rattle.sqlite_wal.specs.Recovery.{Image}
+use Rattle.sqlite.specs.Files.{file_state}
+use Rattle.small_pages.specs.Found.{FindsAs}
+use Rattle.small_pages.proofs.path.open.Goals as goal
+
+abbrev image : List ℕ → List ℕ → Image
+image log db = record { log = log; db = db }
+
+abbrev seen : List ℕ → List ℕ → Bool → List Event → List ℕ
+seen log db is_log history = (replay (cond is_log log db) history).seen
+
+pub returns-clause-found : goal.returns-clause-found
+returns-clause-found g c = λ clean.
+    let (log, db) = c.in-Ok.ensures.fresh in
+    let found = c.in-Ok-open_files.ensures.found clean in
+    let same = ap₂ image (ap₂ (seen g.T.Start.log g.T.Start.db) log.0 log.1) (ap₂ (seen g.T.Start.log g.T.Start.db) db.0 db.1) in
+    subst (λ i. FindsAs i (file_state c.in-Ok-open_files.conn)) same found
