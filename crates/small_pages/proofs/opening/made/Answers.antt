@@ -9,11 +9,11 @@ use Rattle.small_pages.proofs.opening.made.Goals as goal
 pub returns-in-Ok : goal.returns-in-Ok
 returns-in-Ok g c = record {
   made = λ clean.
-    let began = c.in_ok-fresh in
-    let e = c.in-Ok.ensures in
-    record {
-      honest = sym ((pool_files began.fresh.pool).1 ∙ ap (λ f. are_clean g.D.Disk f.0 f.1) began.ensures.files) ∙ e.honest clean;
-      fresh = record { sound = e.ready.sound (no_doubt _ clean); numbered = e.numbered; clean = e.ready.clean; unmarked = e.ready.unmarked };
-      empty = (λ tree low. ap (λ d. d tree) e.ready.clean ∙ e.empty clean tree low, rw clean (catalog_rows _ _ _ ∙ ap (listed_from 0) (e.schema ∙ began.ensures.none)));
-    };
+      let began = c.in_ok-fresh in
+      let e = c.in-Ok.ensures in
+      record {
+        honest = sym ((pool_files began.fresh.pool).1 ∙ ap (λ f. are_clean g.D.Disk f.0 f.1) began.ensures.files) ∙ e.honest clean;
+        fresh = record { sound = e.ready.sound (no_doubt _ clean); numbered = e.numbered; clean = e.ready.clean; unmarked = e.ready.unmarked };
+        empty = (λ tree low. ap (λ d. d tree) e.ready.clean ∙ e.empty clean tree low, rw clean (catalog_rows _ _ _ ∙ ap (listed_from 0) (e.schema ∙ began.ensures.none)));
+      };
 }
