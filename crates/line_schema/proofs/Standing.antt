@@ -1,5 +1,5 @@
 -- For which list a store stands after a call.
-use Rattle.std.proofs.Common.{◌≡◌, ◌∙◌, ◌+◌, ◌<◌, ◌≤◌, inl, refl, IsTrue, IfSome, IsSomeAnd, Option, Some, None, is_some, Result, Ok, Err, OnOk, OnErr, List, [], map, length, false, true≢false, sym, ap, subst, arith}
+use Rattle.std.proofs.Common.{◌≡◌, ◌∙◌, ◌+◌, ◌<◌, ◌≤◌, inl, refl, IsTrue, IfSome, IsSomeAnd, Option, Some, None, is_some, Result, Ok, Err, IfOk, OnOk, OnErr, List, [], map, length, false, true≢false, sym, ap, subst, arith}
 use Rattle.std.specs.Prelude.{⊤}
 use Rattle.std.specs.List.{IsDistinct}
 use Rattle.std.proofs.lemmas.Map.Keys.{IsDistinct-cons}
@@ -20,10 +20,11 @@ use Rattle.desk_types.specs.Desk.{IsChange}
 use Rattle.desk_types.specs.History.{History, accept}
 use Rattle.desk_types.specs.Id.{same}
 use Rattle.desk_types.specs.Judged.{IsJudged, IsLawful}
-use Rattle.desk_types.specs.Outcome.{after_command}
+use Rattle.desk_types.specs.declared.answer.Reply.TheVariants.{Accepted, Refused}
+use Rattle.desk_types.specs.Outcome.{after_command, reply_to, change_of}
 use Rattle.std.specs.Option.{option_map_or}
 use Rattle.desk_answers.specs.declared.answer.Answer.{Answer}
-use Rattle.desk_answers.specs.Commands.{earlier_answer}
+use Rattle.desk_answers.specs.Commands.{earlier_answer, judged_answer}
 use Rattle.desk_answers.proofs.FirstTime.{first-uid}
 use Rattle.line_tables.specs.declared.edit.Edit.{Edit}
 use Rattle.line_tables.specs.Rows.{Tables, Holds, HoldsAt, AreNew, edited}
@@ -66,6 +67,16 @@ accepted_list rules H s change is = ap (accept H) (stamped_is rules H s change i
 pub first_as : (L : Kept) (s : Stamped) (change : Change) → IsChange Two L.history s change → earlier_answer L.history s ≡ None → earlier_answer L.history change.stamped ≡ None
 first_as L s change is none = subst (λ t. earlier_answer L.history t ≡ None) (sym (stamped_is Two L.history s change is)) none
 
+-- the answer to a command that makes a change
+pub answered_as : (H : History) (s : Stamped) (change : Change) (r : Result Answer Fault) → IsChange Two H s change → IfOk r (λ a. a ≡ judged_answer H change.stamped (Accepted change.detail)) → IfOk r (λ a. a ≡ judged_answer H s (reply_to Two H s))
+answered_as H s change (Ok a) is told = told ∙ ap (λ (c : Change). judged_answer H c.stamped (Accepted c.detail)) is.value ∙ sym (ap (λ o. judged_answer H s (option_map_or Refused o (Accepted (change_of H s).detail))) is.accepted)
+answered_as H s change (Err e) is told = tt
+
+-- what stands whatever the call answered
+pub err_still : {A E : Type 0} {P : Type 0} (r : Result A E) → P → OnErr r P
+err_still (Ok a) p = tt
+err_still (Err e) p = p
+
 module _ {S D : Type 0} (g : Ghosts S) (F : D → History → Type 0) (K : D → Rules) where
   -- of tables that are not its own less is said
   pub disowned : (store : LineStore S D) (L : Kept) → Stands g F K store L → Stands g F K store (record L { own = false })
@@ -99,6 +110,24 @@ module _ {S D : Type 0} (g : Ghosts S) (F : D → History → Type 0) (K : D →
     mode = mode;
     lawful = λ clean own. absurd (true≢false (sym own));
     tables = λ clean own. absurd (true≢false (sym own));
+  }
+
+  -- and for the list that the store stood for
+  pub remade_same : (old new : LineStore S D) (d : D) (l : TraceLists) (L : Kept) → new.greatest ≡ old.greatest → new.count ≡ length L.history → new.desk ≡ Some d → new.lists ≡ Some l → new.conn.in_transaction ≡ false
+      → F d L.history → IsListed l L.history → K d ≡ Two
+      → (HasCleanDisk (state g new.conn) → HasCleanDisk (state g old.conn)) → (HasCleanDisk (state g new.conn) → KeepsCommit (state g old.conn) (state g new.conn)) → Stands g F K old L → Stands g F K new L
+  remade_same old new d l L greatest count desk lists mode stands listed rules early kept s = record {
+    greatest = greatest ∙ s.greatest;
+    bound = s.bound;
+    count = count;
+    within = s.within;
+    judged = s.judged;
+    desk = subst (λ (o : Option D). IfSome o (λ d. F d L.history × (K d ≡ Two))) (sym desk) (stands, rules);
+    lists = subst (λ (o : Option TraceLists). IfSome o (λ l. IsListed l L.history)) (sym lists) listed;
+    beside = ap is_some lists ∙ sym (ap is_some desk);
+    mode = mode;
+    lawful = λ clean own. s.lawful (early clean) own;
+    tables = λ clean own is_open. subst (λ (db : Database). Holds db (tables_of L.greatest L.history)) (sym ((kept clean).committed is_open)) (s.tables (early clean) own ((kept clean).was_open is_open));
   }
 
   -- a change was committed

@@ -2,13 +2,18 @@ use Rattle.std.proofs.Common.{true≢false, sym, rules, arith, ◌<◌}
 use Rattle.desk_types.specs.declared.rules.Rules.TheVariants.{Two}
 use Rattle.desk_types.specs.Desk.{IsChange}
 use Rattle.line_schema.proofs.Leaving.{accepted_leaves}
-use Rattle.line_schema.proofs.Standing.{disowned, stands_either, accepted_as, first_as}
+use Rattle.line_schema.proofs.Standing.{disowned, stands_either, accepted_as, answered_as, first_as}
 use Rattle.line_schema.proofs.store.LineStore.judge.Goals as goal
 
 pub returns-in-Ok-clause-kept : goal.returns-in-Ok-clause-kept
 returns-in-Ok-clause-kept g c =
     let stands = disowned g.S.Store g.D.Desk.Stands g.D.Desk.kept_rules _ c.requires.stands.0 c.requires.stands.1 in
     stands_either g.S.Store g.D.Desk.Stands g.D.Desk.kept_rules c.accept.result c.accept.new.self _ _ (c.accept.ensures.ok _ stands (λ clean own. absurd (true≢false (sym own)))) (c.accept.ensures.err _ stands)
+
+pub returns-in-Ok-clause-answer : goal.returns-in-Ok-clause-answer
+returns-in-Ok-clause-answer g c L stands =
+    let is : IsChange Two L.history c.args.stamped.now c.in-Ok.change = search rules in
+    answered_as L.history c.args.stamped.now c.in-Ok.change c.accept.result is (c.accept.ensures.answer L stands)
 
 pub returns-in-Ok-clause-ok : goal.returns-in-Ok-clause-ok
 returns-in-Ok-clause-ok g c L stands first =

@@ -1,5 +1,9 @@
-use Rattle.std.proofs.Common.{refl, sym, arith}
-use Rattle.line_schema.proofs.Standing.{remade}
+use Rattle.std.proofs.Common.{IsTrue, refl, sym, subst, arith}
+use Rattle.sqlite.specs.State.{HasCleanDisk}
+use Rattle.sqlite.specs.Held.{state}
+use Rattle.line_tables.specs.Rows.{Holds}
+use Rattle.line_rows.specs.Rows.{tables_of}
+use Rattle.line_schema.proofs.Standing.{remade, remade_same}
 use Rattle.line_schema.proofs.store.LineStore.remake.Goals as goal
 
 pub returns-in-Some-clause-kept : goal.returns-in-Some-clause-kept
@@ -9,3 +13,11 @@ returns-in-Some-clause-kept g c =
       _,
       remade g.S.Store g.D.Desk.Stands g.D.Desk.kept_rules c.args.self.now _ c.in-Some.field-0.desk c.in-Some.field-0.lists list.0 refl (sym list.1.counted) refl refl (c.rebuild.ensures.mode old.1.mode) list.1.stands list.2 c.in-Some.ensures.rules list.1.judged old.0 old.1 (omega (arith, list.1.within, old.1.greatest)),
     )
+
+pub returns-in-Some-clause-stands : goal.returns-in-Some-clause-stands
+returns-in-Some-clause-stands g c L s clean own =
+    let old = state g.S.Store c.args.self.now.conn in
+    let early : HasCleanDisk (state g.S.Store c.rebuild.new.conn) → HasCleanDisk old = λ now. omega (arith, c.rebuild.ensures.survives.clean, now) in
+    let held = subst (λ n. IsTrue old.is_open → Holds old.committed (tables_of n L.history)) (sym s.greatest) (s.tables (early clean) own) in
+    let same = c.in-Some.ensures.same L.history s.judged held clean in
+    remade_same g.S.Store g.D.Desk.Stands g.D.Desk.kept_rules c.args.self.now _ c.in-Some.field-0.desk c.in-Some.field-0.lists L refl same.1 refl refl (c.rebuild.ensures.mode s.mode) same.0 same.2 c.in-Some.ensures.rules early c.rebuild.ensures.kept s
