@@ -92,3 +92,9 @@ pub never_refused : {A : Type 0} (status : ℕ) → (status ≡ 0) ⊎ (status �
 never_refused status (inl done) is = absurd (omega (arith, done, is))
 never_refused status (inr (inl refused)) is = absurd (omega (arith, refused, is))
 never_refused status (inr (inr failed)) is = absurd (omega (arith, failed, is))
+
+-- and it is one of all
+pub ends_so : (status : ℕ) → (status ≡ 0) ⊎ (status ≡ 1) ⊎ (status ≡ 4) → (status ≡ 0) ⊎ (status ≡ 1) ⊎ (status ≡ 3) ⊎ (status ≡ 4)
+ends_so status (inl done) = inl done
+ends_so status (inr (inl refused)) = inr (inl refused)
+ends_so status (inr (inr failed)) = inr (inr (inr failed))

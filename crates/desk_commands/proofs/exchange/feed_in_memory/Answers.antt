@@ -1,6 +1,7 @@
 use Rattle.std.proofs.Common.{refl}
 use Rattle.memory_store.proofs.Truth.{stays_clean}
 use Rattle.desk_commands.specs.Runs.{fresh}
+use Rattle.desk_commands.proofs.Running.{ends_so, never_refused}
 use Rattle.desk_commands.proofs.exchange.feed_in_memory.Goals as goal
 
 pub returns-in-Ok-clause-done : goal.returns-in-Ok-clause-done
@@ -23,3 +24,12 @@ returns-in-Ok-clause-failed g c = λ is.
     let fault = fed.ensures.failed is in
     let lists = fault.3 (fresh c.args.greatest) (refl, c.in-Ok.ensures.stands) (stays_clean fed.new.line.conn) in
     (fault.0, fault.1, fault.2, lists.0, lists.2)
+
+pub returns-in-Ok-clause-status : goal.returns-in-Ok-clause-status
+returns-in-Ok-clause-status g c = ends_so c.feed_lines-status.result c.feed_lines-status.ensures.status
+
+pub returns-in-Ok-clause-no_desk : goal.returns-in-Ok-clause-no_desk
+returns-in-Ok-clause-no_desk g c = never_refused c.feed_lines-status.result c.feed_lines-status.ensures.status
+
+pub returns-in-Ok-clause-untouched : goal.returns-in-Ok-clause-untouched
+returns-in-Ok-clause-untouched g c = never_refused c.feed_lines-status.result c.feed_lines-status.ensures.status
