@@ -23,6 +23,7 @@ use Rattle.desk_types.specs.Judged.{IsJudged, IsLawful}
 use Rattle.desk_types.specs.declared.answer.Reply.TheVariants.{Accepted, Refused}
 use Rattle.desk_types.specs.Outcome.{after_command, reply_to, change_of}
 use Rattle.std.specs.Option.{option_map_or}
+use Rattle.consistency.proofs.Judged.{consistent}
 use Rattle.desk_answers.specs.declared.answer.Answer.{Answer}
 use Rattle.desk_answers.specs.Commands.{earlier_answer, judged_answer}
 use Rattle.desk_answers.proofs.FirstTime.{first-uid}
@@ -86,6 +87,7 @@ module _ {S D : Type 0} (g : Ghosts S) (F : D → History → Type 0) (K : D →
     count = s.count;
     within = s.within;
     judged = s.judged;
+    consistent = s.consistent;
     desk = s.desk;
     lists = s.lists;
     beside = s.beside;
@@ -104,6 +106,7 @@ module _ {S D : Type 0} (g : Ghosts S) (F : D → History → Type 0) (K : D →
     count = count;
     within = within;
     judged = judged;
+    consistent = consistent Two _ judged;
     desk = subst (λ (o : Option D). IfSome o (λ d. F d H × (K d ≡ Two))) (sym desk) (stands, rules);
     lists = subst (λ (o : Option TraceLists). IfSome o (λ l. IsListed l H)) (sym lists) listed;
     beside = ap is_some lists ∙ sym (ap is_some desk);
@@ -122,6 +125,7 @@ module _ {S D : Type 0} (g : Ghosts S) (F : D → History → Type 0) (K : D →
     count = count;
     within = s.within;
     judged = s.judged;
+    consistent = s.consistent;
     desk = subst (λ (o : Option D). IfSome o (λ d. F d L.history × (K d ≡ Two))) (sym desk) (stands, rules);
     lists = subst (λ (o : Option TraceLists). IfSome o (λ l. IsListed l L.history)) (sym lists) listed;
     beside = ap is_some lists ∙ sym (ap is_some desk);
@@ -145,6 +149,7 @@ module _ {S D : Type 0} (g : Ghosts S) (F : D → History → Type 0) (K : D →
     count = omega (arith, count, s.count);
     within = omega (arith, room, s.count, s.greatest);
     judged = judged;
+    consistent = consistent Two _ judged;
     desk = desk;
     lists = lists;
     beside = beside;

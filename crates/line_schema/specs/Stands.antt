@@ -11,6 +11,7 @@ use Rattle.desk_types.specs.declared.rules.Rules.TheVariants.{Two}
 use Rattle.desk_types.specs.History.{History, accept}
 use Rattle.desk_types.specs.Judged.{IsJudged, IsLawful}
 use Rattle.desk_types.specs.Refusals.{refusal_of}
+use Rattle.consistency.specs.Consistent.{IsConsistent}
 use Rattle.desk_answers.specs.declared.answer.Answer.{Answer}
 use Rattle.desk_answers.specs.declared.answer.Answer.TheVariants.{Accepted, Unavailable}
 use Rattle.desk_answers.specs.Commands.{earlier_answer}
@@ -27,13 +28,14 @@ pub record Kept : Type 0 where
   pub history : History
   pub own : Bool
 
--- The store stands for the list by rules Two, which is judged: so does its desk, where it has one, and then it has lists beside it, which list the list. Where the tables are its own and the disk is honest, the list is lawful, and what is committed are its tables.
+-- The store stands for the list by rules Two, which is judged, and so consistent: so does its desk, where it has one, and then it has lists beside it, which list the list. Where the tables are its own and the disk is honest, the list is lawful, and what is committed are its tables.
 pub record Stands {S D : Type 0} (g : Ghosts S) (StandsFor : D → History → Type 0) (kept_rules : D → Rules) (store : LineStore S D) (L : Kept) : Type 0 where
   pub greatest : store.greatest ≡ L.greatest
   pub bound : L.greatest ≤ MOST_ENTRIES
   pub count : store.count ≡ length L.history
   pub within : length L.history ≤ L.greatest
   pub judged : IsJudged Two L.history
+  pub consistent : IsConsistent L.history
   pub desk : IfSome store.desk (λ d. StandsFor d L.history × (kept_rules d ≡ Two))
   pub lists : IfSome store.lists (λ l. IsListed l L.history)
   pub beside : is_some store.lists ≡ is_some store.desk

@@ -1,4 +1,6 @@
-use Rattle.std.proofs.Common.{refl, rules, arith}
+use Rattle.std.proofs.Common.{[], refl, rules, arith}
+use Rattle.desk_types.specs.declared.rules.Rules.TheVariants.{Two}
+use Rattle.consistency.proofs.Judged.{consistent}
 use Rattle.line_tables.proofs.Ours.{blank_is}
 use Rattle.line_schema.proofs.Standing.{none_yet}
 use Rattle.line_schema.proofs.store.LineStore.create.Goals as goal
@@ -10,6 +12,7 @@ returns-in-Ok-clause-stands g c = record {
   count = refl;
   within = omega arith;
   judged = tt;
+  consistent = consistent Two [] tt;
   desk = (c.fresh.ensures.stands, c.fresh.ensures.rules);
   lists = c.new.ensures.listed;
   beside = refl;

@@ -2,6 +2,7 @@ use Rattle.std.proofs.Common.{IsTrue, refl, sym, subst, rules}
 use Rattle.sqlite.specs.Effect.{Database}
 use Rattle.sqlite.specs.Held.{state}
 use Rattle.desk_types.specs.declared.rules.Rules.TheVariants.{Two}
+use Rattle.consistency.proofs.Judged.{consistent}
 use Rattle.line_tables.specs.Line.{is_ours}
 use Rattle.line_tables.specs.Rows.{Holds}
 use Rattle.line_tables.proofs.Ours.{ours_is}
@@ -28,6 +29,7 @@ returns-in-Ok-clause-stands g c =
         count = o.count;
         within = o.within;
         judged = o.judged;
+        consistent = consistent Two all.0 o.judged;
         desk = (o.stands, o.rules);
         lists = o.lists;
         beside = refl;
