@@ -3,7 +3,8 @@ use Rattle.std.proofs.Common.{◌≡◌, ◌≢◌, ◌≤◌, ◌∙◌, ◌⊎
 use Rattle.std.specs.Prelude.{if◌then◌else◌, ◌==◌}
 use Rattle.std.specs.List.{list_any}
 use Rattle.sqlite.specs.Effect.{Database}
-use Rattle.sqlite.specs.State.{State, KeepsCommit}
+use Rattle.sqlite.specs.State.{State, KeepsCommit, Survives}
+use Rattle.sqlite.proofs.StateLemmas.{survives_then}
 use Rattle.desk_types.specs.declared.rules.Rules.{Rules}
 use Rattle.desk_types.specs.declared.rules.Rules.TheVariants.{One, Two}
 use Rattle.desk_types.specs.declared.desk.TheConstants.{MOST_ENTRIES}
@@ -147,3 +148,11 @@ opened_holds F K Clean old rules opened H o named settled clean =
 pub opened_lawful : {D : Type 0} (F : D → History → Type 0) (K : D → Rules) (Clean : Type 0) (old : State) (opened : Opened D) (H : History) → IsOpened F K Clean old Two opened H → Clean → IsTrue (is_ours old.committed.schema)
     → IsLawful Two opened.greatest H
 opened_lawful F K Clean old opened H o clean own = let ours = ours_is old.committed.schema own in ((o.rows clean).are (Two, ours.0, ours.1)).lawful
+
+-- ---- the calls that read, one after the other
+
+reads_then : (a b c : State) → Survives a b (λ _. ⊥) → Survives b c (λ _. ⊥) → Survives a c (λ _. ⊥)
+reads_then a b c one two = survives_then a b c _ _ (λ _. ⊥) (λ _ db none. none) (λ _ db none. none) one two
+
+pub reads_all : (a b c d e : State) → Survives a b (λ _. ⊥) → Survives b c (λ _. ⊥) → Survives c d (λ _. ⊥) → Survives d e (λ _. ⊥) → Survives a e (λ _. ⊥)
+reads_all a b c d e one two three four = reads_then a b e one (reads_then b c e two (reads_then c d e three four))

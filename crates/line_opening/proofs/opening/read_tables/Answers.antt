@@ -4,7 +4,7 @@ use Rattle.sqlite.specs.State.{HasCleanDisk, KeepsCommit}
 use Rattle.sqlite.specs.Held.{state}
 use Rattle.line_tables.proofs.Keeps.{keeps_then}
 use Rattle.line_replay.proofs.Reading.{reads_as, reads_back}
-use Rattle.line_opening.proofs.Reading.{audited, list_fault, opened_on, table_fault}
+use Rattle.line_opening.proofs.Reading.{audited, list_fault, opened_on, reads_all, table_fault}
 use Rattle.line_opening.proofs.opening.read_tables.Goals as goal
 
 pub returns-in-None-clause-ok : goal.returns-in-None-clause-ok
@@ -55,3 +55,13 @@ returns-in_err-desk-clause-err g c clean =
     let early : HasCleanDisk mid = omega (arith, c.replay.ensures.survives.clean, clean) in
     let p = err_from_is_err_and c.from_residual-in_err-desk.result c.from_residual-in_err-desk.ensures.1 in
     rw (p.1, p.2) (list_fault c.args.rules old mid c.in_ok-greatest.greatest (c.read_greatest.ensures.kept early) (c.in_ok-greatest.ensures.ok early) c.in_err-desk.field-0.0 (c.in_err-desk.ensures.fault clean))
+
+pub returns-in-None-clause-survives : goal.returns-in-None-clause-survives
+returns-in-None-clause-survives g c =
+    reads_all (state g.S.Store c.args.conn.now) (state g.S.Store c.read_greatest.new.conn) (state g.S.Store c.replay.new.conn) (state g.S.Store c.are_apart.new.conn) (state g.S.Store c.audit.new.conn)
+    c.read_greatest.ensures.survives c.replay.ensures.survives c.are_apart.ensures.survives c.audit.ensures.survives
+
+pub returns-in-Some-clause-survives : goal.returns-in-Some-clause-survives
+returns-in-Some-clause-survives g c =
+    reads_all (state g.S.Store c.args.conn.now) (state g.S.Store c.read_greatest.new.conn) (state g.S.Store c.replay.new.conn) (state g.S.Store c.are_apart.new.conn) (state g.S.Store c.audit.new.conn)
+    c.read_greatest.ensures.survives c.replay.ensures.survives c.are_apart.ensures.survives c.audit.ensures.survives
