@@ -322,10 +322,9 @@ impl<S: Alter, D: Desk + Drop> LineStore<S, D> {
         lists.reserve(&change)?;
         append(self.alloc, &mut self.conn, edits.as_slice())?;
         self.count = number;
-        if let Some((desk, lists)) = settled(self.desk.take(), self.lists.take(), number, change) {
-            self.desk = Some(desk);
-            self.lists = Some(lists);
-        }
+        let (desk, lists) = settled(self.desk.take(), self.lists.take(), number, change);
+        self.desk = desk;
+        self.lists = lists;
         Ok(Answer::Accepted(u64::from(number), text))
     }
 }

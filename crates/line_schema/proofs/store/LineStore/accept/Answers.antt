@@ -46,5 +46,5 @@ returns-clause-ok g c L stands first =
     let after = c.in_ok-text.ensures.edits L.greatest L.history by is (ap (λ n. n + 1) stands.count) in
     let new = c.in_ok-text.ensures.new L.greatest L.history by (ap (λ n. n + 1) stands.count) in
     let minute : IsMinute change.minute = search rules in
-    stands_on g.S.Store g.D.Desk.Stands g.D.Desk.kept_rules old _ L change c.in_ok-text.field-0.edits.items stands c.requires.room is c.ranges_hold.ensures minute refl refl (search rules) (c.settled.ensures Two L.history (search rules)) after new
+    stands_on g.S.Store g.D.Desk.Stands g.D.Desk.kept_rules old _ L change c.in_ok-text.field-0.edits.items stands c.requires.room is c.ranges_hold.ensures minute refl refl (search rules) (c.settled-desk.ensures.desk Two L.history (search rules)) (c.settled-desk.ensures.lists L.history (search rules) (search rules) (ap (λ n. n + 1) stands.count)) c.settled-desk.ensures.beside after new
     (λ clean. omega (arith, c.append.ensures.crash.clean, clean)) (λ clean. rw c.as_slice.ensures.value at (c.in_ok-append.ensures.done clean)) (λ clean. (c.in_ok-append.ensures.stays_open clean).0) first
