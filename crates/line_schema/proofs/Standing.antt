@@ -134,6 +134,26 @@ module _ {S D : Type 0} (g : Ghosts S) (F : D → History → Type 0) (K : D →
     tables = λ clean own is_open. subst (λ (db : Database). Holds db (tables_of L.greatest L.history)) (sym ((kept clean).committed is_open)) (s.tables (early clean) own ((kept clean).was_open is_open));
   }
 
+  -- a call failed: memory was taken for the lists, and what is committed was let be
+  pub failed_on : (old new : LineStore S D) (before after : TraceLists) → old.lists ≡ Some before → new.lists ≡ Some after → ((H : History) → IsListed before H → IsListed after H)
+      → new.greatest ≡ old.greatest → new.count ≡ old.count → new.desk ≡ old.desk → new.conn.in_transaction ≡ false
+      → (HasCleanDisk (state g new.conn) → HasCleanDisk (state g old.conn)) → (HasCleanDisk (state g new.conn) → KeepsCommit (state g old.conn) (state g new.conn))
+      → (L : Kept) → Stands g F K old L → Stands g F K new L
+  failed_on old new before after was is listed greatest count desk mode early kept L s = record {
+    greatest = greatest ∙ s.greatest;
+    bound = s.bound;
+    count = count ∙ s.count;
+    within = s.within;
+    judged = s.judged;
+    consistent = s.consistent;
+    desk = subst (λ (o : Option D). IfSome o (λ d. F d L.history × (K d ≡ Two))) (sym desk) s.desk;
+    lists = subst (λ (o : Option TraceLists). IfSome o (λ l. IsListed l L.history)) (sym is) (listed L.history (subst (λ (o : Option TraceLists). IfSome o (λ l. IsListed l L.history)) was s.lists));
+    beside = ap is_some is ∙ sym (ap is_some was) ∙ s.beside ∙ sym (ap is_some desk);
+    mode = mode;
+    lawful = λ clean own. s.lawful (early clean) own;
+    tables = λ clean own is_open. subst (λ (db : Database). Holds db (tables_of L.greatest L.history)) (sym ((kept clean).committed is_open)) (s.tables (early clean) own ((kept clean).was_open is_open));
+  }
+
   -- a change was committed
   pub stands_on : (old new : LineStore S D) (L : Kept) (change : Change) (edits : List Edit) → Stands g F K old L → old.count < old.greatest
       → IsChange Two L.history change.stamped change → IsStamped change.stamped → IsMinute change.minute

@@ -3,8 +3,19 @@ use Rattle.sqlite.specs.State.{HasCleanDisk}
 use Rattle.sqlite.specs.Held.{state}
 use Rattle.desk_types.specs.declared.rules.Rules.TheVariants.{Two}
 use Rattle.desk_types.specs.Number.{IsMinute}
-use Rattle.line_schema.proofs.Standing.{judged_for, stood_for, stands_on, left_on, survives_on}
+use Rattle.line_tables.proofs.Keeps.{keeps_same}
+use Rattle.line_schema.proofs.Standing.{judged_for, stood_for, stands_on, left_on, survives_on, failed_on, err_still}
 use Rattle.line_schema.proofs.store.LineStore.accept.Goals as goal
+
+pub returns-in_err-reserve-clause-err : goal.returns-in_err-reserve-clause-err
+returns-in_err-reserve-clause-err g c L stands =
+    err_still c.from_residual-in_err-reserve.result
+    (failed_on g.S.Store g.D.Desk.Stands g.D.Desk.kept_rules c.args.self.now _ c.in-Some-lists.lists c.reserve.new.self c.in-Some-lists.is refl c.reserve.ensures.same refl refl refl stands.mode (λ clean. clean) (λ _. keeps_same _) L stands)
+
+pub returns-in_err-append-clause-err : goal.returns-in_err-append-clause-err
+returns-in_err-append-clause-err g c L stands =
+    err_still c.from_residual-in_err-append.result
+    (failed_on g.S.Store g.D.Desk.Stands g.D.Desk.kept_rules c.args.self.now _ c.in-Some-lists.lists c.reserve.new.self c.in-Some-lists.is refl c.reserve.ensures.same refl refl refl (c.append.ensures.mode stands.mode) (λ clean. omega (arith, c.append.ensures.crash.clean, clean)) c.in_err-append.ensures.neither L stands)
 
 pub returns-in_err-append-clause-survives : goal.returns-in_err-append-clause-survives
 returns-in_err-append-clause-survives g c L stands own =
