@@ -4,9 +4,11 @@ ghost use Rattle.std.specs.Prelude.{◌≡◌, ◌≢◌, ◌⊎◌, ◌+◌, �
 ghost use Rattle.std.specs.Io.KnownBytes.{IsAtEnd};
 ghost use Rattle.desk_types.specs.declared.desk.TheConstants.{MOST_ENTRIES};
 ghost use Rattle.desk_types.specs.History.{History};
+ghost use Rattle.consistency.specs.Consistent.{IsConsistent};
 ghost use Rattle.desk_types.specs.Wire.{inner_of, reads_of, failures_of};
 ghost use Rattle.line_opening.specs.declared.fault.OpenFault.{OpenFault};
 ghost use Rattle.line_opening.specs.declared.fault.OpenFault.TheVariants.{NotBlank, Unavailable};
+ghost use Rattle.desk_feed.specs.Stream.{LeavesNone};
 ghost use Rattle.served.specs.declared.serving.Served.{Served};
 ghost use Rattle.served.specs.declared.serving.ServeFault.{ServeFault};
 ghost use Rattle.served.specs.declared.serving.ServeFault.TheVariants.{Read as ReadFault, Write as WriteFault};
@@ -43,12 +45,12 @@ pub fn feed_in_memory<R: Read, W: Write, E: Write>(
     requires write_failures { failures_of output.old < 2 ^ 63 }
     requires error_failures { failures_of errors.old < 2 ^ 63 }
     ensures status { (result ≡ 0) ⊎ (result ≡ 1) ⊎ (result ≡ 3) ⊎ (result ≡ 4) }
-    ensures done { result ≡ 0 → (served : Served) × (served.refused ≡ 0) × (H : History) × AnswersAll R.remaining W.contents input.old output.old output.new served (fresh greatest) H }
-    ensures refused { result ≡ 1 → (served : Served) × (0 < served.refused) × (H : History) × AnswersAll R.remaining W.contents input.old output.old output.new served (fresh greatest) H }
+    ensures done { result ≡ 0 → (served : Served) × (served.refused ≡ 0) × (H : History) × IsConsistent H × AnswersAll R.remaining W.contents input.old output.old output.new served (fresh greatest) H }
+    ensures refused { result ≡ 1 → (served : Served) × (0 < served.refused) × (H : History) × IsConsistent H × AnswersAll R.remaining W.contents input.old output.old output.new served (fresh greatest) H }
     ensures no_desk { result ≡ 3 → TellsLine E.contents errors.old errors.new (refusal_line Unavailable) }
     ensures untouched { result ≡ 3 → (input.new ≡ input.old) × (output.new ≡ output.old) }
-    ensures failed { result ≡ 4 → (fault : ServeFault) × IsShown fault input.old input.new output.old output.new × TellsLine E.contents errors.old errors.new (fault_line fault)
-        × (H : History) × AnswersUpTo R.remaining W.contents input.old output.old output.new fault (fresh greatest) H }
+    ensures failed { result ≡ 4 → (fault : ServeFault) × IsShown fault input.old input.new output.old output.new × LeavesNone (R.remaining (inner_of input.old)) (R.remaining (inner_of input.new)) fault × TellsLine E.contents errors.old errors.new (fault_line fault)
+        × (H : History) × IsConsistent H × AnswersUpTo R.remaining W.contents input.old output.old output.new fault (fresh greatest) H }
     ensures end { (result ≡ 0) ⊎ (result ≡ 1) → IsAtEnd (R.remaining (inner_of input.new)) }
     ensures kept { (result ≡ 0) ⊎ (result ≡ 1) → FailsNever input.old input.new output.old output.new }
     ensures quiet { (result ≡ 0) ⊎ (result ≡ 1) → errors.new ≡ errors.old }
@@ -88,7 +90,7 @@ pub fn feed_in_file<T: Start, R: Read, W: Write, E: Write>(
     ensures no_desk { result.0 ≡ 3 → (told : OpenFault) × TellsLine E.contents errors.old errors.new (refusal_line told) }
     ensures untouched { result.0 ≡ 3 → (input.new ≡ input.old) × (output.new ≡ output.old) }
     ensures left { result.0 ≡ 3 → result.1 ≡ None }
-    ensures failed { result.0 ≡ 4 → (fault : ServeFault) × IsShown fault input.old input.new output.old output.new × TellsLine E.contents errors.old errors.new (fault_line fault)
+    ensures failed { result.0 ≡ 4 → (fault : ServeFault) × IsShown fault input.old input.new output.old output.new × LeavesNone (R.remaining (inner_of input.old)) (R.remaining (inner_of input.new)) fault × TellsLine E.contents errors.old errors.new (fault_line fault)
         × RunsOn T.Start (Some greatest) result.1 (AnswersUpTo R.remaining W.contents input.old output.old output.new fault) }
     ensures end { (result.0 ≡ 0) ⊎ (result.0 ≡ 1) → IsAtEnd (R.remaining (inner_of input.new)) }
     ensures kept { (result.0 ≡ 0) ⊎ (result.0 ≡ 1) → FailsNever input.old input.new output.old output.new }

@@ -1,14 +1,16 @@
 -- The lines of an input, one after another.
 use Rattle.std.proofs.Common.{◌≡◌, ◌∙◌, ℕ, Bool, true, false, not, cond, map, List, [], ◌∷◌, ◌++◌, sym, ap, refl, subst, Option, Some, None, IfSome, append_assoc, append-nil}
-use Rattle.std.proofs.lemmas.List.Splits.{slice_split_at, slice_split_none}
-use Rattle.std.specs.List.{filter}
-use Rattle.std.proofs.Common.{arith, take, drop}
+use Rattle.std.proofs.lemmas.List.Splits.{slice_split_at, slice_split_none, length-slice_split}
+use Rattle.std.specs.List.{filter, slice_split}
+use Rattle.std.proofs.Common.{arith, take, drop, suc, length, length-append, count_by, ◌+◌}
 use Rattle.std.proofs.lemmas.List.{drop_all, length-take}
-use Rattle.std.specs.Io.KnownBytes.{IsAtEnd, prepend_known}
+use Rattle.std.specs.Io.KnownBytes.{Consumes, IsAtEnd, prepend_known}
+use Rattle.std.proofs.KnownBytes.{Consumes-trans}
 use Rattle.desk_feed.specs.declared.inbox.Inbox.{Inbox}
-use Rattle.desk_feed.specs.Lines.{is_feed, is_empty, without_return, lines_in, lines_of}
+use Rattle.desk_feed.specs.Lines.{is_feed, is_empty, without_return, lines_in, lines_of, ended_lines}
 use Rattle.desk_feed.specs.Inbox.{HasNoFeed, TakesLine, LinesGone, source}
-use Rattle.desk_feed.specs.Stream.{IsFront}
+use Rattle.served.specs.declared.serving.Served.{Served}
+use Rattle.desk_feed.specs.Stream.{IsFront, AnswersEnded}
 
 kept : (b : Bool) (x : List ℕ) (xs : List (List ℕ)) → cond (not b) (x ∷ xs) xs ≡ cond b [] (x ∷ []) ++ xs
 kept true x xs = refl
@@ -75,3 +77,40 @@ pub end_behind : (xs : List ℕ) (known : Option (List ℕ)) → IsAtEnd (prepen
 end_behind xs None p = tt
 end_behind [] (Some ys) p = p
 end_behind (x ∷ xs) (Some ys) p = cc
+
+-- ---- lines with their line feeds
+
+ended_lines-more : (raw rest : List ℕ) → HasNoFeed raw → ended_lines (raw ++ 10 ∷ rest) ≡ lines_in raw ++ ended_lines rest
+ended_lines-more raw rest h =
+    let cut = slice_split_at is_feed raw 10 rest h refl in
+    let n : count_by is_feed (raw ++ 10 ∷ rest) ≡ suc (count_by is_feed rest) =
+    omega (arith, ap length cut, length-slice_split is_feed (raw ++ 10 ∷ rest), length-slice_split is_feed rest) in
+    ap lines_among (ap (λ k. take k (slice_split is_feed (raw ++ 10 ∷ rest))) n ∙ ap (take (suc (count_by is_feed rest))) cut)
+    ∙ kept (is_empty (without_return raw)) (without_return raw) (ended_lines rest)
+
+ended_lines-none : (rest : List ℕ) → HasNoFeed rest → ended_lines rest ≡ []
+ended_lines-none rest h =
+    let n : count_by is_feed rest ≡ 0 = omega (arith, ap length (slice_split_none is_feed rest h), length-slice_split is_feed rest) in
+    ap (λ k. lines_among (take k (slice_split is_feed rest))) n
+
+-- so many lines are gone, each with its line feed
+abbrev pub EndsGone : Option (List ℕ) → ℕ → Option (List ℕ) → Type 0
+EndsGone old count new = (gone : List ℕ) × Consumes old new gone × ((more : List ℕ) → length (ended_lines (gone ++ more)) ≡ count + length (ended_lines more))
+
+pub no_end : (b : Inbox) (a : Option (List ℕ)) → b.at ≡ 0 → b.end ≡ 0 → EndsGone a 0 (source b a)
+no_end b a p q =
+    let none : drop b.at (take b.end b.block) ≡ [] = drop_all b.at (take b.end b.block) (omega (arith, length-take {A = ℕ} b.end b.block, p, q)) in
+    ([], subst (λ l. Consumes a (prepend_known l a) []) (sym none) (same a), λ more. omega arith)
+  where
+    same : (a : Option (List ℕ)) → Consumes a (prepend_known [] a) []
+    same None = tt
+    same (Some xs) = refl
+
+pub one_more_end : (a b c : Option (List ℕ)) (n m : ℕ) (raw : List ℕ) → EndsGone a n b → TakesLine b raw false c → m ≡ n + length (lines_in raw) → EndsGone a m c
+one_more_end a b c n m raw (gone, went, counts) q e = (gone ++ (raw ++ 10 ∷ []), Consumes-trans a b c gone (raw ++ 10 ∷ []) went q.1, λ more.
+    let all : (gone ++ (raw ++ 10 ∷ [])) ++ more ≡ gone ++ (raw ++ 10 ∷ more) = append_assoc gone (raw ++ 10 ∷ []) more ∙ ap (λ l. gone ++ l) (append_assoc raw (10 ∷ []) more) in
+    omega (arith, ap (λ l. length (ended_lines l)) all, counts (raw ++ 10 ∷ more), ap length (ended_lines-more raw more q.0), length-append (lines_in raw) (ended_lines more), e))
+
+pub all_ended : (a b c : Option (List ℕ)) (s : Served) → EndsGone a s.answered b → (rest : List ℕ) × HasNoFeed rest × Consumes b c rest → AnswersEnded a c s
+all_ended a b c s (gone, went, counts) (rest, h, more) =
+    (gone ++ rest, Consumes-trans a b c gone rest went more, omega (arith, counts rest, ap length (ended_lines-none rest h)))

@@ -1,5 +1,5 @@
 -- The lines of an input.
-use Rattle.std.specs.Prelude.{true, false, ℕ, ◌-◌, ◌==◌, Bool, not, map, List, [], ◌∷◌, length, take, get_or, if◌then◌else◌}
+use Rattle.std.specs.Prelude.{true, false, ℕ, ◌-◌, ◌==◌, Bool, not, map, List, [], ◌∷◌, length, take, get_or, count_by, if◌then◌else◌}
 use Rattle.std.specs.List.{slice_split, filter}
 
 -- a line feed ends a line
@@ -17,6 +17,10 @@ is_empty (x ∷ xs) = false
 -- the lines of an input: the pieces between line feeds, each without its carriage return, and of these the ones that are not empty
 abbrev pub lines_of : List ℕ → List (List ℕ)
 lines_of input = filter (λ line. not (is_empty line)) (map without_return (slice_split is_feed input))
+
+-- the lines that have their line feed: of the pieces between line feeds as many as there are line feeds
+abbrev pub ended_lines : List ℕ → List (List ℕ)
+ended_lines input = filter (λ line. not (is_empty line)) (map without_return (take (count_by is_feed input) (slice_split is_feed input)))
 
 -- the line in one piece between line feeds, where it is not empty
 abbrev pub lines_in : List ℕ → List (List ℕ)

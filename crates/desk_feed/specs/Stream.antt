@@ -1,7 +1,7 @@
 -- What the lines of an input are answered.
 use Rattle.std.specs.Prelude.{◌≡◌, ℕ, ◌+◌, Bool, true, false, nat_lt, List, [], ◌∷◌, ◌++◌, length, Option, IfSome, count_by, codes, if◌then◌else◌}
 use Rattle.std.specs.List.{flat_map}
-use Rattle.std.specs.Io.KnownBytes.{Appends}
+use Rattle.std.specs.Io.KnownBytes.{Appends, Consumes}
 use Rattle.serde_json.specs.Written.{compact_text}
 use Rattle.cfx_profile.specs.Answer.{faulty, unavailable_text}
 use Rattle.desk_types.specs.declared.rules.Rules.{Rules}
@@ -11,7 +11,7 @@ use Rattle.served.specs.declared.serving.ServeFault.{ServeFault}
 use Rattle.served.specs.declared.serving.ServeFault.TheVariants.{Read, Write, TooManyReads}
 use Rattle.desk_feed.specs.declared.inbox.TheConstants.{LONGEST_LINE}
 use Rattle.desk_feed.specs.declared.message.Told.{Told}
-use Rattle.desk_feed.specs.Lines.{lines_of}
+use Rattle.desk_feed.specs.Lines.{lines_of, ended_lines}
 use Rattle.desk_feed.specs.Messages.{answer_to, list_after}
 use Rattle.served.specs.Counts.{none_served}
 use Rattle.served.specs.Sent.{SendsFront}
@@ -87,3 +87,13 @@ abbrev pub AnsweredUpTo : Rules → ℕ → Option (List ℕ) → History → Op
 AnsweredUpTo rules greatest input H out H' out' (Read served) = AnsweredFront rules greatest input H out H' out' served
 AnsweredUpTo rules greatest input H out H' out' (TooManyReads served) = AnsweredFront rules greatest input H out H' out' served
 AnsweredUpTo rules greatest input H out H' out' (Write served) = AnsweredInto rules greatest input H out H' out' served
+
+-- as many lines were answered as there are line feeds behind a line in what was read
+abbrev pub AnswersEnded : Option (List ℕ) → Option (List ℕ) → Served → Type 0
+AnswersEnded input input' served = (bytes : List ℕ) × Consumes input input' bytes × (served.answered ≡ length (ended_lines bytes))
+
+-- after a failed read, or as many reads as may be, no line whose line feed was read is left without its answer
+abbrev pub LeavesNone : Option (List ℕ) → Option (List ℕ) → ServeFault → Type 0
+LeavesNone input input' (Read served) = AnswersEnded input input' served
+LeavesNone input input' (TooManyReads served) = AnswersEnded input input' served
+LeavesNone input input' (Write served) = Unit {0}

@@ -1,6 +1,6 @@
 //! Lines in, answers out.
 
-ghost use Rattle.std.specs.Prelude.{◌≡◌, ◌+◌, ◌^◌, ◌<◌, ◌≤◌, ℕ, List, IfOk, OnOk, OnErr, Err};
+ghost use Rattle.std.specs.Prelude.{◌≡◌, ◌+◌, ◌^◌, ◌<◌, ◌≤◌, ℕ, List, length, IfOk, IfErr, OnOk, OnErr, Err};
 ghost use Rattle.std.specs.Io.KnownBytes.{IsAtEnd};
 ghost use Rattle.desk_types.specs.History.{History};
 ghost use Rattle.desk_types.specs.Wire.{inner_of, reads_of, failures_of};
@@ -9,7 +9,7 @@ ghost use Rattle.desk_feed.specs.Inbox.{HoldsLine};
 ghost use Rattle.desk_feed.specs.LineAnswers.{Serves, Breaks};
 ghost use Rattle.desk_feed.specs.Lines.{lines_in};
 ghost use Rattle.served.specs.Shown.{FailsNever, IsShown};
-ghost use Rattle.desk_feed.specs.Stream.{AnsweredAll, AnsweredFront, AnsweredInto};
+ghost use Rattle.desk_feed.specs.Stream.{AnsweredAll, AnsweredFront, AnsweredInto, LeavesNone};
 
 use crate::inbox::{Inbox, InboxFault, RawLine, Taken};
 use crate::line::answer_line;
@@ -49,6 +49,7 @@ pub fn feed<R: Read, W: Write, L: Line>(
     ensures too_many { (served : Served) → result ≡ Err (ServeFault.TooManyReads served) → IsShown (ServeFault.TooManyReads served) input.old input.new output.old output.new
         × ((G : Ledger) → L.Stands line.old G → L.Trusts line.new → (H : History) × L.Stands line.new (record G { history = H }) × AnsweredFront G.rules G.greatest (R.remaining (inner_of input.old))
         G.history (W.contents (inner_of output.old)) H (W.contents (inner_of output.new)) served) }
+    ensures unread { IfErr result (λ fault. LeavesNone (R.remaining (inner_of input.old)) (R.remaining (inner_of input.new)) fault) }
     ensures write { (served : Served) → result ≡ Err (ServeFault.Write served) → IsShown (ServeFault.Write served) input.old input.new output.old output.new
         × ((G : Ledger) → L.Stands line.old G → L.Trusts line.new → (H : History) × L.Stands line.new (record G { history = H }) × AnsweredInto G.rules G.greatest (R.remaining (inner_of input.old))
         G.history (W.contents (inner_of output.old)) H (W.contents (inner_of output.new)) served) }
@@ -93,6 +94,7 @@ fn serve_line<W: Write, L: Line>(
     ensures err { (G : Ledger) → L.Stands line.old G → L.Trusts line.new → (bytes : List ℕ) → HoldsLine raw bytes → OnErr result ((H : History) × L.Stands line.new (record G { history = H }) × Breaks G.rules G.greatest (lines_in bytes)
         G.history (W.contents (inner_of output.old)) served.old H (W.contents (inner_of output.new)) served.new) }
     ensures few_answers { OnOk result (served.new.answered ≤ served.old.answered + 1) }
+    ensures counted { (bytes : List ℕ) → HoldsLine raw bytes → OnOk result (served.new.answered ≡ served.old.answered + length (lines_in bytes)) }
     ensures refused { served.new.refused ≤ served.new.answered }
     ensures kept { OnOk result (failures_of output.new ≡ failures_of output.old) }
     ensures failed { OnErr result (failures_of output.new ≡ failures_of output.old + 1) }

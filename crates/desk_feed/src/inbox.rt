@@ -1,9 +1,9 @@
 //! Lines from a reader, out of the blocks that it gives.
 
-ghost use Rattle.std.specs.Prelude.{◌≡◌, ◌+◌, ◌^◌, ◌<◌, ◌≤◌, ◌++◌, ℕ, List, true, false, IfOk, OnOk, Ok, Err};
-ghost use Rattle.std.specs.Io.KnownBytes.{Keeps, IsAtEnd};
+ghost use Rattle.std.specs.Prelude.{◌≡◌, ◌+◌, ◌^◌, ◌<◌, ◌≤◌, ◌++◌, ℕ, List, true, false, IfOk, OnOk, OnErr, Ok, Err};
+ghost use Rattle.std.specs.Io.KnownBytes.{Consumes, Keeps, IsAtEnd};
 ghost use Rattle.desk_types.specs.Wire.{inner_of, reads_of, failures_of};
-ghost use Rattle.desk_feed.specs.Inbox.{IsInbox, source, fuel, IsFirstFeed, HoldsLine, TakesLine};
+ghost use Rattle.desk_feed.specs.Inbox.{IsInbox, source, fuel, HasNoFeed, IsFirstFeed, HoldsLine, TakesLine};
 ghost use Rattle.desk_feed.specs.Lines.{without_return};
 
 use desk_types::Wire;
@@ -83,6 +83,7 @@ impl Inbox {
         ensures valid { IsInbox self.new }
         ensures line { IfOk result (λ taken. (raw : List ℕ) × HoldsLine taken.line raw
             × TakesLine (source self.old (R.remaining (inner_of wire.old))) raw taken.last (source self.new (R.remaining (inner_of wire.new)))) }
+        ensures unread { OnErr result ((rest : List ℕ) × HasNoFeed rest × Consumes (source self.old (R.remaining (inner_of wire.old))) (R.remaining (inner_of wire.new)) rest) }
         ensures falls { OnOk result (fuel most_reads (reads_of wire.new) self.new < fuel most_reads (reads_of wire.old) self.old) }
         ensures few_reads { reads_of wire.new ≤ most_reads }
         ensures kept { OnOk result (failures_of wire.new ≡ failures_of wire.old) }
@@ -114,6 +115,7 @@ impl Inbox {
         requires few_reads { reads_of wire.old ≤ most_reads }
         ensures valid { IsInbox self.new }
         ensures source { OnOk result (Keeps (source self.old (R.remaining (inner_of wire.old))) (source self.new (R.remaining (inner_of wire.new)))) }
+        ensures unread { OnErr result (Keeps (source self.old (R.remaining (inner_of wire.old))) (R.remaining (inner_of wire.new))) }
         ensures more { result ≡ Ok true → self.new.at < self.new.end }
         ensures end { result ≡ Ok false → IsAtEnd (source self.new (R.remaining (inner_of wire.new))) }
         ensures falls { OnOk result (fuel most_reads (reads_of wire.new) self.new ≤ fuel most_reads (reads_of wire.old) self.old) }

@@ -1,10 +1,11 @@
 //! What one line is answered.
 
-ghost use Rattle.std.specs.Prelude.{◌≡◌, ℕ, List};
+ghost use Rattle.std.specs.Prelude.{◌≡◌, ◌∷◌, [], ℕ, List, MatchOption};
 ghost use Rattle.desk_types.specs.History.{History};
 ghost use Rattle.desk_answers.specs.Ledger.{Ledger};
 ghost use Rattle.desk_feed.specs.Inbox.{HoldsLine};
 ghost use Rattle.desk_feed.specs.LineAnswers.{told_by, AnswersRaw};
+ghost use Rattle.desk_feed.specs.Lines.{lines_in, without_return};
 ghost use Rattle.desk_feed.specs.Stream.{too_long_text};
 
 use crate::inbox::{LONGEST_LINE, RawLine, without_return};
@@ -61,6 +62,7 @@ pub fn answer_line<L: Line>(alloc: Global, line: &mut L, raw: RawLine) -> Option
     ensures trusts { L.Trusts line.new → L.Trusts line.old }
     ensures answer { (G : Ledger) → L.Stands line.old G → L.Trusts line.new → (bytes : List ℕ) → HoldsLine raw bytes
         → (H : History) × L.Stands line.new (record G { history = H }) × AnswersRaw G.rules G.greatest G.history bytes result H }
+    ensures empty { (bytes : List ℕ) → HoldsLine raw bytes → MatchOption result (lines_in bytes ≡ []) (λ answer. lines_in bytes ≡ without_return bytes ∷ []) }
 {
     match raw {
         RawLine::NoMemoryReturn => None,

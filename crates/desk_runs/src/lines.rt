@@ -3,6 +3,7 @@
 ghost use Rattle.std.specs.Prelude.{◌≡◌, ◌⊎◌, ◌+◌, ◌^◌, ◌<◌, ◌≤◌};
 ghost use Rattle.std.specs.Io.KnownBytes.{IsAtEnd};
 ghost use Rattle.desk_types.specs.Wire.{inner_of, reads_of, failures_of};
+ghost use Rattle.desk_feed.specs.Stream.{LeavesNone};
 ghost use Rattle.served.specs.declared.serving.Served.{Served};
 ghost use Rattle.served.specs.declared.serving.ServeFault.{ServeFault};
 ghost use Rattle.served.specs.declared.serving.TheConstants.{MOST_READS};
@@ -35,7 +36,7 @@ pub fn feed_lines<R: Read, W: Write, E: Write, L: Line>(
     ensures status { (result ≡ 0) ⊎ (result ≡ 1) ⊎ (result ≡ 4) }
     ensures done { result ≡ 0 → (served : Served) × (served.refused ≡ 0) × ForLists L.Stands L.Trusts line.old line.new (AnswersAll R.remaining W.contents input.old output.old output.new served) }
     ensures refused { result ≡ 1 → (served : Served) × (0 < served.refused) × ForLists L.Stands L.Trusts line.old line.new (AnswersAll R.remaining W.contents input.old output.old output.new served) }
-    ensures failed { result ≡ 4 → (fault : ServeFault) × IsShown fault input.old input.new output.old output.new × TellsLine E.contents errors.old errors.new (fault_line fault)
+    ensures failed { result ≡ 4 → (fault : ServeFault) × IsShown fault input.old input.new output.old output.new × LeavesNone (R.remaining (inner_of input.old)) (R.remaining (inner_of input.new)) fault × TellsLine E.contents errors.old errors.new (fault_line fault)
         × ForLists L.Stands L.Trusts line.old line.new (AnswersUpTo R.remaining W.contents input.old output.old output.new fault) }
     ensures end { (result ≡ 0) ⊎ (result ≡ 1) → IsAtEnd (R.remaining (inner_of input.new)) }
     ensures kept { (result ≡ 0) ⊎ (result ≡ 1) → FailsNever input.old input.new output.old output.new }

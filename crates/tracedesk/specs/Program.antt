@@ -6,6 +6,7 @@ use Rattle.sqlite_store.specs.declared.store.FileStore.{FileStore}
 use Rattle.desk_types.specs.declared.wire.Wire.{Wire}
 use Rattle.desk_types.specs.History.{History}
 use Rattle.desk_types.specs.Wire.{inner_of, failures_of}
+use Rattle.consistency.specs.Consistent.{IsConsistent}
 use Rattle.desk_answers.specs.Ledger.{Ledger}
 use Rattle.feeder_state.specs.declared.desk.StateDesk.{StateDesk}
 use Rattle.line_schema.specs.declared.store.LineStore.{LineStore}
@@ -20,7 +21,7 @@ use Rattle.desk_commands.specs.Runs.{RunsOn, ServesEach, fresh}
 -- the words ask to answer lines, and that was done: on a new desk in memory, or on the one of a file
 abbrev pub RunsAsked : {T D : Type 0} {g : disk.Ghosts D} → start.Ghosts T → List (List ℕ) → Option (LineStore (FileStore D g) StateDesk) → (Ledger → History → Type 0) → Type 0
 RunsAsked first words desk Fact =
-    ((greatest : ℕ) × AsksForFeed words None greatest × (H : History) × Fact (fresh greatest) H)
+    ((greatest : ℕ) × AsksForFeed words None greatest × (H : History) × IsConsistent H × Fact (fresh greatest) H)
     ⊎ ((file : List ℕ) × (greatest : ℕ) × AsksForFeed words (Some file) greatest × RunsOn first (Some greatest) desk Fact)
 
 -- the words ask for an import, and this was done of it, on the desk of the file that they name

@@ -6,6 +6,7 @@ ghost use Rattle.std.specs.Io.KnownBytes.{Appends, IsAtEnd};
 ghost use Rattle.desk_types.specs.Wire.{inner_of, reads_of, failures_of};
 ghost use Rattle.line_opening.specs.declared.fault.OpenFault.{OpenFault};
 ghost use Rattle.line_opening.specs.declared.fault.OpenFault.TheVariants.{Unavailable};
+ghost use Rattle.desk_feed.specs.Stream.{LeavesNone};
 ghost use Rattle.served.specs.declared.serving.Served.{Served};
 ghost use Rattle.served.specs.declared.serving.ServeFault.{ServeFault};
 ghost use Rattle.served.specs.declared.serving.TheConstants.{MOST_READS};
@@ -155,7 +156,7 @@ pub fn program<T: Start, F: Folder, R: Read, W: Write, E: Write>(
     ensures untouched { (result.0 ≡ 2) ⊎ (result.0 ≡ 3) → (input.new ≡ input.old) × (output.new ≡ output.old) }
     ensures failed { result.0 ≡ 4
         → ((fault : ServeFault) × IsShown fault input.old input.new output.old output.new × TellsLine E.contents errors.old errors.new (fault_line fault)
-        × (RunsAsked T.Start (map string_bytes words.now) result.1 (AnswersUpTo R.remaining W.contents input.old output.old output.new fault)
+        × ((LeavesNone (R.remaining (inner_of input.old)) (R.remaining (inner_of input.new)) fault × RunsAsked T.Start (map string_bytes words.now) result.1 (AnswersUpTo R.remaining W.contents input.old output.old output.new fault))
         ⊎ ((file : List ℕ) × AsksForAudit (map string_bytes words.now) file × (count : ℕ) × SendsFront (W.contents (inner_of output.old)) (W.contents (inner_of output.new)) (lawful_line count)
         × Audits T.Start result.1 count)
         ⊎ ((file : List ℕ) × AsksForMigration (map string_bytes words.now) file × SendsFront (W.contents (inner_of output.old)) (W.contents (inner_of output.new)) version_line

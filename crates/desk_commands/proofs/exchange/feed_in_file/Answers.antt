@@ -19,4 +19,4 @@ pub returns-in-Ok-clause-failed : goal.returns-in-Ok-clause-failed
 returns-in-Ok-clause-failed g c = λ is.
     let fed = c.feed_lines-status in
     let fault = fed.ensures.failed is in
-    (fault.0, fault.1, fault.2, runs_on g.T.Start (Some c.args.greatest) c.in-Ok.store fed.new.line (AnswersUpTo g.R.Read.remaining g.W.Write.contents c.args.input.now c.args.output.now fed.new.output fault.0) fed.ensures.trusts c.in-Ok.ensures.begins fault.3)
+    (fault.0, fault.1, fault.2, fault.3, runs_on g.T.Start (Some c.args.greatest) c.in-Ok.store fed.new.line (AnswersUpTo g.R.Read.remaining g.W.Write.contents c.args.input.now c.args.output.now fed.new.output fault.0) fed.ensures.trusts c.in-Ok.ensures.begins fault.4)

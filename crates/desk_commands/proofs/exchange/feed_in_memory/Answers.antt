@@ -9,21 +9,21 @@ returns-in-Ok-clause-done g c = λ is.
     let fed = c.feed_lines-status in
     let all = fed.ensures.done is in
     let lists = all.2 (fresh c.args.greatest) (refl, c.in-Ok.ensures.stands) (stays_clean fed.new.line.conn) in
-    (all.0, all.1, lists.0, lists.2)
+    (all.0, all.1, lists.0, lists.1.1.consistent, lists.2)
 
 pub returns-in-Ok-clause-refused : goal.returns-in-Ok-clause-refused
 returns-in-Ok-clause-refused g c = λ is.
     let fed = c.feed_lines-status in
     let all = fed.ensures.refused is in
     let lists = all.2 (fresh c.args.greatest) (refl, c.in-Ok.ensures.stands) (stays_clean fed.new.line.conn) in
-    (all.0, all.1, lists.0, lists.2)
+    (all.0, all.1, lists.0, lists.1.1.consistent, lists.2)
 
 pub returns-in-Ok-clause-failed : goal.returns-in-Ok-clause-failed
 returns-in-Ok-clause-failed g c = λ is.
     let fed = c.feed_lines-status in
     let fault = fed.ensures.failed is in
-    let lists = fault.3 (fresh c.args.greatest) (refl, c.in-Ok.ensures.stands) (stays_clean fed.new.line.conn) in
-    (fault.0, fault.1, fault.2, lists.0, lists.2)
+    let lists = fault.4 (fresh c.args.greatest) (refl, c.in-Ok.ensures.stands) (stays_clean fed.new.line.conn) in
+    (fault.0, fault.1, fault.2, fault.3, lists.0, lists.1.1.consistent, lists.2)
 
 pub returns-in-Ok-clause-status : goal.returns-in-Ok-clause-status
 returns-in-Ok-clause-status g c = ends_so c.feed_lines-status.result c.feed_lines-status.ensures.status

@@ -3,7 +3,7 @@ use Rattle.desk_types.specs.Wire.{inner_of}
 use Rattle.desk_feed.proofs.Answering.{same_write}
 use Rattle.desk_feed.specs.Owners.{ForLists}
 use Rattle.desk_feed.proofs.Going.{goes_none, goes_on, stops_into}
-use Rattle.desk_feed.proofs.Lining.{start_gone, lines_go, last_goes, next_first, end_behind}
+use Rattle.desk_feed.proofs.Lining.{start_gone, lines_go, last_goes, next_first, end_behind, no_end, one_more_end, all_ended}
 use Rattle.desk_feed.specs.Inbox.{TakesLine, source}
 use Rattle.desk_feed.specs.Lines.{lines_in}
 use Rattle.served.specs.Counts.{none_served}
@@ -24,6 +24,7 @@ lines-init g c =
       ready = c.requires.ready;
       trusts = λ trusts. trusts;
       lines = [];
+      ended = no_end c.new-inbox.result (g.R.Read.remaining (inner_of c.args.input.now)) e.0 e.1;
       gone = start_gone c.new-inbox.result (g.R.Read.remaining (inner_of c.args.input.now)) e.0 e.1;
       answered = goes_none g.L.Line.Stands g.L.Line.Trusts c.args.line.now (g.W.Write.contents (inner_of c.args.output.now));
     }
@@ -79,6 +80,7 @@ lines-preserved g c =
       ready = c.serve_line.ensures.ready;
       trusts = λ trusts. inv.trusts (c.serve_line.ensures.trusts trusts);
       lines = inv.lines ++ lines_in raw;
+      ended = one_more_end asked before behind c.lines.served.answered c.serve_line.new.served.answered raw inv.ended took (c.in-Ok-serve_line.ensures.counted raw got.1);
       gone = lines_go asked before behind inv.lines raw inv.gone took;
       answered = goes_on g.L.Line.Stands g.L.Line.Trusts inv.lines (lines_in raw) c.args.line.now c.lines.line c.serve_line.new.line
           (contents (inner_of c.args.output.now)) (contents (inner_of c.lines.output)) (contents (inner_of c.serve_line.new.output)) none_served c.lines.served c.serve_line.new.served
@@ -104,3 +106,13 @@ returns-in-Err-clause-write g c = λ served e.
       subst (λ (s : Served). ForLists g.L.Line.Stands g.L.Line.Trusts c.args.line.now c.serve_line.new.line (λ G H. AnsweredInto G.rules G.greatest asked G.history out₀ H out₂ s))
           (same_write c.serve_line.new.served served e) into,
     )
+
+pub returns-in-Err-Read-clause-unread : goal.returns-in-Err-Read-clause-unread
+returns-in-Err-Read-clause-unread g c =
+    let asked = g.R.Read.remaining (inner_of c.args.input.now) in
+    all_ended asked (source c.lines.inbox (g.R.Read.remaining (inner_of c.lines.input))) (g.R.Read.remaining (inner_of c.next_line.new.wire)) c.lines.served c.lines.invariant.ended c.in-Err-Read.ensures.unread
+
+pub returns-in-Err-TooManyReads-clause-unread : goal.returns-in-Err-TooManyReads-clause-unread
+returns-in-Err-TooManyReads-clause-unread g c =
+    let asked = g.R.Read.remaining (inner_of c.args.input.now) in
+    all_ended asked (source c.lines.inbox (g.R.Read.remaining (inner_of c.lines.input))) (g.R.Read.remaining (inner_of c.next_line.new.wire)) c.lines.served c.lines.invariant.ended c.in-Err-TooManyReads.ensures.unread

@@ -5,6 +5,7 @@ use Rattle.desk_feed.specs.declared.inbox.TheConstants.{BLOCK}
 use Rattle.desk_feed.specs.Inbox.{IsInbox, source, fuel, LinesGone}
 use Rattle.served.specs.Counts.{none_served}
 use Rattle.desk_feed.proofs.Going.{Goes}
+use Rattle.desk_feed.proofs.Lining.{EndsGone}
 use Rattle.desk_feed.proofs.feeding.feed.Given as goal
 
 abbrev pub invariant-lines : goal.invariant-lines
@@ -18,6 +19,7 @@ invariant-lines g l = record {
   ready : g.L.Line.Ready l.line;
   trusts : g.L.Line.Trusts l.line → g.L.Line.Trusts l.fn.line;
   lines : List (List ℕ);
+  ended : EndsGone (g.R.Read.remaining (inner_of l.fn.input)) l.served.answered (source l.inbox (g.R.Read.remaining (inner_of l.input)));
   gone : LinesGone (g.R.Read.remaining (inner_of l.fn.input)) lines (source l.inbox (g.R.Read.remaining (inner_of l.input)));
   answered : Goes g.L.Line.Stands g.L.Line.Trusts lines l.fn.line (g.W.Write.contents (inner_of l.fn.output)) none_served l.line (g.W.Write.contents (inner_of l.output)) l.served;
 }

@@ -31,7 +31,7 @@ returns-in-Some-clause-failed g c = λ is.
     let file = string_bytes c.in-Some.file in
     let asks : AsksForFeed (map string_bytes c.args.words.now) (Some file) c.in-Ok-Feed.greatest = search rules in
     let fault = c.feed_in_file-status.ensures.failed is in
-    inl (fault.0, fault.1, fault.2, inl (inr (file, c.in-Ok-Feed.greatest, asks, fault.3)))
+    inl (fault.0, fault.1, fault.3, inl (fault.2, inr (file, c.in-Ok-Feed.greatest, asks, fault.4)))
 
 pub returns-in-Ok-Audit-clause-done : goal.returns-in-Ok-Audit-clause-done
 returns-in-Ok-Audit-clause-done g c = λ is.

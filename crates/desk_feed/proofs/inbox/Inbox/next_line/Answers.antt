@@ -1,9 +1,10 @@
-use Rattle.std.proofs.Common.{rules, arith, ◌≡◌, ◌∙◌, ◌++◌, [], ◌∷◌, take, sym, subst, append_assoc, false}
+use Rattle.std.proofs.Common.{rules, arith, List, ℕ, ◌≡◌, ◌∙◌, ◌++◌, [], ◌∷◌, take, sym, subst, append_assoc, false}
 use Rattle.std.specs.List.{slice_range}
 use Rattle.std.specs.Io.KnownBytes.{Consumes}
 use Rattle.std.proofs.KnownBytes.{Consumes-trans, Consumes-kept}
 use Rattle.std.proofs.lemmas.List.Elements.{All-append}
 use Rattle.desk_types.specs.Wire.{inner_of}
+use Rattle.desk_feed.specs.Inbox.{HasNoFeed, source}
 use Rattle.desk_feed.specs.Lines.{is_feed}
 use Rattle.desk_feed.proofs.Sources.{line_goes, block_goes}
 use Rattle.desk_feed.proofs.inbox.Inbox.next_line.Goals as goal
@@ -43,3 +44,11 @@ loop-line-preserved g c =
       All-append (λ b. is_feed b ≡ false) raw piece inv.6 c.in-None.ensures,
       c.grown-line-in-None.ensures raw inv.7,
     )
+
+pub returns-in_err-ready-clause-unread : goal.returns-in_err-ready-clause-unread
+returns-in_err-ready-clause-unread g c =
+    let inv = c.loop-line.invariant in
+    let before = source c.args.self.now (g.R.Read.remaining (inner_of c.args.wire.now)) in
+    let behind = g.R.Read.remaining (inner_of c.ready.new.wire) in
+    let stops : (rest : List ℕ) × HasNoFeed rest × Consumes before behind rest = (inv.4, inv.6, Consumes-kept _ _ _ _ inv.5 c.in_err-ready.ensures.unread) in
+    search rules

@@ -1,0 +1,60 @@
+-- Any number of calls on one desk, one after the other.
+use Rattle.std.specs.Prelude.{◌≡◌, ℕ, List, [], ◌∷◌, Option, Result, Ok, Err}
+use Rattle.desk_types.specs.declared.command.Stamped.{Stamped}
+use Rattle.desk_types.specs.History.{History}
+use Rattle.desk_answers.specs.declared.answer.Answer.{Answer}
+use Rattle.desk_answers.specs.Ledger.{Ledger, IsAnswer, ledger_after}
+use Rattle.served.specs.declared.serving.Served.{Served}
+use Rattle.served.specs.declared.serving.ServeFault.{ServeFault}
+use Rattle.served.specs.declared.serving.ServeFault.TheVariants.{Read, Write, TooManyReads}
+use Rattle.desk_feed.specs.Owners.{ForLists}
+use Rattle.desk_feed.specs.Stream as lines
+use Rattle.http_stream.specs.Answers.{Told}
+use Rattle.http_stream.specs.Stream as requests
+use Rattle.http_stream.specs.Stream.{Rule}
+use Rattle.http_answers.specs.Gateways.{TellsGet}
+use Rattle.http_answers.specs.Requests.{Reports, request_rule}
+
+-- how a feed or a connection ended: how much was answered, and the fault where there was one
+abbrev pub Ended : Type 0
+Ended = Result Served ServeFault
+
+-- a call of `feed`, of `serve`, of `command` or of `ask`, with what went in, what was left of it, and what had gone out before and after, as far as the reader and the writer tell it
+pub data Call : Type 0 where
+  fed : Option (List ℕ) → Option (List ℕ) → Option (List ℕ) → Ended → Call
+  connected : Option (List ℕ) → Option (List ℕ) → Option (List ℕ) → Option (List ℕ) → Ended → Call
+  commanded : Stamped → Answer → Call
+  asked : List ℕ → Told → Call
+
+-- the lines were answered by the list G, and the list after them is H
+abbrev pub Feeds : Ledger → Option (List ℕ) → Option (List ℕ) → Option (List ℕ) → Ended → History → Type 0
+Feeds G input out out' (Ok served) H = lines.AnsweredAll G.rules G.greatest input G.history out H out' served
+Feeds G input out out' (Err fault) H = lines.AnsweredUpTo G.rules G.greatest input G.history out H out' fault
+
+-- so were the requests
+abbrev pub Serves : Rule → History → Option (List ℕ) → Option (List ℕ) → Option (List ℕ) → Option (List ℕ) → Ended → History → Type 0
+Serves rule G input left out out' (Ok served) H = requests.AnsweredAll rule input G out H out' served
+Serves rule G input left out out' (Err (Read served)) H = requests.AnsweredFront rule input left G out H out' served
+Serves rule G input left out out' (Err (TooManyReads served)) H = requests.AnsweredFront rule input left G out H out' served
+Serves rule G input left out out' (Err (Write served)) H = requests.AnsweredInto rule input G out H out' served
+
+-- the call was answered by the list before it, with these reports, and the list after it is H
+abbrev pub IsAnswered : Reports → Ledger → Call → History → Type 0
+IsAnswered reports G (fed input out out' ended) H = Feeds G input out out' ended H
+IsAnswered reports G (connected input left out out' ended) H = Serves (request_rule reports G.rules G.greatest) G.history input left out out' ended H
+IsAnswered reports G (commanded s answer) H = IsAnswer G s answer × (H ≡ (ledger_after G s answer).history)
+IsAnswered reports G (asked target told) H = TellsGet reports G target told × (H ≡ G.history)
+
+-- each call was answered by the list that the one before it left
+abbrev pub AnswersByTheList : Reports → Ledger → List Call → History → Type 0
+AnswersByTheList reports G [] H = H ≡ G.history
+AnswersByTheList reports G (call ∷ calls) H = (H₁ : History) × IsAnswered reports G call H₁ × AnswersByTheList reports (record G { history = H₁ }) calls H
+
+-- what the contract of a call says of an owner of a list before and after it
+abbrev pub CallsOnce : {S : Type 0} → Reports → (S → Ledger → Type 0) → (S → Type 0) → S → Call → S → Type 0
+CallsOnce reports Stands Trusts old call new = (Trusts new → Trusts old) × ForLists Stands Trusts old new (λ G H. IsAnswered reports G call H)
+
+-- calls one after the other, on one owner
+abbrev pub Calls : {S : Type 0} → Reports → (S → Ledger → Type 0) → (S → Type 0) → S → List Call → S → Type 0
+Calls reports Stands Trusts old [] new = new ≡ old
+Calls reports Stands Trusts old (call ∷ calls) new = (mid : _) × CallsOnce reports Stands Trusts old call mid × Calls reports Stands Trusts mid calls new
