@@ -246,6 +246,51 @@ fn refused_memory_is_made_good(rt: HostRuntime) -> Result<(), Fail> {
     Ok(())
 }
 
+/// Two boards, the second first in byte order, each with a piece of the reel, and one with none.
+const BOARDS: [(&str, &str); 6] = [
+    ("WorkStarted\tM\tB9", ""),
+    ("MaterialsInstalled\tM\tB9\t2\tR1\tR2", "\"Reels\":[\"K1\",\"K1\"],"),
+    ("WorkCompleted\tM\tB9", ""),
+    ("WorkStarted\tM\tB10", ""),
+    ("MaterialsInstalled\tM\tB10\t1\tR1", "\"Reels\":[\"K1\"],"),
+    ("WorkCompleted\tM\tB10", ""),
+];
+
+/// Each command of the boards, after those of the first run.
+fn build_boards<L: Line>(rt: &impl Abort, alloc: Global, line: &mut L) -> Result<(), Fail>
+    requires { L.Ready line.old }
+    ensures { L.Ready line.new }
+{
+    insist_on_all(rt, alloc, line)?;
+    for n in 0..6u32 {
+        let (text, members) = BOARDS[(n % 6) as usize];
+        let (message, wanted) = message_of(alloc, n.saturating_add(6), text, members)?;
+        is_accepted(rt, line.command(&message), n.saturating_add(6), wanted.as_str())?;
+    }
+    Ok(())
+}
+
+/// The boards of a lot are told each once and in byte order. No report asks the store for them: it is
+/// for a caller that wants the names alone, and needs no rows.
+#[test]
+fn boards_of_a_lot(rt: HostRuntime) -> Result<(), Fail> {
+    let (lot, other) = (id("L1")?, id("L2")?);
+    let Ok(mut store) = in_memory::<StateDesk>(rt.alloc(), 11) else {
+        return Err(Fail::from(AllocError));
+    };
+    let outcome = build_boards(&rt, rt.alloc(), &mut store);
+    let boards = store.lot_boards(&lot);
+    let unknown = store.lot_boards(&other);
+    let _conn = store.into_connection();
+    outcome?;
+    let Ok(Some(boards)) = boards else {
+        return Err(Fail::from(AllocError));
+    };
+    assert!(rt; boards.as_slice() == [id("B10")?, id("B9")?].as_slice());
+    assert!(rt; matches!(unknown, Ok(None)));
+    Ok(())
+}
+
 /// A database of version 1, in which as many parts are defined.
 fn of_version_one(
     rt: &impl Abort,
