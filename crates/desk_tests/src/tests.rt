@@ -2,6 +2,7 @@
 
 mod answers;
 mod desks;
+mod reels;
 
 use desk_types::Id;
 use std::test::Fail;

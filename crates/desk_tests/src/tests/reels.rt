@@ -1,0 +1,29 @@
+//! Whether a reel may be used, which a judge asks in two questions.
+
+ghost use Rattle.std.specs.Prelude.{◌≡◌, IfOk};
+
+use super::id;
+use desk_types::{Level, Minute, Moisture, Quantity};
+use reels::Reel;
+use std::test::Fail;
+
+/// A reel of this level, with the minutes of its label.
+fn received(level: Level, label: u64, at: Minute) -> Result<Reel, Fail>
+    ensures { IfOk result (λ reel. reel.last ≡ at) }
+{
+    let moisture = Moisture::new(level, label).ok_or("no label")?;
+    let pieces = Quantity::new(100).ok_or("no quantity")?;
+    Ok(Reel::receive(id("P")?, id("L")?, moisture, pieces, at))
+}
+
+/// A reel of level 6 may be used from its bake on, one of level 1 from its receipt on.
+#[test]
+fn a_reel_waits_for_its_bake(rt: HostRuntime) -> Result<(), Fail> {
+    let at = Minute::new(50).ok_or("no minute")?;
+    assert!(rt; received(Level::One, 0, at)?.usable(at));
+    let mut reel = received(Level::Six, 60, at)?;
+    assert!(rt; !reel.usable(at));
+    reel.bake(at);
+    assert!(rt; reel.usable(at));
+    Ok(())
+}
