@@ -107,9 +107,13 @@ no_end b a p q =
     same (Some xs) = refl
 
 pub one_more_end : (a b c : Option (List ℕ)) (n m : ℕ) (raw : List ℕ) → EndsGone a n b → TakesLine b raw false c → m ≡ n + length (lines_in raw) → EndsGone a m c
-one_more_end a b c n m raw (gone, went, counts) q e = (gone ++ (raw ++ 10 ∷ []), Consumes-trans a b c gone (raw ++ 10 ∷ []) went q.1, λ more.
-    let all : (gone ++ (raw ++ 10 ∷ [])) ++ more ≡ gone ++ (raw ++ 10 ∷ more) = append_assoc gone (raw ++ 10 ∷ []) more ∙ ap (λ l. gone ++ l) (append_assoc raw (10 ∷ []) more) in
-    omega (arith, ap (λ l. length (ended_lines l)) all, counts (raw ++ 10 ∷ more), ap length (ended_lines-more raw more q.0), length-append (lines_in raw) (ended_lines more), e))
+one_more_end a b c n m raw (gone, went, counts) q e = (
+  gone ++ (raw ++ 10 ∷ []),
+  Consumes-trans a b c gone (raw ++ 10 ∷ []) went q.1,
+  λ more.
+      let all : (gone ++ (raw ++ 10 ∷ [])) ++ more ≡ gone ++ (raw ++ 10 ∷ more) = append_assoc gone (raw ++ 10 ∷ []) more ∙ ap (λ l. gone ++ l) (append_assoc raw (10 ∷ []) more) in
+      omega (arith, ap (λ l. length (ended_lines l)) all, counts (raw ++ 10 ∷ more), ap length (ended_lines-more raw more q.0), length-append (lines_in raw) (ended_lines more), e),
+)
 
 pub all_ended : (a b c : Option (List ℕ)) (s : Served) → EndsGone a s.answered b → (rest : List ℕ) × HasNoFeed rest × Consumes b c rest → AnswersEnded a c s
 all_ended a b c s (gone, went, counts) (rest, h, more) =
