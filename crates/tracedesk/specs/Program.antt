@@ -1,22 +1,40 @@
 -- What a run of the program does.
-use Rattle.std.specs.Prelude.{◌≡◌, ℕ, ◌⊎◌, List, Option, Some, None}
+use Rattle.std.specs.Prelude.{◌≡◌, ◌≢◌, ◌<◌, ◌≤◌, ◌+◌, ℕ, ◌⊎◌, List, Option, Some, None, true, false, IfSome, IsSomeAnd, OnSome}
+use Rattle.std.specs.Io.KnownBytes.{Appends, IsAtEnd}
 use Rattle.sqlite_disk.specs.declared.Disk as disk
 use Rattle.sqlite_disk.specs.declared.start.Start as start
+use Rattle.sqlite_disk.specs.declared.Files.{Files}
 use Rattle.sqlite_store.specs.declared.store.FileStore.{FileStore}
+use Rattle.sqlite.specs.Held.{Held}
 use Rattle.desk_types.specs.declared.wire.Wire.{Wire}
 use Rattle.desk_types.specs.History.{History}
-use Rattle.desk_types.specs.Wire.{inner_of, failures_of}
+use Rattle.desk_types.specs.Wire.{inner_of, reads_of, failures_of}
 use Rattle.consistency.specs.Consistent.{IsConsistent}
 use Rattle.desk_answers.specs.Ledger.{Ledger}
 use Rattle.feeder_state.specs.declared.desk.StateDesk.{StateDesk}
+use Rattle.feeder_state.specs.contracts.desk.StateDeskDesk.TheImpl.{ghosts as state}
+use Rattle.line_opening.specs.declared.fault.OpenFault.{OpenFault}
+use Rattle.line_opening.specs.declared.fault.OpenFault.TheVariants.{Unavailable}
 use Rattle.line_schema.specs.declared.store.LineStore.{LineStore}
+use Rattle.desk_file.specs.Files.{Closes, KeepsTables}
+use Rattle.desk_feed.specs.Stream.{LeavesNone}
+use Rattle.desk_import.specs.declared.options.BadOption.{BadOption}
 use Rattle.desk_import.specs.declared.options.Import.{Import}
-use Rattle.desk_words.specs.CommandLine.{AsksForAudit, AsksForFeed, AsksForImport, AsksForMigration, AsksForReport, AsksForServing}
+use Rattle.desk_words.specs.CommandLine.{AsksForAudit, AsksForFeed, AsksForImport, AsksForMigration, AsksForNothing, AsksForReport, AsksForServing, AsksForText, HasBadOption}
 use Rattle.http_listener.specs.Connections.{Ended, Tells}
-use Rattle.http_stream.specs.Answers.{Told}
+use Rattle.http_stream.specs.Answers.{Told, code_of}
 use Rattle.gateway_http.specs.Reports.{report_of}
-use Rattle.desk_runs.specs.Runs.{TellsReport}
-use Rattle.desk_commands.specs.Runs.{RunsOn, ServesEach, fresh}
+use Rattle.served.specs.declared.serving.Served.{Served}
+use Rattle.served.specs.declared.serving.ServeFault.{ServeFault}
+use Rattle.served.specs.declared.serving.ServeFault.TheVariants.{Read as ReadFault}
+use Rattle.served.specs.declared.serving.TheConstants.{MOST_READS}
+use Rattle.served.specs.Counts.{none_served}
+use Rattle.served.specs.Sent.{SendsFront}
+use Rattle.served.specs.Shown.{FailsNever, IsShown}
+use Rattle.desk_runs.specs.Runs.{AnswersAll, AnswersImport, AnswersUpTo, CutsImport, StaysSame, TellsReport}
+use Rattle.desk_runs.specs.Told.{fault_line, lawful_line, option_line, printed, version_line, unavailable_line, TellsEnd, TellsLine}
+use Rattle.desk_runs.specs.Told as told
+use Rattle.desk_commands.specs.Runs.{Audits, Migrates, RunsOn, ServesEach, fresh, refusal_line}
 
 -- the words ask to answer lines, and that was done: on a new desk in memory, or on the one of a file
 abbrev pub RunsAsked : {T D : Type 0} {g : disk.Ghosts D} → start.Ghosts T → List (List ℕ) → Option (LineStore (FileStore D g) StateDesk) → (Ledger → History → Type 0) → Type 0
@@ -57,3 +75,76 @@ NamesMigrated words = (file : List ℕ) × AsksForMigration words file
 -- they name a file that keeps a desk
 abbrev pub NamesFile : List (List ℕ) → Type 0
 NamesFile words = NamesDesk words ⊎ NamesMigrated words
+
+-- ---- how a run ends
+
+-- The table of a run: its words, and what its wires were before it and after it; its exit status, the desk that it has open, and the file that it migrated. What the files held before it is `first`, what a file of an import holds is `holds`; what a reader has left to give is `reads`, and what went out to a writer `writes`, as far as these are known.
+module _ {T D R W E : Type 0} {g : disk.Ghosts D} (first : start.Ghosts T) (holds : List ℕ → Option (List ℕ)) (reads : R → Option (List ℕ)) (writes : W → Option (List ℕ)) (tells : E → Option (List ℕ))
+    (words : List (List ℕ)) (input input' : Wire R) (output output' : Wire W) (errors errors' : Wire E) (desk : Option (LineStore (FileStore D g) StateDesk)) (migrated : Option (Held (FileStore D g))) where
+  -- this text went out; or only its first bytes did
+  abbrev pub Sent : List ℕ → Type 0
+  Sent text = Appends (writes (inner_of output)) (writes (inner_of output')) text
+
+  abbrev pub SentFront : List ℕ → Type 0
+  SentFront text = SendsFront (writes (inner_of output)) (writes (inner_of output')) text
+
+  -- this line was told on standard error
+  abbrev pub ToldLine : List ℕ → Type 0
+  ToldLine line = TellsLine tells errors errors' line
+
+  -- status 0, by command: all lines were answered and none of them refused; the audit counted; the file was migrated; the import was answered and not refused; a text went out; all connections were served and none of them was faulty; the report went out
+  abbrev pub Done : Type 0
+  Done = ((served : Served) × (served.refused ≡ 0) × RunsAsked first words desk (AnswersAll reads writes input output output' served))
+      ⊎ ((file : List ℕ) × AsksForAudit words file × (count : ℕ) × Sent (lawful_line count) × Audits first desk count)
+      ⊎ ((file : List ℕ) × AsksForMigration words file × Sent version_line × Migrates first migrated)
+      ⊎ RunsImport first holds words desk (AnswersImport writes output output' false)
+      ⊎ (AsksForText words × (text : List ℕ) × Sent text)
+      ⊎ RunsServing first words desk writes output output' 0
+      ⊎ RunsReport first words desk (λ answer. (code_of answer.status ≡ 200) × Sent (printed answer))
+
+  -- status 1: some line was refused; the import was; some connection was faulty; there is no such report
+  abbrev pub Refused : Type 0
+  Refused = ((served : Served) × (0 < served.refused) × RunsAsked first words desk (AnswersAll reads writes input output output' served))
+      ⊎ RunsImport first holds words desk (AnswersImport writes output output' true)
+      ⊎ RunsServing first words desk writes output output' 1
+      ⊎ RunsReport first words desk (λ answer. (code_of answer.status ≢ 200) × Sent (printed answer))
+
+  -- status 2: the words ask for nothing that the program does, or an option of an import can't be read
+  abbrev pub Bad : Type 0
+  Bad = (AsksForNothing words × (text : List ℕ) × told.Tells tells errors errors' text)
+      ⊎ ((option : BadOption) × HasBadOption words option × ToldLine (option_line option))
+
+  -- status 3: a fault was told, and it is Unavailable or the words name a file
+  abbrev pub NoDesk : Type 0
+  NoDesk = (fault : OpenFault) × ((fault ≡ Unavailable) ⊎ NamesFile words) × ToldLine (refusal_line fault)
+
+  -- status 4: a fault of the wires was told, and what went out before it is the beginning of what was to go out; or the file of an import could not be read; or no further connection was served
+  abbrev pub Failed : Type 0
+  Failed = ((fault : ServeFault) × IsShown fault input input' output output' × ToldLine (fault_line fault)
+      × ((LeavesNone (reads (inner_of input)) (reads (inner_of input')) fault × RunsAsked first words desk (AnswersUpTo reads writes input output output' fault))
+      ⊎ ((file : List ℕ) × AsksForAudit words file × (count : ℕ) × SentFront (lawful_line count) × Audits first desk count)
+      ⊎ ((file : List ℕ) × AsksForMigration words file × SentFront version_line × Migrates first migrated)
+      ⊎ RunsImport first holds words desk (CutsImport writes output output')
+      ⊎ (AsksForText words × (text : List ℕ) × SentFront text)
+      ⊎ RunsReport first words desk (λ answer. SentFront (printed answer))))
+      ⊎ ((input' ≡ input) × (output' ≡ output) × ToldLine (fault_line (ReadFault none_served)) × RunsImport first holds words desk (λ _ _. StaysSame))
+      ⊎ ((input' ≡ input) × TellsEnd tells output output' errors errors' × RunsServing first words desk writes output output' 4)
+
+  -- what holds of a run that ended with this status
+  pub record Ran (status : ℕ) : Type 0 where
+    pub status : status ≤ 4
+    pub done : status ≡ 0 → Done
+    pub refused : status ≡ 1 → Refused
+    pub bad : status ≡ 2 → Bad
+    pub no_desk : status ≡ 3 → NoDesk
+    pub failed : status ≡ 4 → Failed
+    pub one_open : (desk ≡ None) ⊎ (migrated ≡ None)
+    pub opened : OnSome desk (NamesDesk words)
+    pub migrated : OnSome migrated (NamesMigrated words)
+    pub left : status ≡ 3 → ((desk ≡ None) ⊎ RunsOn first None desk StaysSame) × (migrated ≡ None)
+    pub unread : ((file : _) (greatest : ℕ) → AsksForFeed words file greatest → ⊥) → input' ≡ input
+    pub quiet : (status ≡ 0) ⊎ (status ≡ 1) → errors' ≡ errors
+
+-- The files that a run had open were closed: those of a desk that stood for a list hold the tables of that list, whole by themselves, and those of a file that was migrated hold its tables.
+abbrev pub AreClosed : {D : Type 0} {g : disk.Ghosts D} → Option (LineStore (FileStore D g) StateDesk) → Option (Held (FileStore D g)) → Option (Files D) → Option (Files D) → Type 0
+AreClosed desk migrated files others = IfSome desk (λ d. IsSomeAnd files (Closes state.Stands state.kept_rules d)) × IfSome migrated (λ conn. IsSomeAnd others (KeepsTables conn))

@@ -1,29 +1,19 @@
 //! A run of the program.
 
-ghost use Rattle.std.specs.Prelude.{◌≡◌, ◌≢◌, ◌⊎◌, ◌+◌, ◌^◌, ◌<◌, ◌≤◌, true, false, None, codes, map, string_bytes, length, IfSome, IsSomeAnd, OnSome, List, ℕ};
+ghost use Rattle.std.specs.Prelude.{◌≡◌, ◌≢◌, ◌⊎◌, ◌+◌, ◌^◌, ◌<◌, ◌≤◌, None, codes, map, string_bytes, IfSome, IsSomeAnd, OnSome, ℕ};
 ghost use Rattle.std.specs.IoError.{error_kind};
-ghost use Rattle.std.specs.Io.KnownBytes.{Appends, IsAtEnd};
+ghost use Rattle.std.specs.Io.KnownBytes.{IsAtEnd};
 ghost use Rattle.desk_types.specs.Wire.{inner_of, reads_of, failures_of};
-ghost use Rattle.line_opening.specs.declared.fault.OpenFault.{OpenFault};
 ghost use Rattle.line_opening.specs.declared.fault.OpenFault.TheVariants.{Unavailable};
-ghost use Rattle.desk_feed.specs.Stream.{LeavesNone};
-ghost use Rattle.served.specs.declared.serving.Served.{Served};
-ghost use Rattle.served.specs.declared.serving.ServeFault.{ServeFault};
 ghost use Rattle.served.specs.declared.serving.TheConstants.{MOST_READS};
-ghost use Rattle.desk_import.specs.declared.options.BadOption.{BadOption};
-ghost use Rattle.desk_import.specs.declared.options.Import.{Import};
-ghost use Rattle.served.specs.declared.serving.ServeFault.TheVariants.{Read as ReadFault};
-ghost use Rattle.served.specs.Counts.{none_served};
-ghost use Rattle.desk_words.specs.CommandLine.{AsksForAudit, AsksForFeed, AsksForImport, AsksForMigration, AsksForText, AsksForNothing, HasBadOption};
-ghost use Rattle.served.specs.Sent.{SendsFront};
-ghost use Rattle.served.specs.Shown.{FailsNever, IsShown};
-ghost use Rattle.http_stream.specs.Answers.{code_of};
-ghost use Rattle.desk_runs.specs.Runs.{AnswersAll, AnswersImport, AnswersUpTo, CutsImport, StaysSame};
-ghost use Rattle.desk_runs.specs.Told.{fault_line, lawful_line, option_line, printed, unavailable_line, version_line, Tells, TellsEnd, TellsLine};
+ghost use Rattle.served.specs.Shown.{FailsNever};
+ghost use Rattle.desk_words.specs.CommandLine.{AsksForFeed};
+ghost use Rattle.desk_runs.specs.Runs.{StaysSame};
+ghost use Rattle.desk_runs.specs.Told.{unavailable_line, TellsLine};
 ghost use Rattle.feeder_state.specs.contracts.desk.StateDeskDesk.TheImpl.{ghosts as state};
 ghost use Rattle.desk_file.specs.Files.{Closes, KeepsTables};
-ghost use Rattle.desk_commands.specs.Runs.{Audits, Migrates, RunsOn, refusal_line};
-ghost use Rattle.tracedesk.specs.Program.{NamesDesk, NamesFile, NamesMigrated, RunsAsked, RunsImport, RunsReport, RunsServing};
+ghost use Rattle.desk_commands.specs.Runs.{RunsOn, refusal_line};
+ghost use Rattle.tracedesk.specs.Program.{AreClosed, Bad, Done, Failed, NamesDesk, NamesMigrated, NoDesk, Ran, Refused};
 
 use desk_commands::{
     audit_file, feed_in_file, feed_in_memory, import_in_file, migrate_file, report_in_file,
@@ -45,27 +35,54 @@ use std::io::{ErrorKind, Read, Write};
 pub fn run(rt: &HostRuntime) -> u8
     ensures { result ≤ 4 }
 {
-    let mut input = Wire::new(rt.stdin());
-    let mut output = Wire::new(rt.stdout());
     let mut errors = Wire::new(rt.stderr());
     let files = SystemFiles { rt };
     match words(rt) {
         Ok(words) => {
-            let (status, desk, migrated) = program(
+            let (status, _, _) = whole_run(
                 rt,
                 words.as_slice(),
                 Unknown,
                 &files,
-                &mut input,
-                &mut output,
+                &mut Wire::new(rt.stdin()),
+                &mut Wire::new(rt.stdout()),
                 &mut errors,
+                &mut Wire::new(rt.stderr()),
             );
-            let (status, _) = closed(status, desk, &mut Wire::new(rt.stderr()));
-            let (status, _) = file_closed(status, migrated, &mut Wire::new(rt.stderr()));
             status
         }
         Err(error) => wordless(&error, &mut errors),
     }
+}
+
+/// A whole run: what the words ask for, by `program`, and then the close of the file that it has open,
+/// of which `closing` is told. A file that can't be closed is Unavailable, whatever was answered before,
+/// which is in its log. The files come back for clauses to name; they are closed where they are dropped.
+pub fn whole_run<T: Start, F: Folder, R: Read, W: Write, E: Write>(
+    rt: &HostRuntime,
+    words: &[String],
+    start: T,
+    folder: &F,
+    input: &mut Wire<R>,
+    output: &mut Wire<W>,
+    errors: &mut Wire<E>,
+    closing: &mut Wire<E>,
+) -> (u8, Option<Files<FileFrom<T>>>, Option<Files<FileFrom<T>>>)
+    requires reads { reads_of input.old < 2 ^ 63 }
+    requires read_failures { failures_of input.old < 2 ^ 63 }
+    requires write_failures { failures_of output.old < 2 ^ 63 }
+    requires error_failures { failures_of errors.old < 2 ^ 63 }
+    requires closing_failures { failures_of closing.old < 2 ^ 63 }
+    ensures status { result.0 ≤ 4 }
+    ensures whole { (status : ℕ) × (desk : _) × (migrated : _)
+        × Ran T.Start (F.holds folder.now) R.remaining W.contents E.contents (map string_bytes words.now) input.old input.new output.old output.new errors.old errors.new desk migrated status
+        × (((result.0 ≡ status) × (closing.new ≡ closing.old) × AreClosed desk migrated result.1 result.2)
+        ⊎ ((result.0 ≡ 3) × TellsLine E.contents closing.old closing.new unavailable_line)) }
+{
+    let (status, desk, migrated) = program(rt, words, start, folder, input, output, errors);
+    let (status, files) = closed(status, desk, closing);
+    let (status, others) = file_closed(status, migrated, closing);
+    (status, files, others)
 }
 
 /// The files of the system. What they hold is not known before they are read.
@@ -131,42 +148,17 @@ pub fn program<T: Start, F: Folder, R: Read, W: Write, E: Write>(
     requires write_failures { failures_of output.old < 2 ^ 63 }
     requires error_failures { failures_of errors.old < 2 ^ 63 }
     ensures status { result.0 ≤ 4 }
-    ensures done { result.0 ≡ 0
-        → ((served : Served) × (served.refused ≡ 0) × RunsAsked T.Start (map string_bytes words.now) result.1 (AnswersAll R.remaining W.contents input.old output.old output.new served))
-        ⊎ ((file : List ℕ) × AsksForAudit (map string_bytes words.now) file × (count : ℕ) × Appends (W.contents (inner_of output.old)) (W.contents (inner_of output.new)) (lawful_line count)
-        × Audits T.Start result.1 count)
-        ⊎ ((file : List ℕ) × AsksForMigration (map string_bytes words.now) file × Appends (W.contents (inner_of output.old)) (W.contents (inner_of output.new)) version_line
-        × Migrates T.Start result.2)
-        ⊎ RunsImport T.Start (F.holds folder.now) (map string_bytes words.now) result.1 (AnswersImport W.contents output.old output.new false)
-        ⊎ (AsksForText (map string_bytes words.now) × (text : List ℕ) × Appends (W.contents (inner_of output.old)) (W.contents (inner_of output.new)) text)
-        ⊎ RunsServing T.Start (map string_bytes words.now) result.1 W.contents output.old output.new 0
-        ⊎ RunsReport T.Start (map string_bytes words.now) result.1 (λ answer. (code_of answer.status ≡ 200) × Appends (W.contents (inner_of output.old)) (W.contents (inner_of output.new)) (printed answer)) }
-    ensures refused { result.0 ≡ 1
-        → ((served : Served) × (0 < served.refused) × RunsAsked T.Start (map string_bytes words.now) result.1 (AnswersAll R.remaining W.contents input.old output.old output.new served))
-        ⊎ RunsImport T.Start (F.holds folder.now) (map string_bytes words.now) result.1 (AnswersImport W.contents output.old output.new true)
-        ⊎ RunsServing T.Start (map string_bytes words.now) result.1 W.contents output.old output.new 1
-        ⊎ RunsReport T.Start (map string_bytes words.now) result.1 (λ answer. (code_of answer.status ≢ 200) × Appends (W.contents (inner_of output.old)) (W.contents (inner_of output.new)) (printed answer)) }
-    ensures bad { result.0 ≡ 2 → (AsksForNothing (map string_bytes words.now) × (text : List ℕ) × Tells E.contents errors.old errors.new text)
-        ⊎ ((option : BadOption) × HasBadOption (map string_bytes words.now) option × TellsLine E.contents errors.old errors.new (option_line option)) }
+    ensures done { result.0 ≡ 0 → Done T.Start (F.holds folder.now) R.remaining W.contents E.contents (map string_bytes words.now) input.old input.new output.old output.new errors.old errors.new result.1 result.2 }
+    ensures refused { result.0 ≡ 1 → Refused T.Start (F.holds folder.now) R.remaining W.contents E.contents (map string_bytes words.now) input.old input.new output.old output.new errors.old errors.new result.1 result.2 }
+    ensures bad { result.0 ≡ 2 → Bad T.Start (F.holds folder.now) R.remaining W.contents E.contents (map string_bytes words.now) input.old input.new output.old output.new errors.old errors.new result.1 result.2 }
     ensures unopened { result.0 ≡ 2 → (result.1 ≡ None) × (result.2 ≡ None) }
+    ensures one_open { (result.1 ≡ None) ⊎ (result.2 ≡ None) }
     ensures opened { OnSome result.1 (NamesDesk (map string_bytes words.now)) }
     ensures migrated { OnSome result.2 (NamesMigrated (map string_bytes words.now)) }
-    ensures no_desk { result.0 ≡ 3 → (told : OpenFault) × ((told ≡ Unavailable) ⊎ NamesFile (map string_bytes words.now)) × TellsLine E.contents errors.old errors.new (refusal_line told) }
+    ensures no_desk { result.0 ≡ 3 → NoDesk T.Start (F.holds folder.now) R.remaining W.contents E.contents (map string_bytes words.now) input.old input.new output.old output.new errors.old errors.new result.1 result.2 }
     ensures left { result.0 ≡ 3 → ((result.1 ≡ None) ⊎ RunsOn T.Start None result.1 StaysSame) × (result.2 ≡ None) }
     ensures untouched { (result.0 ≡ 2) ⊎ (result.0 ≡ 3) → (input.new ≡ input.old) × (output.new ≡ output.old) }
-    ensures failed { result.0 ≡ 4
-        → ((fault : ServeFault) × IsShown fault input.old input.new output.old output.new × TellsLine E.contents errors.old errors.new (fault_line fault)
-        × ((LeavesNone (R.remaining (inner_of input.old)) (R.remaining (inner_of input.new)) fault × RunsAsked T.Start (map string_bytes words.now) result.1 (AnswersUpTo R.remaining W.contents input.old output.old output.new fault))
-        ⊎ ((file : List ℕ) × AsksForAudit (map string_bytes words.now) file × (count : ℕ) × SendsFront (W.contents (inner_of output.old)) (W.contents (inner_of output.new)) (lawful_line count)
-        × Audits T.Start result.1 count)
-        ⊎ ((file : List ℕ) × AsksForMigration (map string_bytes words.now) file × SendsFront (W.contents (inner_of output.old)) (W.contents (inner_of output.new)) version_line
-        × Migrates T.Start result.2)
-        ⊎ RunsImport T.Start (F.holds folder.now) (map string_bytes words.now) result.1 (CutsImport W.contents output.old output.new)
-        ⊎ (AsksForText (map string_bytes words.now) × (text : List ℕ) × SendsFront (W.contents (inner_of output.old)) (W.contents (inner_of output.new)) text)
-        ⊎ RunsReport T.Start (map string_bytes words.now) result.1 (λ answer. SendsFront (W.contents (inner_of output.old)) (W.contents (inner_of output.new)) (printed answer))))
-        ⊎ ((input.new ≡ input.old) × (output.new ≡ output.old) × TellsLine E.contents errors.old errors.new (fault_line (ReadFault none_served))
-        × RunsImport T.Start (F.holds folder.now) (map string_bytes words.now) result.1 (λ _ _. StaysSame))
-        ⊎ ((input.new ≡ input.old) × TellsEnd E.contents output.old output.new errors.old errors.new × RunsServing T.Start (map string_bytes words.now) result.1 W.contents output.old output.new 4) }
+    ensures failed { result.0 ≡ 4 → Failed T.Start (F.holds folder.now) R.remaining W.contents E.contents (map string_bytes words.now) input.old input.new output.old output.new errors.old errors.new result.1 result.2 }
     ensures end { (result.0 ≡ 0) ⊎ (result.0 ≡ 1) → (file : _) (greatest : ℕ) → AsksForFeed (map string_bytes words.now) file greatest → IsAtEnd (R.remaining (inner_of input.new)) }
     ensures kept { (result.0 ≡ 0) ⊎ (result.0 ≡ 1) → FailsNever input.old input.new output.old output.new }
     ensures few_reads { reads_of input.new ≤ reads_of input.old + MOST_READS }
@@ -255,8 +247,7 @@ pub fn program<T: Start, F: Folder, R: Read, W: Write, E: Write>(
     }
 }
 
-/// Closes the desk's file: the exit status, and the files for clauses to name. One that can't be
-/// closed is Unavailable, whatever was answered before, which is in its log.
+/// Closes the desk's file: the exit status, and the files.
 fn closed<T: Start, E: Write>(
     status: u8,
     desk: Option<FileDesk<T, StateDesk>>,
@@ -264,10 +255,8 @@ fn closed<T: Start, E: Write>(
 ) -> (u8, Option<Files<FileFrom<T>>>)
     requires error_failures { failures_of errors.old < 2 ^ 63 }
     ensures same { desk ≡ None → (result.0 ≡ status) × (errors.new ≡ errors.old) }
-    ensures ends { (result.0 ≡ status) ⊎ (result.0 ≡ 3) }
-    ensures told { result.0 ≢ status → TellsLine E.contents errors.old errors.new unavailable_line }
-    ensures quiet { result.0 ≢ 3 → errors.new ≡ errors.old }
-    ensures whole { result.0 ≢ 3 → IfSome desk (λ d. IsSomeAnd result.1 (Closes state.Stands state.kept_rules d)) }
+    ensures ends { ((result.0 ≡ status) × (errors.new ≡ errors.old) × IfSome desk (λ d. IsSomeAnd result.1 (Closes state.Stands state.kept_rules d)))
+        ⊎ ((result.0 ≡ 3) × TellsLine E.contents errors.old errors.new unavailable_line) }
 {
     match desk {
         None => (status, None),
@@ -284,12 +273,10 @@ fn file_closed<T: Start, E: Write>(
     file: Option<DeskFile<T>>,
     errors: &mut Wire<E>,
 ) -> (u8, Option<Files<FileFrom<T>>>)
-    requires error_failures { failures_of errors.old < 2 ^ 63 }
+    requires error_failures { OnSome file (failures_of errors.old < 2 ^ 63) }
     ensures same { file ≡ None → (result.0 ≡ status) × (errors.new ≡ errors.old) }
-    ensures ends { (result.0 ≡ status) ⊎ (result.0 ≡ 3) }
-    ensures told { result.0 ≢ status → TellsLine E.contents errors.old errors.new unavailable_line }
-    ensures quiet { result.0 ≢ 3 → errors.new ≡ errors.old }
-    ensures whole { result.0 ≢ 3 → IfSome file (λ conn. IsSomeAnd result.1 (KeepsTables conn)) }
+    ensures ends { ((result.0 ≡ status) × (errors.new ≡ errors.old) × IfSome file (λ conn. IsSomeAnd result.1 (KeepsTables conn)))
+        ⊎ ((result.0 ≡ 3) × TellsLine E.contents errors.old errors.new unavailable_line) }
 {
     match file {
         None => (status, None),
