@@ -15,8 +15,7 @@ file_closed-requires g c =
 pub returns-clause-whole : goal.returns-clause-whole
 returns-clause-whole g c =
     let ran = c.program-status in
-    let all = ran.ensures in
-    (
+    let all = ran.ensures in (
       ran.result.0,
       ran.result.1,
       ran.result.2,
