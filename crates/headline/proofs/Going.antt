@@ -16,4 +16,4 @@ module _ {S : Type 0} (reports : Reports) (Stands : S → Ledger → Type 0) (Tr
   goes_on (call ∷ calls) old new (mid, one, rest) G stands trusts =
       let f = one.1 G stands (trusts_back calls mid new rest trusts) in
       let l = goes_on calls mid new rest (record G { history = f.0 }) f.1 trusts in
-      (l.0, l.1, f.0, f.2, l.2)
+      (l.0, l.1, (f.0, f.2, l.2))
