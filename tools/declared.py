@@ -171,7 +171,7 @@ def differences(database, table, other, most):
     ours, theirs = f"main.{quoted(table.name)}", f"{other}.{quoted(table.name)}"
     changed = f"SELECT {table.listed()} FROM {ours} NOT INDEXED EXCEPT SELECT {table.listed()} FROM {theirs}"
     by = ", ".join(map(quoted, table.by()))
-    gone = f"SELECT {table.listed()} FROM {theirs} WHERE ({by}) NOT IN (SELECT {by} FROM {ours} NOT INDEXED)"
+    gone = f"SELECT {table.listed()} FROM {theirs} WHERE ({by}) IN (SELECT {by} FROM {theirs} EXCEPT SELECT {by} FROM {ours} NOT INDEXED)"
     count = sum(database.execute(f"SELECT count(*) FROM ({it})").fetchone()[0] for it in (changed, gone))
     first = lambda query: database.execute(f"{query} ORDER BY {by} LIMIT {most}").fetchall()
     words = []
