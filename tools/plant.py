@@ -1,4 +1,4 @@
-"""What tools/rollover and tools/backup share: the program, the service of a desk, and the proxy in front of it."""
+"""What tools/rollover, tools/backup and tools/check share: the program, the service of a desk, and the proxy in front of it."""
 import contextlib
 import fcntl
 import http.client
@@ -33,11 +33,22 @@ def tell(text):
     print(f"{NAME}: {text}", file=sys.stderr, flush=True)
 
 
+def offer_program(reader):
+    reader.add_argument("--program", default=os.environ.get("PROGRAM", "tracedesk"), metavar="FILE", help="the program (PROGRAM in the environment, else tracedesk)")
+
+
+def find_program(reader, asked):
+    """Makes the program's name a path; the tool ends where there is none."""
+    asked.program = shutil.which(asked.program)
+    if asked.program is None:
+        reader.error("there is no program: name it by --program, or PROGRAM in the environment")
+
+
 def offer(reader):
     """Adds the words of both tools."""
     reader.add_argument("--db", type=pathlib.Path, default=DESK, metavar="FILE", help=f"the desk's file ({DESK})")
     reader.add_argument("--archive", type=pathlib.Path, metavar="FOLDER", help="the archived desks with their catalogue (archive, beside the file)")
-    reader.add_argument("--program", default=os.environ.get("PROGRAM", "tracedesk"), metavar="FILE", help="the program (PROGRAM in the environment, else tracedesk)")
+    offer_program(reader)
     reader.add_argument("--stop", default=STOP, metavar="COMMAND", help=f"stops the service ({STOP})")
     reader.add_argument("--start", default=START, metavar="COMMAND", help=f"starts the service ({START})")
     reader.add_argument("--port", type=int, default=PORT, metavar="N", help=f"where the desk answers ({PORT})")
@@ -50,9 +61,7 @@ def understood(reader, wants_desk=True):
     asked = reader.parse_args()
     asked.db = asked.db.absolute()
     asked.archive = (asked.archive or asked.db.parent / "archive").absolute()
-    asked.program = shutil.which(asked.program)
-    if asked.program is None:
-        reader.error("there is no program: name it by --program, or PROGRAM in the environment")
+    find_program(reader, asked)
     if wants_desk and not asked.db.is_file():
         reader.error(f"there is no file {asked.db}: name the desk's file by --db")
     if asked.archive == asked.db.parent:
