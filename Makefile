@@ -40,7 +40,7 @@ fail-each:     ## fails every read, write, sync and allocation in turn, and the 
 bench:         ## what a day costs, beside stock SQLite | 5 min | time
 	$(say)
 	@tools/bench
-pictures:      ## docs/crates.svg and docs/splice.svg | 1 s
+pictures:      ## the SVGs of docs/: crates, a splice, starts by pieces, two years | 1 s
 	@tools/pictures
 docs:          ## out/docs: the documents and the definitions as HTML and one PDF | 1 min | pandoc weasyprint
 	$(say)
