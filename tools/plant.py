@@ -1,4 +1,5 @@
 """What tools/rollover, tools/backup and tools/plant-load share: the program, the service of a desk, the proxy in front of it, and its copies."""
+import argparse
 import contextlib
 import fcntl
 import http.client
@@ -44,6 +45,12 @@ def offer(reader):
     reader.add_argument("--port", type=int, default=PORT, metavar="N", help=f"where the desk answers ({PORT})")
     reader.add_argument("--drained", type=pathlib.Path, default=DRAINED, metavar="FILE", help=f"the proxy sends senders away while it is there ({DRAINED})")
     reader.add_argument("--drain-seconds", type=float, default=30, metavar="N", help="how long the last answers may take (30)")
+
+
+def line_name(text):
+    if not re.fullmatch(r"[A-Za-z0-9][A-Za-z0-9._-]{0,63}", text):
+        raise argparse.ArgumentTypeError("a line's name has letters, digits, '.', '_' and '-'")
+    return text
 
 
 def understood(reader, wants_desk=True):
