@@ -57,6 +57,12 @@ class Server:
     def stop(self):
         self.run("pg_ctl", "-D", str(self.data), "-m", "fast", "-w", "stop")
 
+    def processor_seconds(self):
+        """What all sessions that ended have taken of the processor, since the start of the server."""
+        number = (self.data / "postmaster.pid").read_text().split()[0]
+        fields = pathlib.Path(f"/proc/{number}/stat").read_text().rpartition(")")[2].split()
+        return (int(fields[13]) + int(fields[14])) / os.sysconf("SC_CLK_TCK")
+
     def __enter__(self):
         self.run("initdb", "-D", str(self.data), "-U", "plant", "-A", "trust", "-E", "UTF8", "--locale=C")
         self.start()
