@@ -11,7 +11,7 @@ SET search_path TO plant;
     SELECT board, designator, part, lot, reel, machine, slot, overdue, spelled(minute) AS minute, line, file FROM piece
     WHERE reel = :'reel' ORDER BY board COLLATE "C", line COLLATE "C", designator COLLATE "C", as_of;
 \else
-    SELECT board, designator, part, lot, reel, machine, slot, overdue, spelled(minute) AS minute, line, file FROM piece
-    WHERE board = :'board' AND id IN (SELECT file FROM start WHERE board = :'board') ORDER BY line COLLATE "C", designator COLLATE "C", as_of;
+    SELECT board, designator, part, lot, reel, machine, slot, overdue, spelled(minute) AS minute, line, file FROM board_piece
+    WHERE board = :'board' ORDER BY line COLLATE "C", designator COLLATE "C", as_of;
 \endif
 \ir whole.sql

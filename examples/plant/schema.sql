@@ -66,8 +66,17 @@ CREATE INDEX IF NOT EXISTS placement_board ON placement (board);
 CREATE OR REPLACE FUNCTION spelled(minute bigint) RETURNS text LANGUAGE sql STABLE PARALLEL SAFE AS
 $$ SELECT to_char(to_timestamp(minute * 60) AT TIME ZONE 'UTC', 'YYYY-MM-DD"T"HH24:MI:SS"Z"') $$;
 
--- each piece with what its file and its reel say
+-- Each piece with what its file and its reel say: piece is asked by lot or by reel, board_piece by board. The small table comes first,
+-- and of placement only the parts that it names are read. OFFSET 0 keeps the planner from turning that round.
 CREATE OR REPLACE VIEW piece AS
-SELECT p.board, p.designator, r.part, r.lot, p.reel, p.machine, p.slot, CASE WHEN p.overdue THEN 'yes' ELSE 'no' END AS overdue,
-       p.minute, f.line, f.name AS file, f.last_minute AS as_of, p.file AS id
-FROM placement p JOIN reel r USING (file, reel) JOIN file f ON f.id = p.file;
+SELECT p.board, p.designator, r.part, r.lot, r.reel, p.machine, p.slot, CASE WHEN p.overdue THEN 'yes' ELSE 'no' END AS overdue,
+       p.minute, f.line, f.name AS file, f.last_minute AS as_of, f.id
+FROM reel r JOIN file f ON f.id = r.file
+CROSS JOIN LATERAL (SELECT * FROM placement WHERE placement.file = r.file AND placement.reel = r.reel OFFSET 0) p;
+
+CREATE OR REPLACE VIEW board_piece AS
+SELECT s.board, p.designator, r.part, r.lot, r.reel, p.machine, p.slot, CASE WHEN p.overdue THEN 'yes' ELSE 'no' END AS overdue,
+       p.minute, f.line, f.name AS file, f.last_minute AS as_of, f.id
+FROM (SELECT DISTINCT file, board FROM start) s JOIN file f ON f.id = s.file
+CROSS JOIN LATERAL (SELECT * FROM placement WHERE placement.file = s.file AND placement.board = s.board OFFSET 0) p
+JOIN reel r ON r.file = p.file AND r.reel = p.reel;
