@@ -17,6 +17,8 @@ import io
 import os
 import pathlib
 import re
+import sqlite3
+import urllib.parse
 from typing import NamedTuple
 
 FILE_NAME = "catalogue.csv"
@@ -205,6 +207,32 @@ def check(path, archive):
         raise CatalogueError(f"{file}: {path} has a line of it, and it can't be read: {fault.strerror}") from fault
     if told != archive.sha256:
         raise CatalogueError(f"{file}: its checksum is {told}, and in {path} {archive.sha256}: take it from a backup")
+
+
+@contextlib.contextmanager
+def opened(file):
+    """A file that stands whole, as a database. It is not written any more, so nothing is locked or made beside it."""
+    with contextlib.closing(sqlite3.connect(f"file:{urllib.parse.quote(str(file))}?mode=ro&immutable=1", uri=True)) as database:
+        yield database
+
+
+@contextlib.contextmanager
+def unchanged(path, archive, checked=True):
+    """An archive of the catalogue in that file, as a database, once it has its checksum; it stops where the file changes meanwhile."""
+    file = path_of(path, archive)
+    try:
+        before = os.stat(file)
+        if checked:
+            check(path, archive)
+        with opened(file) as database:
+            yield database
+        after = os.stat(file)
+    except OSError as fault:
+        raise CatalogueError(f"{file}: {path} has a line of it, and it can't be read: {fault.strerror}") from fault
+    except sqlite3.Error as fault:
+        raise CatalogueError(f"{file}: {fault}") from fault
+    if any(getattr(before, it) != getattr(after, it) for it in ("st_dev", "st_ino", "st_size", "st_mtime_ns")):
+        raise CatalogueError(f"{file}: it was changed while it was asked: ask again")
 
 
 def log_of(file):

@@ -1,4 +1,5 @@
-"""What tools/rollover, tools/backup and tools/check share: the program, the service of a desk, and the proxy in front of it."""
+"""What tools/rollover, tools/backup, tools/check and tools/plant-load share: the program, the service of a desk, the proxy in front of it, and its copies."""
+import argparse
 import contextlib
 import fcntl
 import http.client
@@ -22,6 +23,7 @@ SECONDS_A_MILLION = 23  # of a start, for a million placed pieces: docs/figures.
 QUIET = 1.0  # seconds without a connection, after which nobody waits for an answer any more
 CONNECTED = ("01", "08")  # in /proc/net/tcp: open, and closed by the client alone
 LONGEST_OTHER = 3600  # seconds that another roll-over or backup may take
+ARCHIVE, SUMS = "archive", "SHA256SUMS"  # of a copy that tools/backup makes, beside `desk`
 PATIENCE = 120  # seconds that a start may take beside what the pieces ask for
 
 
@@ -54,6 +56,12 @@ def offer(reader):
     reader.add_argument("--port", type=int, default=PORT, metavar="N", help=f"where the desk answers ({PORT})")
     reader.add_argument("--drained", type=pathlib.Path, default=DRAINED, metavar="FILE", help=f"the proxy sends senders away while it is there ({DRAINED})")
     reader.add_argument("--drain-seconds", type=float, default=30, metavar="N", help="how long the last answers may take (30)")
+
+
+def line_name(text):
+    if not re.fullmatch(r"[A-Za-z0-9][A-Za-z0-9._-]{0,63}", text):
+        raise argparse.ArgumentTypeError("a line's name has letters, digits, '.', '_' and '-'")
+    return text
 
 
 def understood(reader, wants_desk=True):
@@ -118,6 +126,11 @@ def wait_for_lock(take, seconds, held):
             tell(f"{held}; it is waited for")
             is_told = True
         time.sleep(0.1)
+
+
+def kept_in(to):
+    """The copies in a folder, from the oldest to the newest. Each was lawful when it got its name, which is when it was taken, in UTC."""
+    return sorted(it for it in to.iterdir() if re.fullmatch(r"\d{4}-\d\d-\d\dT\d{6}Z", it.name)) if to.is_dir() else []
 
 
 def start_seconds(pieces):

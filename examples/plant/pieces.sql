@@ -1,5 +1,17 @@
--- Which pieces of a lot are where, on all lines?
--- usage: psql -v lot=LOT-C7731 -f pieces.sql
+-- Which pieces of a lot or of a reel, or on a board, are where, on all lines? The columns are those of tracedesk-recall --show pieces.
+-- usage: psql --csv -v lot=LOT-C7731 -f pieces.sql      or -v reel=L1-R0031, or -v board=L1-000040
+-- Exit status 3: not all files are loaded, as is told on standard error.
+\set ON_ERROR_STOP on
+\set QUIET on
 SET search_path TO plant;
-SELECT desk, board, designator, part, reel, machine, slot, CASE WHEN overdue THEN 'yes' ELSE 'no' END AS overdue
-FROM placement JOIN reel USING (desk, reel) WHERE lot = :'lot' ORDER BY desk, board, designator;
+\if :{?lot}
+    SELECT board, designator, part, lot, reel, machine, slot, overdue, spelled(minute) AS minute, line, file FROM piece
+    WHERE lot = :'lot' ORDER BY board COLLATE "C", line COLLATE "C", designator COLLATE "C", as_of;
+\elif :{?reel}
+    SELECT board, designator, part, lot, reel, machine, slot, overdue, spelled(minute) AS minute, line, file FROM piece
+    WHERE reel = :'reel' ORDER BY board COLLATE "C", line COLLATE "C", designator COLLATE "C", as_of;
+\else
+    SELECT board, designator, part, lot, reel, machine, slot, overdue, spelled(minute) AS minute, line, file FROM board_piece
+    WHERE board = :'board' ORDER BY line COLLATE "C", designator COLLATE "C", as_of;
+\endif
+\ir whole.sql

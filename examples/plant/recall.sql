@@ -1,13 +1,16 @@
 -- Which boards of which lines hold a piece of a lot, how many, and where were they last in work?
 -- usage: psql -v lot=LOT-C7731 -f recall.sql
+-- Exit status 3: not all files are loaded, as is told on standard error.
+\set ON_ERROR_STOP on
+\set QUIET on
 SET search_path TO plant;
 WITH held AS (
-    SELECT board, string_agg(DISTINCT desk, ' ' ORDER BY desk) AS desks, count(*) AS pieces
-    FROM placement JOIN reel USING (desk, reel) WHERE lot = :'lot' GROUP BY board
+    SELECT board, string_agg(DISTINCT line, ' ' ORDER BY line) AS lines, count(*) AS pieces, count(DISTINCT id) AS files, max(overdue) AS overdue
+    FROM piece WHERE lot = :'lot' GROUP BY board
 ), last AS (
-    SELECT DISTINCT ON (board) board, desk, machine, minute
-    FROM start JOIN held USING (board) ORDER BY board, minute DESC, desk, number DESC
+    SELECT DISTINCT ON (board) board, line, machine, minute
+    FROM start JOIN held USING (board) JOIN file ON file.id = start.file ORDER BY board, minute DESC, line, number DESC
 )
-SELECT board, desks, pieces, desk AS last_desk, machine AS last_machine,
-       to_char(to_timestamp(minute * 60) AT TIME ZONE 'UTC', 'YYYY-MM-DD HH24:MI') AS since
-FROM held JOIN last USING (board) ORDER BY board;
+SELECT board, lines, files, pieces, overdue, line AS last_line, machine AS last_machine, spelled(minute) AS since
+FROM held JOIN last USING (board) ORDER BY board COLLATE "C";
+\ir whole.sql
