@@ -2,7 +2,7 @@
 
 mod answers;
 mod desks;
-mod reels;
+mod usable;
 
 use desk_types::Id;
 use std::test::Fail;
