@@ -1,4 +1,5 @@
 use Rattle.std.proofs.Common.{ℕ, Bool, cond, List, ap₂, subst}
+use Rattle.std.proofs.lemmas.Result.{IfOk-weaker}
 use Rattle.sqlite_disk.specs.Events.{Event, replay}
 use Rattle.sqlite_wal.specs.Recovery.{Image}
 use Rattle.sqlite.specs.Files.{file_state}
@@ -12,8 +13,7 @@ abbrev seen : List ℕ → List ℕ → Bool → List Event → List ℕ
 seen log db is_log history = (replay (cond is_log log db) history).seen
 
 pub returns-clause-found : goal.returns-clause-found
-returns-clause-found g c = λ clean.
+returns-clause-found g c =
     let (log, db) = c.in-Ok.ensures.fresh in
-    let found = c.in-Ok-open_files.ensures.found clean in
     let same = ap₂ image (ap₂ (seen g.T.Start.log g.T.Start.db) log.0 log.1) (ap₂ (seen g.T.Start.log g.T.Start.db) db.0 db.1) in
-    subst (λ i. FindsAs i (file_state c.in-Ok-open_files.conn)) same found
+    IfOk-weaker c.open_files.result _ _ (λ conn found clean. subst (λ i. FindsAs i (file_state conn)) same (found clean)) c.open_files.ensures.found
