@@ -34,6 +34,7 @@ export class Model {
     for (;;) {
       if (!document.hidden) {
         await this.all();
+        document.body.dataset.asked = "all";
       }
       const now = clock.now() ?? Date.now(), next = (Math.floor(now / this.period) + 1) * this.period;
       await new Promise((resolve) => setTimeout(resolve, next - now + 50));

@@ -117,8 +117,8 @@ export const TEXTS = {
     erase: "Erase",
   },
   what: {
-    LOAD: "load {reel} on {slot} of {machine}", SPLICE: "splice {reel} on {slot} of {machine}", UNLOAD: "unload {slot} of {machine}", OPEN: "open {reel}", SEAL: "seal {reel}",
-    BAKE: "bake {reel}", COUNT: "count {quantity} on {reel}", SCRAP: "scrap {quantity} at {slot} of {machine}", RECEIVE: "receive {reel}, {quantity} of {part}", SELECT: "{product} on {machine}",
+    LOAD: "load {reel} on slot {slot} of {machine}", SPLICE: "splice {reel} on slot {slot} of {machine}", UNLOAD: "unload slot {slot} of {machine}", OPEN: "open {reel}", SEAL: "seal {reel}",
+    BAKE: "bake {reel}", COUNT: "count {quantity} on {reel}", SCRAP: "scrap {quantity} at slot {slot} of {machine}", RECEIVE: "receive {reel}, {quantity} of {part}", SELECT: "select {product} on {machine}",
   },
   receive: {
     title: "Receive a reel",

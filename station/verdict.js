@@ -108,7 +108,8 @@ export class Verdict {
       }
       facts.push(filled(TEXTS.verdict.number, { number: answer.Number }));
     }
-    const part = scan.about?.part && scan.word.startsWith("Materials") ? [el("p", { class: "part" }, scan.about.part)] : [];
+    const { Machine: machine, Slot: slot } = scan.body, wanted = slot && (this.model.slot(machine, slot).part ?? scan.about?.part);
+    const part = wanted && kind === "accepted" ? el("p", { class: "part" }, filled(TEXTS.verdict.wants, { slot, part: wanted })) : null;
     return el("div", { class: `one ${kind}` }, isLate ? el("p", { class: "late" }, filled(TEXTS.verdict.again, { time: clock.shown(scan.at) })) : null,
       el("p", { class: "word" }, kind === "accepted" ? TEXTS.verdict.accepted : answer.Answer === "Refused" ? TEXTS.verdict.refused : TEXTS.verdict.faulty),
       el("h2", null, title), el("p", { class: "what" }, whatOf(scan)), part, el("p", { class: "todo" }, todo), el("p", { class: "facts" }, facts.join(" · ")));

@@ -203,3 +203,109 @@ def browser(room, name, size=(1920, 1080)):
     options.set_capability("goog:loggingPrefs", {"browser": "ALL"})
     options.accept_insecure_certs = True
     return webdriver.Chrome(service=Service(shutil.which("chromedriver"), log_path=os.devnull), options=options)
+
+
+SCANS = """
+const done = arguments[arguments.length - 1], request = indexedDB.open("tracedesk-station");
+request.onsuccess = () => {
+  const all = request.result.transaction("scans").objectStore("scans").getAll();
+  all.onsuccess = () => { request.result.close(); done(all.result); };
+};
+"""
+
+
+class Operator:
+    """Somebody with a scanner at a station."""
+
+    def __init__(self, site, name="W1", user="op", size=(1920, 1080), setup="", begin=True):
+        self.site, self.name, self.user, self.size, self.setup = site, name, user, size, setup
+        self.page = None
+        if begin:
+            self.open()
+
+    def __enter__(self):
+        return self
+
+    def __exit__(self, *_):
+        self.close()
+
+    def open(self):
+        """Begins the browser, logs in and waits until the page has the desk's answers."""
+        self.page = browser(self.site.room, f"profile-{self.name}", self.size)
+        self.load()
+
+    def load(self, where=""):
+        log_in = self.site.url.replace("https://", f"https://{self.user}:{self.user}@")
+        self.page.get(f"{log_in}/station/icon.svg")
+        self.page.get(f"{self.site.url}/station/?station={self.name}{where}")
+        if not self.setup:
+            wait_for("the page is there", lambda: self.script("return document.querySelectorAll('#screens button').length === 5 && document.getElementById('state').textContent !== ''"))
+
+    def ready(self):
+        """Waits until the Line's reports are there."""
+        wait_for("the page has the desk's answers", lambda: self.script("return document.body.dataset.asked === 'all' && document.getElementById('state').className === 'fresh'"))
+        return self
+
+    def close(self):
+        if self.page:
+            with contextlib.suppress(Exception):
+                self.page.quit()
+            self.page = None
+
+    def kill(self):
+        """Ends the browser as a power cut does."""
+        driver = self.page.service.process.pid
+        processes = subprocess.run(["ps", "-eo", "pid,ppid"], capture_output=True, text=True).stdout.split("\n")[1:]
+        below, pairs = {driver}, [tuple(map(int, it.split())) for it in processes if it.strip()]
+        for _ in range(6):
+            below |= {pid for pid, parent in pairs if parent in below}
+        for pid in below:
+            with contextlib.suppress(ProcessLookupError):
+                os.kill(pid, signal.SIGKILL)
+        self.page.service.process.wait()
+        self.page = None
+        for it in (self.site.room / f"profile-{self.name}").glob("Singleton*"):
+            it.unlink()
+
+    def script(self, text, *words):
+        return self.page.execute_script(text, *words)
+
+    def keys(self, *keys):
+        """What is typed, wherever the focus is."""
+        from selenium.webdriver import ActionChains
+        ActionChains(self.page).send_keys(*keys).perform()
+
+    def scan(self, *codes):
+        """Scans codes as a wedge does: letters and Enter."""
+        from selenium.webdriver.common.keys import Keys
+        for code in codes:
+            self.keys(code + Keys.ENTER)
+
+    def text(self, name):
+        return self.script("return document.getElementById(arguments[0])?.innerText ?? ''", name)
+
+    def verdict(self, kinds=("accepted", "refused", "fault"), seconds=PATIENCE):
+        """The kind and the text of the verdict, once there is one of these kinds."""
+        kind = wait_for(f"a verdict of {kinds}: {self.text('verdict')!r}", lambda: (it := self.script("const v = document.getElementById('verdict'); return v.hidden ? '' : v.className")) in kinds and it, seconds)
+        return kind, self.text("verdict")
+
+    def does(self, *codes, kind="accepted", holds=()):
+        """Scans, and looks whether the verdict is of this kind and has these texts."""
+        self.scan(*codes)
+        got, text = self.verdict()
+        lacking = [it for it in holds if it not in text]
+        if got != kind or lacking:
+            raise Difference(f"{codes}: wanted {kind} with {lacking or 'no more'}, got {got}: {text!r}")
+        return text
+
+    def go(self, screen):
+        self.script("location.hash = arguments[0]", screen)
+        wait_for(screen, lambda: self.script("return document.getElementById('main').className") == screen)
+
+    def rows(self, table=0):
+        """The rows of a table of the page, as texts."""
+        return self.script("return [...(document.querySelectorAll('#main table')[arguments[0]]?.querySelectorAll('tbody tr') ?? [])].map((row) => [...row.cells].map((it) => it.textContent))", table)
+
+    def scans(self):
+        """What the browser keeps of its scans."""
+        return self.page.execute_async_script(SCANS)

@@ -1,0 +1,2 @@
+"""How the station looks, and what it costs."""
+FLOWS = []
