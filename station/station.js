@@ -84,6 +84,7 @@ class Station {
       return false;
     }
     input.value = "";
+    at("scan").focus();
     this.scan.take(text);
     return true;
   }

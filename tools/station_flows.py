@@ -159,7 +159,7 @@ def each_refusal_in_words(site):
 
     with Operator(site) as it:
         words = it.ready().page.execute_async_script("const done = arguments[arguments.length - 1]; import('/station/texts.js').then((it) => done(it.TEXTS.refusals))")
-        table = re.findall(r"^\| `(\w+)` \| [^|]* \| [^|]+ \| [^|]+ \|$", (ROOT / "docs/messages.md").read_text().split("| Refusal | `At` |")[1].split("```")[0], re.M)
+        table = re.findall(r"^\| `(\w+)` \|[^|]*\|[^|]+\|[^|]+\|$", (ROOT / "docs/messages.md").read_text().split("| Refusal | `At` |")[1].split("```")[0], re.M)
         if set(table) != set(words):
             raise Difference(f"texts and docs/messages.md differ: {set(table) ^ set(words)}")
         site.say("ReelOpened", {"Reel": "K-4"})
