@@ -19,6 +19,7 @@ SCREENS = ("line", "scan", "receive", "changeover", "trace")
 TABLET = (800, 1280)
 STATIONS = 50
 A_DAY = 86_400  # seconds
+SEEN_ANEW = 4  # seconds, after which the page looks at a slot again before it takes a scan for a load
 MACHINES = ("M1", "M2")
 
 # Each element with text of its own: its letters against what is behind them, as WCAG 2.1 reckons it.
@@ -52,7 +53,8 @@ def set_up(it):
     it.scan("B/anna")
     for slot, reel in (("S/M1/1", "K-1"), ("S/M1/2", "K-2"), ("S/M1/3", "K-4"), ("S/M1/10", "K-5"), ("S/M2/10", "K-8")):
         it.does(slot, reel)
-    it.does("S/M1/1", "K-3")
+    time.sleep(SEEN_ANEW)
+    it.does("S/M1/1", "K-3", holds=("SPLICED",))
     it.keys("\ue00c")  # Escape: the verdict goes
 
 
@@ -132,7 +134,7 @@ def printed_codes_are_read_back(site):
         return "SKIPPED: there is no zbarimg here: apt-get install zbar-tools"
     with Operator(site) as it:
         it.page.get(f"{site.url}/station/codes.html?station=W1")
-        wanted = wait_for("the codes", lambda: it.script("return [...document.querySelectorAll('[data-code]')].map((it) => it.dataset.code)"))
+        wanted = wait_for("the codes", lambda: it.script("return document.querySelectorAll('.cards').length > 3 && [...document.querySelectorAll('figcaption small')].map((it) => it.textContent)"))
         printed = base64.b64decode(it.page.execute_cdp_cmd("Page.printToPDF", {"printBackground": True})["data"])
         (site.room / "codes.pdf").write_bytes(printed)
         subprocess.run(["pdftoppm", "-r", "200", "-png", site.room / "codes.pdf", site.room / "codes"], check=True)
@@ -170,7 +172,7 @@ def pictures(program, folder):
             station_flows.asks(it, "lot", "L-1")
             taken("trace")
             it.page.get(f"{site.url}/station/codes.html?station=W1")
-            wait_for("the codes", lambda: it.script("return document.querySelectorAll('[data-code]').length > 0"))
+            wait_for("the codes", lambda: it.script("return document.querySelectorAll('.cards').length > 3"))
             taken("codes")
         with Operator(site, name="W2", size=TABLET) as it:
             it.ready()
