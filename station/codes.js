@@ -1,0 +1,48 @@
+// The page of codes to print: actions, screens, digits, and the slots of each machine's sheet.
+import { TEXTS } from "./texts.js";
+import { button, el } from "./dom.js";
+import { filled } from "./names.js";
+import { bars } from "./code128.js";
+import * as desk from "./desk.js";
+import * as setup from "./setup.js";
+import { ACTIONS } from "./scan.js";
+
+function card(text, code) {
+  return el("figure", null, bars(code), el("figcaption", null, el("b", null, text), el("small", null, code)));
+}
+
+function group(title, cards) {
+  return el("section", null, el("h2", null, title), el("div", { class: "cards" }, cards));
+}
+
+/** The slot labels of a machine, where a product is set up for it and the desk has its sheet. */
+async function slotsOf({ machine, product }, codes) {
+  try {
+    const { rows } = await desk.rows("kit", { product, machine, boards: "1" });
+    const slots = [...new Set(rows.map((it) => it.slot))];
+    return group(filled(TEXTS.codesPage.slots, { machine, product }), slots.map((slot) => card(`${machine} ${slot}`, filled(codes.slot, { machine, slot }))));
+  } catch {
+    return null;
+  }
+}
+
+async function begin() {
+  const { setup: read, fault, member } = await setup.read(), texts = TEXTS.codesPage, main = document.getElementById("main");
+  if (!read) {
+    main.replaceChildren(el("p", { class: "note wrong" }, filled(TEXTS.setup.wanting, { fault: filled(TEXTS.setup[fault], { member }) })));
+    return;
+  }
+  const { codes } = read, action = (name) => filled(codes.action, { action: name });
+  const parts = [el("h1", null, `${read.title}: ${texts.title}`), el("p", { class: "no-print" }, texts.hint, " ", button(texts.print, () => window.print()), " ", el("a", { href: "./" }, TEXTS.title)),
+    group(texts.actions, ACTIONS.map((it) => card(TEXTS.actions[it], action(it)))),
+    group(texts.digits, [...[..."0123456789"].map((it) => card(it, action(it))), card(TEXTS.actions.ENTER, action("ENTER"))]),
+    group(texts.screens, Object.entries(TEXTS.screens).map(([name, text]) => card(text, action(name.toUpperCase())))),
+    el("p", null, filled(texts.badge, { code: filled(codes.badge, { badge: "NAME" }) }))];
+  for (const machine of read.machines.filter((it) => it.product)) {
+    parts.push(await slotsOf(machine, codes));
+  }
+  main.replaceChildren(...parts.filter(Boolean));
+  document.title = `${read.title}: ${texts.title}`;
+}
+
+begin();

@@ -1,0 +1,45 @@
+// Elements with their texts. A text goes into the page as text alone, whatever it holds.
+
+const PLAIN = ["class", "id", "for", "type", "name", "value", "href", "download", "placeholder", "min", "max", "maxlength", "inputmode",
+  "list", "scope", "colspan", "role", "lang", "title", "tabindex", "viewBox", "x", "y", "width", "height", "aria-sort", "aria-pressed", "aria-current"];
+const SVG = ["svg", "rect"];
+
+/** An element with attributes and children, of which texts are texts. `on` names what it does for an event, `data` its data. */
+export function el(tag, attributes, ...children) {
+  const made = SVG.includes(tag) ? document.createElementNS("http://www.w3.org/2000/svg", tag) : document.createElement(tag);
+  for (const [name, value] of Object.entries(attributes ?? {})) {
+    if (name === "on") {
+      Object.entries(value).forEach(([event, act]) => made.addEventListener(event, act));
+    } else if (name === "data") {
+      Object.assign(made.dataset, value);
+    } else if (PLAIN.includes(name)) {
+      made.setAttribute(name, value);
+    } else if (["hidden", "disabled", "checked", "required"].includes(name)) {
+      made[name] = value;
+    } else {
+      throw new Error(`no attribute ${name}`);
+    }
+  }
+  made.append(...children.flat().filter((it) => it !== null && it !== undefined).map((it) => (it instanceof Node ? it : String(it))));
+  return made;
+}
+
+/** A table: its head as pairs of a name and a class, its rows as lists of cells. A cell is a text, or a pair of a text and a class. */
+export function table(head, rows, classes = () => "") {
+  const names = head.map(([name, mark]) => el("th", { class: mark ?? "", scope: "col" }, name));
+  const lines = rows.map((row, at) => el("tr", { class: classes(at) }, row.map((it, column) => {
+    const [text, mark] = Array.isArray(it) ? it : [it, ""];
+    return el("td", { class: `${head[column][1] ?? ""} ${mark}`.trim() }, text);
+  })));
+  return el("table", null, el("thead", null, el("tr", null, names)), el("tbody", null, lines));
+}
+
+/** A button that a keyboard reaches too. */
+export function button(text, act, attributes = {}) {
+  return el("button", { type: "button", ...attributes, on: { click: act } }, text);
+}
+
+/** A field with its name. */
+export function field(name, label, attributes = {}) {
+  return el("p", { class: "field" }, el("label", { for: name }, label), el("input", { id: name, name, ...attributes }));
+}

@@ -1,0 +1,28 @@
+// Floor lives and pieces as an operator reads them.
+import { TEXTS } from "./texts.js";
+import { filled } from "./names.js";
+
+/** The floor life that a report or an answer says: minutes, or a word. */
+export function lifeText(minutes) {
+  if (minutes === null || minutes === "unlimited") {
+    return TEXTS.life.none;
+  }
+  if (minutes === "unbaked") {
+    return TEXTS.life.unbaked;
+  }
+  const left = Number(minutes);
+  if (left === 0) {
+    return TEXTS.life.expired;
+  }
+  const days = Math.floor(left / 1440), hours = Math.floor((left % 1440) / 60);
+  return days ? filled(TEXTS.life.days, { days, hours }) : filled(TEXTS.life.hours, { hours, minutes: left % 60 });
+}
+
+/** A number to order floor lives by: the first to end is the least. */
+export function lifeOrder(minutes) {
+  return minutes === "unlimited" || minutes === null ? 1e9 : minutes === "unbaked" ? 2e9 : Number(minutes);
+}
+
+export function piecesText(number) {
+  return Number(number).toLocaleString("en");
+}

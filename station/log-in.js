@@ -1,0 +1,5 @@
+// Where somebody who may send has logged in: back to the station.
+import { TEXTS } from "./texts.js";
+import { el } from "./dom.js";
+
+document.getElementById("main").replaceChildren(el("p", { class: "note" }, TEXTS.logIn.done), el("a", { href: "/station/", id: "back" }, TEXTS.logIn.back));

@@ -1,0 +1,111 @@
+// Scans go out one at a time, in their order, until each has the desk's answer. A scan is on disk with its UniqueID before it
+// is sent, and is sent again with the same bytes: so it acts once, over a reload, a crash and a day without network.
+import * as clock from "./clock.js";
+import * as desk from "./desk.js";
+import * as store from "./store.js";
+
+const FIRST_PAUSE = 250, LONGEST_PAUSE = 5000; // milliseconds
+const ANSWERED_BETWEEN_TIDYINGS = 50;
+
+export class Outbox {
+  /** `tell` is called with what changed: {answered: scan}, {waiting: scans}, {problem}. */
+  constructor(tell) {
+    this.tell = tell;
+    this.channel = new BroadcastChannel("tracedesk-outbox");
+    this.channel.onmessage = ({ data }) => this.hear(data);
+    this.woken = false;
+    this.resume = () => {};
+    this.answered = 0;
+    this.problem = null;
+  }
+
+  /** Begins to send; of several tabs one sends for all. */
+  begin() {
+    navigator.locks.request("tracedesk-sender", () => this.sendAll());
+    this.count();
+  }
+
+  async hear(data) {
+    if (data.kept) {
+      this.wake();
+    }
+    if (data.answered) {
+      const scan = await store.byUid(data.answered);
+      if (scan) {
+        this.tell({ answered: scan });
+      }
+    }
+    this.count();
+  }
+
+  async count() {
+    this.tell({ waiting: await store.waiting(), problem: this.problem });
+  }
+
+  /** Makes a scan of a message and keeps it; it is sent once it is on disk. */
+  async add(word, body, source, about) {
+    const time = clock.now();
+    if (time === null) {
+      throw new Error("the server never said its time");
+    }
+    const at = Math.max(time, (await store.note("lastTime")) ?? 0), uid = crypto.randomUUID();
+    const text = JSON.stringify({ MessageName: `TraceDesk.${word}`, UniqueID: uid, Source: source, TimeStamp: clock.stamp(at), MessageBody: body });
+    const scan = { uid, word, body, source, text, at, about };
+    scan.seq = await store.keep(scan);
+    this.channel.postMessage({ kept: uid });
+    this.wake();
+    this.count();
+    return scan;
+  }
+
+  async sendAll() {
+    for (;;) {
+      const [next] = await store.waiting();
+      if (next) {
+        await this.send(next);
+      } else {
+        await this.pause(60_000);
+      }
+    }
+  }
+
+  /** Ends the pause, or the next one where there is none now. */
+  wake() {
+    this.woken = true;
+    this.resume();
+  }
+
+  async pause(milliseconds) {
+    if (!this.woken) {
+      await new Promise((resolve) => {
+        const timer = setTimeout(resolve, milliseconds);
+        this.resume = () => {
+          clearTimeout(timer);
+          resolve();
+        };
+      });
+    }
+    this.woken = false;
+  }
+
+  async send(scan) {
+    for (let pause = FIRST_PAUSE; ; pause = Math.min(2 * pause, LONGEST_PAUSE)) {
+      const told = await desk.post(scan.text, scan.uid);
+      if (told.answer) {
+        await store.settle(scan, told.answer, told.status);
+        this.problem = null;
+        this.channel.postMessage({ answered: scan.uid });
+        this.tell({ answered: { ...scan, state: "answered", answer: told.answer, status: told.status } });
+        break;
+      }
+      this.problem = told;
+      this.count();
+      await this.pause(Math.max(told.again ? pause : LONGEST_PAUSE, told.wait * 1000));
+    }
+    this.count();
+    this.answered += 1;
+    if (this.answered % ANSWERED_BETWEEN_TIDYINGS === 0) {
+      await store.tidy();
+    }
+  }
+}

@@ -1,0 +1,213 @@
+// What a scan does: codes in, a message out. It holds at most a slot or a reel, an action that waits for one, and a number.
+import { TEXTS } from "./texts.js";
+import { filled, readCode, stripped, numberIn, MOST_PIECES } from "./names.js";
+import { piecesText } from "./life.js";
+import * as desk from "./desk.js";
+
+const OF_SLOT = ["UNLOAD", "SCRAP"], OF_REEL = ["OPEN", "SEAL", "BAKE", "COUNT"], WITH_NUMBER = { SCRAP: 1, COUNT: 0 };
+export const ACTIONS = [...OF_SLOT, ...OF_REEL, "CANCEL"];
+export const WORDS = {
+  LOAD: "MaterialsLoaded", SPLICE: "MaterialsSpliced", UNLOAD: "MaterialsUnloaded", SCRAP: "MaterialsScrapped", OPEN: "ReelOpened", SEAL: "ReelSealed", BAKE: "ReelBaked",
+  COUNT: "CountsTaken", RECEIVE: "ReelReceived", SELECT: "ProductSelected",
+};
+const FRESH = 3_000; // milliseconds: what is known of a slot is asked for again when it is older
+
+export class Scan {
+  /** `station` is the page: its set-up, its model, and what it does with a message, a screen, a badge or a fault. */
+  constructor(station) {
+    this.station = station;
+    this.clear();
+  }
+
+  clear() {
+    this.slot = null;
+    this.reel = null;
+    this.card = null;
+    this.action = null;
+    this.asking = null; // {action, values}: a number is wanted
+    this.digits = "";
+  }
+
+  /** Takes what the scanner or the keyboard read. */
+  take(text) {
+    const read = stripped(text, this.station.setup.scanner);
+    if (read === "") {
+      return;
+    }
+    this.station.closeVerdict();
+    const code = readCode(read, this.station.setup);
+    if (this.asking && code.kind !== "action" && code.kind !== "badge") {
+      this.number(read);
+    } else {
+      this[`${code.kind}Scanned`](code);
+    }
+    this.station.scanned();
+  }
+
+  noneScanned({ text }) {
+    this.station.fault(filled(TEXTS.fault.none, { text }));
+  }
+
+  foreignScanned({ text }) {
+    this.station.fault(filled(TEXTS.fault.foreign, { text }));
+  }
+
+  labelScanned({ text }) {
+    this.station.label(text);
+  }
+
+  badgeScanned({ badge }) {
+    this.station.setBadge(badge);
+  }
+
+  slotHeld(code) {
+    this.clear();
+    this.slot = { machine: code.machine, slot: code.slot };
+    const line = this.station.model.line(code.machine), known = this.station.model.state;
+    if (!line.slots || !known.ok || performance.now() - known.at > FRESH) {
+      this.station.model.refresh(code.machine);
+    }
+  }
+
+  /** A slot is held for a reel, or is what the action was waiting for. */
+  slotScanned(code) {
+    if (this.action && OF_SLOT.includes(this.action)) {
+      this.act(this.action, { machine: code.machine, slot: code.slot });
+    } else if (this.action) {
+      this.station.fault(filled(TEXTS.strip.actionReel, { action: TEXTS.actions[this.action] }));
+    } else {
+      this.slotHeld(code);
+    }
+  }
+
+  reelScanned({ reel }) {
+    if (this.action && OF_REEL.includes(this.action)) {
+      this.act(this.action, { reel });
+    } else if (this.action) {
+      this.station.fault(filled(TEXTS.strip.actionSlot, { action: TEXTS.actions[this.action] }));
+    } else if (this.slot) {
+      this.act(this.isLive(this.slot) ? "SPLICE" : "LOAD", { ...this.slot, reel });
+    } else {
+      this.clear();
+      this.reel = reel;
+      this.readCard(reel);
+    }
+  }
+
+  /** Whether a slot has a live reel: by the desk's last slot list, and by the scans that it has not answered. */
+  isLive({ machine, slot }) {
+    const about = this.station.waiting.filter((it) => it.body.Machine === machine && it.body.Slot === slot);
+    for (const it of about.reverse()) {
+      if (["MaterialsLoaded", "MaterialsSpliced", "MaterialsUnloaded"].includes(it.word)) {
+        return it.word !== "MaterialsUnloaded";
+      }
+    }
+    return this.station.model.slot(machine, slot).reels.length > 0;
+  }
+
+  async readCard(reel) {
+    let card;
+    try {
+      card = { ...(await desk.rows("reel", { reel })).rows[0], known: true };
+    } catch (fault) {
+      card = { known: false, none: fault.status === 404 };
+    }
+    if (this.reel === reel) {
+      this.card = card;
+      this.station.scanned();
+    }
+  }
+
+  actionScanned({ action }) {
+    if (this.asking && /^[0-9]$/.test(action)) {
+      this.digits = (this.digits + action).slice(0, 8);
+    } else if (this.asking && action === "ENTER") {
+      this.number(this.digits);
+    } else if (action === "CANCEL") {
+      this.clear();
+    } else if (this.station.isScreen(action)) {
+      this.station.go(action.toLowerCase());
+    } else if (OF_SLOT.includes(action)) {
+      this.begin(action, this.slot);
+    } else if (OF_REEL.includes(action)) {
+      this.begin(action, this.reel && { reel: this.reel });
+    } else {
+      this.station.fault(filled(TEXTS.fault.action, { text: action }));
+    }
+  }
+
+  /** An action with what it is of, where that is held; else it waits for it. */
+  begin(action, values) {
+    if (values) {
+      this.act(action, values);
+    } else {
+      this.clear();
+      this.action = action;
+    }
+  }
+
+  number(text) {
+    const { action, values } = this.asking, quantity = numberIn(text, WITH_NUMBER[action], MOST_PIECES);
+    this.digits = "";
+    if (quantity === null) {
+      this.station.fault(filled(TEXTS.fault.number, { text, least: WITH_NUMBER[action], most: piecesText(MOST_PIECES) }));
+    } else {
+      this.act(action, { ...values, quantity });
+    }
+  }
+
+  act(action, values) {
+    this.clear();
+    if (action in WITH_NUMBER && values.quantity === undefined) {
+      this.asking = { action, values };
+    } else {
+      this.station.send(action, bodyOf(action, values), values);
+    }
+  }
+
+  /** What is held, in words: the first says what, the others what comes next. */
+  held() {
+    const { strip, actions } = TEXTS;
+    if (this.asking) {
+      const { action, values } = this.asking, what = values.reel ?? values.slot;
+      return [filled(strip.number, { action: actions[action], what }), this.digits];
+    }
+    if (this.action) {
+      return [filled(OF_SLOT.includes(this.action) ? strip.actionSlot : strip.actionReel, { action: actions[this.action] })];
+    }
+    if (this.slot) {
+      return [filled(strip.slot, this.slot), this.slotText()];
+    }
+    if (this.reel) {
+      const { card } = this, texts = [filled(strip.reel, { reel: this.reel })];
+      if (card) {
+        texts.push(card.known ? filled(strip.reelCard, { ...card, left: piecesText(card.remaining) }) : card.none ? strip.reelNone : strip.slotUnknown);
+      }
+      return [...texts, strip.reelAsk];
+    }
+    return [strip.idle];
+  }
+
+  slotText() {
+    const { strip } = TEXTS, known = this.station.model.slot(this.slot.machine, this.slot.slot);
+    if (!known.known) {
+      return strip.slotUnknown;
+    }
+    const part = known.part ?? "?", left = piecesText(known.reels.reduce((sum, it) => sum + Number(it.remaining), 0));
+    const does = this.isLive(this.slot) ? filled(strip.slotSplice, { part, reel: known.reels[0]?.reel ?? "?", left }) : filled(strip.slotLoad, { part });
+    return known.sheet && !known.part ? strip.slotNoSheet : does;
+  }
+}
+
+/** The body of a message of an action. */
+export function bodyOf(action, { machine, slot, reel, quantity, product, part, lot, level, minutes }) {
+  switch (action) {
+    case "LOAD": case "SPLICE": return { Machine: machine, Slot: slot, Reel: reel };
+    case "UNLOAD": return { Machine: machine, Slot: slot };
+    case "SCRAP": return { Machine: machine, Slot: slot, Quantity: quantity };
+    case "COUNT": return { Counts: [{ Reel: reel, Quantity: quantity }] };
+    case "SELECT": return { Machine: machine, Product: product };
+    case "RECEIVE": return { Reel: reel, PartNumber: part, Lot: lot, Level: level, ...(level === "6" ? { LabelMinutes: minutes } : {}), Quantity: quantity };
+    default: return { Reel: reel };
+  }
+}

@@ -1,0 +1,63 @@
+// What whoever installs the station says of it: /etc/tracedesk/station/setup.json (docs/station.md).
+import { isName, MOST_BOARDS } from "./names.js";
+import * as desk from "./desk.js";
+
+const USUAL = {
+  title: "Line",
+  boards: 10,
+  expires: 60,
+  connectionsADay: 28_000, // of the desk's, which all stations of this line may use up together by looking
+  scanner: { prefix: "", suffix: "", separators: ["{GS}"] },
+  codes: { slot: "S/{machine}/{slot}", badge: "B/{badge}", action: "A/{action}" },
+  label: { part: "P", reel: "S" },
+};
+
+/** Whether a pattern has these places, each once and in this order. */
+function hasPlaces(pattern, ...names) {
+  const found = typeof pattern === "string" ? [...pattern.matchAll(/\{(\w+)\}/g)].map((it) => it[1]) : [];
+  return found.join() === names.join() && /^[^{]+\{/.test(pattern);
+}
+
+function isText(it) {
+  return typeof it === "string" && it.length <= 200;
+}
+
+/** The member that is not as it has to be, or null. */
+function faultOf(setup) {
+  const whole = (it, most) => Number.isInteger(it) && it >= 1 && it <= most;
+  const tests = {
+    title: isText(setup.title) && setup.title !== "",
+    boards: whole(setup.boards, MOST_BOARDS),
+    expires: whole(setup.expires, 525_600),
+    connectionsADay: whole(setup.connectionsADay, 1_000_000),
+    scanner: isText(setup.scanner.prefix) && isText(setup.scanner.suffix) && Array.isArray(setup.scanner.separators) && setup.scanner.separators.every((it) => isText(it) && it !== ""),
+    codes: hasPlaces(setup.codes.slot, "machine", "slot") && hasPlaces(setup.codes.badge, "badge") && hasPlaces(setup.codes.action, "action"),
+    label: /^[0-9]{0,3}[A-Z]$/.test(setup.label.part) && /^[0-9]{0,3}[A-Z]$/.test(setup.label.reel),
+  };
+  return Object.keys(tests).find((name) => !tests[name]) ?? null;
+}
+
+function areMachines(machines) {
+  return Array.isArray(machines) && machines.length > 0 && machines.length <= 20
+    && machines.every((it) => it && isName(it.machine ?? "") && (it.product === undefined || isName(it.product)));
+}
+
+/** Reads the set-up: {setup}, or {fault} with the name of its text and, of a member, its name. */
+export async function read() {
+  const { status, told } = await desk.file("setup.json");
+  if (status !== 200) {
+    return { status, fault: "missing" };
+  }
+  if (Object.keys(told).length === 0) {
+    return { status, fault: "json" };
+  }
+  const setup = { ...USUAL, ...told };
+  for (const part of ["scanner", "codes", "label"]) {
+    setup[part] = { ...USUAL[part], ...told[part] };
+  }
+  if (!areMachines(setup.machines)) {
+    return { status, fault: "machines" };
+  }
+  const member = faultOf(setup);
+  return member ? { status, fault: "member", member } : { status, setup };
+}

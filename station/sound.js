@@ -1,0 +1,25 @@
+// A sound for each verdict: two rising notes, a long low one, a short one.
+
+const NOTES = { accepted: [[880, 0.12], [1320, 0.18]], refused: [[196, 0.5], [165, 0.5]], waiting: [[520, 0.08]] };
+let context = null;
+
+/** Plays the notes of a kind, where the browser lets it. */
+export function play(kind) {
+  try {
+    context ??= new AudioContext();
+    context.resume();
+    let time = context.currentTime;
+    for (const [pitch, seconds] of NOTES[kind]) {
+      const tone = context.createOscillator(), volume = context.createGain();
+      tone.type = kind === "refused" ? "square" : "sine";
+      tone.frequency.value = pitch;
+      volume.gain.value = 0.2;
+      tone.connect(volume).connect(context.destination);
+      tone.start(time);
+      tone.stop(time + seconds);
+      time += seconds;
+    }
+  } catch {
+    context = null; // a screen without a speaker
+  }
+}

@@ -1,0 +1,260 @@
+"""How the station looks, and what it costs: contrast, sizes, the keyboard alone, printed codes; pictures; and figures."""
+import base64
+import json
+import pathlib
+import re
+import shutil
+import ssl
+import statistics
+import subprocess
+import tempfile
+import threading
+import time
+from http.client import HTTPException, HTTPSConnection
+
+import station_flows
+from station_site import Difference, Operator, Site, wait_for
+
+SCREENS = ("line", "scan", "receive", "changeover", "trace")
+TABLET = (800, 1280)
+STATIONS = 50
+A_DAY = 86_400  # seconds
+SEEN_ANEW = 4  # seconds, after which the page looks at a slot again before it takes a scan for a load
+MACHINES = ("M1", "M2")
+
+# Each element with text of its own: its letters against what is behind them, as WCAG 2.1 reckons it.
+CONTRAST = r"""
+const part = (c) => { c /= 255; return c <= 0.03928 ? c / 12.92 : ((c + 0.055) / 1.055) ** 2.4; };
+const light = ([r, g, b]) => 0.2126 * part(r) + 0.7152 * part(g) + 0.0722 * part(b);
+const numbers = (text) => text.match(/[\d.]+/g).map(Number);
+const behind = (it) => {
+  for (; it; it = it.parentElement) {
+    const color = numbers(getComputedStyle(it).backgroundColor);
+    if (color.length < 4 || color[3] === 1) { return color; }
+  }
+  return [255, 255, 255];
+};
+const told = [];
+for (const it of document.querySelectorAll("body *")) {
+  const own = [...it.childNodes].some((node) => node.nodeType === 3 && node.textContent.trim() !== "");
+  if (!own || !it.checkVisibility({ checkOpacity: true, checkVisibilityCSS: true })) { continue; }
+  const style = getComputedStyle(it), [a, b] = [light(numbers(style.color)), light(behind(it))].sort((x, y) => y - x);
+  const size = parseFloat(style.fontSize), large = size >= 24 || (size >= 18.66 && Number(style.fontWeight) >= 700);
+  told.push({ what: `${it.tagName}.${it.className} ${it.textContent.trim().slice(0, 30)}`, ratio: (a + 0.05) / (b + 0.05), wanted: large ? 3 : 4.5, size });
+}
+return told;
+"""
+SIZES = "const m = document.getElementById('main'); return [m.scrollHeight - m.clientHeight, m.scrollWidth - m.clientWidth, document.documentElement.scrollWidth - innerWidth];"
+
+
+def set_up(it):
+    """Reels on most slots of both machines, as a line has them in the midst of a shift."""
+    it.ready()
+    it.scan("B/anna")
+    for slot, reel in (("S/M1/1", "K-1"), ("S/M1/2", "K-2"), ("S/M1/3", "K-4"), ("S/M1/10", "K-5"), ("S/M2/10", "K-8")):
+        it.does(slot, reel)
+    time.sleep(SEEN_ANEW)
+    it.does("S/M1/1", "K-3", holds=("SPLICED",))
+    it.keys("\ue00c")  # Escape: the verdict goes
+
+
+def dark_on_light(it, where, seen):
+    texts = it.script(CONTRAST)
+    weak = [f"{text['what']}: {text['ratio']:.2f}" for text in texts if text["ratio"] < text["wanted"]]
+    if weak or not texts:
+        raise Difference(f"{where}: {weak or 'no text'}")
+    seen.extend(texts)
+
+
+def letters_stand_out(site):
+    """WCAG AA of each text, on each screen, of a verdict of each kind, and while the desk doesn't answer."""
+    seen = []
+    with Operator(site) as it:
+        set_up(it)
+        for screen in SCREENS:
+            it.go(screen)
+            dark_on_light(it, screen, seen)
+        for codes, kind in ((("K-6", "A/OPEN"), "accepted"), (("S/M1/2", "K-7"), "refused"), (("S/M9/2",), "fault")):
+            it.does(*codes, kind=kind)
+            dark_on_light(it, kind, seen)
+        it.go("line")
+        site.kill_desk()
+        wait_for("the page says that the desk doesn't answer", lambda: it.script("return document.getElementById('state').className") == "old")
+        dark_on_light(it, "without a desk", seen)
+    return f"{len(seen)} texts, the weakest {min(text['ratio'] for text in seen):.1f} to 1"
+
+
+def all_is_on_the_screen(site):
+    """At 1080p two machines stand on Line without scrolling, in letters that are read from two metres; nothing is cut off at the sides of a tablet."""
+    smallest = 99
+    with Operator(site) as it:
+        set_up(it)
+        it.go("line")
+        if (over := it.script(SIZES)) and max(over) > 0:
+            raise Difference(f"Line at 1080p: beyond the screen by {over}")
+        smallest = it.script("return Math.min(...[...document.querySelectorAll('#main td')].map((cell) => parseFloat(getComputedStyle(cell).fontSize)))")
+        if smallest < 22:
+            raise Difference(f"a cell of Line has letters of {smallest} pixels")
+    with Operator(site, name="W2", size=TABLET) as it:
+        it.ready()
+        for screen in SCREENS:
+            it.go(screen)
+            _, inside, outside = it.script(SIZES)
+            if outside > 0 or (inside > 0 and screen != "trace"):
+                raise Difference(f"{screen} on a tablet: wider than the screen by {inside}, {outside}")
+    return f"Line of two machines without scrolling, letters of {smallest:.0f} pixels and more; {len(SCREENS)} screens on a tablet"
+
+
+def the_keyboard_alone(site):
+    """Each screen is reached by Tab and Enter, what has the focus is seen, and a scan is taken wherever it is."""
+    from selenium.webdriver.common.keys import Keys
+    with Operator(site) as it:
+        it.ready()
+        for number, screen in enumerate(SCREENS):
+            def at_its_button():
+                it.keys(Keys.TAB)
+                return it.script("return [...document.querySelectorAll('#screens button')].indexOf(document.activeElement)") == number  # noqa: B023
+            for _ in range(80):
+                if at_its_button():
+                    break
+            else:
+                raise Difference(f"80 times Tab and not at the button of {screen}")
+            if it.script("return getComputedStyle(document.activeElement).outlineStyle") == "none":
+                raise Difference(f"the focus is not seen at {screen}")
+            it.keys(Keys.ENTER)
+            wait_for(screen, lambda: it.script("return document.getElementById('main').className") == screen)  # noqa: B023
+        it.go("line")
+        it.does("S/M1/1", "K-1", holds=("LOADED",))
+    return f"{len(SCREENS)} screens by Tab and Enter, and a scan behind them"
+
+
+def printed_codes_are_read_back(site):
+    """The sheet of action codes, as it is printed, read by zbar."""
+    if not shutil.which("zbarimg"):
+        return "SKIPPED: there is no zbarimg here: apt-get install zbar-tools"
+    with Operator(site) as it:
+        it.page.get(f"{site.url}/station/codes.html?station=W1")
+        wanted = wait_for("the codes", lambda: it.script("return document.querySelectorAll('.cards').length > 3 && [...document.querySelectorAll('figcaption small')].map((it) => it.textContent)"))
+        printed = base64.b64decode(it.page.execute_cdp_cmd("Page.printToPDF", {"printBackground": True})["data"])
+        (site.room / "codes.pdf").write_bytes(printed)
+        subprocess.run(["pdftoppm", "-r", "200", "-png", site.room / "codes.pdf", site.room / "codes"], check=True)
+        read = subprocess.run(["zbarimg", "--quiet", "--raw", *sorted(site.room.glob("codes-*.png"))], capture_output=True, text=True).stdout.split("\n")
+    if sorted(set(wanted)) != sorted({it for it in read if it}):
+        raise Difference(f"printed {sorted(wanted)}, read {sorted(read)}")
+    return f"{len(wanted)} codes"
+
+
+FLOWS = [letters_stand_out, all_is_on_the_screen, the_keyboard_alone, printed_codes_are_read_back]
+
+
+# --- Pictures for docs/station.md
+
+
+def pictures(program, folder):
+    """Takes each picture, 1080p and a tablet's; the exit status."""
+    folder.mkdir(parents=True, exist_ok=True)
+    with Site(program, station_flows.folder()) as site:
+        station_flows.plant(site)
+        with Operator(site) as it:
+            set_up(it)
+            taken = lambda name: (time.sleep(0.6), it.page.save_screenshot(str(folder / f"station-{name}.png")))  # noqa: E731
+            it.go("line")
+            taken("line")
+            it.does("K-6", "A/OPEN")
+            taken("accepted")
+            it.does("S/M1/2", "K-7", kind="refused")
+            wait_for("the free reels", lambda: "Slot 2 wants" in it.text("verdict"))
+            taken("refused")
+            it.keys("\ue00c")
+            for screen in ("scan", "receive", "changeover"):
+                it.go(screen)
+                taken(screen)
+            station_flows.asks(it, "lot", "L-1")
+            taken("trace")
+            it.page.get(f"{site.url}/station/codes.html?station=W1")
+            wait_for("the codes", lambda: it.script("return document.querySelectorAll('.cards').length > 3"))
+            taken("codes")
+        with Operator(site, name="W2", size=TABLET) as it:
+            it.ready()
+            it.go("line")
+            time.sleep(0.6)
+            it.page.save_screenshot(str(folder / "station-tablet.png"))
+    print("\n".join(sorted(str(it) for it in folder.glob("station-*.png"))))
+    return 0
+
+
+# --- What it costs
+
+
+class Looker(threading.Thread):
+    """A station's looks without a browser, at the moments at which the page looks: the slots of each machine, and each five minutes the kits and the overdue list."""
+
+    def __init__(self, site, period):
+        super().__init__(daemon=True)
+        self.site, self.period, self.ends = site, period, threading.Event()
+        self.link = HTTPSConnection("localhost", site.port, timeout=30, context=ssl.create_default_context(cafile=site.room / "etc/server.crt"))
+
+    def ask(self, target):
+        try:
+            self.link.request("GET", f"/station/desk/{target}", headers={"Authorization": "Basic " + base64.b64encode(b"office:office").decode()})
+            self.link.getresponse().read()
+        except (OSError, HTTPException):
+            self.link.close()
+
+    def run(self):
+        kits = 0
+        while not self.ends.wait(self.period - time.time() % self.period + 0.05):
+            for machine in MACHINES:
+                self.ask(f"slots?machine={machine}")
+            if time.time() >= kits:
+                kits = time.time() + 300
+                for target in (*(f"kit?product=CTRL-A&machine={machine}&boards=1" for machine in MACHINES), "overdue"):
+                    self.ask(target)
+
+
+def to_a_verdict(it, turns):
+    """The milliseconds from the last letter of a scan to its verdict, as the page's own clock has them."""
+    it.script("""window.took = []; let began = 0;
+        addEventListener("keydown", (event) => { if (event.key === "Enter") { began = performance.now(); } }, true);
+        new MutationObserver(() => { const v = document.getElementById("verdict");
+          if (began && !v.hidden && ["accepted", "refused"].includes(v.className)) { took.push(performance.now() - began); began = 0; } })
+          .observe(document.getElementById("verdict"), { attributes: true, childList: true, subtree: true });""")
+    for turn in range(turns):
+        it.does("A/OPEN" if turn % 2 == 0 else "A/SEAL", "K-4", kind="accepted")
+    return it.script("return window.took")
+
+
+def heap(it):
+    it.script("window.gc && gc()")
+    return it.script("return performance.memory.usedJSHeapSize") / 1e6
+
+
+def measure(program, minutes):
+    """From scan to verdict beside fifty stations' looks, the tab's memory over 5,000 scans, and how long a million connections last; the exit status."""
+    told = {}
+    with Site(program, station_flows.folder()) as site:
+        station_flows.plant(site)
+        with Operator(site) as it:
+            it.ready()
+            period = it.script("return import('/station/model.js').then((it) => it.period(2, 28_000))")
+            lookers = [Looker(site, period) for _ in range(STATIONS)]
+            for looker in lookers:
+                looker.start()
+            took = to_a_verdict(it, 200)
+            told["from scan to verdict, milliseconds"] = {"scans": len(took), "median": statistics.median(took), "95 %": statistics.quantiles(took, n=20)[-1], "stations that look": STATIONS}
+            memory = [heap(it)]
+            for turn in range(5_000 - 200):
+                it.does("A/OPEN" if turn % 2 == 0 else "A/SEAL", "K-4")
+                if turn % 1_000 == 999:
+                    memory.append(heap(it))
+            told["heap of the tab, MB, each 1,000 scans"] = [round(value, 1) for value in memory]
+            for looker in lookers[10:]:
+                looker.ends.set()
+            before, began = site.connections(), time.monotonic()
+            time.sleep(minutes * 60)
+            used = (site.connections() - before) / (time.monotonic() - began)
+            told["connections under ten stations"] = {"a second": round(used, 3), "days of a million": round(1_000_000 / used / A_DAY, 1), "measured minutes": minutes}
+            for looker in lookers:
+                looker.ends.set()
+    print(json.dumps(told, indent=1))
+    return 0
