@@ -7,7 +7,9 @@ import * as desk from "./desk.js";
 import { lifeText, piecesText } from "./life.js";
 import { productText } from "./line.js";
 
-/** What each row of a kit has on its slot, has to get, and has not: of each slot the pieces that are mounted and may stand there. */
+const piecesOf = (reels) => reels.reduce((sum, it) => sum + Number(it.remaining), 0);
+
+/** What each row of a kit has on its slot, has to get, and has not. Of another part the page can't know whether it is an alternate: its pieces are told apart, and not called missing. */
 export function needsOf(kit, slots) {
   const rows = new Map();
   for (const it of kit) {
@@ -20,14 +22,14 @@ export function needsOf(kit, slots) {
     rows.set(it.slot, row);
   }
   return [...rows.values()].map((row) => {
-    const on = slots.filter((it) => it.slot === row.slot), fits = on.filter((it) => it.minutes_left !== "0" && it.part === row.part);
-    const mounted = fits.reduce((sum, it) => sum + Number(it.remaining), 0), rest = Math.max(0, row.needed - mounted);
+    const on = slots.filter((it) => it.slot === row.slot), live = on.filter((it) => it.minutes_left !== "0"), others = live.filter((it) => it.part !== row.part);
+    const mounted = piecesOf(live.filter((it) => it.part === row.part)), other = piecesOf(others), rest = Math.max(0, row.needed - mounted - other);
     const bring = [];
     for (let pieces = 0, at = 0; pieces < rest && at < row.reels.length; at += 1) {
       bring.push(row.reels[at]);
       pieces += Number(row.reels[at].pieces);
     }
-    return { ...row, mounted, bring, missing: Math.max(0, row.short - mounted), isEmpty: on.length === 0 };
+    return { ...row, mounted, other, otherParts: [...new Set(others.map((it) => it.part))], bring, missing: Math.max(0, row.short - mounted - other), isEmpty: on.length === 0 };
   });
 }
 
@@ -98,12 +100,15 @@ export class ChangeoverScreen {
       const text = fault.status !== 404 ? texts.notHad : fault.body.Kind === "Machine" ? texts.unknownMachine : texts.unknownSheet;
       return el("section", { class: "machine" }, el("h2", null, machine), el("p", { class: "note wrong" }, filled(text, { product, machine })));
     }
-    const needs = needsOf(kit.rows, slots.rows), missing = needs.filter((it) => it.missing).length, empty = needs.filter((it) => it.isEmpty).length;
+    const needs = needsOf(kit.rows, slots.rows), count = (test) => needs.filter(test).length;
+    const missing = count((it) => it.missing), empty = count((it) => it.isEmpty), other = count((it) => it.other);
     const { head } = texts, columns = [[head.slot], [head.part], [head.needed, "n"], [head.mounted, "n"], [head.bring], [head.missing, "n"]];
-    const rows = needs.map((it) => [[it.slot, "slot"], [it.part, "name"], piecesText(it.needed), piecesText(it.mounted),
+    const rows = needs.map((it) => [[it.slot, "slot"], [it.part, "name"], piecesText(it.needed),
+      it.other ? filled(texts.onSlot, { mounted: piecesText(it.mounted), other: piecesText(it.other), parts: it.otherParts.join(", ") }) : piecesText(it.mounted),
       [it.bring.map((reel) => `${reel.reel} (${piecesText(reel.pieces)}, ${lifeText(reel.minutes_left)})`).join("; "), "name"], it.missing ? piecesText(it.missing) : ""]);
     return el("section", { class: "machine" }, el("h2", null, machine, el("small", null, filled(texts.asked, { product, machine, boards, time: clock.shown(kit.had ?? clock.now()) }))),
       el("p", { class: missing ? "note wrong" : "note" }, missing ? filled(texts.missing, { count: missing }) : texts.ready),
-      empty ? el("p", { class: "note" }, filled(texts.empty, { count: empty })) : null, table(columns, rows, (at) => (needs[at].missing ? "EMPTY" : "")), el("p", { class: "legend" }, texts.how));
+      empty ? el("p", { class: "note" }, filled(texts.empty, { count: empty })) : null, other ? el("p", { class: "note" }, filled(texts.other, { count: other })) : null,
+      table(columns, rows, (at) => (needs[at].missing ? "EMPTY" : needs[at].other ? "OTHER" : "")), el("p", { class: "legend" }, texts.how));
   }
 }

@@ -67,7 +67,7 @@ export class TraceScreen {
   /** What was asked, when, of which desk, up to which command at least. */
   evidence() {
     const { told, question, query, time, rows, last } = this.answer, texts = TEXTS.trace;
-    const asked = `${texts[question]} ${Object.entries(query).map(([name, value]) => `${name} ${value}`).join(", ")}`.trim();
+    const asked = [texts[question], Object.entries(query).map(([name, value]) => `${name} ${value}`).join(", ")].filter(Boolean).join(": ");
     const upTo = last ? filled(texts.upTo, { number: last.number, time: clock.stamp(last.at) }) : texts.upToNone;
     return [filled(texts.evidence, { asked, desk: this.station.setup.title, host: location.host, time: clock.stamp(time), count: rows.length }), upTo, ...(told.old ? [texts.old] : []), texts.archives];
   }

@@ -423,15 +423,16 @@ def saves_and_sorts(site, it):
 
 def a_changeover_counts_what_is_mounted(site):
     """A product is selected; the kit says what is on the slots, what to bring, and what neither has."""
-    site.say("MaterialsLoaded", {"Machine": "M1", "Slot": "2", "Reel": "K-2"})
+    for slot, reel in (("2", "K-2"), ("3", "K-4")):
+        site.say("MaterialsLoaded", {"Machine": "M1", "Slot": slot, "Reel": reel})
     with Operator(site) as it:
         it.ready().go("changeover")
         it.script("const form = document.querySelector('form.changeover'); form.elements.boards.value = '1000'; form.querySelectorAll('button')[0].click()")
         wait_for("the kits", lambda: it.script("return document.querySelectorAll('#main table').length") == 2)
         rows = {row[0]: row[2:4] + row[5:] for row in it.rows()}
-        wanted = {"1": ["2,000", "0", ""], "2": ["1,000", "5,000", ""], "10": ["3,000", "0", "960"], "3": ["1,000", "0", "699"]}
+        wanted = {"1": ["2,000", "0", ""], "2": ["1,000", "5,000", ""], "10": ["3,000", "0", "960"], "3": ["1,000", "0, and 900 of ALT", ""]}
         text = it.script("return document.getElementById('main').textContent")
-        if rows != wanted or "MISSING on 2 slots" not in text:
+        if rows != wanted or "MISSING: 1" not in text or "another part: 1." not in text:
             raise Difference(f"{rows} is not {wanted}; {text[:300]}")
         it.script("document.querySelectorAll('form.changeover button')[1].click()")
         if "PRODUCT SELECTED" not in it.verdict()[1]:
@@ -442,7 +443,7 @@ def a_changeover_counts_what_is_mounted(site):
         it.ready()
         wait_for("also after a reload", lambda: "selected at this station at" in it.script("return document.querySelector('.machine h2').textContent"))
         whole(site, it, 1)
-    return "4 rows with 5,000 mounted pieces and 960 and 699 missing; a selection, told with its command's number and kept over a reload"
+    return "4 rows with 5,000 mounted pieces, 900 of another part and 960 missing; a selection, told with its command's number and kept over a reload"
 
 
 def readers_may_only_read(site):

@@ -157,6 +157,11 @@ def pictures(program, folder):
         station_flows.plant(site)
         with Operator(site) as it:
             set_up(it)
+            for number in (1, 2, 3):
+                board = f"SN-{number:04}"
+                site.say("WorkStarted", {"Machine": "M1", "Board": board})
+                site.say("MaterialsInstalled", {"Machine": "M1", "Board": board, "Designators": [name for _, _, names in station_flows.SHEET for name in names]})
+                site.say("WorkCompleted", {"Machine": "M1", "Board": board})
             taken = lambda name: (time.sleep(0.6), it.page.save_screenshot(str(folder / f"station-{name}.png")))  # noqa: E731
             it.go("line")
             taken("line")
@@ -168,8 +173,11 @@ def pictures(program, folder):
             it.keys("\ue00c")
             for screen in ("scan", "receive", "changeover"):
                 it.go(screen)
+                if screen == "changeover":
+                    it.script("document.querySelector('#main form button').click()")
+                    wait_for("the kit", lambda: it.rows())
                 taken(screen)
-            station_flows.asks(it, "lot", "L-1")
+            station_flows.asks(it, "lot", "L-1", "2")
             taken("trace")
             it.page.get(f"{site.url}/station/codes.html?station=W1")
             wait_for("the codes", lambda: it.script("return document.querySelectorAll('.cards').length > 3"))

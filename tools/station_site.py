@@ -205,6 +205,17 @@ def browser(room, name, size=(1920, 1080)):
     return webdriver.Chrome(service=Service(shutil.which("chromedriver"), log_path=os.devnull), options=options)
 
 
+def why_no_browser():
+    """Why no browser begins here, or nothing where one does."""
+    from selenium.common.exceptions import WebDriverException
+    with tempfile.TemporaryDirectory() as room:
+        try:
+            browser(room, "profile").quit()
+        except (WebDriverException, OSError) as fault:
+            return str(fault).split("\n")[0]
+    return ""
+
+
 SCANS = """
 const done = arguments[arguments.length - 1], request = indexedDB.open("tracedesk-station");
 request.onsuccess = () => {
