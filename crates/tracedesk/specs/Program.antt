@@ -131,19 +131,19 @@ module _ {T D R W E : Type 0} {g : disk.Ghosts D} (first : start.Ghosts T) (hold
       ⊎ ((input' ≡ input) × TellsEnd tells output output' errors errors' × RunsServing first words desk writes output output' 4)
 
   -- what holds of a run that ended with this status
-  pub record Ran (status : ℕ) : Type 0 where
-    pub status : status ≤ 4
-    pub done : status ≡ 0 → Done
-    pub refused : status ≡ 1 → Refused
-    pub bad : status ≡ 2 → Bad
-    pub no_desk : status ≡ 3 → NoDesk
-    pub failed : status ≡ 4 → Failed
+  pub record Ran (ended : ℕ) : Type 0 where
+    pub status : ended ≤ 4
+    pub done : ended ≡ 0 → Done
+    pub refused : ended ≡ 1 → Refused
+    pub bad : ended ≡ 2 → Bad
+    pub no_desk : ended ≡ 3 → NoDesk
+    pub failed : ended ≡ 4 → Failed
     pub one_open : (desk ≡ None) ⊎ (migrated ≡ None)
-    pub opened : OnSome desk (NamesDesk words)
-    pub migrated : OnSome migrated (NamesMigrated words)
-    pub left : status ≡ 3 → ((desk ≡ None) ⊎ RunsOn first None desk StaysSame) × (migrated ≡ None)
+    pub desk_asked_for : OnSome desk (NamesDesk words)
+    pub migration_asked_for : OnSome migrated (NamesMigrated words)
+    pub left : ended ≡ 3 → ((desk ≡ None) ⊎ RunsOn first None desk StaysSame) × (migrated ≡ None)
     pub unread : ((file : _) (greatest : ℕ) → AsksForFeed words file greatest → ⊥) → input' ≡ input
-    pub quiet : (status ≡ 0) ⊎ (status ≡ 1) → errors' ≡ errors
+    pub quiet : (ended ≡ 0) ⊎ (ended ≡ 1) → errors' ≡ errors
 
 -- The files that a run had open were closed: those of a desk that stood for a list hold the tables of that list, whole by themselves, and those of a file that was migrated hold its tables.
 abbrev pub AreClosed : {D : Type 0} {g : disk.Ghosts D} → Option (LineStore (FileStore D g) StateDesk) → Option (Held (FileStore D g)) → Option (Files D) → Option (Files D) → Type 0

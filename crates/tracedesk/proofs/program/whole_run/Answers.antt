@@ -7,8 +7,8 @@ use Rattle.desk_runs.specs.Told.{TellsLine, unavailable_line}
 use Rattle.tracedesk.proofs.Running.{closes, has_room}
 use Rattle.tracedesk.proofs.program.whole_run.Goals as goal
 
-pub file_closed-requires : goal.file_closed-requires
-file_closed-requires g c =
+pub file_closed-status-requires : goal.file_closed-status-requires
+file_closed-status-requires g c =
     let ran = c.program-status in
     has_room ran.result.1 ran.result.2 (failures_of c.args.closing.now) (failures_of c.closed-status.new.errors) ran.ensures.one_open (λ none. ap failures_of (c.closed-status.ensures.same none).1) c.requires.closing_failures
 
@@ -27,8 +27,8 @@ returns-clause-whole g c =
         no_desk = all.no_desk;
         failed = all.failed;
         one_open = all.one_open;
-        opened = all.opened;
-        migrated = all.migrated;
+        desk_asked_for = all.opened;
+        migration_asked_for = all.migrated;
         left = all.left;
         unread = all.unread;
         quiet = all.quiet;
