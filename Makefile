@@ -2,7 +2,7 @@
 # wants beside Python 3: rt is Rattle's kit, and the others are packages of Debian 12.
 # The program is that of PROGRAM=FILE, else crates/tracedesk/out/tracedesk as long as no source is newer; where neither is
 # there, it is proved and built first (tools/program.py).
-.PHONY: help demo build test wrong-bodies day plant-recall client-test torture damage fail-each bench pictures docs dist plant-test
+.PHONY: help demo build test wrong-bodies day plant-recall client-test station-test torture damage fail-each bench pictures docs dist plant-test
 row = sed -n 's/^\($(1)\):\( *\)\#\# /make \1\2/p' $(firstword $(MAKEFILE_LIST))
 say = @$(call row,$@) >&2
 
