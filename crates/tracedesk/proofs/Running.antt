@@ -1,5 +1,5 @@
 -- A run that the words ask for.
-use Rattle.std.proofs.Common.{◌≡◌, ◌∙◌, ◌⊎◌, ◌^◌, ◌<◌, ℕ, List, Option, None, Some, IfSome, OnSome, ap, inl, inr, subst, sym, arith}
+use Rattle.std.proofs.Common.{◌≡◌, ℕ, List, Option, None, Some, OnSome, subst}
 use Rattle.sqlite_disk.specs.declared.Disk as disk
 use Rattle.sqlite_disk.specs.declared.start.Start as start
 use Rattle.sqlite_store.specs.declared.store.FileStore.{FileStore}
@@ -44,32 +44,3 @@ runs_serving first words desk contents output output' file port connections grea
 pub on_some : {X : Type 0} (value : Option X) (Fact : Type 0) → Fact → OnSome value Fact
 on_some None Fact is = tt
 on_some (Some x) Fact is = is
-
--- nothing is asked of a value that is not there
-pub if_none : {X : Type 0} (value : Option X) (Fact : X → Type 0) → value ≡ None → IfSome value Fact
-if_none value Fact none = subst (λ (v : Option _). IfSome v Fact) (sym none) tt
-
--- a desk and a migrated file, of which one at least is not there, were closed one after the other
-module _ {X Y W F : Type 0} (desk : Option X) (migrated : Option Y) (before mid after : W) (status one two : ℕ) (files others : Option F)
-    (ClosesDesk : X → Option F → Type 0) (ClosesFile : Y → Option F → Type 0) (Told : W → W → Type 0) where
-  pub closes : (desk ≡ None) ⊎ (migrated ≡ None)
-      → (desk ≡ None → (one ≡ status) × (mid ≡ before)) → ((one ≡ status) × (mid ≡ before) × IfSome desk (λ d. ClosesDesk d files)) ⊎ ((one ≡ 3) × Told before mid)
-      → (migrated ≡ None → (two ≡ one) × (after ≡ mid)) → ((two ≡ one) × (after ≡ mid) × IfSome migrated (λ f. ClosesFile f others)) ⊎ ((two ≡ 3) × Told mid after)
-      → ((two ≡ status) × (after ≡ before) × IfSome desk (λ d. ClosesDesk d files) × IfSome migrated (λ f. ClosesFile f others)) ⊎ ((two ≡ 3) × Told before after)
-  closes (inl none) first desk_ends second file_ends =
-      let same = first none in
-      elim file_ends [
-        | inl whole ↦ inl (whole.0 ∙ same.0, whole.1 ∙ same.1, if_none desk (λ d. ClosesDesk d files) none, whole.2)
-        | inr fails ↦ inr (fails.0, subst (λ (w : W). Told w after) same.1 fails.1)
-      ]
-  closes (inr none) first desk_ends second file_ends =
-      let same = second none in
-      elim desk_ends [
-        | inl whole ↦ inl (same.0 ∙ whole.0, same.1 ∙ whole.1, whole.2, if_none migrated (λ f. ClosesFile f others) none)
-        | inr fails ↦ inr (same.0 ∙ fails.0, subst (λ (w : W). Told before w) (sym same.1) fails.1)
-      ]
-
--- room for one failure more is left where it is asked for
-pub has_room : {X Y : Type 0} (desk : Option X) (migrated : Option Y) (before mid : ℕ) → (desk ≡ None) ⊎ (migrated ≡ None) → (desk ≡ None → mid ≡ before) → before < 2 ^ 63 → OnSome migrated (mid < 2 ^ 63)
-has_room desk migrated before mid (inl none) same few = on_some migrated (mid < 2 ^ 63) (omega (arith, same none, few))
-has_room desk migrated before mid (inr none) same few = subst (λ (v : Option _). OnSome v (mid < 2 ^ 63)) (sym none) tt

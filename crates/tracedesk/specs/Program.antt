@@ -1,22 +1,19 @@
 -- What a run of the program does.
-use Rattle.std.specs.Prelude.{◌≡◌, ◌≢◌, ◌<◌, ◌≤◌, ◌+◌, ℕ, ◌⊎◌, List, Option, Some, None, true, false, IfSome, IsSomeAnd, OnSome}
-use Rattle.std.specs.Io.KnownBytes.{Appends, IsAtEnd}
+use Rattle.std.specs.Prelude.{◌≡◌, ◌≢◌, ◌<◌, ℕ, ◌⊎◌, List, Option, Some, None, true, false}
+use Rattle.std.specs.Io.KnownBytes.{Appends}
 use Rattle.sqlite_disk.specs.declared.Disk as disk
 use Rattle.sqlite_disk.specs.declared.start.Start as start
-use Rattle.sqlite_disk.specs.declared.Files.{Files}
 use Rattle.sqlite_store.specs.declared.store.FileStore.{FileStore}
 use Rattle.sqlite.specs.Held.{Held}
 use Rattle.desk_types.specs.declared.wire.Wire.{Wire}
 use Rattle.desk_types.specs.History.{History}
-use Rattle.desk_types.specs.Wire.{inner_of, reads_of, failures_of}
+use Rattle.desk_types.specs.Wire.{inner_of, failures_of}
 use Rattle.consistency.specs.Consistent.{IsConsistent}
 use Rattle.desk_answers.specs.Ledger.{Ledger}
 use Rattle.feeder_state.specs.declared.desk.StateDesk.{StateDesk}
-use Rattle.feeder_state.specs.contracts.desk.StateDeskDesk.TheImpl.{ghosts as state}
 use Rattle.line_opening.specs.declared.fault.OpenFault.{OpenFault}
 use Rattle.line_opening.specs.declared.fault.OpenFault.TheVariants.{Unavailable}
 use Rattle.line_schema.specs.declared.store.LineStore.{LineStore}
-use Rattle.desk_file.specs.Files.{Closes, KeepsTables}
 use Rattle.desk_feed.specs.Stream.{LeavesNone}
 use Rattle.desk_import.specs.declared.options.BadOption.{BadOption}
 use Rattle.desk_import.specs.declared.options.Import.{Import}
@@ -27,12 +24,11 @@ use Rattle.gateway_http.specs.Reports.{report_of}
 use Rattle.served.specs.declared.serving.Served.{Served}
 use Rattle.served.specs.declared.serving.ServeFault.{ServeFault}
 use Rattle.served.specs.declared.serving.ServeFault.TheVariants.{Read as ReadFault}
-use Rattle.served.specs.declared.serving.TheConstants.{MOST_READS}
 use Rattle.served.specs.Counts.{none_served}
 use Rattle.served.specs.Sent.{SendsFront}
-use Rattle.served.specs.Shown.{FailsNever, IsShown}
+use Rattle.served.specs.Shown.{IsShown}
 use Rattle.desk_runs.specs.Runs.{AnswersAll, AnswersImport, AnswersUpTo, CutsImport, StaysSame, TellsReport}
-use Rattle.desk_runs.specs.Told.{fault_line, lawful_line, option_line, printed, version_line, unavailable_line, TellsEnd, TellsLine}
+use Rattle.desk_runs.specs.Told.{fault_line, lawful_line, option_line, printed, version_line, TellsEnd, TellsLine}
 use Rattle.desk_runs.specs.Told as told
 use Rattle.desk_commands.specs.Runs.{Audits, Migrates, RunsOn, ServesEach, fresh, refusal_line}
 
@@ -78,7 +74,7 @@ NamesFile words = NamesDesk words ⊎ NamesMigrated words
 
 -- ---- how a run ends
 
--- The table of a run: its words, and what its wires were before it and after it; its exit status, the desk that it has open, and the file that it migrated. What the files held before it is `first`, what a file of an import holds is `holds`; what a reader has left to give is `reads`, and what went out to a writer `writes`, as far as these are known.
+-- The table of a run, a paragraph for each exit status: its words, and what its wires were before it and after it; the desk that it has open, and the file that it migrated. What the files held before it is `first`, what a file of an import holds is `holds`; what a reader has left to give is `reads`, and what went out to a writer `writes`, as far as these are known.
 module _ {T D R W E : Type 0} {g : disk.Ghosts D} (first : start.Ghosts T) (holds : List ℕ → Option (List ℕ)) (reads : R → Option (List ℕ)) (writes : W → Option (List ℕ)) (tells : E → Option (List ℕ))
     (words : List (List ℕ)) (input input' : Wire R) (output output' : Wire W) (errors errors' : Wire E) (desk : Option (LineStore (FileStore D g) StateDesk)) (migrated : Option (Held (FileStore D g))) where
   -- this text went out; or only its first bytes did
@@ -129,22 +125,3 @@ module _ {T D R W E : Type 0} {g : disk.Ghosts D} (first : start.Ghosts T) (hold
       ⊎ RunsReport first words desk (λ answer. SentFront (printed answer))))
       ⊎ ((input' ≡ input) × (output' ≡ output) × ToldLine (fault_line (ReadFault none_served)) × RunsImport first holds words desk (λ _ _. StaysSame))
       ⊎ ((input' ≡ input) × TellsEnd tells output output' errors errors' × RunsServing first words desk writes output output' 4)
-
-  -- what holds of a run that ended with this status
-  pub record Ran (ended : ℕ) : Type 0 where
-    pub status : ended ≤ 4
-    pub done : ended ≡ 0 → Done
-    pub refused : ended ≡ 1 → Refused
-    pub bad : ended ≡ 2 → Bad
-    pub no_desk : ended ≡ 3 → NoDesk
-    pub failed : ended ≡ 4 → Failed
-    pub one_open : (desk ≡ None) ⊎ (migrated ≡ None)
-    pub desk_asked_for : OnSome desk (NamesDesk words)
-    pub migration_asked_for : OnSome migrated (NamesMigrated words)
-    pub left : ended ≡ 3 → ((desk ≡ None) ⊎ RunsOn first None desk StaysSame) × (migrated ≡ None)
-    pub unread : ((file : _) (greatest : ℕ) → AsksForFeed words file greatest → ⊥) → input' ≡ input
-    pub quiet : (ended ≡ 0) ⊎ (ended ≡ 1) → errors' ≡ errors
-
--- The files that a run had open were closed: those of a desk that stood for a list hold the tables of that list, whole by themselves, and those of a file that was migrated hold its tables.
-abbrev pub AreClosed : {D : Type 0} {g : disk.Ghosts D} → Option (LineStore (FileStore D g) StateDesk) → Option (Held (FileStore D g)) → Option (Files D) → Option (Files D) → Type 0
-AreClosed desk migrated files others = IfSome desk (λ d. IsSomeAnd files (Closes state.Stands state.kept_rules d)) × IfSome migrated (λ conn. IsSomeAnd others (KeepsTables conn))

@@ -13,7 +13,7 @@ ghost use Rattle.desk_runs.specs.Told.{unavailable_line, TellsLine};
 ghost use Rattle.feeder_state.specs.contracts.desk.StateDeskDesk.TheImpl.{ghosts as state};
 ghost use Rattle.desk_file.specs.Files.{Closes, KeepsTables};
 ghost use Rattle.desk_commands.specs.Runs.{RunsOn, refusal_line};
-ghost use Rattle.tracedesk.specs.Program.{AreClosed, Bad, Done, Failed, NamesDesk, NamesMigrated, NoDesk, Ran, Refused};
+ghost use Rattle.tracedesk.specs.Program.{Bad, Done, Failed, NamesDesk, NamesMigrated, NoDesk, Refused};
 
 use desk_commands::{
     audit_file, feed_in_file, feed_in_memory, import_in_file, migrate_file, report_in_file,
@@ -35,54 +35,27 @@ use std::io::{ErrorKind, Read, Write};
 pub fn run(rt: &HostRuntime) -> u8
     ensures { result ≤ 4 }
 {
+    let mut input = Wire::new(rt.stdin());
+    let mut output = Wire::new(rt.stdout());
     let mut errors = Wire::new(rt.stderr());
     let files = SystemFiles { rt };
     match words(rt) {
         Ok(words) => {
-            let (status, _, _) = whole_run(
+            let (status, desk, migrated) = program(
                 rt,
                 words.as_slice(),
                 Unknown,
                 &files,
-                &mut Wire::new(rt.stdin()),
-                &mut Wire::new(rt.stdout()),
+                &mut input,
+                &mut output,
                 &mut errors,
-                &mut Wire::new(rt.stderr()),
             );
+            let (status, _) = closed(status, desk, &mut Wire::new(rt.stderr()));
+            let (status, _) = file_closed(status, migrated, &mut Wire::new(rt.stderr()));
             status
         }
         Err(error) => wordless(&error, &mut errors),
     }
-}
-
-/// A whole run: what the words ask for, by `program`, and then the close of the file that it has open,
-/// of which `closing` is told. A file that can't be closed is Unavailable, whatever was answered before,
-/// which is in its log. The files come back for clauses to name; they are closed where they are dropped.
-pub fn whole_run<T: Start, F: Folder, R: Read, W: Write, E: Write>(
-    rt: &HostRuntime,
-    words: &[String],
-    start: T,
-    folder: &F,
-    input: &mut Wire<R>,
-    output: &mut Wire<W>,
-    errors: &mut Wire<E>,
-    closing: &mut Wire<E>,
-) -> (u8, Option<Files<FileFrom<T>>>, Option<Files<FileFrom<T>>>)
-    requires reads { reads_of input.old < 2 ^ 63 }
-    requires read_failures { failures_of input.old < 2 ^ 63 }
-    requires write_failures { failures_of output.old < 2 ^ 63 }
-    requires error_failures { failures_of errors.old < 2 ^ 63 }
-    requires closing_failures { failures_of closing.old < 2 ^ 63 }
-    ensures status { result.0 ≤ 4 }
-    ensures whole { (status : ℕ) × (desk : _) × (migrated : _)
-        × Ran T.Start (F.holds folder.now) R.remaining W.contents E.contents (map string_bytes words.now) input.old input.new output.old output.new errors.old errors.new desk migrated status
-        × (((result.0 ≡ status) × (closing.new ≡ closing.old) × AreClosed desk migrated result.1 result.2)
-        ⊎ ((result.0 ≡ 3) × TellsLine E.contents closing.old closing.new unavailable_line)) }
-{
-    let (status, desk, migrated) = program(rt, words, start, folder, input, output, errors);
-    let (status, files) = closed(status, desk, closing);
-    let (status, others) = file_closed(status, migrated, closing);
-    (status, files, others)
 }
 
 /// The files of the system. What they hold is not known before they are read.
@@ -247,7 +220,8 @@ pub fn program<T: Start, F: Folder, R: Read, W: Write, E: Write>(
     }
 }
 
-/// Closes the desk's file: the exit status, and the files.
+/// Closes the desk's file: the exit status, and the files for clauses to name. One that can't be closed
+/// is Unavailable, whatever was answered before, which is in its log.
 fn closed<T: Start, E: Write>(
     status: u8,
     desk: Option<FileDesk<T, StateDesk>>,
@@ -273,7 +247,7 @@ fn file_closed<T: Start, E: Write>(
     file: Option<DeskFile<T>>,
     errors: &mut Wire<E>,
 ) -> (u8, Option<Files<FileFrom<T>>>)
-    requires error_failures { OnSome file (failures_of errors.old < 2 ^ 63) }
+    requires error_failures { failures_of errors.old < 2 ^ 63 }
     ensures same { file ≡ None → (result.0 ≡ status) × (errors.new ≡ errors.old) }
     ensures ends { ((result.0 ≡ status) × (errors.new ≡ errors.old) × IfSome file (λ conn. IsSomeAnd result.1 (KeepsTables conn)))
         ⊎ ((result.0 ≡ 3) × TellsLine E.contents errors.old errors.new unavailable_line) }
