@@ -65,7 +65,7 @@ class Site:
         self.port, self.desk_port, self.inner_port = free_ports(3)
         self.desk = self.nginx = None
         self.drained = self.room / "drained"
-        for it in ("etc/station", "share", "log", "board", "temporary"):
+        for it in ("etc/station", "share", "log", "temporary"):
             (self.room / it).mkdir(parents=True)
         (self.room / "share/station").symlink_to(ROOT / "station")
         self.set_up(SETUP)
@@ -102,7 +102,7 @@ class Site:
         """The packaged configuration, with the paths and the ports of this folder."""
         text = (ROOT / "packaging/nginx.conf").read_text(encoding="utf-8")
         for old, new in (("/etc/tracedesk", self.room / "etc"), ("/usr/local/share/tracedesk", self.room / "share"), ("/var/lib/nginx/tracedesk-station", self.room / "cache"),
-                         ("/run/tracedesk-drained", self.drained), ("/var/log/nginx", self.room / "log"), ("/var/lib/tracedesk-board", self.room / "board"),
+                         ("/run/tracedesk-drained", self.drained), ("/var/log/nginx", self.room / "log"),
                          ("listen 443 ssl", f"listen 127.0.0.1:{self.port} ssl"), ("127.0.0.1:8080", f"127.0.0.1:{self.desk_port}"), ("127.0.0.1:8081", f"127.0.0.1:{self.inner_port}")):
             if old not in text:
                 raise Difference(f"packaging/nginx.conf has no {old}")
