@@ -246,17 +246,14 @@ fn refused_memory_is_made_good(rt: HostRuntime) -> Result<(), Fail> {
     Ok(())
 }
 
-/// Two boards, the second first in byte order, each with a piece of the reel, and one with none.
-const BOARDS: [(&str, &str); 6] = [
-    ("WorkStarted\tM\tB9", ""),
-    (
-        "MaterialsInstalled\tM\tB9\t2\tR1\tR2",
-        "\"Reels\":[\"K1\",\"K1\"],",
-    ),
-    ("WorkCompleted\tM\tB9", ""),
-    ("WorkStarted\tM\tB10", ""),
-    ("MaterialsInstalled\tM\tB10\t1\tR1", "\"Reels\":[\"K1\"],"),
-    ("WorkCompleted\tM\tB10", ""),
+/// Two boards, the second first in byte order, each with a piece of the reel.
+const BOARDS: [&str; 6] = [
+    "WorkStarted\tM\tB9",
+    "MaterialsInstalled\tM\tB9\t2\tR1\tR2",
+    "WorkCompleted\tM\tB9",
+    "WorkStarted\tM\tB10",
+    "MaterialsInstalled\tM\tB10\t1\tR1",
+    "WorkCompleted\tM\tB10",
 ];
 
 /// Each command of the boards, after those of the first run.
@@ -266,14 +263,12 @@ fn build_boards<L: Line>(rt: &impl Abort, alloc: Global, line: &mut L) -> Result
 {
     insist_on_all(rt, alloc, line)?;
     for n in 0..6u32 {
-        let (text, members) = BOARDS[(n % 6) as usize];
-        let (message, wanted) = message_of(alloc, n.saturating_add(6), text, members)?;
-        is_accepted(
-            rt,
-            line.command(&message),
-            n.saturating_add(6),
-            wanted.as_str(),
-        )?;
+        let uid = format!(in alloc; "b{n}")?;
+        let message = stamped(alloc, uid.as_str(), BOARDS[(n % 6) as usize])?;
+        match line.command(&message) {
+            Answer::Accepted(_, _) => {}
+            _ => return Err(Fail::from(AllocError)),
+        }
     }
     Ok(())
 }
