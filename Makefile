@@ -21,9 +21,9 @@ wrong-bodies:  ## tries all wrong bodies, those outside the tests too, and the w
 	@tools/wrong-bodies
 day:           ## feeds a made-up shift to a desk, and prints what is asked of it: docs/day.md | 10 s
 	@examples/day
-plant-recall:  ## three lines in one PostgreSQL, and a recall over them: docs/plant.md; and the same recalls three ways | 3 min | postgresql
+plant-recall:  ## three lines in one PostgreSQL, and a recall over them, compared with docs/plant.md; and the same recalls three ways | 3 min | postgresql
 	$(say)
-	@examples/plant/try
+	@examples/plant/try --check
 	@tools/three-ways-test >&2
 client-test:   ## kills `serve` twenty times under examples/client.py, and puts a proxy that fails before it | 20 s | openssl
 	@examples/client-test
