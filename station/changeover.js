@@ -1,5 +1,5 @@
 // The screen Changeover: the product of each machine, and the kit for so many boards with what is on the slots already.
-import { TEXTS } from "./texts.js";
+import { TEXTS } from "./words.js";
 import { button, el, field, table } from "./dom.js";
 import { filled, isName, MOST_BOARDS, numberIn } from "./names.js";
 import * as clock from "./clock.js";
@@ -76,9 +76,6 @@ export class ChangeoverScreen {
 
   async show(event) {
     event.preventDefault();
-    if (this.station.takesFrom(document.activeElement)) {
-      return;
-    }
     const asked = this.asked();
     if (!asked) {
       return;

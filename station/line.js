@@ -1,5 +1,5 @@
 // The screen Line: each machine's slots in the order of its sheet, with what is wrong on top.
-import { TEXTS } from "./texts.js";
+import { TEXTS } from "./words.js";
 import { button, el, table } from "./dom.js";
 import { filled } from "./names.js";
 import * as clock from "./clock.js";
