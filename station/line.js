@@ -1,9 +1,9 @@
 // The screen Line: what needs a person on top, in letters for two metres, and below it all slots of each machine.
-import { TEXTS } from "./texts.js";
+import { TEXTS } from "./words.js";
 import { button, el, table } from "./dom.js";
 import { filled } from "./names.js";
-import * as clock from "./clock.js";
 import { lifeText, piecesText } from "./life.js";
+import { productText, sheetText } from "./known.js";
 import { shownRows } from "./model.js";
 import { layout } from "./fit.js";
 
@@ -14,22 +14,6 @@ const SORTS = {
   pieces: (a, b) => (a.boards ?? Infinity) - (b.boards ?? Infinity),
   life: (a, b) => (a.life ?? -1) - (b.life ?? -1),
 };
-
-/** How the product of a machine is known, in words. */
-export function productText(model, machine) {
-  const known = model.product(machine);
-  if (!known) {
-    return [TEXTS.line.productNone, TEXTS.line.notTold];
-  }
-  const from = known.from === "setup" ? TEXTS.line.productFrom.setup : filled(TEXTS.line.productFrom.station, { time: dayAnd(known.at), number: known.number });
-  return [filled(TEXTS.line.product, known), from];
-}
-
-/** The time of an earlier day with its date. */
-function dayAnd(time) {
-  const day = new Date(time).toDateString() === new Date(clock.now() ?? time).toDateString() ? "" : `${new Date(time).toISOString().slice(0, 10)} `;
-  return `${day}${clock.shown(time)}`;
-}
 
 /** The slots that need a person, the most urgent first: expired, empty, then the next to run out, then the next to expire. */
 export function urgentOf(lines) {
@@ -61,7 +45,7 @@ export class LineScreen {
 
   /** Shows what is known; without a change nothing is touched. */
   update(isResized = false) {
-    const { model, setup } = this.station, lines = model.lines.map((line) => ({ line, rows: shownRows(line, setup).sort(SORTS[this.sort]), head: productText(model, line.machine), notes: this.notes(line) }));
+    const { model, setup } = this.station, lines = model.lines.map((line) => ({ line, rows: shownRows(line, setup).sort(SORTS[this.sort]), head: [...productText(model, line.machine), sheetText(line)], notes: this.notes(line) }));
     const shown = JSON.stringify([this.sort, model.overdue, lines.map(({ line, rows, head, notes }) => [line.machine, Boolean(line.slots && line.kit), rows, head, notes])]);
     if (shown !== this.shown || isResized) {
       this.shown = shown;
@@ -115,7 +99,7 @@ export class LineScreen {
 
   /** A machine, or what stands of it in one column. */
   machine({ line, rows, head, notes, isFirst }) {
-    const [product, from] = head, name = isFirst ? [line.machine, el("span", null, product), el("small", null, from)] : [filled(TEXTS.line.goesOn, { machine: line.machine })];
+    const [product, ...from] = head, name = isFirst ? [line.machine, el("span", null, product), el("small", null, from.filter(Boolean).join(", "))] : [filled(TEXTS.line.goesOn, { machine: line.machine })];
     return el("section", { class: "machine" }, el("h2", null, name), isFirst ? notes.map((it) => el("p", { class: "note wrong" }, it)) : null, rows.length ? this.table(line, rows) : null);
   }
 

@@ -1,7 +1,8 @@
-// All texts of the station. A plant translates this file: docs/station.md says where its own one goes.
-// What stands in braces is filled in, and keeps its name.
+// All texts of the station. A plant translates this file, whole or in part: docs/station.md says where its own one goes, and a text that
+// it doesn't have is ours. What stands in braces is filled in, and keeps its name.
 
 export const TEXTS = {
+  lang: "en", // of the texts, and of how numbers are written
   title: "Station",
   screens: { line: "Line", scan: "Scan", receive: "Receive", changeover: "Changeover", trace: "Trace" },
   codes: "Codes to print",
@@ -10,6 +11,7 @@ export const TEXTS = {
   head: {
     fresh: "desk answered {seconds} s ago",
     old: "OLD: the desk does not answer. This is of {time}, {seconds} s ago",
+    slow: "SLOW: the desk is asked, and has not answered yet. This is of {time}, {seconds} s ago",
     none: "THE DESK DOES NOT ANSWER. Nothing here is up to date",
     readOnly: "This log-in may only read: nothing can be scanned",
     logIn: "Log in as one who may send",
@@ -55,18 +57,27 @@ export const TEXTS = {
     LOAD: "LOADED", SPLICE: "SPLICED", UNLOAD: "UNLOADED", OPEN: "OPENED", SEAL: "SEALED", BAKE: "BAKED", COUNT: "COUNTED", SCRAP: "SCRAPPED", RECEIVE: "RECEIVED", SELECT: "PRODUCT SELECTED",
   },
   verdict: {
-    accepted: "ACCEPTED",
+    accepted: "ACCEPTED: {done}",
     refused: "REFUSED",
     faulty: "NOT TAKEN",
     asked: "ASKED, NO ANSWER YET",
     askedWhat: "This is no yes. Wait here: the scan is kept, and is sent until the desk answers.",
     again: "Of a scan at {time}, which had no answer until now",
+    where: { both: "slot {slot} · {reel}", slot: "slot {slot}", reel: "{reel}", product: "{machine} · {product}" },
     minutes: "floor life left: {life}",
     taken: "{taken} pieces taken off",
     number: "command {number} of the desk",
+    own: "{part}, lot {lot}",
+    ownUnknown: "The desk did not tell the reel's part.",
+    alternate: "The sheet of {product} ({source}) names {part} for this slot.",
     wants: "Slot {slot} wants {part}",
-    free: "Free reels for it, to take in this order:",
+    bySheet: "by the sheet of {product} ({source})",
+    otherSheet: "The desk goes by the product that is selected on {machine}. Was another one selected elsewhere? Look at Changeover.",
+    noSheet: "This page knows no product of this machine, so it can't tell what to bring.",
+    free: "Free for it, to take in this order:",
     freeRow: "{reel}: {pieces} pieces, {life}",
+    freeOthers: "Alternates that the kit list has at another slot; scan one, and the desk says whether it may stand here:",
+    otherRow: "{reel} ({own}, at slot {slot}): {pieces} pieces, {life}",
     freeNone: "The kit list names no free reel for it. Ask the material handler.",
     freeMore: "and {count} more",
     freeUnknown: "The list of free reels could not be had.",
@@ -77,19 +88,18 @@ export const TEXTS = {
     foreign: "{text} is a slot of no machine of this line.",
     none: "{text} can't be a name: it has to be 1 to 64 plain letters, digits and signs.",
     action: "{text} is no action of this station.",
-    slotFirst: "Scan a slot or an action first.",
+    receiveFirst: "{text} belongs to the screen Receive. Scan RECEIVE first.",
     number: "{text} is no number from {least} to {most}.",
     readOnly: "This log-in may only read. Nothing was sent.",
     noTime: "The server never said its time, so nothing can be sent yet. Scan again once it answers.",
     notKept: "The scan could not be kept on this tablet's disk, so it was not sent. {fault}",
     label: "That is no label of the form that this station reads.",
-    labelElsewhere: "A supplier's label: open the screen Receive for it.",
     kept: "Already asked, and no answer yet. It is sent again by itself.",
   },
   line: {
-    machine: "Machine",
     product: "makes {product}",
-    productFrom: { setup: "as set up for this page", station: "selected at this station at {time}, command {number}" },
+    productFrom: { setup: "as set up for this page", setupAt: "as set up for this page, {time}", station: "selected at this station at {time}, command {number}" },
+    sheetAt: "sheet as of {time}",
     productNone: "no product is named to this page",
     notTold: "The desk does not tell which product is selected. Select it at Changeover, or name it in the set-up.",
     differs: "DOES NOT FIT: {count} slots hold what this sheet does not say. Is another product selected?",
@@ -116,7 +126,6 @@ export const TEXTS = {
     head: { time: "time", what: "what", answer: "answer" },
     waiting: "no answer yet",
     pad: "Number",
-    erase: "Erase",
   },
   what: {
     LOAD: "load {reel} on slot {slot} of {machine}", SPLICE: "splice {reel} on slot {slot} of {machine}", UNLOAD: "unload slot {slot} of {machine}", OPEN: "open {reel}", SEAL: "seal {reel}",
@@ -124,9 +133,12 @@ export const TEXTS = {
   },
   receive: {
     title: "Receive a reel",
-    hint: "Scan the supplier's label, or fill in the fields. Then scan or type the reel's own name, and choose its level.",
+    hint: "Scan the supplier's label, or fill in the fields. Then scan or type the reel's own name, and scan or choose its level. ENTER sends it.",
     reel: "Reel", part: "Part", lot: "Lot", quantity: "Pieces", level: "Moisture level", minutes: "Minutes on the label (level 6)",
     go: "Receive", clear: "Clear",
+    ready: "All is filled in. Look at it, then press Enter or scan ENTER.",
+    sent: "Asked. What is filled in stays here until the desk accepted it.",
+    notTaken: "Not received: {title}. Correct it and send it again.",
     read: "Read from the label: {fields}",
     bad: "{field} is not as the desk takes it.",
     levelWanted: "Choose the moisture level: it is on the bag.",
@@ -173,7 +185,7 @@ export const TEXTS = {
   codesPage: {
     title: "Codes of the station",
     hint: "Print this page and hang it beside the screen. Each code is a Code 128.",
-    actions: "Actions", screens: "Screens", digits: "Numbers", slots: "Slots of {machine}, {product}", badge: "Badges are printed by the plant as {code}.",
+    actions: "Actions", screens: "Screens", digits: "Numbers; ENTER also receives the reel of the screen Receive", levels: "Moisture levels, for the screen Receive", level: "Level {level}", slots: "Slots of {machine}, {product}", badge: "Badges are printed by the plant as {code}.",
     print: "Print",
   },
   refusals: {

@@ -1,5 +1,5 @@
 // The screen Trace: boards of a lot, pieces of a board, a reel's card and the overdue list, to sort, filter, save and print.
-import { TEXTS } from "./texts.js";
+import { TEXTS } from "./words.js";
 import { button, el, field } from "./dom.js";
 import { filled, isName } from "./names.js";
 import { fieldsOf } from "./csv.js";
@@ -42,9 +42,6 @@ export class TraceScreen {
   async ask(event) {
     event.preventDefault();
     const { elements } = this.form, texts = TEXTS.trace;
-    if (this.station.takesFrom(document.activeElement?.id === "name" ? document.activeElement : null)) {
-      return;
-    }
     this.question = elements.question.value;
     const name = elements.name.value.trim(), detail = elements.detail.value;
     if (this.question !== "overdue" && !isName(name)) {
