@@ -114,7 +114,7 @@ class Site:
                                               f"http {{ include /etc/nginx/mime.types; default_type application/octet-stream; {temporary} include {self.room}/tracedesk.conf; }}\n")
 
     def start_nginx(self):
-        self.nginx = subprocess.Popen(["nginx", "-c", self.room / "nginx.conf", "-e", self.room / "log/start.log"], env={**os.environ, "PATH": os.environ["PATH"] + ":/usr/sbin"})
+        self.nginx = subprocess.Popen(["nginx", "-c", self.room / "nginx.conf", "-e", self.room / "log/start.log"], start_new_session=True, env={**os.environ, "PATH": os.environ["PATH"] + ":/usr/sbin"})
         wait_for("nginx listens", lambda: self.nginx.poll() is None and socket.create_connection(("127.0.0.1", self.port), 1).close() is None)
 
     def stop_nginx(self):
@@ -122,6 +122,12 @@ class Site:
             self.nginx.send_signal(signal.SIGTERM)
             self.nginx.wait()
             self.nginx = None
+
+    def kill_nginx(self):
+        """Ends nginx with its workers as a power cut does."""
+        os.killpg(self.nginx.pid, signal.SIGKILL)
+        self.nginx.wait()
+        self.nginx = None
 
     def start_desk(self, connections=1_000_000):
         with open(self.room / "served.txt", "ab") as served:
@@ -164,10 +170,10 @@ class Site:
         finally:
             link.close()
 
-    def say(self, word, body, minutes_ago=0, source="host"):
+    def say(self, word, body, minutes_ago=0, source="host", uid=None):
         """Has the desk take a message, and gives its answer."""
         at = datetime.datetime.now(datetime.timezone.utc) - datetime.timedelta(minutes=minutes_ago)
-        told = {"MessageName": f"TraceDesk.{word}", "UniqueID": str(uuid.uuid4()), "Source": source, "TimeStamp": at.strftime("%Y-%m-%dT%H:%M:%SZ"), "MessageBody": body}
+        told = {"MessageName": f"TraceDesk.{word}", "UniqueID": uid or str(uuid.uuid4()), "Source": source, "TimeStamp": at.strftime("%Y-%m-%dT%H:%M:%SZ"), "MessageBody": body}
         link = http.client.HTTPConnection("127.0.0.1", self.desk_port, timeout=30)
         try:
             link.request("POST", "/messages", json.dumps(told), {"Connection": "close"})
@@ -240,9 +246,11 @@ class Operator:
     def __exit__(self, *_):
         self.close()
 
-    def open(self):
-        """Begins the browser, logs in and waits until the page has the desk's answers."""
+    def open(self, before=""):
+        """Begins the browser, logs in and waits until the page is there. `before` is a script that is run before those of each page."""
         self.page = browser(self.site.room, f"profile-{self.name}", self.size)
+        if before:
+            self.page.execute_cdp_cmd("Page.addScriptToEvaluateOnNewDocument", {"source": before})
         self.load()
 
     def load(self, where=""):
