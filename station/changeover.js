@@ -6,7 +6,7 @@ import * as clock from "./clock.js";
 import * as desk from "./desk.js";
 import { ALL_BOARDS, allotted, unclear } from "./allot.js";
 import { lifeText, piecesText } from "./life.js";
-import { productText } from "./line.js";
+import { productText } from "./known.js";
 
 const MOST_CARDS = 100;
 
@@ -15,7 +15,6 @@ export class ChangeoverScreen {
     this.station = station;
     this.product = "";
     this.boards = String(station.setup.boards);
-    this.cards = new Map(); // the part of a reel, which never changes
   }
 
   parts() {
@@ -79,19 +78,11 @@ export class ChangeoverScreen {
 
   /** The rows of all machines. Where some are short, the cards of reels are asked that are named for another part alone. */
   async allotted(lines, boards) {
-    let rows = allotted(lines, boards, this.cards);
-    const asked = unclear(lines, rows, this.cards).slice(0, MOST_CARDS);
+    const { model } = this.station, rows = allotted(lines, boards, model.parts), asked = unclear(lines, rows, model.parts).slice(0, MOST_CARDS);
     for (const reel of asked) {
-      try {
-        this.cards.set(reel, (await desk.rows("reel", { reel })).rows[0].part);
-      } catch {
-        break;
-      }
+      await model.card(reel);
     }
-    if (asked.length) {
-      rows = allotted(lines, boards, this.cards);
-    }
-    return rows;
+    return asked.length ? allotted(lines, boards, model.parts) : rows;
   }
 
   fault({ machine, fault }, { product }) {

@@ -243,29 +243,37 @@ function sheetOf(rows) {
   return [...found.values()];
 }
 
-/** The rows of a machine as they are shown: its sheet's, then the slots that are on no row of it. */
+/** The rows of a machine as they are shown: its sheet's, then the slots that are on no row of it. Without a slot list there are none. */
 export function shownRows(line, setup) {
-  const slots = line.slots ?? [];
-  const bySlot = Map.groupBy ? Map.groupBy(slots, (it) => it.slot) : slots.reduce((map, it) => map.set(it.slot, [...(map.get(it.slot) ?? []), it]), new Map());
+  if (!line.slots) {
+    return [];
+  }
+  const bySlot = new Map();
+  line.slots.forEach((it) => bySlot.set(it.slot, [...(bySlot.get(it.slot) ?? []), it]));
   const sheet = (line.kit ?? []).map((row) => rowOf(row, bySlot.get(row.slot) ?? [], setup));
-  const named = new Set(sheet.map((it) => it.slot));
+  const named = new Set(sheet.map((it) => it.slot)), off = line.kit ? "OFF" : "NOSHEET";
   const rest = [...bySlot].filter(([slot]) => !named.has(slot)).sort(([a], [b]) => a.localeCompare(b, "en", { numeric: true }));
-  return [...sheet, ...rest.map(([slot, reels]) => rowOf({ slot, part: reels[0].part, needed: 0 }, reels, setup, line.kit !== null))];
+  return [...sheet, ...rest.map(([slot, reels]) => rowOf({ slot, part: reels[0].part, needed: 0 }, reels, setup, off))];
 }
 
-function rowOf({ slot, part, needed }, reels, setup, isOff = false) {
-  const front = reels[0] ?? null, pieces = reels.reduce((sum, it) => sum + Number(it.remaining), 0);
-  const boards = needed ? Math.floor(pieces / needed) : null, life = front ? lifeOrder(front.minutes_left) : null, states = [];
-  if (!front) {
-    states.push("EMPTY");
-  } else if (front.minutes_left === "0") {
-    states.push("EXPIRED");
-  } else if (life < setup.expires) {
-    states.push("EXPIRES");
-  }
-  if (front && boards !== null && boards < setup.boards) {
-    states.push("LOW");
-  }
-  const other = Boolean(front && needed && front.part !== part);
-  return { slot, part, front, behind: reels.slice(1), pieces, boards, life, other, isOff, states: isOff ? [...states, "OFF"] : other ? [...states, "OTHER"] : states };
+/**
+ * A slot as it is shown. `boards` are those of the reels before the first that is expired; `worst` is the reel whose floor
+ * life ends first, wherever it stands on the tape; `off` says that no row of the sheet names the slot, or that no sheet is known.
+ */
+function rowOf({ slot, part, needed }, reels, setup, off = null) {
+  const front = reels[0] ?? null, pieces = sumOf(reels), expired = reels.findIndex((it) => it.minutes_left === "0");
+  const boards = needed ? Math.floor(sumOf(expired < 0 ? reels : reels.slice(0, expired)) / needed) : null;
+  const worst = reels.reduce((least, it) => (least === null || lifeOrder(it.minutes_left) < lifeOrder(least.minutes_left) ? it : least), null);
+  const life = worst && lifeOrder(worst.minutes_left), others = [...new Set(reels.map((it) => it.part).filter((it) => it !== part))], states = [];
+  const isLow = front && expired !== 0 && boards !== null && boards < setup.boards;
+  [["EMPTY", !front], ["EXPIRED", expired >= 0], ["LOW", isLow], ["EXPIRES", expired < 0 && front && life < setup.expires], ["OTHER", others.length], [off, off]].forEach(([state, holds]) => {
+    if (holds) {
+      states.push(state);
+    }
+  });
+  return { slot, part, front, behind: reels.slice(1), pieces, boards, worst, life, others, off, states };
+}
+
+function sumOf(reels) {
+  return reels.reduce((sum, it) => sum + Number(it.remaining), 0);
 }
