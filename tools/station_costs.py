@@ -9,7 +9,7 @@ import threading
 import time
 
 import station_flows
-from station_site import Operator, Site
+from station_site import SETUP, Operator, Site
 
 STATIONS = 50
 A_DAY, KITS = 86_400, 300  # seconds; the second is the page's period of its sheets
@@ -112,15 +112,24 @@ def ten_pages(site, minutes):
     return {"connections": used, "measured minutes": round(seconds / 60, 1), "a day": round(used / seconds * A_DAY), "days of a million": round(MILLION / (used / seconds) / A_DAY, 1)}
 
 
-def a_load(site, it):
-    """The connections of loads and unloads beside no looks of others, by scan."""
-    before = site.connections()
-    for _ in range(10):
-        it.does("S/M1/1", "K-1", kind="accepted")
-        time.sleep(3)
-        it.does("S/M1/1", "A/UNLOAD", kind="accepted")
-        time.sleep(3)
-    return site.connections() - before
+SELDOM = 900  # connections a day: a page that may use so few looks each ten minutes
+
+
+def each_scan(site):
+    """The connections of the desk that scans use up, each a second after the one before and after more than the cache keeps."""
+    site.set_up({**SETUP, "connectionsADay": SELDOM})
+    told = {}
+    with Operator(site, name="C") as it:
+        it.ready()
+        for name, kind, codes in (("open", "accepted", ("A/OPEN", "K-1")), ("load", "accepted", ("S/M1/1", "K-1")), ("splice", "accepted", ("S/M1/1", "K-3")), ("unload", "accepted", ("S/M1/1", "A/UNLOAD")),
+                                  ("a load of a wrong part", "refused", ("S/M1/1", "K-2")), ("the same again", "refused", ("S/M1/1", "K-2"))):
+            time.sleep(5)
+            before = site.connections()
+            it.does(*codes, kind=kind)
+            time.sleep(5)
+            told[name] = site.connections() - before
+    site.set_up(SETUP)
+    return told
 
 
 def measure(program, minutes, scans):
@@ -148,6 +157,7 @@ def measure(program, minutes, scans):
             say("heap of the tab, MB, after 200 scans and each 1,000", memory)
             for looker in lookers:
                 looker.ends.set()
+        say("connections of a scan", each_scan(site))
         say("ten pages of two machines", ten_pages(site, minutes))
         for machines, (period, kits) in zip((2, 4, 8), periods):
             used, turns = looked_together(site, machines, min(period, 8))
