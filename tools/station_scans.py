@@ -4,7 +4,8 @@ import re
 import time
 
 from station_costs import A_DAY, KITS, PERIODS, days, looked_together
-from station_flows import ROOT, SETUP, folder, report, type_label, whole
+from station_flows import ROOT, SETUP, folder, type_label, whole
+from station_line import report
 from station_looks import SCREENS
 from station_site import Difference, Operator, Site, wait_for
 
@@ -320,7 +321,7 @@ def a_plants_own_texts(site):
         if text:
             at.write_text(text, encoding="utf-8")
         with Operator(site, name=f"W{len(told)}") as it:
-            it.ready()
+            it.ready().agrees = text is None
             it.does("S/M1/1", "K-1", kind="accepted")
             it.does("S/M1/1", "K-3", holds=(yes,))
             it.does("S/M1/1", "K-99", kind="refused", holds=("Rolle K-99 ist unbekannt" if text == some else "Reel K-99 is unknown", "REFUSED"))
@@ -408,6 +409,8 @@ def ten_pages_that_scan_at_once(site):
 
             list(threads.map(a_station_works, enumerate(pages)))
             scans = [scan for number, page in enumerate(pages) for scan in whole(site, page, 4 if number < 4 else 3)]
+            for page in pages[:4]:
+                site.last_look(page)
         finally:
             list(threads.map(Operator.close, pages))
     if len({scan["uid"] for scan in scans}) != len(scans) or {scan["answer"]["Answer"] for scan in scans} != {"Accepted"}:

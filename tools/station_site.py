@@ -64,6 +64,8 @@ class Site:
         self.room = pathlib.Path(tempfile.mkdtemp(prefix="station-", dir=folder))
         self.port, self.desk_port, self.inner_port = free_ports(3)
         self.desk = self.nginx = None
+        self.last_look = lambda operator: None  # what an operator looks at before the browser is closed
+        self.agreed = 0
         self.drained = self.room / "drained"
         for it in ("etc/station", "share", "log", "temporary"):
             (self.room / it).mkdir(parents=True)
@@ -87,6 +89,7 @@ class Site:
         return f"https://localhost:{self.port}"
 
     def set_up(self, setup):
+        self.setup = setup
         (self.room / "etc/station/setup.json").write_text(json.dumps(setup), encoding="utf-8")
 
     def make_secrets(self):
@@ -237,14 +240,19 @@ class Operator:
     def __init__(self, site, name="W1", user="op", size=(1920, 1080), setup="", begin=True):
         self.site, self.name, self.user, self.size, self.setup = site, name, user, size, setup
         self.page = None
+        self.agrees = True  # whether its Line is compared with `report` at the end
         if begin:
             self.open()
 
     def __enter__(self):
         return self
 
-    def __exit__(self, *_):
-        self.close()
+    def __exit__(self, kind, *_):
+        try:
+            if kind is None and self.page and not self.setup:
+                self.site.last_look(self)
+        finally:
+            self.close()
 
     def open(self, before=""):
         """Begins the browser, logs in and waits until the page is there. `before` is a script that is run before those of each page."""
