@@ -30,6 +30,7 @@ export class Keys {
     document.addEventListener("keydown", (event) => this.key(event), true);
     document.addEventListener("focusin", ({ target }) => this.focused(target));
     document.addEventListener("click", ({ target }) => {
+      this.forget();
       if (target === this.clicked && isField(target)) {
         target.select(); // the click that gave it the focus put a caret there
       }
@@ -40,14 +41,16 @@ export class Keys {
   /** The text of a field is selected once it has the focus: what is scanned there takes its place. */
   focused(target) {
     this.clicked = target;
+    this.whole = null;
     if (isField(target) && !(this.run?.into === target && performance.now() - this.last <= PAUSE)) {
       target.select();
     }
   }
 
-  /** Ends a run of keys. */
+  /** Ends what is typed. Each is {into, text, begin, end}: a field, and its text and selection before. */
   forget() {
-    this.run = null; // {into, text, begin, end}: the field of the run, and its text and selection before it
+    this.run = null; // since the last pause
+    this.whole = null; // since the field got the focus: a slow scanner may pause within a code
   }
 
   /** The field that a letter goes to. */
@@ -83,6 +86,7 @@ export class Keys {
         into.select();
       }
       this.run = { into, text: into.value, begin: into.selectionStart, end: into.selectionEnd };
+      this.whole = this.whole?.into === into ? this.whole : this.run;
     }
     this.last = event.timeStamp;
     if (letter !== event.key) { // a separator of a label
@@ -91,39 +95,35 @@ export class Keys {
     }
   }
 
-  /** What was typed in one run into a field, or null. */
+  /** What was typed into a field, since the last pause and since it got the focus, each with the field's text before. */
   typed(field) {
-    if (this.run?.into !== field) {
-      return null;
-    }
-    const { text, begin, end } = this.run, before = text.slice(0, begin), after = text.slice(end), now = field.value;
-    return now.startsWith(before) && now.endsWith(after) && now.length >= before.length + after.length ? now.slice(before.length, now.length - after.length) : null;
+    return [this.run, this.whole].filter((it) => it?.into === field).map(({ text, begin, end }) => {
+      const before = text.slice(0, begin), after = text.slice(end), now = field.value;
+      const isPlain = now.startsWith(before) && now.endsWith(after) && now.length >= before.length + after.length;
+      return { scan: isPlain ? now.slice(before.length, now.length - after.length) : "", rest: text };
+    });
   }
 
   hasForm(text) {
-    const read = text === null ? "" : stripped(text, this.station.setup.scanner);
+    const read = stripped(text, this.station.setup.scanner);
     return read !== "" && OF_THEIR_FORM.includes(readCode(read, this.station.setup).kind);
   }
 
   /** The scan in the scan field: all of it, but where only its end is a code of its own form. The field is empty then. */
   scanned() {
-    const whole = this.field.value, typed = this.typed(this.field);
+    const { value } = this.field, [found] = this.hasForm(value) ? [] : this.typed(this.field).filter((it) => this.hasForm(it.scan));
     this.forget();
     this.field.value = "";
-    return !this.hasForm(whole) && this.hasForm(typed) ? typed : whole;
+    return found ? found.scan : value;
   }
 
   /** The scan in a field of a form, and what stands in that field without it; null where it is the field's own. */
   scanIn(field) {
-    const typed = this.typed(field), { text } = this.run ?? {};
-    if (this.hasForm(typed)) {
-      return { scan: typed, rest: text };
+    const typed = this.typed(field), found = [...typed, { scan: field.value, rest: "" }].find((it) => this.hasForm(it.scan));
+    if (found || field.inputMode !== "numeric") {
+      return found ?? null;
     }
-    if (this.hasForm(field.value)) {
-      return { scan: field.value, rest: "" };
-    }
-    const read = typed === null ? "" : stripped(typed, this.station.setup.scanner);
-    return field.inputMode === "numeric" && isName(read) && !/^[0-9]+$/.test(read) ? { scan: typed, rest: text } : null;
+    return typed.find(({ scan }) => isName(stripped(scan, this.station.setup.scanner)) && /[^0-9]/.test(scan)) ?? null;
   }
 
   enter(event) {

@@ -3,7 +3,7 @@ import { TEXTS } from "./words.js";
 import { button, el, table } from "./dom.js";
 import { filled } from "./names.js";
 import { lifeText, piecesText } from "./life.js";
-import { productText, sheetText } from "./known.js";
+import { dayAnd, productText, sheetText } from "./known.js";
 import { shownRows } from "./model.js";
 import { layout } from "./fit.js";
 
@@ -46,7 +46,7 @@ export class LineScreen {
   /** Shows what is known; without a change nothing is touched. */
   update(isResized = false) {
     const { model, setup } = this.station, lines = model.lines.map((line) => ({ line, rows: shownRows(line, setup).sort(SORTS[this.sort]), head: [...productText(model, line.machine), sheetText(line)], notes: this.notes(line) }));
-    const shown = JSON.stringify([this.sort, model.overdue, lines.map(({ line, rows, head, notes }) => [line.machine, Boolean(line.slots && line.kit), rows, head, notes])]);
+    const shown = JSON.stringify([this.sort, model.overdue, model.overdueHad, lines.map(({ line, rows, head, notes }) => [line.machine, Boolean(line.slots && line.kit), rows, head, notes])]);
     if (shown !== this.shown || isResized) {
       this.shown = shown;
       this.counts(lines);
@@ -59,8 +59,8 @@ export class LineScreen {
   counts(lines) {
     const counts = COUNTED.map((state) => [state, lines.reduce((sum, { rows }) => sum + rows.filter((it) => it.states.includes(state)).length, 0)]).filter(([, count]) => count);
     const marks = counts.map(([state, count]) => el("span", { class: `mark ${state}` }, filled(TEXTS.line.alarms, { count, state: TEXTS.line.states[state] })));
-    const isKnown = lines.every(({ line }) => line.slots && line.kit), { overdue } = this.station.model;
-    const late = overdue ? [el("span", { class: "mark LATE" }, filled(TEXTS.line.overdue, { count: overdue }))] : [];
+    const isKnown = lines.every(({ line }) => line.slots && line.kit), { overdue, overdueHad } = this.station.model;
+    const late = overdue ? [el("span", { class: "mark LATE" }, filled(TEXTS.line.overdue, { count: overdue, time: overdueHad ? dayAnd(overdueHad) : "" }))] : [];
     this.alarms.replaceChildren(...(counts.length || !isKnown ? marks : [el("span", null, TEXTS.line.calm)]), ...late);
   }
 

@@ -117,7 +117,7 @@ export const TEXTS = {
     calm: "No slot is empty, low, expiring or expired",
     low: "LOW is less than {boards} boards, and says how many. EXPIRES is less than {minutes} minutes. Floor life is that of the reel on the slot that ends first, as of the last message that the desk took.",
     behind: "{reel} {left}",
-    overdue: "{count} OVERDUE: Quality looks at Trace",
+    overdue: "{count} OVERDUE at {time}: Quality looks at Trace",
   },
   scan: {
     title: "Scan",

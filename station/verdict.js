@@ -8,7 +8,7 @@ import * as clock from "./clock.js";
 import { play } from "./sound.js";
 import { WORDS } from "./scan.js";
 
-const FREE_SHOWN = 6;
+const FREE_SHOWN = 4;
 const GREEN_SECONDS = 25; // then the screen behind it is seen again; a refusal stays until the next scan
 const LOADS = ["LOAD", "SPLICE"];
 const BY_ANOTHER_SHEET = ["WrongPart", "SlotNotOnSheet"]; // where the page's sheet and the desk's may be two

@@ -528,6 +528,16 @@ def folder():
     return MEMORY if os.access(MEMORY, os.W_OK) and shutil.disk_usage(MEMORY).free > 2**30 else None
 
 
+def agrees(operator):
+    """The Line of each machine as `report` has it, at the end of what an operator does: where the desk runs, has the sheets, and the page is the station."""
+    site = operator.site
+    if site.desk and site.nginx and site.setup == SETUP and operator.agrees and operator.script("return location.pathname === '/station/' && document.getElementById('screens').children.length > 0"):
+        for machine in ("M1", "M2"):
+            if site.report(f"/kit?product=CTRL-A&machine={machine}&boards=1").startswith("slot,"):
+                line_is_as_reported(site, operator, machine)
+                site.agreed += 1
+
+
 def run(program, flows):
     """Tries each flow on a site of its own; the exit status."""
     from selenium.common.exceptions import WebDriverException
@@ -537,9 +547,11 @@ def run(program, flows):
         try:
             with Site(program, folder()) as site:
                 plant(site)
+                site.last_look = agrees
                 saw = flow(site)
+                compared = f"; then Line as `report` has it, {site.agreed} times" if site.agreed else ""
             passed += 1
-            print(f"ok      {name}: {saw} ({time.monotonic() - began:.0f} s)", flush=True)
+            print(f"ok      {name}: {saw}{compared} ({time.monotonic() - began:.0f} s)", flush=True)
         except (Difference, WebDriverException, OSError, subprocess.SubprocessError, ValueError, LookupError, AttributeError, TypeError) as fault:
             failed += 1
             print(f"FAILED  {name}: {type(fault).__name__} {str(fault)[:1500]}", flush=True)

@@ -1,26 +1,18 @@
 """How the station looks, and what it costs: contrast, sizes, the keyboard alone, printed codes; pictures; and figures."""
 import base64
-import json
 import pathlib
 import re
 import shutil
-import ssl
-import statistics
 import subprocess
 import tempfile
-import threading
 import time
-from http.client import HTTPException, HTTPSConnection
 
 import station_flows
 from station_site import Difference, Operator, Site, wait_for
 
 SCREENS = ("line", "scan", "receive", "changeover", "trace")
 TABLET = (800, 1280)
-STATIONS = 50
-A_DAY = 86_400  # seconds
 SEEN_ANEW = 4  # seconds, after which the page looks at a slot again before it takes a scan for a load
-MACHINES = ("M1", "M2")
 
 # Each element with text of its own: its letters against what is behind them, as WCAG 2.1 reckons it.
 CONTRAST = r"""
@@ -188,81 +180,4 @@ def pictures(program, folder):
             time.sleep(0.6)
             it.page.save_screenshot(str(folder / "station-tablet.png"))
     print("\n".join(sorted(str(it) for it in folder.glob("station-*.png"))))
-    return 0
-
-
-# --- What it costs
-
-
-class Looker(threading.Thread):
-    """A station's looks without a browser, at the moments at which the page looks: the slots of each machine, and each five minutes the kits and the overdue list."""
-
-    def __init__(self, site, period):
-        super().__init__(daemon=True)
-        self.site, self.period, self.ends = site, period, threading.Event()
-        self.link = HTTPSConnection("localhost", site.port, timeout=30, context=ssl.create_default_context(cafile=site.room / "etc/server.crt"))
-
-    def ask(self, target):
-        try:
-            self.link.request("GET", f"/station/desk/{target}", headers={"Authorization": "Basic " + base64.b64encode(b"office:office").decode()})
-            self.link.getresponse().read()
-        except (OSError, HTTPException):
-            self.link.close()
-
-    def run(self):
-        kits = 0
-        while not self.ends.wait(self.period - time.time() % self.period + 0.05):
-            for machine in MACHINES:
-                self.ask(f"slots?machine={machine}")
-            if time.time() >= kits:
-                kits = time.time() + 300
-                for target in (*(f"kit?product=CTRL-A&machine={machine}&boards=1" for machine in MACHINES), "overdue"):
-                    self.ask(target)
-
-
-def to_a_verdict(it, turns):
-    """The milliseconds from the last letter of a scan to its verdict, as the page's own clock has them."""
-    it.script("""window.took = []; let began = 0;
-        addEventListener("keydown", (event) => { if (event.key === "Enter") { began = performance.now(); } }, true);
-        new MutationObserver(() => { const v = document.getElementById("verdict");
-          if (began && !v.hidden && ["accepted", "refused"].includes(v.className)) { took.push(performance.now() - began); began = 0; } })
-          .observe(document.getElementById("verdict"), { attributes: true, childList: true, subtree: true });""")
-    for turn in range(turns):
-        it.does("A/OPEN" if turn % 2 == 0 else "A/SEAL", "K-4", kind="accepted")
-    return it.script("return window.took")
-
-
-def heap(it):
-    it.script("window.gc && gc()")
-    return it.script("return performance.memory.usedJSHeapSize") / 1e6
-
-
-def measure(program, minutes):
-    """From scan to verdict beside fifty stations' looks, the tab's memory over 5,000 scans, and how long a million connections last; the exit status."""
-    told = {}
-    with Site(program, station_flows.folder()) as site:
-        station_flows.plant(site)
-        with Operator(site) as it:
-            it.ready()
-            period = it.script("return import('/station/model.js').then((it) => it.period(2, 28_000))")
-            lookers = [Looker(site, period) for _ in range(STATIONS)]
-            for looker in lookers:
-                looker.start()
-            took = to_a_verdict(it, 200)
-            told["from scan to verdict, milliseconds"] = {"scans": len(took), "median": statistics.median(took), "95 %": statistics.quantiles(took, n=20)[-1], "stations that look": STATIONS}
-            memory = [heap(it)]
-            for turn in range(5_000 - 200):
-                it.does("A/OPEN" if turn % 2 == 0 else "A/SEAL", "K-4")
-                if turn % 1_000 == 999:
-                    memory.append(heap(it))
-            told["heap of the tab, MB, each 1,000 scans"] = [round(value, 1) for value in memory]
-            for looker in lookers[10:]:
-                looker.ends.set()
-            before, began = site.connections(), time.monotonic()
-            time.sleep(minutes * 60)
-            used = (site.connections() - before) / (time.monotonic() - began)
-            told["connections under ten stations"] = {"a second": round(used, 3), "days of a million": round(1_000_000 / used / A_DAY, 1), "measured minutes": minutes}
-            for looker in lookers:
-                looker.ends.set()
-    print(json.dumps(told, indent=1))
     return 0
