@@ -1,5 +1,6 @@
 """How the station looks, and what it costs: contrast, sizes, the keyboard alone, printed codes; pictures; and figures."""
 import base64
+import contextlib
 import pathlib
 import re
 import shutil
@@ -144,8 +145,14 @@ FLOWS = [letters_stand_out, all_is_on_the_screen, the_keyboard_alone, printed_co
 
 
 def taken(it, folder, name):
+    """Takes a picture of the screen as it stands."""
+    from selenium.common.exceptions import TimeoutException
     time.sleep(1.5)
-    it.page.save_screenshot(str(folder / f"station-{name}.png"))
+    for _ in range(10):
+        with contextlib.suppress(TimeoutException):  # of a machine that has much to do
+            it.page.save_screenshot(str(folder / f"station-{name}.png"))
+            return
+    raise Difference(f"no picture of {name}")
 
 
 def pictures(program, folder):
