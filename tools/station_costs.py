@@ -52,14 +52,14 @@ class Looker(threading.Thread):
                 self.ask(f"slots?machine={machine}")
             if self.clock() // KITS != turn:
                 turn = self.clock() // KITS
+                self.turns += 1
                 for target in (*(f"kit?product=CTRL-A&machine={machine}&boards=1" for machine in self.machines), "overdue"):
                     self.ask(target)
-                self.turns += 1
 
 
 def looked_together(site, machines, period, stations=10, looks=3):
     """How many connections so many looks of these stations use up, and how often the kits were among them: as (connections, turns)."""
-    shift = -(time.time() + 3.2 * period) % KITS  # a turn of the kits comes within the looks that are counted
+    shift = -(time.time() + 2.9 * period) % KITS  # a turn of the kits comes within the looks that are counted
     lookers = [Looker(site, period, [f"M{number + 1}" for number in range(machines)], shift) for _ in range(stations)]
     for looker in lookers:
         looker.start()
