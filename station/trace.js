@@ -116,7 +116,7 @@ export class TraceScreen {
     }
     const heads = head.map((name, column) => {
       const way = sort?.column === column ? sort.way : 0;
-      return el("th", { scope: "col", "aria-sort": way > 0 ? "ascending" : way < 0 ? "descending" : "none" }, button(`${name}${way > 0 ? " ▲" : way < 0 ? " ▼" : ""}`, () => {
+      return el("th", { scope: "col", "aria-sort": way > 0 ? "ascending" : way < 0 ? "descending" : "none" }, el("span", { class: "printed" }, name), button(`${name}${way > 0 ? " ▲" : way < 0 ? " ▼" : ""}`, () => {
         this.answer.sort = { column, way: way > 0 ? -1 : 1 };
         this.list();
         this.rows.querySelectorAll("th button")[column].focus();

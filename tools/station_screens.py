@@ -1,13 +1,16 @@
 """The screens against the program's `report`: every state of a slot, a line of a plant's size, who gets which reel, and what is printed."""
 import base64
 import csv
+import importlib.machinery
+import importlib.util
 import io
 import json
+import shutil
 import subprocess
 
 import station_flows
 from station_line import line_is_as_reported, real_line, report, shown_rows, shown_tiles, slots_of, tiles_are_as_reported, view
-from station_site import SETUP, Difference, Operator, wait_for
+from station_site import ROOT, SETUP, Difference, Operator, wait_for
 
 DAY_AND_AN_HOUR = 1500  # minutes: a reel of level 5a, which has 1,440, is expired then
 EXPIRES = 1400
@@ -256,4 +259,25 @@ def a_trace_is_printed_whole(site):
     return f"{len(rows)} rows on {len(pages)} pages where the screen shows {len(shown)}; the filter and the order stand in the evidence"
 
 
-FLOWS = [every_state_of_a_slot, a_real_line_is_on_one_screen, who_gets_which_reel, a_changeover_of_two_machines, the_overdue_list, a_trace_is_printed_whole]
+def the_operators_sheet_is_one_page(site):
+    """docs/station-operator.md as `make docs` has it, printed by a browser: one page of A4 that names each action and each state."""
+    if not shutil.which("pandoc"):
+        return "SKIPPED: there is no pandoc here: apt-get install pandoc"
+    loader = importlib.machinery.SourceFileLoader("print_docs", str(ROOT / "tools/print-docs"))
+    printer = importlib.util.module_from_spec(importlib.util.spec_from_loader("print_docs", loader))
+    loader.exec_module(printer)
+    text = (ROOT / "docs/station-operator.md").read_text()
+    (site.room / "sheet.html").write_text(printer.page("Station", printer.pandoc(text)))
+    with Operator(site) as it:
+        names = it.script("return import('/station/words.js').then((it) => [it.TEXTS.actions, it.TEXTS.line.states, it.TEXTS.line.urgent, it.TEXTS.verdict])")
+        codes = it.script("return import('/station/scan.js').then((it) => it.ACTIONS)")
+        it.page.get((site.room / "sheet.html").as_uri())
+        pages = printed(site, it, "sheet")
+    words = [names[0][code] for code in (*codes, "ENTER", "RECEIVE")] + [word for state, word in names[1].items() if state not in ("OK", "NOSHEET")] + [names[2]["BEHIND"], names[3]["refused"], names[3]["asked"]]
+    lacking = [word for word in words if word not in " ".join(text.split())]
+    if len(pages) != 1 or lacking or not pages[0].strip():
+        raise Difference(f"{len(pages)} pages, without {lacking}")
+    return f"one page, with {len(words)} words of the screen"
+
+
+FLOWS = [every_state_of_a_slot, a_real_line_is_on_one_screen, who_gets_which_reel, a_changeover_of_two_machines, the_overdue_list, a_trace_is_printed_whole, the_operators_sheet_is_one_page]
