@@ -15,7 +15,8 @@ STATIONS = 50
 A_DAY, KITS = 86_400, 300  # seconds; the second is the page's period of its sheets
 MILLION = 1_000_000
 ANEW, ANEW_TIMES = 0.3, 8  # as the page's: an answer of before is asked for again
-PERIODS = "return import('/station/model.js').then((it) => [2, 4, 8].map((machines) => [it.period(machines, 26_000), it.kitsADay(machines)]))"
+PERIODS = """return Promise.all([import("/station/model.js"), import("/station/setup.js")])
+    .then(([model, { USUAL }]) => [2, 4, 8].map((machines) => [model.period(machines, USUAL.connectionsADay), model.kitsADay(machines)]))"""
 
 
 class Looker(threading.Thread):
