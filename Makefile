@@ -25,8 +25,10 @@ plant-recall:  ## three lines in one PostgreSQL, and a recall over them, compare
 	$(say)
 	@examples/plant/try --check
 	@tools/three-ways-test >&2
-client-test:   ## kills `serve` twenty times under examples/client.py, and puts a proxy that fails before it | 20 s | openssl
+client-test:   ## kills `serve` twenty times under examples/client.py and tracedesk-send, puts a proxy that fails before it; tests the package | 1 min | openssl
 	@examples/client-test
+	@examples/client-test --client clients/python/tracedesk-send
+	@clients/python/tests/run
 station-test:  ## the station in headless Chromium behind nginx: each flow, kills, looks: docs/station.md | 5 min | chromium chromium-driver python3-selenium nginx zbar-tools poppler-utils openssl
 	$(say)
 	@tools/station-test

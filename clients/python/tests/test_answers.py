@@ -1,0 +1,116 @@
+"""Answers as data, what statuses ask, and reports as rows."""
+import http.server
+import json
+import threading
+import unittest
+
+from tracedesk import answers, desk, words
+from tracedesk.answers import Accepted, Faulty, Ignored, Meaning, NotFound, Refused, Unavailable
+
+
+class Answers(unittest.TestCase):
+    def test_each_kind_is_read(self):
+        for text, wanted in (
+            (b'{"Answer":"Accepted","MinutesLeft":null,"Number":5,"UniqueID":"m-01"}', Accepted(5, "m-01")),
+            (b'{"Answer":"Accepted","Number":7,"Reels":["K-01","K-02"],"UniqueID":"m-03"}', Accepted(7, "m-03", reels=("K-01", "K-02"))),
+            (b'{"Answer":"Accepted","Number":7,"Taken":0,"UniqueID":"m-03"}', Accepted(7, "m-03", taken=0)),
+            (b'{"Answer":"Refused","At":"K-01","Refusal":"Expired","UniqueID":"m-1"}', Refused("Expired", "m-1", "K-01")),
+            (b'{"Answer":"Refused","Number":1,"Refusal":"IdReused","UniqueID":"m-1"}', Refused("IdReused", "m-1", number=1)),
+            (b'{"Answer":"Ignored","MessageName":"CFX.Heartbeat"}', Ignored("CFX.Heartbeat")),
+            (b'{"Answer":"Faulty","Fault":"BodyMember","Member":"Quantity"}', Faulty("BodyMember", "Quantity")),
+            (b'{"Answer":"Faulty","Fault":"BadField","Line":3,"Column":2}', Faulty("BadField", line=3, column=2)),
+            (b'{"Answer":"NotFound","Kind":"Lot"}', NotFound("Lot")),
+            (b'{"Answer":"Unavailable"}', Unavailable()),
+        ):
+            self.assertEqual(answers.read(text), wanted)
+            self.assertEqual(answers.read(text).text, text)
+
+    def test_what_is_no_answer_is_none(self):
+        for text in (b"", b"<html>", b"[]", b"7", b'{"Answer":"Proxy","Fault":"NoAnswer"}', b'{"Answer":7}', b'{"Answer":"Accepted"}', b'{"Answer":"Unavailable"}\n', b"[" * 100_000):
+            self.assertIsNone(answers.read(text))
+
+    def test_statuses(self):
+        accepted, refused = b'{"Answer":"Accepted","Number":1,"UniqueID":"u"}', b'{"Answer":"Refused","At":"K","Refusal":"Expired","UniqueID":"u"}'
+        for status, body, wanted in (
+            (200, accepted, Meaning.ANSWER), (409, refused, Meaning.ANSWER), (400, b'{"Answer":"Faulty","Fault":"NotJson"}', Meaning.ANSWER),
+            (422, b'{"Answer":"Faulty","Fault":"BodyMember","Member":"Reel"}', Meaning.ANSWER), (202, b'{"Answer":"Ignored","MessageName":"x"}', Meaning.ANSWER),
+            (502, b"", Meaning.AGAIN), (503, b'{"Answer":"Unavailable"}', Meaning.AGAIN), (503, b'{"Answer":"Proxy","Fault":"ComeAgain"}', Meaning.AGAIN), (504, b"", Meaning.AGAIN),
+            (500, b"", Meaning.AGAIN), (599, b"", Meaning.AGAIN), (408, b"", Meaning.AGAIN), (429, b"", Meaning.AGAIN),
+            (401, b"", Meaning.STOP), (403, b"", Meaning.STOP), (404, b'{"Answer":"NotFound","Kind":"Path"}', Meaning.STOP), (405, b"", Meaning.STOP), (411, b"", Meaning.STOP),
+            (413, b'{"Answer":"Faulty","Fault":"BodyTooLarge"}', Meaning.STOP), (400, b'{"Answer":"Proxy","Fault":"BadRequest"}', Meaning.STOP),
+            (400, b'{"Answer":"Faulty","Fault":"BadHead"}', Meaning.STOP), (200, refused, Meaning.STOP), (409, accepted, Meaning.STOP), (200, b"", Meaning.STOP), (302, b"", Meaning.STOP),
+        ):
+            self.assertEqual(answers.verdict(status, body).meaning, wanted, (status, body))
+        self.assertEqual(answers.verdict(503, b"", "7").wait, 7.0)
+        self.assertEqual(answers.verdict(503, b"", "soon").wait, 0.0)
+
+    def test_a_mistyped_name_was_not_taken(self):
+        self.assertTrue(answers.is_taken(Ignored("CFX.Heartbeat")))
+        self.assertFalse(answers.is_taken(Ignored("TraceDesk.MaterialLoaded")))
+        self.assertIn("MaterialsLoaded", answers.why(Ignored("TraceDesk.MaterialLoaded")))
+
+    def test_a_reason_says_what_to_do(self):
+        for refusal in words.REFUSALS:
+            self.assertIn(words.REFUSALS[refusal], answers.why(Refused(refusal, "u", "K")))
+        self.assertEqual(len(words.REFUSALS), 28)
+
+
+REPORTS = {
+    "/slots?machine=M+1": "slot,position,reel,part,lot,remaining,minutes_left\n1,1,K-1,P,L,40,unlimited\n1,2,K-2,P,L,7,10050\n",
+    "/kit?product=PR&machine=M&boards=3": "slot,part,needed,reel,pieces,minutes_left\n1,P,9,K-1,4,unbaked\n1,P,9,,5,short\n",
+    "/reel?reel=K-1": "reel,part,lot,level,received,placed,scrapped,remaining,minutes_left,state\nK-1,P,L,1,10,1,2,7,unlimited,open\n",
+    "/trace/board?board=B&detail=4": 'designator,part,lot,reel,machine,slot,overdue\nC1,"P,1",L,K,M,1,yes\n',
+    "/trace/lot?lot=L&detail=1": "board\nB\n",
+    "/overdue?": "board,designator,reel,minute\n",
+    "/trace/lot?lot=X&detail=1": None,
+    "/trace/lot?lot=Y&detail=1": "pallet\nB\n",
+}
+
+
+class Answering(http.server.BaseHTTPRequestHandler):
+    protocol_version = "HTTP/1.1"
+
+    def log_message(self, *_):
+        """Nothing is told."""
+
+    def do_GET(self):
+        text = REPORTS[self.path]
+        body = (json.dumps({"Answer": "NotFound", "Kind": "Lot"}) if text is None else text).encode()
+        self.send_response(404 if text is None else 200)
+        self.send_header("Content-Length", str(len(body)))
+        self.end_headers()
+        self.wfile.write(body)
+
+
+class Reports(unittest.TestCase):
+    @classmethod
+    def setUpClass(cls):
+        cls.server = http.server.ThreadingHTTPServer(("127.0.0.1", 0), Answering)
+        threading.Thread(target=cls.server.serve_forever, daemon=True).start()
+
+    @classmethod
+    def tearDownClass(cls):
+        cls.server.shutdown()
+        cls.server.server_close()
+
+    def test_the_six(self):
+        with desk.Desk(f"http://127.0.0.1:{self.server.server_address[1]}", patience=5) as it:
+            self.assertEqual(it.slots("M 1"), [words.SlotRow("1", 1, "K-1", "P", "L", 40, None), words.SlotRow("1", 2, "K-2", "P", "L", 7, 10050)])
+            self.assertEqual(it.kit("PR", "M", 3), [words.KitRow("1", "P", 9, "K-1", 4, "unbaked"), words.KitRow("1", "P", 9, "", 5, "short")])
+            self.assertEqual(it.reel("K-1"), words.ReelCard("K-1", "P", "L", "1", 10, 1, 2, 7, None, "open"))
+            self.assertEqual(it.board("B"), [words.BoardPiece("C1", "P,1", "L", "K", "M", "1", True)])
+            self.assertEqual(it.lot("L", 1), [words.LotBoard("B")])
+            self.assertEqual(it.overdue(), [])
+            with self.assertRaises(desk.NotThere) as caught:
+                it.lot("X", 1)
+            self.assertEqual(caught.exception.kind, "Lot")
+            with self.assertRaises(desk.NotTaken):
+                it.lot("Y", 1)
+
+    def test_a_password_goes_by_tls_alone(self):
+        with self.assertRaises(ValueError):
+            desk.Desk("http://desk.plant", log_in=("m1", "secret"))
+
+
+if __name__ == "__main__":
+    unittest.main()

@@ -1,0 +1,161 @@
+"""What a desk answers, as data; and what each status asks of a sender: it is an answer, or again, or stop and tell a person."""
+from __future__ import annotations
+
+import dataclasses
+import email.utils
+import enum
+import json
+import time
+from typing import Any, Dict, Optional, Tuple, Union
+
+from . import words
+
+
+@dataclasses.dataclass(frozen=True)
+class Accepted:
+    """The command is kept, as the one of this number. At level 1 `minutes_left` is none too."""
+
+    number: int
+    unique_id: str
+    minutes_left: Optional[int] = None
+    reels: Tuple[str, ...] = ()
+    taken: Optional[int] = None
+    text: bytes = dataclasses.field(default=b"", compare=False, repr=False)
+
+
+@dataclasses.dataclass(frozen=True)
+class Refused:
+    """The command breaks a rule, `at` what is at fault; nothing was kept. `number` is that of a UniqueID that was used."""
+
+    refusal: str
+    unique_id: str
+    at: Optional[str] = None
+    number: Optional[int] = None
+    text: bytes = dataclasses.field(default=b"", compare=False, repr=False)
+
+
+@dataclasses.dataclass(frozen=True)
+class Ignored:
+    """The message is none of the desk's; nothing was done."""
+
+    message_name: str
+    text: bytes = dataclasses.field(default=b"", compare=False, repr=False)
+
+    @property
+    def is_mistyped(self) -> bool:
+        """Whether it was meant for the desk: its name begins as the desk's do."""
+        return self.message_name.startswith(words.PREFIX)
+
+
+@dataclasses.dataclass(frozen=True)
+class Faulty:
+    """The message, file or request is none; nothing was done."""
+
+    fault: str
+    member: Optional[str] = None
+    line: Optional[int] = None
+    column: Optional[int] = None
+    text: bytes = dataclasses.field(default=b"", compare=False, repr=False)
+
+
+@dataclasses.dataclass(frozen=True)
+class NotFound:
+    """There is no such board, lot, reel, machine or sheet."""
+
+    kind: str
+    text: bytes = dataclasses.field(default=b"", compare=False, repr=False)
+
+
+@dataclasses.dataclass(frozen=True)
+class Unavailable:
+    """Memory or the database was refused; nothing was changed."""
+
+    text: bytes = dataclasses.field(default=b"", compare=False, repr=False)
+
+
+Answer = Union[Accepted, Refused, Ignored, Faulty, NotFound, Unavailable]
+KINDS: Dict[str, Any] = {it.__name__: it for it in (Accepted, Refused, Ignored, Faulty, NotFound, Unavailable)}
+MEMBERS = {"Number": "number", "UniqueID": "unique_id", "MinutesLeft": "minutes_left", "Reels": "reels", "Taken": "taken", "Refusal": "refusal", "At": "at",
+           "MessageName": "message_name", "Fault": "fault", "Member": "member", "Line": "line", "Column": "column", "Kind": "kind"}
+
+
+def read_object(text: bytes) -> Dict[str, Any]:
+    """A JSON object; empty where the text is none."""
+    try:
+        told = json.loads(text)
+    except (ValueError, RecursionError):
+        return {}
+    return told if isinstance(told, dict) else {}
+
+
+def read(text: bytes) -> Optional[Answer]:
+    """The answer that a text is, or none: an answer is one line."""
+    told = read_object(text)
+    kind = KINDS.get(told.get("Answer", "")) if isinstance(told.get("Answer", ""), str) else None
+    if kind is None or b"\n" in text:
+        return None
+    found = {MEMBERS[name]: tuple(it) if isinstance(it, list) else it for name, it in told.items() if name in MEMBERS}
+    try:
+        return kind(**found, text=text)  # type: ignore[no-any-return]
+    except TypeError:
+        return None
+
+
+def is_taken(answer: Answer) -> bool:
+    """Whether nothing is left to do: it is accepted, or of a vocabulary that is not the desk's."""
+    return isinstance(answer, Accepted) or isinstance(answer, Ignored) and not answer.is_mistyped
+
+
+def why(answer: Answer) -> str:
+    """What is wrong with a message that was not taken, and what to do."""
+    if isinstance(answer, Refused):
+        return f"refused: {answer.refusal}{f' at {answer.at}' if answer.at else ''}. To do: {words.REFUSALS.get(answer.refusal, 'see docs/messages.md')}"
+    if isinstance(answer, Faulty):
+        return f"faulty: {answer.fault}{f' at {answer.member}' if answer.member else ''}. To do: {words.FAULTS.get(answer.fault, 'see docs/messages.md')}"
+    if isinstance(answer, Ignored):
+        return f"the desk has no message {answer.message_name}, and did nothing. To do: correct the name; it has {', '.join(it.WORD for it in words.MESSAGES)}"
+    return type(answer).__name__
+
+
+# --- Statuses
+
+
+class Meaning(enum.Enum):
+    """What a status asks of a sender."""
+
+    ANSWER = "the desk has said what it did"
+    AGAIN = "no answer so far: send the same bytes again"
+    STOP = "sending again changes nothing: tell a person"
+
+
+@dataclasses.dataclass(frozen=True)
+class Verdict:
+    """What came of a try: the answer, or why there is none, and how many seconds to wait at least."""
+
+    meaning: Meaning
+    answer: Optional[Answer] = None
+    why: str = ""
+    wait: float = 0.0
+
+
+def seconds_of(retry_after: Optional[str]) -> float:
+    """How long a Retry-After asks to wait: it is a number of seconds, or a date."""
+    if retry_after is None:
+        return 0.0
+    if retry_after.strip().isdecimal():
+        return float(retry_after)
+    try:
+        return max(0.0, email.utils.parsedate_to_datetime(retry_after).timestamp() - time.time())
+    except (TypeError, ValueError):
+        return 0.0
+
+
+def verdict(status: int, body: bytes, retry_after: Optional[str] = None) -> Verdict:
+    """What a status and a body ask of the sender of a message."""
+    answer = read(body)
+    if answer is not None and words.ANSWERS.get(status) == type(answer).__name__ and not (isinstance(answer, Faulty) and answer.fault in words.FAULTS_OF_A_REQUEST):
+        return Verdict(Meaning.ANSWER, answer)
+    if status in words.AGAIN or status >= 500:
+        return Verdict(Meaning.AGAIN, None, f"status {status}", seconds_of(retry_after))
+    told = words.STOPS.get(status, "that is no answer of a desk to a message; look at --url, and at --cert")
+    return Verdict(Meaning.STOP, None, f"status {status}: {told}: {body[:200].decode(errors='replace')}")

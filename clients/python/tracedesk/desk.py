@@ -1,0 +1,197 @@
+"""A desk, or the proxy in front of it: messages are sent until they are answered, and reports come as rows."""
+from __future__ import annotations
+
+import base64
+import csv
+import http.client
+import io
+import ssl
+import time
+import urllib.parse
+from typing import Any, Callable, Dict, List, Mapping, Optional, Tuple, TypeVar, Union
+
+from . import answers, forms, words
+
+FIRST_PAUSE, LONGEST_PAUSE = 0.05, 5.0  # seconds
+PATIENCE = 600.0  # seconds for one message: a desk of a month starts in two minutes
+TIMEOUT = 150.0  # seconds for one answer: longer than the proxy waits for the desk
+NEWS = 60.0  # seconds without an answer, after which that is told
+Found = TypeVar("Found")
+
+
+class GivenUp(Exception):
+    """No answer in all the time that was given."""
+
+
+class NotTaken(Exception):
+    """Why it can't be asked so: asking again would change nothing."""
+
+
+class NotThere(Exception):
+    """The report is of a board, lot, reel, machine or sheet that isn't there; `kind` says of what."""
+
+    def __init__(self, kind: str) -> None:
+        super().__init__(f"no such {kind.lower()}: look at the name")
+        self.kind = kind
+
+
+class Desk:
+    """One connection, made when it is needed and again when it is broken.
+
+    `trust` is an ssl.SSLContext, with a client's certificate where there is one; `log_in` a user and a password; `rate` the
+    most tries in a second, 0 for no limit; `patience` none for ever; `tell` takes a line of news.
+    """
+
+    def __init__(self, url: str = "http://127.0.0.1:8080", trust: Optional[ssl.SSLContext] = None, log_in: Optional[Tuple[str, str]] = None, *,
+                 patience: Optional[float] = PATIENCE, timeout: float = TIMEOUT, rate: float = 0.0, tell: Callable[[str], None] = lambda line: None) -> None:
+        self.url, self.trust, self.patience, self.timeout, self.tell = urllib.parse.urlsplit(url), trust, patience, timeout, tell
+        self.path = self.url.path.rstrip("/")
+        self.headers: Dict[str, str] = {}
+        if log_in:
+            if self.url.scheme != "https":
+                raise ValueError("a log-in wants an https URL: a password is not sent in the clear")
+            self.headers["Authorization"] = "Basic " + base64.b64encode(":".join(log_in).encode()).decode()
+        self.connection: Optional[http.client.HTTPConnection] = None
+        self.interval, self.next_try, self.sent_again = (1 / rate if rate else 0.0), 0.0, 0
+
+    def __enter__(self) -> "Desk":
+        return self
+
+    def __exit__(self, *_: object) -> None:
+        self.close()
+
+    def close(self) -> None:
+        """Ends the connection: the desk serves one at a time, so who has nothing to say holds none."""
+        if self.connection is not None:
+            self.connection.close()
+            self.connection = None
+
+    def connect(self) -> http.client.HTTPConnection:
+        host = str(self.url.hostname)
+        if self.url.scheme == "https":
+            return http.client.HTTPSConnection(host, self.url.port, timeout=self.timeout, context=self.trust or ssl.create_default_context())
+        return http.client.HTTPConnection(host, self.url.port, timeout=self.timeout)
+
+    def once(self, method: str, target: str, body: Optional[bytes], headers: Mapping[str, str]) -> Tuple[int, bytes, Optional[str]]:
+        """One request: the status, the body, and what Retry-After says."""
+        if self.connection is None:
+            self.connection = self.connect()
+        is_sent = True
+        try:
+            self.connection.request(method, self.path + target, body, {**self.headers, **headers})
+        except (BrokenPipeError, ConnectionResetError):
+            if self.connection.sock is None:
+                raise
+            is_sent = False  # who takes no more of the message may have said why
+        answer = self.connection.getresponse()
+        got = answer.read()  # all of it, or an error: http.client counts the bytes of Content-Length
+        if not is_sent:
+            self.close()
+        return answer.status, got, answer.getheader("Retry-After")
+
+    def until(self, call: Callable[[], Tuple[Optional[Found], str, float]]) -> Found:
+        """Tries until the call finds something. It gives none with why, and how long to wait at least."""
+        begun, pause = time.monotonic(), FIRST_PAUSE
+        end, news = None if self.patience is None else begun + self.patience, begun + NEWS
+        while True:
+            time.sleep(max(0.0, self.next_try - time.monotonic()))
+            self.next_try = time.monotonic() + self.interval
+            try:
+                found, why, wait = call()
+            except ssl.SSLCertVerificationError as fault:
+                raise NotTaken(f"the certificate of {self.url.netloc} is not to be trusted: {fault.verify_message}. Look at --ca") from None
+            except (OSError, http.client.HTTPException) as broken:
+                self.close()
+                found, why, wait = None, str(broken) or repr(broken), 0.0
+            if found is not None:
+                return found
+            now = time.monotonic()
+            if end is not None and now >= end:
+                raise GivenUp(f"no answer for {self.patience:.0f} seconds, the last time: {why}")
+            if now >= news:
+                self.tell(f"no answer for {now - begun:.0f} seconds, the last time: {why}")
+                news = now + NEWS
+            self.sent_again += 1
+            time.sleep(max(pause, wait) if end is None else min(max(pause, wait), end - now))
+            pause = min(2 * pause, LONGEST_PAUSE)
+
+    def send(self, message: Union[forms.Message, bytes]) -> answers.Answer:
+        """Sends the same bytes until they are answered, and gives the answer."""
+        text = message if isinstance(message, bytes) else message.text
+        if len(text) > forms.LONGEST_MESSAGE:
+            raise NotTaken(words.STOPS[413])
+
+        def call() -> Tuple[Optional[answers.Answer], str, float]:
+            told = answers.verdict(*self.once("POST", "/messages", text, {"Content-Type": "application/json"}))
+            if told.meaning is answers.Meaning.STOP:
+                raise NotTaken(told.why)
+            return told.answer, told.why, told.wait
+        return self.until(call)
+
+    # --- Reports
+
+    def report(self, path: str, detail: Optional[int] = None, **asked: Any) -> List[Any]:
+        """The rows of a report."""
+        target = path + "?" + urllib.parse.urlencode({**asked, **({"detail": detail} if detail else {})})
+
+        def call() -> Tuple[Optional[List[Any]], str, float]:
+            status, body, retry_after = self.once("GET", target, None, {})
+            if status == 200:
+                return rows_of(words.REPORTS[path, detail], body), "", 0.0
+            told = answers.read(body)
+            if status == 404 and isinstance(told, answers.NotFound):
+                raise NotThere(told.kind)
+            if status in words.AGAIN or status >= 500:
+                return None, f"status {status}", answers.seconds_of(retry_after)
+            raise NotTaken(f"status {status}: {words.STOPS.get(status, 'look at what was asked')}: {body[:200].decode(errors='replace')}")
+        return self.until(call)
+
+    def board(self, board: str, detail: int = 4) -> List[Any]:
+        """What is on a board: BoardPart, BoardLot, BoardReel or BoardPiece."""
+        return self.report("/trace/board", detail, board=board)
+
+    def lot(self, lot: str, detail: int = 4) -> List[Any]:
+        """Which boards hold a piece of a lot: LotBoard, LotPart, LotReel or LotPiece."""
+        return self.report("/trace/lot", detail, lot=lot)
+
+    def reel(self, reel: str) -> words.ReelCard:
+        """A reel's card."""
+        card: words.ReelCard = self.report("/reel", reel=reel)[0]
+        return card
+
+    def slots(self, machine: str) -> List[words.SlotRow]:
+        """What is mounted on a machine."""
+        return self.report("/slots", machine=machine)
+
+    def kit(self, product: str, machine: str, boards: int) -> List[words.KitRow]:
+        """The reels for so many boards."""
+        return self.report("/kit", product=product, machine=machine, boards=boards)
+
+    def overdue(self) -> List[words.OverduePiece]:
+        """The pieces that were placed past their floor life."""
+        return self.report("/overdue")
+
+
+def minutes(text: str) -> words.Minutes:
+    return None if text == "unlimited" else int(text) if text.isdecimal() else text
+
+
+READERS: Dict[Any, Callable[[str], Any]] = {"str": str, "int": int, "bool": lambda text: text == "yes", "Minutes": minutes}
+
+
+def rows_of(kind: Any, body: bytes) -> List[Any]:
+    """The rows of a report as tuples with names. Another header than the report's is told, since columns are read by their place."""
+    lines = csv.reader(io.StringIO(body.decode(), newline=""), strict=True)
+    header = next(lines, [])
+    if header != list(kind._fields):
+        raise NotTaken(f"a report with the columns {','.join(kind._fields)} is wanted, and {','.join(header)[:200]} came: the desk is of another version, or --url leads elsewhere")
+    readers = [READERS[kind.__annotations__[name] if isinstance(kind.__annotations__[name], str) else kind.__annotations__[name].__forward_arg__] for name in kind._fields]
+    return [kind(*(read(it) for read, it in zip(readers, line))) for line in lines]
+
+
+def trust_of(ca: Optional[str] = None, cert: Optional[str] = None, key: Optional[str] = None) -> ssl.SSLContext:
+    """Whom to trust: who signed the desk's certificate, or whom this machine trusts; with a certificate of one's own."""
+    trust = ssl.create_default_context(cafile=ca)
+    if cert:
+        trust.load_cert_chain(cert, key)
+    return trust

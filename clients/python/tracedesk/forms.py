@@ -1,0 +1,173 @@
+"""What a member may be, and what messages are made of. Each range is looked at when a message is made, before it is sent."""
+from __future__ import annotations
+
+import dataclasses
+import datetime
+import json
+import re
+import uuid
+from typing import Any, ClassVar, Dict, Optional, Protocol, Sequence, Tuple, Type
+
+EARLIEST = datetime.datetime(1970, 1, 1, tzinfo=datetime.timezone.utc)
+LATEST = datetime.datetime(9999, 12, 30, 22, tzinfo=datetime.timezone.utc)
+LONGEST_MESSAGE = 1_048_576
+
+
+class OutOfRange(ValueError):
+    """A member that a desk would not take; `member` is its name in the message."""
+
+    def __init__(self, member: str, why: str) -> None:
+        super().__init__(f"{member}: {why}")
+        self.member = member
+
+
+class Form(Protocol):
+    """What a member may be."""
+
+    def checked(self, member: str, value: Any) -> Any:
+        """The value, or OutOfRange."""
+
+
+@dataclasses.dataclass(frozen=True)
+class Text:
+    """A text of at most so many characters, of this pattern."""
+
+    longest: int
+    pattern: str
+    said: str
+
+    def checked(self, member: str, value: Any) -> Any:
+        if not isinstance(value, str) or len(value) > self.longest or not re.fullmatch(self.pattern.strip("^$"), value):
+            raise OutOfRange(member, f"{value!r:.100} is not {self.said}")
+        return value
+
+
+@dataclasses.dataclass(frozen=True)
+class Whole:
+    """A whole number."""
+
+    least: int
+    greatest: int
+
+    def checked(self, member: str, value: Any) -> Any:
+        if not isinstance(value, int) or isinstance(value, bool) or not self.least <= value <= self.greatest:
+            raise OutOfRange(member, f"{value!r:.100} is not a whole number from {self.least:,} to {self.greatest:,}")
+        return int(value)
+
+
+@dataclasses.dataclass(frozen=True)
+class OneOf:
+    """One of a few texts."""
+
+    texts: Tuple[str, ...]
+
+    def checked(self, member: str, value: Any) -> Any:
+        if not isinstance(value, str) or value not in self.texts:
+            raise OutOfRange(member, f"{value!r:.100} is none of the texts {', '.join(self.texts)}")
+        return value
+
+
+@dataclasses.dataclass(frozen=True)
+class ListOf:
+    """A list of one to so many."""
+
+    form: Form
+    most: int
+
+    def checked(self, member: str, value: Any) -> Any:
+        if isinstance(value, (str, bytes, dict)) or not isinstance(value, Sequence) or not 1 <= len(value) <= self.most:
+            raise OutOfRange(member, f"it is not a list of 1 to {self.most:,}: tell of more in several messages")
+        return tuple(self.form.checked(member, it) for it in value)
+
+
+@dataclasses.dataclass(frozen=True)
+class Row:
+    """A row of a list, which was looked at when it was made."""
+
+    kind: Type["Part"]
+
+    def checked(self, member: str, value: Any) -> Any:
+        if not isinstance(value, self.kind):
+            raise OutOfRange(member, f"{value!r:.100} is no {self.kind.__name__}")
+        return value
+
+
+def Rows(kind: Type["Part"], most: int) -> ListOf:
+    """A list of rows."""
+    return ListOf(Row(kind), most)
+
+
+@dataclasses.dataclass(frozen=True)
+class Where:
+    """A member that is read where another one is this, and left out of the message elsewhere."""
+
+    other: str
+    value: str
+    form: Form
+
+    def checked(self, member: str, value: Any) -> Any:
+        return self.form.checked(member, value)
+
+
+Members = Tuple[Tuple[str, str, Form], ...]
+
+
+class Part:
+    """A body, or a row of one: its members by name, by attribute, and their forms."""
+
+    MEMBERS: ClassVar[Members] = ()
+
+    def __post_init__(self) -> None:
+        for name, attribute, form in self.MEMBERS:
+            given = getattr(self, attribute)
+            if isinstance(form, Where) and getattr(self, form.other) != form.value:
+                given = None
+            else:
+                given = form.checked(name, given)
+            object.__setattr__(self, attribute, given)
+
+    def body(self) -> Dict[str, Any]:
+        """The members as they stand in a message."""
+        found = {name: getattr(self, attribute) for name, attribute, _ in self.MEMBERS}
+        return {name: shown(it) for name, it in found.items() if it is not None}
+
+
+def shown(value: Any) -> Any:
+    if isinstance(value, tuple):
+        return [it.body() if isinstance(it, Part) else it for it in value]
+    return value
+
+
+def stamp(at: Optional[datetime.datetime]) -> str:
+    """A time as a message has it: now, or a moment that knows its offset."""
+    moment = at or datetime.datetime.now(datetime.timezone.utc)
+    if moment.tzinfo is None:
+        raise OutOfRange("TimeStamp", "a time without an offset is another minute elsewhere: give it tzinfo")
+    if not EARLIEST <= moment <= LATEST:
+        raise OutOfRange("TimeStamp", f"{moment} is not from {EARLIEST:%Y-%m-%d} to {LATEST:%Y-%m-%d %H:%M}")
+    return moment.astimezone(datetime.timezone.utc).strftime("%Y-%m-%dT%H:%M:%SZ")
+
+
+@dataclasses.dataclass(frozen=True)
+class Message:
+    """A message that is made: what names it, and its bytes, which stay the same when it is sent again."""
+
+    word: str
+    unique_id: str
+    text: bytes
+
+
+class Command(Part):
+    """One of the seventeen messages."""
+
+    WORD: ClassVar[str] = ""
+
+    def message(self, source: str, *, unique_id: Optional[str] = None, at: Optional[datetime.datetime] = None) -> Message:
+        """The message of this sender, of now and with a UniqueID of its own where none are given."""
+        from . import words
+        uid = words.NAME.checked("UniqueID", str(uuid.uuid4()) if unique_id is None else unique_id)
+        envelope = {"MessageName": words.PREFIX + self.WORD, "UniqueID": uid, "Source": words.NAME.checked("Source", source), "TimeStamp": stamp(at), "MessageBody": self.body()}
+        text = json.dumps(envelope, separators=(",", ":")).encode()
+        if len(text) > LONGEST_MESSAGE:
+            raise OutOfRange(self.MEMBERS[-1][0], f"the message has {len(text):,} bytes, and a desk takes {LONGEST_MESSAGE:,}: tell it in several")
+        return Message(self.WORD, uid, text)

@@ -1,0 +1,250 @@
+"""Sends messages to a desk, one after the other, until each has its answer: none is lost and none acts twice.
+
+usage: tracedesk-send [--url URL] [WHO] [HOW] MESSAGES ANSWERS
+       tracedesk-send [--url URL] [WHO] [HOW] --spool FOLDER [--follow FOLDER | --follow - | --stay]
+       tracedesk-send --spool FOLDER --put MESSAGES | --put -
+       tracedesk-send --spool FOLDER --again all | --again NAME ..
+
+examples:
+  tracedesk-send first.jsonl first.answers
+  tracedesk-send --url https://desk.plant --ca server.crt --user m1 --password-file m1.password --spool m1 --follow /m1/out
+  machine | tracedesk-send --url https://desk.plant --ca server.crt --cert m2.crt --key m2.key --spool m2 --follow -
+  tracedesk-send --spool m1 --put mended.jsonl
+  tracedesk-send --spool m1 --again 000000000007
+
+With two files it posts the lines of MESSAGES, each with the UniqueID that stands in it, and adds the desk's answers to
+ANSWERS. Started again, it goes on behind the last whole line of ANSWERS.
+
+With --spool it sends what waits in that folder, and each message is on disk there before it is sent. Started again after
+whatever ended it, it goes on where it was. One sender has a spool at a time; any number may put messages in.
+--follow FOLDER  takes in the files *.json and *.jsonl of FOLDER, by their names, a message a line, and deletes each once it
+                 is in the spool. Write a file under another ending and rename it, so that it is there whole
+--follow -       takes in the lines of standard input, and prints 'kept NAME' for each once it is on disk
+--stay           goes on when nothing waits, for programs that put messages in
+--put            puts lines into the spool and sends nothing
+--again          puts messages that were set aside behind those that wait, once what they name is mended
+
+No answer is a connection that breaks, a port where nobody listens, and status 408, 429 or 5xx of the desk or of what
+stands in front of it. Then the same bytes are sent again, after a wait that grows, or as long as Retry-After says: a
+message that was accepted the first time gets its first answer and changes nothing. An answer is what a desk says of
+a message, with status 200, 202, 400, 409 or 422. Anything else ends the run, since sending again would change nothing:
+a log-in that is refused, a message that is too long, a certificate that is another's, an answer that is no desk's.
+
+A message that is refused, faulty, or Ignored though its name begins with TraceDesk. was not taken. With a spool it is set
+aside in its folder `aside`, with the reason beside it, and the next one is sent. With two files its answer stands in ANSWERS.
+--stop-at-refusal  ends the run at such a message, on standard error. It stays the next one that is sent, so that it is sent
+                   again once what it names is mended
+--rate N           at most so many tries in a second (with a spool 40, since nginx lets 50 pass); 0 is no limit
+--patience SECONDS for one message: 600, and with a spool no end. A line tells each minute that there is no answer
+The password stands in FILE, or in the environment as TRACEDESK_PASSWORD.
+
+Exit status: 0 every message has its answer; 1 stopped at a message that was not taken; or some are set aside in
+this run, or with two files were Ignored though their names begin with TraceDesk.; 2 bad command line, or a file or a spool that
+can't be used; 3 given up: no answer in all the time that was given; 4 a message can't be sent so, and standard error says
+why. With 3 and 4 what has no answer is sent by the next run.
+"""
+from __future__ import annotations
+
+import argparse
+import os
+import pathlib
+import sys
+import urllib.parse
+from typing import List, Optional
+
+from . import answers, desk, sender, spool
+
+NAME = pathlib.Path(sys.argv[0]).name
+RATE = 40.0  # messages a second of one spool
+
+
+class BadFile(Exception):
+    """What is wrong with a file that was named."""
+
+
+def tell(line: object) -> None:
+    print(f"{NAME}: {line}", file=sys.stderr, flush=True)
+
+
+# --- Two files
+
+
+def whole_lines(path: str) -> List[bytes]:
+    """The whole lines of a file, which is made where there is none."""
+    with open(path, "a+b") as it:
+        it.seek(0)
+        return it.read().split(b"\n")[:-1]
+
+
+def compare(messages: List[bytes], known: List[bytes]) -> None:
+    """Looks whether the answers that are there are a desk's to the first messages: one may name its message by UniqueID."""
+    if len(known) > len(messages):
+        raise BadFile(f"it has {len(known)} answers, and there are {len(messages)} messages: name a new file for answers")
+    for number, (line, answer) in enumerate(zip(messages, known), 1):
+        told = answers.read(answer)
+        if told is None or isinstance(told, (answers.NotFound, answers.Unavailable)):
+            raise BadFile(f"its line {number} is no answer of a desk, so that message may not have been taken: cut the file before that line")
+        uid = getattr(told, "unique_id", None)
+        if uid is not None and uid != answers.read_object(line).get("UniqueID"):
+            raise BadFile(f"its line {number} answers {uid}, which is not the message of that line: name a new file for answers")
+
+
+def send_all(to: desk.Desk, messages: List[bytes], known: List[bytes], path: str, stops: bool) -> int:
+    """Sends what has no answer yet, and adds each answer to the file before the next message goes out; how many were mistyped."""
+    mistyped = 0
+    with open(path, "ab") as file:
+        file.truncate(sum(len(it) + 1 for it in known))  # a line that was cut goes
+        for line in messages[len(known):]:
+            answer = to.send(line)
+            if not answers.is_taken(answer):
+                if stops:
+                    raise sender.Stopped(answer.text.decode(errors="replace") + "\n" + answers.why(answer))
+                if isinstance(answer, answers.Ignored):
+                    tell(answers.why(answer))
+                    mistyped += 1
+            file.write(answer.text + b"\n")
+            file.flush()
+            os.fsync(file.fileno())
+    return mistyped
+
+
+def run_files(asked: argparse.Namespace, to: desk.Desk) -> int:
+    try:
+        messages, known = spool.lines_of(pathlib.Path(asked.files[0]).read_bytes()), whole_lines(asked.files[1])
+        compare(messages, known)
+    except BadFile as fault:
+        tell(f"{asked.files[1]}: {fault}")
+        return 2
+    return 1 if send_all(to, messages, known, asked.files[1], asked.stop_at_refusal) else 0
+
+
+# --- A spool
+
+
+def acknowledge(name: str) -> None:
+    print(f"kept {name}", flush=True)
+
+
+def put(into: spool.Spool, file: str) -> int:
+    lines = spool.lines_of(sys.stdin.buffer.read() if file == "-" else pathlib.Path(file).read_bytes())
+    for line in lines:
+        into.put(line)
+    print(f"{len(lines)} put into {into.folder}, {len(into.names())} wait")
+    return 0
+
+
+def again(into: spool.Spool, names: List[str]) -> int:
+    found = into.again(into.set_aside() if names == ["all"] else names)
+    print(f"{len(found)} wait again{', as ' + ' '.join(found) if found else ''}")
+    return 0
+
+
+def run_spool(asked: argparse.Namespace, to: desk.Desk) -> int:
+    into = spool.Spool(asked.spool)
+    follower: Optional[sender.Follower] = None
+    if asked.follow == "-":
+        follower = sender.Lines(into, sys.stdin.buffer, acknowledge, tell)
+    elif asked.follow:
+        follower = sender.Folder(into, pathlib.Path(asked.follow), tell)
+    run = sender.Sender(into, to, asked.stop_at_refusal, tell)
+    run.run(follower, asked.stay)
+    return 1 if run.aside else 0
+
+
+# --- The command line
+
+
+def url(text: str) -> str:
+    """A URL as it is written, if it names a machine."""
+    parts = urllib.parse.urlsplit(text)
+    if parts.scheme not in ("http", "https") or not parts.hostname or parts.port == 0:
+        raise ValueError
+    return text
+
+
+def reader_of_words() -> argparse.ArgumentParser:
+    reader = argparse.ArgumentParser(prog=NAME, description=__doc__, formatter_class=argparse.RawDescriptionHelpFormatter, usage=argparse.SUPPRESS)
+    reader.add_argument("--url", type=url, default="http://127.0.0.1:8080", help="the desk, or the proxy in front of it (http://127.0.0.1:8080)")
+    reader.add_argument("--ca", metavar="FILE", help="who signed the other's certificate; else whom this machine trusts")
+    reader.add_argument("--user", metavar="NAME")
+    reader.add_argument("--password-file", metavar="FILE")
+    reader.add_argument("--cert", metavar="FILE", help="a certificate in place of a password")
+    reader.add_argument("--key", metavar="FILE", help="its key")
+    reader.add_argument("--stop-at-refusal", action="store_true")
+    reader.add_argument("--rate", type=float, metavar="N", help="tries in a second")
+    reader.add_argument("--patience", type=float, metavar="SECONDS", help="for one message")
+    reader.add_argument("--timeout", type=float, default=desk.TIMEOUT, metavar="SECONDS", help=f"for one answer ({desk.TIMEOUT:.0f})")
+    reader.add_argument("--spool", metavar="FOLDER", help="where messages wait")
+    what = reader.add_mutually_exclusive_group()
+    what.add_argument("--follow", metavar="FOLDER", help="what is taken into the spool: a folder, or - for standard input")
+    what.add_argument("--stay", action="store_true")
+    what.add_argument("--put", metavar="FILE")
+    what.add_argument("--again", nargs="+", metavar="NAME")
+    reader.add_argument("files", nargs="*", metavar="MESSAGES ANSWERS")
+    return reader
+
+
+def words() -> argparse.Namespace:
+    """What the command line says."""
+    reader = reader_of_words()
+    asked = reader.parse_args()
+    if len(asked.files) != (0 if asked.spool else 2):
+        reader.error("name --spool FOLDER, or two files: MESSAGES and ANSWERS")
+    if not asked.spool and (asked.follow or asked.stay or asked.put or asked.again):
+        reader.error("--follow, --stay, --put and --again want --spool FOLDER")
+    if asked.follow not in (None, "-") and not pathlib.Path(asked.follow).is_dir():
+        reader.error(f"--follow: {asked.follow} is no folder: make it, or name another")
+    if (asked.user or asked.cert or asked.ca) and not asked.url.startswith("https:"):
+        reader.error("--user, --cert and --ca want an https URL: a password is not sent in the clear")
+    if asked.user and not asked.password_file and "TRACEDESK_PASSWORD" not in os.environ:
+        reader.error("--user wants --password-file FILE, or the password in the environment as TRACEDESK_PASSWORD")
+    return asked
+
+
+def desk_of(asked: argparse.Namespace) -> desk.Desk:
+    """The desk that the command line names."""
+    trust = desk.trust_of(asked.ca, asked.cert, asked.key) if asked.url.startswith("https:") else None
+    log_in = None
+    if asked.user:
+        password = pathlib.Path(asked.password_file).read_text().rstrip("\r\n") if asked.password_file else os.environ["TRACEDESK_PASSWORD"]
+        log_in = asked.user, password
+    patience = asked.patience if asked.patience is not None else None if asked.spool else desk.PATIENCE
+    rate = asked.rate if asked.rate is not None else RATE if asked.spool else 0.0
+    return desk.Desk(asked.url, trust, log_in, patience=patience, timeout=asked.timeout, rate=rate, tell=tell)
+
+
+def run(asked: argparse.Namespace) -> int:
+    if asked.put:
+        return put(spool.Spool(asked.spool), asked.put)
+    if asked.again:
+        return again(spool.Spool(asked.spool), asked.again)
+    to = desk_of(asked)
+    try:
+        return run_spool(asked, to) if asked.spool else run_files(asked, to)
+    finally:
+        to.close()
+        tell(f"{to.sent_again} times sent again")
+
+
+def main() -> int:
+    asked = words()
+    try:
+        return run(asked)
+    except sender.Stopped as answer:
+        tell(answer)
+        return 1
+    except desk.GivenUp as why:
+        tell(f"given up: {why}")
+        return 3
+    except desk.NotTaken as why:
+        tell(why)
+        return 4
+    except (spool.SpoolError, OSError, UnicodeError, ValueError) as fault:
+        tell(fault)
+        return 2
+    except KeyboardInterrupt:
+        return 130
+
+
+if __name__ == "__main__":
+    sys.exit(main())
