@@ -2,7 +2,7 @@
 import { isName, MOST_BOARDS } from "./names.js";
 import * as desk from "./desk.js";
 
-const USUAL = {
+export const USUAL = {
   title: "Line",
   boards: 10,
   expires: 60,

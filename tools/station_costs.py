@@ -15,7 +15,8 @@ STATIONS = 50
 A_DAY, KITS = 86_400, 300  # seconds; the second is the page's period of its sheets
 MILLION = 1_000_000
 ANEW, ANEW_TIMES = 0.3, 8  # as the page's: an answer of before is asked for again
-PERIODS = "return import('/station/model.js').then((it) => [2, 4, 8].map((machines) => [it.period(machines, 26_000), it.kitsADay(machines)]))"
+PERIODS = """return Promise.all([import("/station/model.js"), import("/station/setup.js")])
+    .then(([model, { USUAL }]) => [2, 4, 8].map((machines) => [model.period(machines, USUAL.connectionsADay), model.kitsADay(machines)]))"""
 
 
 class Looker(threading.Thread):
@@ -52,14 +53,14 @@ class Looker(threading.Thread):
                 self.ask(f"slots?machine={machine}")
             if self.clock() // KITS != turn:
                 turn = self.clock() // KITS
+                self.turns += 1
                 for target in (*(f"kit?product=CTRL-A&machine={machine}&boards=1" for machine in self.machines), "overdue"):
                     self.ask(target)
-                self.turns += 1
 
 
 def looked_together(site, machines, period, stations=10, looks=3):
     """How many connections so many looks of these stations use up, and how often the kits were among them: as (connections, turns)."""
-    shift = -(time.time() + 3.2 * period) % KITS  # a turn of the kits comes within the looks that are counted
+    shift = -(time.time() + 2.9 * period) % KITS  # a turn of the kits comes within the looks that are counted
     lookers = [Looker(site, period, [f"M{number + 1}" for number in range(machines)], shift) for _ in range(stations)]
     for looker in lookers:
         looker.start()

@@ -242,7 +242,10 @@ class Operator:
         self.page = None
         self.agrees = True  # whether its Line is compared with `report` at the end
         if begin:
-            self.open()
+            with contextlib.ExitStack() as kept:
+                kept.callback(self.close)
+                self.open()
+                kept.pop_all()
 
     def __enter__(self):
         return self
