@@ -68,28 +68,36 @@ export function layout({ tiles, more, urgent, machines, lines, draw }) {
   const main = machines.parentElement, isWide = main.clientWidth >= 1200;
   const measured = measure(lines, machines, draw);
   machines.replaceChildren();
-  urgent.replaceChildren(...tiles);
-  const style = getComputedStyle(main), width = main.clientWidth - parseFloat(style.paddingLeft) - parseFloat(style.paddingRight);
+  const style = getComputedStyle(main), width = main.clientWidth - parseFloat(style.paddingLeft) - parseFloat(style.paddingRight) - (isWide ? 0 : GAP);
   const others = [...main.children].filter((it) => it !== urgent && it !== machines).reduce((sum, it) => sum + it.getBoundingClientRect().height + 6, 0);
   const room = main.clientHeight - others - parseFloat(style.paddingTop) - parseFloat(style.paddingBottom);
   const left = () => room - urgent.getBoundingClientRect().height - 6;
-  let shown = tiles.length, found = largest(lines, width, left(), measured);
-  const few = LEAST_TILES * (isWide ? 2 : 1);
-  while (shown > few && (isWide ? !found : left() < room / 2)) {
-    shown -= 1;
-    urgent.replaceChildren(...tiles.slice(0, shown), more(tiles.length - shown));
-    found = largest(lines, width, left(), measured);
+  const fits = (count) => {
+    urgent.replaceChildren(...tiles.slice(0, count), ...(count < tiles.length ? [more(tiles.length - count)] : []));
+    const found = largest(lines, width, left(), measured);
+    return { found, isEnough: isWide ? found !== null : left() >= room / 2 };
+  };
+  const all = fits(tiles.length);
+  let least = Math.min(tiles.length, LEAST_TILES * (isWide ? 2 : 1)), most = tiles.length;
+  while (!all.isEnough && most - least > 1) { // `least` tiles fit or have to, `most` don't
+    const middle = Math.floor((least + most) / 2);
+    [least, most] = fits(middle).isEnough ? [middle, most] : [least, middle];
   }
-  const first = found?.size ?? SIZES.find((it) => it <= SCROLLED && (measured.width * it) / MEASURED <= width) ?? SIZES.at(-1);
-  for (const size of found ? SIZES.filter((it) => it <= first) : [first]) {
-    const part = size / MEASURED, count = Math.max(1, Math.floor((width + GAP) / (measured.width * part + GAP)));
-    const columns = size === found?.size ? found.columns : balanced(lines, count, Infinity, { row: measured.row * part, head: measured.head * part });
+  show({ main, machines, lines, draw, measured, width, found: (all.isEnough ? all : fits(least)).found });
+}
+
+/** Shows the machines in columns: as was found, or, where they don't fit on the screen, to scroll. */
+function show({ main, machines, lines, draw, measured, width, found }) {
+  const size = found?.size ?? SIZES.find((it) => it <= SCROLLED && (measured.width * it) / MEASURED <= width) ?? SIZES.at(-1);
+  for (const letters of found ? SIZES.filter((it) => it <= size) : [size]) {
+    const part = letters / MEASURED, count = Math.max(1, Math.floor((width + GAP) / (measured.width * part + GAP)));
+    const columns = letters === found?.size ? found.columns : balanced(lines, count, Infinity, { row: measured.row * part, head: measured.head * part });
     machines.className = "machines";
-    machines.style.setProperty("--letters", `${size}px`);
+    machines.style.setProperty("--letters", `${letters}px`);
     machines.style.setProperty("--columns", String(columns.length));
     machines.replaceChildren(...draw(columns));
     if (main.scrollHeight <= main.clientHeight) {
-      break;
+      break; // what was measured in other letters may be a row too high
     }
   }
 }

@@ -18,7 +18,7 @@ import uuid
 ROOT = pathlib.Path(__file__).resolve().parent.parent
 PEOPLE = {"op": "senders", "office": "readers"}  # their passwords are their names
 SETUP = {"title": "Line 1", "machines": [{"machine": "M1", "product": "CTRL-A"}, {"machine": "M2", "product": "CTRL-A"}], "boards": 50, "expires": 60}
-PATIENCE = 30  # seconds
+PATIENCE = 90  # seconds: of a machine that has much to do
 
 
 class Difference(Exception):
