@@ -64,15 +64,25 @@ export class ReceiveScreen {
     const receipt = receiptOf(found, this.station.setup.label), known = this.levels.get(receipt.part);
     this.fill(known ? { ...receipt, level: known } : receipt);
     const read = filled(TEXTS.receive.read, { fields: Object.entries(found).map(([name, value]) => `${name} ${value}`).join(", ") });
-    this.say(this.moveOn() ? `${read}. ${TEXTS.receive.ready}` : read, false);
+    this.moveOn();
+    this.say(`${read}. ${this.wanted()}`, false);
   }
 
-  /** To the first empty field, or to the level; true where all is filled in. */
+  /** The first field that is empty, or undefined. */
+  empty() {
+    const { elements } = this.form;
+    return [...FIELDS, ...(elements.level.value === "6" ? ["minutes"] : [])].map((name) => elements[name]).find((it) => it.value.trim() === "");
+  }
+
+  /** What is wanted next, in words. */
+  wanted() {
+    const texts = TEXTS.receive, next = this.empty();
+    return next ? filled(texts.next, { field: texts[next.name] }) : this.form.elements.level.value ? texts.ready : texts.levelWanted;
+  }
+
+  /** To the first empty field, or to the level. */
   moveOn() {
-    const { elements } = this.form, level = this.form.querySelector("input[type=radio]:checked");
-    const next = [...FIELDS, ...(elements.level.value === "6" ? ["minutes"] : [])].map((name) => elements[name]).find((it) => it.value.trim() === "");
-    (next ?? level ?? this.form.querySelector("input[type=radio]")).focus();
-    return !next && level !== null;
+    (this.empty() ?? this.form.querySelector("input[type=radio]:checked") ?? this.form.querySelector("input[type=radio]")).focus();
   }
 
   /** Takes an action code: a level, a digit of the pieces or of a label's minutes, or that all is filled in. */
@@ -84,6 +94,7 @@ export class ReceiveScreen {
       this.digits += action; // the first one takes the place of what stood there
       elements[elements.level.value === "6" ? "minutes" : "quantity"].value = this.digits;
       this.kept = this.held();
+      this.say(this.wanted(), false);
       return true;
     } else if (action === "ENTER") {
       this.send();
@@ -92,6 +103,7 @@ export class ReceiveScreen {
       return false;
     }
     this.keep();
+    this.say(this.wanted(), false);
     return true;
   }
 
@@ -106,7 +118,8 @@ export class ReceiveScreen {
     event.preventDefault();
     const { activeElement } = document;
     if (activeElement?.form === this.form && activeElement.tagName === "INPUT" && activeElement.type !== "radio") {
-      this.say(this.moveOn() ? TEXTS.receive.ready : TEXTS.receive.hint, false);
+      this.moveOn();
+      this.say(this.wanted(), false);
     } else {
       this.send();
     }

@@ -176,7 +176,7 @@ export class Scan {
   held() {
     const { strip, actions } = TEXTS;
     if (this.asking) {
-      const { action, values } = this.asking, what = values.reel ?? values.slot;
+      const { action, values } = this.asking, what = values.reel ?? filled(strip.slot, values);
       return [filled(strip.number, { action: actions[action], what }), this.digits];
     }
     if (this.action) {
@@ -200,8 +200,8 @@ export class Scan {
     if (!known.known) {
       return strip.slotUnknown;
     }
-    const part = known.part ?? "?", left = piecesText(known.reels.reduce((sum, it) => sum + Number(it.remaining), 0));
-    const does = this.isLive(this.slot) ? filled(strip.slotSplice, { part, reel: known.reels[0]?.reel ?? "?", left }) : filled(strip.slotLoad, { part });
+    const part = known.part ?? "?", [front] = known.reels, all = piecesText(known.reels.reduce((sum, it) => sum + Number(it.remaining), 0));
+    const does = this.isLive(this.slot) ? filled(known.reels.length > 1 ? strip.slotSpliceMore : strip.slotSplice, { part, reel: front?.reel ?? "?", left: piecesText(front?.remaining ?? 0), all }) : filled(strip.slotLoad, { part });
     return known.sheet && !known.part ? strip.slotNoSheet : does;
   }
 }

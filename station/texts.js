@@ -39,6 +39,7 @@ export const TEXTS = {
     slot: "Slot {slot} of {machine}",
     slotLoad: "wants {part}, is empty. Scan the reel to LOAD",
     slotSplice: "wants {part}, has {reel} with {left} left. Scan the reel to SPLICE behind it",
+    slotSpliceMore: "wants {part}, has {reel} with {left} left, and {all} on the tape. Scan the reel to SPLICE behind it",
     slotUnknown: "The desk has not said what is on it. Scan the reel",
     slotNoSheet: "is on no row of the sheet that is shown. Scan the reel",
     reel: "Reel {reel}",
@@ -141,7 +142,8 @@ export const TEXTS = {
     notTaken: "Not received: {title}. Correct it and send it again.",
     read: "Read from the label: {fields}",
     bad: "{field} is not as the desk takes it.",
-    levelWanted: "Choose the moisture level: it is on the bag.",
+    next: "Now scan or fill in: {field}.",
+    levelWanted: "Now scan or choose the moisture level: it is on the bag.",
   },
   changeover: {
     title: "Changeover",

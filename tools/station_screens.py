@@ -206,7 +206,7 @@ def a_changeover_of_two_machines(site):
 
 def printed(site, it, name):
     """The text of the pages that the browser prints, a list with a text for each."""
-    (site.room / f"{name}.pdf").write_bytes(base64.b64decode(it.page.execute_cdp_cmd("Page.printToPDF", {"printBackground": True, "paperWidth": 8.27, "paperHeight": 11.69})["data"]))
+    (site.room / f"{name}.pdf").write_bytes(base64.b64decode(it.page.execute_cdp_cmd("Page.printToPDF", {"printBackground": True, "preferCSSPageSize": True, "paperWidth": 8.27, "paperHeight": 11.69})["data"]))
     return subprocess.run(["pdftotext", "-layout", site.room / f"{name}.pdf", "-"], check=True, capture_output=True, text=True).stdout.split("\f")[:-1]
 
 
@@ -260,24 +260,28 @@ def a_trace_is_printed_whole(site):
 
 
 def the_operators_sheet_is_one_page(site):
-    """docs/station-operator.md as `make docs` has it, printed by a browser: one page of A4 that names each action and each state."""
+    """docs/station-operator.md as `make docs` and as the package has it, printed by a browser: one page of A4 that names each action and each state."""
     if not shutil.which("pandoc"):
         return "SKIPPED: there is no pandoc here: apt-get install pandoc"
     loader = importlib.machinery.SourceFileLoader("print_docs", str(ROOT / "tools/print-docs"))
     printer = importlib.util.module_from_spec(importlib.util.spec_from_loader("print_docs", loader))
     loader.exec_module(printer)
     text = (ROOT / "docs/station-operator.md").read_text()
-    (site.room / "sheet.html").write_text(printer.page("Station", printer.pandoc(text)))
+    (site.room / "made.html").write_text(printer.page("Station", printer.pandoc(text)))
+    packaged = subprocess.run(["pandoc", "--from", "gfm", "--to", "html5", "--standalone", "--metadata", "pagetitle=Station", "--include-in-header", ROOT / "packaging/style.html"], input=text, capture_output=True, text=True, check=True)
+    (site.room / "packaged.html").write_text(packaged.stdout)
     with Operator(site) as it:
         names = it.script("return import('/station/words.js').then((it) => [it.TEXTS.actions, it.TEXTS.line.states, it.TEXTS.line.urgent, it.TEXTS.verdict])")
         codes = it.script("return import('/station/scan.js').then((it) => it.ACTIONS)")
-        it.page.get((site.room / "sheet.html").as_uri())
-        pages = printed(site, it, "sheet")
+        pages = []
+        for name in ("made", "packaged"):
+            it.page.get((site.room / f"{name}.html").as_uri())
+            pages.append(printed(site, it, name))
     words = [names[0][code] for code in (*codes, "ENTER", "RECEIVE")] + [word for state, word in names[1].items() if state not in ("OK", "NOSHEET")] + [names[2]["BEHIND"], names[3]["refused"], names[3]["asked"]]
     lacking = [word for word in words if word not in " ".join(text.split())]
-    if len(pages) != 1 or lacking or not pages[0].strip():
-        raise Difference(f"{len(pages)} pages, without {lacking}")
-    return f"one page, with {len(words)} words of the screen"
+    if any(len(it) != 1 or "At the line" not in it[0] for it in pages) or lacking:
+        raise Difference(f"{[len(it) for it in pages]} pages, without {lacking}")
+    return f"one page as `make docs` and as the package has it, with {len(words)} words of the screen"
 
 
 FLOWS = [every_state_of_a_slot, a_real_line_is_on_one_screen, who_gets_which_reel, a_changeover_of_two_machines, the_overdue_list, a_trace_is_printed_whole, the_operators_sheet_is_one_page]

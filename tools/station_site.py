@@ -18,7 +18,7 @@ import uuid
 ROOT = pathlib.Path(__file__).resolve().parent.parent
 PEOPLE = {"op": "senders", "office": "readers"}  # their passwords are their names
 SETUP = {"title": "Line 1", "machines": [{"machine": "M1", "product": "CTRL-A"}, {"machine": "M2", "product": "CTRL-A"}], "boards": 50, "expires": 60}
-PATIENCE = 30  # seconds
+PATIENCE = 90  # seconds: of a machine that has much to do
 
 
 class Difference(Exception):
@@ -316,8 +316,10 @@ class Operator:
 
     def verdict(self, kinds=("accepted", "refused", "fault"), seconds=PATIENCE):
         """The kind and the text of the verdict, once there is one of these kinds."""
-        kind = wait_for(f"a verdict of {kinds}: {self.text('verdict')!r}", lambda: (it := self.script("const v = document.getElementById('verdict'); return v.hidden ? '' : v.className")) in kinds and it, seconds)
-        return kind, self.text("verdict")
+        def shown():
+            kind, text = self.script("const v = document.getElementById('verdict'); return v.hidden ? ['', ''] : [v.className, v.innerText]")
+            return (kind, text) if kind in kinds else None
+        return wait_for(f"a verdict of {kinds}: {self.text('verdict')!r}", shown, seconds)
 
     def does(self, *codes, kind="accepted", holds=()):
         """Scans, and looks whether the verdict is of this kind and has these texts."""
