@@ -2,6 +2,7 @@
 from __future__ import annotations
 
 import dataclasses
+import difflib
 import email.utils
 import enum
 import json
@@ -113,7 +114,9 @@ def why(answer: Answer) -> str:
     if isinstance(answer, Faulty):
         return f"faulty: {answer.fault}{f' at {answer.member}' if answer.member else ''}. To do: {words.FAULTS.get(answer.fault, 'see docs/messages.md')}"
     if isinstance(answer, Ignored):
-        return f"the desk has no message {answer.message_name}, and did nothing. To do: correct the name; it has {', '.join(it.WORD for it in words.MESSAGES)}"
+        names = [words.PREFIX + it.WORD for it in words.MESSAGES]
+        near = difflib.get_close_matches(answer.message_name, names, 1, 0.0)[0]
+        return f"ignored: the desk has no message {answer.message_name:.100}, and did nothing. To do: correct the name; the nearest is {near}"
     return type(answer).__name__
 
 

@@ -1,0 +1,170 @@
+"""tracedesk-send with a spool, before something that answers as a desk does."""
+import http.server
+import json
+import pathlib
+import subprocess
+import sys
+import tempfile
+import threading
+import time
+import unittest
+
+SENDER = pathlib.Path(__file__).resolve().parents[1] / "tracedesk-send"
+
+
+def line(uid, word="PartDefined"):
+    return json.dumps({"MessageName": f"TraceDesk.{word}", "UniqueID": uid, "Source": "S", "TimeStamp": "2026-03-02T06:00:00Z", "MessageBody": {"PartNumber": uid}}).encode()
+
+
+class Answering(http.server.BaseHTTPRequestHandler):
+    """Says what its script says next; then Accepted, of `bad` Refused, and of a word that is none Ignored."""
+
+    protocol_version = "HTTP/1.1"
+
+    def log_message(self, *_):
+        """Nothing is told."""
+
+    def do_POST(self):
+        told = json.loads(self.rfile.read(int(self.headers["Content-Length"])))
+        self.server.came.append((time.monotonic(), told["UniqueID"]))
+        if self.server.script:
+            status, headers, answer = self.server.script.pop(0)
+        elif told["MessageName"] == "TraceDesk.PartsDefined":
+            status, headers, answer = 202, {}, {"Answer": "Ignored", "MessageName": told["MessageName"]}
+        elif told["UniqueID"].startswith("bad"):
+            status, headers, answer = 409, {}, {"Answer": "Refused", "At": "P", "Refusal": "PartExists", "UniqueID": told["UniqueID"]}
+        else:
+            status, headers, answer = 200, {}, {"Answer": "Accepted", "Number": 1, "UniqueID": told["UniqueID"]}
+        body = json.dumps(answer, separators=(",", ":")).encode()
+        self.send_response(status)
+        for name, value in {"Content-Length": str(len(body)), **headers}.items():
+            self.send_header(name, value)
+        self.end_headers()
+        self.wfile.write(body)
+
+
+class Server(http.server.ThreadingHTTPServer):
+    def handle_error(self, *_):
+        """A sender that was killed is no news here."""
+
+
+class Sending(unittest.TestCase):
+    def setUp(self):
+        room = tempfile.TemporaryDirectory()
+        self.addCleanup(room.cleanup)
+        self.room = pathlib.Path(room.name)
+        self.spool, self.out = self.room / "spool", self.room / "out"
+        self.out.mkdir()
+        self.server = Server(("127.0.0.1", 0), Answering)
+        self.server.came, self.server.script = [], []
+        threading.Thread(target=self.server.serve_forever, daemon=True).start()
+        self.addCleanup(self.server.server_close)
+        self.addCleanup(self.server.shutdown)
+
+    def words(self, *more):
+        return [sys.executable, str(SENDER), "--url", f"http://127.0.0.1:{self.server.server_address[1]}", "--spool", str(self.spool), *map(str, more)]
+
+    def send(self, *more, given=b""):
+        return subprocess.run(self.words(*more), input=given, capture_output=True, timeout=120)
+
+    def uids(self):
+        return [uid for _, uid in self.server.came]
+
+    def waits(self):
+        return sorted(it.name for it in (self.spool / "waiting").iterdir())
+
+    def test_standard_input_is_kept_and_sent_in_order(self):
+        done = self.send("--follow", "-", given=b"\n".join([line("u1"), b"", line("u2"), line("u3")]))
+        self.assertEqual((done.returncode, self.uids(), self.waits()), (0, ["u1", "u2", "u3"], []), done.stderr)
+        self.assertEqual(done.stdout, b"kept 000000000001\nkept 000000000002\nkept 000000000003\n")
+
+    def test_what_is_not_taken_is_set_aside(self):
+        done = self.send("--follow", "-", given=b"\n".join([line("bad1"), line("u2", "PartsDefined"), line("u3")]))
+        self.assertEqual((done.returncode, self.uids()), (1, ["bad1", "u2", "u3"]), done.stderr)
+        self.assertEqual(sorted(it.name for it in (self.spool / "aside").glob("*.json")), ["000000000001.json", "000000000002.json"])
+        self.assertIn("nearest is TraceDesk.PartDefined", (self.spool / "aside/000000000002.why").read_text())
+
+    def test_a_run_stops_at_a_refusal_where_that_is_told(self):
+        self.send("--put", "-", given=line("bad1") + b"\n" + line("u2"))
+        for _ in range(2):
+            done = self.send("--stop-at-refusal")
+            self.assertEqual((done.returncode, self.waits()), (1, ["000000000001.json", "000000000002.json"]))
+            self.assertIn(b"PartExists", done.stderr)
+        self.assertEqual(self.uids(), ["bad1", "bad1"])
+
+    def test_no_answer_is_asked_again_after_pauses_that_grow(self):
+        self.server.script = [(502, {}, {}), (503, {}, {"Answer": "Unavailable"}), (429, {}, {}), (503, {"Retry-After": "2"}, {})]
+        self.send("--put", "-", given=line("u1"))
+        done = self.send()
+        times = [at for at, _ in self.server.came]
+        self.assertEqual((done.returncode, self.uids()), (0, ["u1"] * 5), done.stderr)
+        self.assertGreaterEqual(times[4] - times[3], 2)
+        self.assertIn(b"4 times sent again", done.stderr)
+
+    def test_the_rate_has_a_limit(self):
+        self.send("--put", "-", given=b"\n".join(line(f"u{n}") for n in range(8)))
+        self.send("--rate", "10")
+        times = [at for at, _ in self.server.came]
+        self.assertGreaterEqual(times[7] - times[0], 0.65)
+
+    def test_what_changes_nothing_stops(self):
+        self.send("--put", "-", given=line("u1"))
+        for status, told in ((401, b"log-in"), (413, b"too long"), (404, b"--url"), (200, b"no answer of a desk")):
+            self.server.script = [(status, {}, {"Answer": "Proxy", "Fault": "x"})]
+            done = self.send()
+            self.assertEqual((done.returncode, self.waits()), (4, ["000000000001.json"]))
+            self.assertIn(told, done.stderr)
+
+    def test_patience_ends(self):
+        self.send("--put", "-", given=line("u1"))
+        self.server.script = [(502, {}, {})] * 1000
+        self.assertEqual((self.send("--patience", "0.5").returncode, self.waits()), (3, ["000000000001.json"]))
+
+    def test_a_folder_is_followed_and_a_kill_loses_nothing(self):
+        for number in range(6):
+            (self.out / f"{number}.jsonl").write_bytes(b"\n".join(line(f"u{number}{n}") for n in range(5)))
+        (self.out / "being-written.tmp").write_bytes(b"{")
+        wanted, end = [f"u{number}{n}" for number in range(6) for n in range(5)], time.monotonic() + 90
+        while len(set(self.uids())) < 30 or self.waits() or list(self.out.glob("*.jsonl")):
+            self.assertLess(time.monotonic(), end, self.uids())
+            running = subprocess.Popen(self.words("--follow", self.out, "--rate", "0"), stderr=subprocess.DEVNULL)
+            begun = len(self.server.came)
+            while running.poll() is None and len(self.server.came) < begun + 4 and len(set(self.uids())) < 30 and time.monotonic() < end:
+                time.sleep(0.005)
+            time.sleep(0.3 if len(set(self.uids())) == 30 else 0)
+            running.kill()
+            running.wait()
+        firsts = list(dict.fromkeys(self.uids()))
+        self.assertEqual(firsts, wanted)
+        self.assertEqual([it.name for it in self.out.iterdir()], ["being-written.tmp"])
+
+    def test_one_sender_has_a_spool(self):
+        self.send("--put", "-", given=line("u1"))
+        self.server.script = [(502, {}, {})] * 1000
+        running = subprocess.Popen(self.words("--stay"), stderr=subprocess.DEVNULL)
+        try:
+            end = time.monotonic() + 60
+            while not self.server.came and time.monotonic() < end:
+                time.sleep(0.01)
+            done = self.send()
+            self.assertEqual(done.returncode, 2)
+            self.assertIn(b"another sender", done.stderr)
+        finally:
+            running.kill()
+            running.wait()
+
+    def test_again_sends_the_same_bytes(self):
+        self.send("--follow", "-", given=line("bad1"))
+        self.server.script = [(200, {}, {"Answer": "Accepted", "Number": 1, "UniqueID": "bad1"})]
+        self.assertEqual(self.send("--again", "all").stdout, b"1 wait again, as 000000000002\n")
+        self.assertEqual((self.send().returncode, self.uids(), list((self.spool / "aside").iterdir())), (0, ["bad1", "bad1"], []))
+
+    def test_command_lines_that_ask_for_nothing(self):
+        for words in (["--follow", self.out / "none"], ["--user", "m1"], ["--put", "-", "--stay"], ["a", "b"], ["--again", "nothing"], ["--put", self.room / "none"]):
+            done = self.send(*words)
+            self.assertEqual(done.returncode, 2, words)
+            self.assertNotIn(b"Traceback", done.stderr)
+
+
+if __name__ == "__main__":
+    unittest.main()
