@@ -78,9 +78,11 @@ fn reports(rt: HostRuntime) -> Result<(), Fail> {
         &mut Wire::new(request.as_bytes()),
         &mut output,
         &mut gateway,
-    )?;
-    assert_eq!(rt; (served.answered, served.refused), (1, 1));
+    );
     let told = ask(rt.alloc(), &mut gateway, b"/overdue");
+    let _line = gateway.into_line();
+    let served = served?;
+    assert_eq!(rt; (served.answered, served.refused), (1, 1));
     assert_eq!(rt; told.status.code(), 404);
     assert!(rt;
         output
@@ -88,6 +90,5 @@ fn reports(rt: HostRuntime) -> Result<(), Fail> {
             .as_slice()
             .ends_with(told.body.as_slice())
     );
-    let _line = gateway.into_line();
     Ok(())
 }
