@@ -273,25 +273,41 @@ fn build_boards<L: Line>(rt: &impl Abort, alloc: Global, line: &mut L) -> Result
     Ok(())
 }
 
-/// The boards of a lot are told each once and in byte order. No report asks the store for them: it is
-/// for a caller that wants the names alone, and needs no rows.
-#[test]
-fn boards_of_a_lot(rt: HostRuntime) -> Result<(), Fail> {
+/// The boards of the lot that there is, and none of another one.
+fn tell_boards<S: Alter>(rt: &impl Abort, store: &mut LineStore<S, StateDesk>) -> Result<(), Fail> {
     let (lot, other) = (id("L1")?, id("L2")?);
-    let Ok(mut store) = in_memory::<StateDesk>(rt.alloc(), 11) else {
-        return Err(Fail::from(AllocError));
-    };
-    let outcome = build_boards(&rt, rt.alloc(), &mut store);
-    let boards = store.lot_boards(&lot);
-    let unknown = store.lot_boards(&other);
-    let _conn = store.into_connection();
-    outcome?;
-    let Ok(Some(boards)) = boards else {
+    let Ok(Some(boards)) = store.lot_boards(&lot) else {
         return Err(Fail::from(AllocError));
     };
     assert!(rt; boards.as_slice() == [id("B10")?, id("B9")?].as_slice());
+    let unknown = store.lot_boards(&other);
     assert!(rt; matches!(unknown, Ok(None)));
     Ok(())
+}
+
+/// The boards of a lot are told each once and in byte order. No report asks the store for them: it is
+/// for a caller that wants the names alone, and needs no rows. They are told by a query where rows
+/// don't stand where the lists have them.
+#[test]
+fn boards_of_a_lot(rt: HostRuntime) -> Result<(), Fail> {
+    let Ok(mut store) = in_memory::<StateDesk>(rt.alloc(), 11) else {
+        return Err(Fail::from(AllocError));
+    };
+    let outcome = match build_boards(&rt, rt.alloc(), &mut store) {
+        Ok(()) => tell_boards(&rt, &mut store),
+        Err(fault) => Err(fault),
+    };
+    let mut conn = store.into_connection();
+    outcome?;
+    conn.execute_batch("UPDATE placement SET rowid = -rowid")?;
+    match LineStore::<_, StateDesk>::open(rt.alloc(), conn) {
+        Ok(mut store) => {
+            let told = tell_boards(&rt, &mut store);
+            let _conn = store.into_connection();
+            told
+        }
+        Err((fault, _)) => refused(fault),
+    }
 }
 
 /// A database of version 1, in which as many parts are defined.
