@@ -57,6 +57,6 @@ docs:          ## out/docs: the documents and the definitions as HTML and one PD
 dist:          ## dist/tracedesk-VERSION-x86_64.tar.gz: the program and what a plant installs beside it | 10 s | pandoc binutils
 	$(say)
 	@tools/dist
-plant-test:    ## tries that package on a fresh Debian 12 of its own, as root | 10 min | debootstrap iproute2 pandoc binutils
+plant-test:    ## tries that package, and runs the tools' tests, on a fresh Debian 12 of its own, as root | 15 min | debootstrap iproute2 pandoc binutils
 	$(say)
 	@tools/plant-test
