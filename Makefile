@@ -13,7 +13,7 @@ demo:          ## the answers to five messages: at once where a program is there
 	@tools/demo
 build:         ## proves and builds the program, and prints its path | 40 min, then at once | rt
 	@tools/program.py --build
-test:          ## the tests: proves everything from nothing, tries wrong bodies, runs the tests and the worked rows | 1 h | rt curl
+test:          ## the tests: proves everything from nothing, tries wrong bodies, runs the tests and the worked rows, fails calls | 1 h | rt curl, and gcc libc6-dev, or failing calls are skipped
 	$(say)
 	@tools/test
 wrong-bodies:  ## tries all wrong bodies, those outside the tests too, and the wrong programs: each has to be refused | 30 min | rt
