@@ -37,10 +37,11 @@ torture:       ## kills the program 200 times, fails its disk, looks at its orde
 damage:        ## cuts and zeroes a desk's file page by page, and audits it | 1 min
 	$(say)
 	@tools/damage
-fail-each:     ## fails every read, write, sync and allocation in turn, and the power at each change | 15 min | gcc libc6-dev
+fail-each:     ## fails every read, write, sync and allocation in turn, and the power at each change; reads until a run may read no more | 17 min | gcc libc6-dev
 	$(say)
 	@tools/fail-each
 	@tools/fail-each --planted
+	@tools/many-reads
 bench:         ## what a day costs, beside stock SQLite | 5 min | time
 	$(say)
 	@tools/bench
