@@ -13,7 +13,7 @@ demo:          ## the answers to five messages: at once where a program is there
 	@tools/demo
 build:         ## proves and builds the program, and prints its path | 40 min, then at once | rt
 	@tools/program.py --build
-test:          ## the tests: proves everything from nothing, tries wrong bodies, runs the tests and the worked rows | 1 h | rt curl
+test:          ## the tests: proves everything from nothing, tries wrong bodies, runs the tests and the worked rows, fails calls | 1 h | rt curl, and gcc libc6-dev, or failing calls are skipped
 	$(say)
 	@tools/test
 wrong-bodies:  ## tries all wrong bodies, those outside the tests too, and the wrong programs: each has to be refused | 30 min | rt
@@ -42,10 +42,11 @@ torture:       ## kills the program 200 times, fails its disk, looks at its orde
 damage:        ## cuts and zeroes a desk's file page by page, and audits it | 1 min
 	$(say)
 	@tools/damage
-fail-each:     ## fails every read, write, sync and allocation in turn, and the power at each change | 15 min | gcc libc6-dev
+fail-each:     ## fails every read, write, sync and allocation in turn, and the power at each change; reads until a run may read no more | 17 min | gcc libc6-dev
 	$(say)
 	@tools/fail-each
 	@tools/fail-each --planted
+	@tools/many-reads
 bench:         ## what a day costs, beside stock SQLite | 5 min | time
 	$(say)
 	@tools/bench
