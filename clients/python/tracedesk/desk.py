@@ -126,7 +126,8 @@ class Desk:
             if told.meaning is answers.Meaning.STOP:
                 raise NotTaken(told.why)
             return told.answer, told.why, told.wait
-        return self.until(call)
+        answer: answers.Answer = self.until(call)
+        return answer
 
     # --- Reports
 
@@ -182,7 +183,7 @@ READERS: Dict[Any, Callable[[str], Any]] = {"str": str, "int": int, "bool": lamb
 def rows_of(kind: Any, body: bytes) -> List[Any]:
     """The rows of a report as tuples with names. Another header than the report's is told, since columns are read by their place."""
     lines = csv.reader(io.StringIO(body.decode(), newline=""), strict=True)
-    header = next(lines, [])
+    header: List[str] = next(lines, [])
     if header != list(kind._fields):
         raise NotTaken(f"a report with the columns {','.join(kind._fields)} is wanted, and {','.join(header)[:200]} came: the desk is of another version, or --url leads elsewhere")
     readers = [READERS[kind.__annotations__[name] if isinstance(kind.__annotations__[name], str) else kind.__annotations__[name].__forward_arg__] for name in kind._fields]
