@@ -8,7 +8,7 @@ import io
 import ssl
 import time
 import urllib.parse
-from typing import Any, Callable, Dict, List, Mapping, Optional, Tuple, TypeVar, Union
+from typing import Any, Callable, Dict, List, Mapping, Optional, Tuple, Union
 
 from . import answers, forms, words
 
@@ -16,7 +16,6 @@ FIRST_PAUSE, LONGEST_PAUSE = 0.05, 5.0  # seconds
 PATIENCE = 600.0  # seconds for one message: a desk of a month starts in two minutes
 TIMEOUT = 150.0  # seconds for one answer: longer than the proxy waits for the desk
 NEWS = 60.0  # seconds without an answer, after which that is told
-Found = TypeVar("Found")
 
 
 class GivenUp(Exception):
@@ -89,7 +88,7 @@ class Desk:
             self.close()
         return answer.status, got, answer.getheader("Retry-After")
 
-    def until(self, call: Callable[[], Tuple[Optional[Found], str, float]]) -> Found:
+    def until(self, call: Callable[[], Tuple[Optional[Any], str, float]]) -> Any:
         """Tries until the call finds something. It gives none with why, and how long to wait at least."""
         begun, pause = time.monotonic(), FIRST_PAUSE
         end, news = None if self.patience is None else begun + self.patience, begun + NEWS
@@ -126,7 +125,8 @@ class Desk:
             if told.meaning is answers.Meaning.STOP:
                 raise NotTaken(told.why)
             return told.answer, told.why, told.wait
-        return self.until(call)
+        answer: answers.Answer = self.until(call)
+        return answer
 
     # --- Reports
 
@@ -144,7 +144,8 @@ class Desk:
             if status in words.AGAIN or status >= 500:
                 return None, f"status {status}", answers.seconds_of(retry_after)
             raise NotTaken(f"status {status}: {words.STOPS.get(status, 'look at what was asked')}: {body[:200].decode(errors='replace')}")
-        return self.until(call)
+        rows: List[Any] = self.until(call)
+        return rows
 
     def board(self, board: str, detail: int = 4) -> List[Any]:
         """What is on a board: BoardPart, BoardLot, BoardReel or BoardPiece."""
@@ -182,7 +183,7 @@ READERS: Dict[Any, Callable[[str], Any]] = {"str": str, "int": int, "bool": lamb
 def rows_of(kind: Any, body: bytes) -> List[Any]:
     """The rows of a report as tuples with names. Another header than the report's is told, since columns are read by their place."""
     lines = csv.reader(io.StringIO(body.decode(), newline=""), strict=True)
-    header = next(lines, [])
+    header: List[str] = next(lines, [])
     if header != list(kind._fields):
         raise NotTaken(f"a report with the columns {','.join(kind._fields)} is wanted, and {','.join(header)[:200]} came: the desk is of another version, or --url leads elsewhere")
     readers = [READERS[kind.__annotations__[name] if isinstance(kind.__annotations__[name], str) else kind.__annotations__[name].__forward_arg__] for name in kind._fields]
