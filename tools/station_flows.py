@@ -538,24 +538,28 @@ def agrees(operator):
                 site.agreed += 1
 
 
-def run(program, flows):
-    """Tries each flow on a site of its own; the exit status."""
+def tried(program, flow):
+    """Tries a flow on a site of its own; whether it passed, and its line."""
     from selenium.common.exceptions import WebDriverException
-    passed = failed = 0
-    for flow in flows:
-        name, began = flow.__name__.replace("_", " "), time.monotonic()
-        try:
-            with Site(program, folder()) as site:
-                plant(site)
-                site.last_look = agrees
-                saw = flow(site)
-                compared = f"; then Line as `report` has it, {site.agreed} times" if site.agreed else ""
-            passed += 1
-            print(f"ok      {name}: {saw}{compared} ({time.monotonic() - began:.0f} s)", flush=True)
-        except (Difference, WebDriverException, OSError, subprocess.SubprocessError, ValueError, LookupError, AttributeError, TypeError) as fault:
-            failed += 1
-            print(f"FAILED  {name}: {type(fault).__name__} {str(fault)[:1500]}", flush=True)
-    print(f"{passed} passed, {failed} failed")
-    return 1 if failed else 0
+    name, began = flow.__name__.replace("_", " "), time.monotonic()
+    try:
+        with Site(program, folder()) as site:
+            plant(site)
+            site.last_look = agrees
+            saw = flow(site)
+            compared = f"; then Line as `report` has it, {site.agreed} times" if site.agreed else ""
+        return True, f"ok      {name}: {saw}{compared} ({time.monotonic() - began:.0f} s)"
+    except (Difference, WebDriverException, OSError, subprocess.SubprocessError, ValueError, LookupError, AttributeError, TypeError) as fault:
+        return False, f"FAILED  {name}: {type(fault).__name__} {str(fault)[:1500]}"
 
 
+def run(program, flows, jobs=1):
+    """Tries the flows, so many at once; the exit status."""
+    passed = 0
+    with concurrent.futures.ThreadPoolExecutor(jobs) as threads:
+        for done in concurrent.futures.as_completed([threads.submit(tried, program, flow) for flow in flows]):
+            is_passed, line = done.result()
+            passed += is_passed
+            print(line, flush=True)
+    print(f"{passed} passed, {len(flows) - passed} failed")
+    return 1 if passed < len(flows) else 0
