@@ -61,7 +61,8 @@ def a_shift_from_the_printed_page(site):
     with Operator(site) as it:
         it.ready()
         it.scan("B/anna")
-        it.does("S/M1/1", "K-1", holds=("ACCEPTED", "LOADED", "K-1", "slot 1", "CAP", "7 d 0 h"))
+        it.does("S/M1/1", "K-1", holds=("ACCEPTED", "LOADED", "K-1", "slot 1", "7 d 0 h"))
+        wait_for("the reel's own part", lambda: "CAP, lot L-1" in it.text("verdict"))
         line_is_as_reported(site, it)
         it.does("S/M1/3", "K-2", kind="refused", holds=("REFUSED", "WRONG PART", "K-2", "Bring a reel of the right part"))
         wait_for("the free reels", lambda: "Slot 3 wants CAP" in it.text("verdict"))
