@@ -481,7 +481,7 @@ def two_tabs_of_one_browser(site):
 def a_plant_changes_texts_and_set_up(site):
     """A texts.js of the plant's takes the place of ours; codes of another form; a set-up that is wrong is told."""
     ours = (ROOT / "station/texts.js").read_text()
-    (site.room / "etc/station/texts.js").write_text(ours.replace('accepted: "ACCEPTED"', 'accepted: "ANGENOMMEN"'))
+    (site.room / "etc/station/texts.js").write_text(ours.replace('accepted: "ACCEPTED: {done}"', 'accepted: "ANGENOMMEN: {done}"'))
     site.set_up({**SETUP, "scanner": {"prefix": "~", "suffix": "!"}, "codes": {"slot": "%{machine}.{slot}", "badge": "#{badge}", "action": "${action}"}})
     with Operator(site) as it:
         it.ready()
