@@ -97,6 +97,26 @@ def to_a_verdict(it, turns):
     return it.script("return window.took")
 
 
+MANY = """
+const [count, done] = arguments, verdict = document.getElementById("verdict"), field = document.getElementById("scan");
+const scan = (code) => { field.value = code; field.form.requestSubmit(); };
+const answered = () => new Promise((resolve) => {
+  const look = () => { if (!verdict.hidden && verdict.className === "accepted") { watch.disconnect(); resolve(); } };
+  const watch = new MutationObserver(look);
+  watch.observe(verdict, { attributes: true });
+  look();
+});
+(async () => { for (let turn = 0; turn < count; turn += 1) { scan(turn % 2 ? "A/SEAL" : "A/OPEN"); scan("K-4"); await answered(); } })().then(() => done(), (fault) => done(String(fault)));
+"""
+
+
+def many(it, count):
+    """So many scans in the scan field, each after the verdict of the one before."""
+    it.page.set_script_timeout(1_800)
+    if fault := it.page.execute_async_script(MANY, count):
+        raise Difference(fault)
+
+
 def heap(it):
     it.script("window.gc && gc()")
     return it.script("return performance.memory.usedJSHeapSize") / 1e6
@@ -156,12 +176,11 @@ def measure(program, minutes, scans):
                 looker.start()
             took = to_a_verdict(it, 200)
             say("from scan to verdict, milliseconds", {"scans": len(took), "median": round(statistics.median(took), 1), "95 %": round(statistics.quantiles(took, n=20)[-1], 1), "stations that look": STATIONS})
-            memory = [round(heap(it), 1)]
-            for turn in range(200, scans):
-                it.does("A/OPEN" if turn % 2 == 0 else "A/SEAL", "K-4")
-                if turn % 1_000 == 999:
-                    memory.append(round(heap(it), 1))
-            say("heap of the tab, MB, after 200 scans and each 1,000", memory)
+            memory, answers = [round(heap(it), 1)], site.connections()
+            for _ in range(0, scans, 500):
+                many(it, min(500, scans))
+                memory.append(round(heap(it), 1))
+            say("heap of the tab, MB, after 200 scans and each 500", {"heap": memory, "connections": site.connections() - answers})
             for looker in lookers:
                 looker.ends.set()
         say("connections of a scan", each_scan(site))
