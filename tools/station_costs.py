@@ -61,8 +61,8 @@ class Looker(threading.Thread):
 
 def looked_together(site, machines, period, stations=10, looks=3):
     """How many connections so many looks of these stations use up, and how often the kits were among them: as (connections, turns).
-    Where the machine is so busy that a station missed a look, it is tried again."""
-    for _ in range(5):
+    Where the machine is so busy that a station missed a look, it is tried again with looks that are further apart."""
+    for period in (period, 2 * period, 4 * period, 8 * period):
         shift = -(time.time() + 2.9 * period) % KITS  # a turn of the kits comes within the looks that are counted
         lookers = [Looker(site, period, [f"M{number + 1}" for number in range(machines)], shift) for _ in range(stations)]
         for looker in lookers:
@@ -76,7 +76,6 @@ def looked_together(site, machines, period, stations=10, looks=3):
             looker.ends.set()
         if set(done) == {(looks, 1)}:
             return used, 1
-        time.sleep(period)
     raise Difference(f"no ten stations that look at the same moments on this busy machine: looks and turns of each were {done}")
 
 
