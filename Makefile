@@ -27,7 +27,7 @@ plant-recall:  ## three lines in one PostgreSQL, and a recall over them: docs/pl
 	@tools/three-ways-test >&2
 client-test:   ## kills `serve` twenty times under examples/client.py, and puts a proxy that fails before it | 20 s | openssl
 	@examples/client-test
-station-test:  ## the station in headless Chromium behind nginx: each flow, kills, looks: docs/station.md | 5 min | chromium chromium-driver python3-selenium nginx zbar-tools poppler-utils openssl
+station-test:  ## the station in headless Chromium behind nginx: each flow, kills, looks: docs/station.md | 15 min | chromium chromium-driver python3-selenium nginx zbar-tools poppler-utils openssl
 	$(say)
 	@tools/station-test
 torture:       ## kills the program 200 times, fails its disk, looks at its order of calls | 3 min | strace

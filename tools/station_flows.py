@@ -404,7 +404,7 @@ def a_changeover_counts_what_is_mounted(site):
         it.script("const form = document.querySelector('form.changeover'); form.elements.boards.value = '1000'; form.querySelectorAll('button')[0].click()")
         wait_for("the kits", lambda: it.script("return document.querySelectorAll('#main table').length") == 2)
         rows = {row[0]: row[2:4] + row[5:] for row in it.rows()}
-        wanted = {"1": ["2,000", "0", ""], "2": ["1,000", "5,000", ""], "10": ["3,000", "0", "960"], "3": ["1,000", "0, and 900 of ALT", "700, if ALT may not stay"]}
+        wanted = {"1": ["2,000", "0", ""], "2": ["1,000", "5,000", ""], "10": ["3,000", "0", "960"], "3": ["1,000", "0, and 900 of ALT", "700, if ALT may not stay"]}  # K-1 is for slot 1, and of K-3 there are 300
         text = it.script("return document.getElementById('main').textContent")
         if rows != wanted or "MISSING: 1" not in text or "another part: 1." not in text:
             raise Difference(f"{rows} is not {wanted}; {text[:300]}")
