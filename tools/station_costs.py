@@ -28,6 +28,7 @@ class Looker(threading.Thread):
         super().__init__(daemon=True)
         self.site, self.period, self.machines, self.shift, self.ends = site, period, machines, shift, threading.Event()
         self.looks = self.turns = 0  # of the slots, and of the kits
+        self.is_busy = False  # whether it is in the midst of a look
         self.link = http.client.HTTPSConnection("localhost", site.port, timeout=30, context=ssl.create_default_context(cafile=site.room / "etc/server.crt"))
 
     def clock(self):
@@ -50,6 +51,7 @@ class Looker(threading.Thread):
         turn = int(self.clock() // KITS)
         while not self.ends.wait(self.period - self.clock() % self.period + 0.05 + random.random() * 0.1):
             self.looks += 1
+            self.is_busy = True
             for machine in self.machines:
                 self.ask(f"slots?machine={machine}")
             if self.clock() // KITS != turn:
@@ -57,11 +59,12 @@ class Looker(threading.Thread):
                 self.turns += 1
                 for target in (*(f"kit?product=CTRL-A&machine={machine}&boards=1" for machine in self.machines), "overdue"):
                     self.ask(target)
+            self.is_busy = False
 
 
 def looked_together(site, machines, period, stations=10, looks=3):
     """How many connections so many looks of these stations use up, and how often the kits were among them: as (connections, turns).
-    Where the machine is so busy that a station missed a look, it is tried again with looks that are further apart."""
+    Where the machine is so busy that a station missed a look, or is in the midst of one as the count begins or ends, it is tried again with looks that are further apart."""
     for period in (period, 2 * period, 4 * period, 8 * period):
         shift = -(time.time() + 2.9 * period) % KITS  # a turn of the kits comes within the looks that are counted
         lookers = [Looker(site, period, [f"M{number + 1}" for number in range(machines)], shift) for _ in range(stations)]
@@ -69,12 +72,13 @@ def looked_together(site, machines, period, stations=10, looks=3):
             looker.start()
         begin = (lookers[0].clock() // period + 2.5) * period - shift  # by then each has begun; it is the midst between two looks
         time.sleep(max(0, begin - time.time()))
-        before, seen = site.connections(), [(it.looks, it.turns) for it in lookers]
+        before, seen, is_torn = site.connections(), [(it.looks, it.turns) for it in lookers], any(it.is_busy for it in lookers)
         time.sleep(max(0, begin + looks * period - time.time()))
         used, done = site.connections() - before, [(it.looks - look, it.turns - turn) for it, (look, turn) in zip(lookers, seen)]
+        is_torn = is_torn or any(it.is_busy for it in lookers)
         for looker in lookers:
             looker.ends.set()
-        if set(done) == {(looks, 1)}:
+        if set(done) == {(looks, 1)} and not is_torn:
             return used, 1
     raise Difference(f"no ten stations that look at the same moments on this busy machine: looks and turns of each were {done}")
 
