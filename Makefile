@@ -32,7 +32,7 @@ client-test:   ## kills `serve` twenty times under examples/client.py and traced
 send-test:     ## kills tracedesk-send, nginx and `serve` 200 times while 10,000 messages go through | 5 min | nginx openssl
 	$(say)
 	@tools/send-test
-station-test:  ## the station in headless Chromium behind nginx: each flow, kills, looks: docs/station.md | 5 min | chromium chromium-driver python3-selenium nginx zbar-tools poppler-utils openssl
+station-test:  ## the station in headless Chromium behind nginx: each flow, kills, looks: docs/station.md | 15 min | chromium chromium-driver python3-selenium nginx zbar-tools poppler-utils openssl
 	$(say)
 	@tools/station-test
 torture:       ## kills the program 200 times, fails its disk, looks at its order of calls | 3 min | strace

@@ -9,7 +9,7 @@ import threading
 import time
 
 import station_flows
-from station_site import SETUP, Operator, Site
+from station_site import SETUP, Difference, Operator, Site
 
 STATIONS = 50
 A_DAY, KITS = 86_400, 300  # seconds; the second is the page's period of its sheets
@@ -27,7 +27,8 @@ class Looker(threading.Thread):
     def __init__(self, site, period, machines=("M1", "M2"), shift=0.0):
         super().__init__(daemon=True)
         self.site, self.period, self.machines, self.shift, self.ends = site, period, machines, shift, threading.Event()
-        self.turns = 0  # of the kits
+        self.looks = self.turns = 0  # of the slots, and of the kits
+        self.is_busy = False  # whether it is in the midst of a look
         self.link = http.client.HTTPSConnection("localhost", site.port, timeout=30, context=ssl.create_default_context(cafile=site.room / "etc/server.crt"))
 
     def clock(self):
@@ -49,6 +50,8 @@ class Looker(threading.Thread):
         self.ends.wait(random.random() * self.period)
         turn = int(self.clock() // KITS)
         while not self.ends.wait(self.period - self.clock() % self.period + 0.05 + random.random() * 0.1):
+            self.looks += 1
+            self.is_busy = True
             for machine in self.machines:
                 self.ask(f"slots?machine={machine}")
             if self.clock() // KITS != turn:
@@ -56,22 +59,28 @@ class Looker(threading.Thread):
                 self.turns += 1
                 for target in (*(f"kit?product=CTRL-A&machine={machine}&boards=1" for machine in self.machines), "overdue"):
                     self.ask(target)
+            self.is_busy = False
 
 
 def looked_together(site, machines, period, stations=10, looks=3):
-    """How many connections so many looks of these stations use up, and how often the kits were among them: as (connections, turns)."""
-    shift = -(time.time() + 2.9 * period) % KITS  # a turn of the kits comes within the looks that are counted
-    lookers = [Looker(site, period, [f"M{number + 1}" for number in range(machines)], shift) for _ in range(stations)]
-    for looker in lookers:
-        looker.start()
-    begin = (lookers[0].clock() // period + 2.5) * period - shift  # by then each has begun; it is the midst between two looks
-    time.sleep(begin - time.time())
-    before, seen = site.connections(), lookers[0].turns
-    time.sleep(begin + looks * period - time.time())
-    used, turns = site.connections() - before, lookers[0].turns - seen
-    for looker in lookers:
-        looker.ends.set()
-    return used, turns
+    """How many connections so many looks of these stations use up, and how often the kits were among them: as (connections, turns).
+    Where the machine is so busy that a station missed a look, or is in the midst of one as the count begins or ends, it is tried again with looks that are further apart."""
+    for period in (period, 2 * period, 4 * period, 8 * period):
+        shift = -(time.time() + 2.9 * period) % KITS  # a turn of the kits comes within the looks that are counted
+        lookers = [Looker(site, period, [f"M{number + 1}" for number in range(machines)], shift) for _ in range(stations)]
+        for looker in lookers:
+            looker.start()
+        begin = (lookers[0].clock() // period + 2.5) * period - shift  # by then each has begun; it is the midst between two looks
+        time.sleep(max(0, begin - time.time()))
+        before, seen, is_torn = site.connections(), [(it.looks, it.turns) for it in lookers], any(it.is_busy for it in lookers)
+        time.sleep(max(0, begin + looks * period - time.time()))
+        used, done = site.connections() - before, [(it.looks - look, it.turns - turn) for it, (look, turn) in zip(lookers, seen)]
+        is_torn = is_torn or any(it.is_busy for it in lookers)
+        for looker in lookers:
+            looker.ends.set()
+        if set(done) == {(looks, 1)} and not is_torn:
+            return used, 1
+    raise Difference(f"no ten stations that look at the same moments on this busy machine: looks and turns of each were {done}")
 
 
 def days(used_a_look, period, kits_a_day):
@@ -89,6 +98,26 @@ def to_a_verdict(it, turns):
     for turn in range(turns):
         it.does("A/OPEN" if turn % 2 == 0 else "A/SEAL", "K-4", kind="accepted")
     return it.script("return window.took")
+
+
+MANY = """
+const [count, done] = arguments, verdict = document.getElementById("verdict"), field = document.getElementById("scan");
+const scan = (code) => { field.value = code; field.form.requestSubmit(); };
+const answered = () => new Promise((resolve) => {
+  const look = () => { if (!verdict.hidden && verdict.className === "accepted") { watch.disconnect(); resolve(); } };
+  const watch = new MutationObserver(look);
+  watch.observe(verdict, { attributes: true });
+  look();
+});
+(async () => { for (let turn = 0; turn < count; turn += 1) { scan(turn % 2 ? "A/SEAL" : "A/OPEN"); scan("K-4"); await answered(); } })().then(() => done(), (fault) => done(String(fault)));
+"""
+
+
+def many(it, count):
+    """So many scans in the scan field, each after the verdict of the one before."""
+    it.page.set_script_timeout(1_800)
+    if fault := it.page.execute_async_script(MANY, count):
+        raise Difference(fault)
 
 
 def heap(it):
@@ -150,12 +179,11 @@ def measure(program, minutes, scans):
                 looker.start()
             took = to_a_verdict(it, 200)
             say("from scan to verdict, milliseconds", {"scans": len(took), "median": round(statistics.median(took), 1), "95 %": round(statistics.quantiles(took, n=20)[-1], 1), "stations that look": STATIONS})
-            memory = [round(heap(it), 1)]
-            for turn in range(200, scans):
-                it.does("A/OPEN" if turn % 2 == 0 else "A/SEAL", "K-4")
-                if turn % 1_000 == 999:
-                    memory.append(round(heap(it), 1))
-            say("heap of the tab, MB, after 200 scans and each 1,000", memory)
+            memory, answers = [round(heap(it), 1)], site.connections()
+            for _ in range(0, scans, 500):
+                many(it, min(500, scans))
+                memory.append(round(heap(it), 1))
+            say("heap of the tab, MB, after 200 scans and each 500", {"heap": memory, "connections": site.connections() - answers})
             for looker in lookers:
                 looker.ends.set()
         say("connections of a scan", each_scan(site))
