@@ -13,7 +13,7 @@ demo:          ## the answers to five messages: at once where a program is there
 	@tools/demo
 build:         ## proves and builds the program, and prints its path | 40 min, then at once | rt
 	@tools/program.py --build
-test:          ## the tests: proves everything from nothing, tries wrong bodies, runs the tests and the worked rows | 1 h | rt curl
+test:          ## the tests: proves everything from nothing, tries wrong bodies, runs the tests and the worked rows, fails calls | 1 h | rt curl, and gcc libc6-dev, or failing calls are skipped
 	$(say)
 	@tools/test
 wrong-bodies:  ## tries all wrong bodies, those outside the tests too, and the wrong programs: each has to be refused | 30 min | rt
@@ -21,9 +21,9 @@ wrong-bodies:  ## tries all wrong bodies, those outside the tests too, and the w
 	@tools/wrong-bodies
 day:           ## feeds a made-up shift to a desk, and prints what is asked of it: docs/day.md | 10 s
 	@examples/day
-plant-recall:  ## three lines in one PostgreSQL, and a recall over them: docs/plant.md; and the same recalls three ways | 3 min | postgresql
+plant-recall:  ## three lines in one PostgreSQL, and a recall over them, compared with docs/plant.md; and the same recalls three ways | 3 min | postgresql
 	$(say)
-	@examples/plant/try
+	@examples/plant/try --check
 	@tools/three-ways-test >&2
 client-test:   ## kills `serve` twenty times under examples/client.py and tracedesk-send, puts a proxy that fails before it; tests the package | 1 min | openssl
 	@examples/client-test
@@ -42,10 +42,11 @@ torture:       ## kills the program 200 times, fails its disk, looks at its orde
 damage:        ## cuts and zeroes a desk's file page by page, and audits it | 1 min
 	$(say)
 	@tools/damage
-fail-each:     ## fails every read, write, sync and allocation in turn, and the power at each change | 15 min | gcc libc6-dev
+fail-each:     ## fails every read, write, sync and allocation in turn, and the power at each change; reads until a run may read no more | 17 min | gcc libc6-dev
 	$(say)
 	@tools/fail-each
 	@tools/fail-each --planted
+	@tools/many-reads
 bench:         ## what a day costs, beside stock SQLite | 5 min | time
 	$(say)
 	@tools/bench
@@ -57,6 +58,6 @@ docs:          ## out/docs: the documents and the definitions as HTML and one PD
 dist:          ## dist/tracedesk-VERSION-x86_64.tar.gz: the program and what a plant installs beside it | 10 s | pandoc binutils
 	$(say)
 	@tools/dist
-plant-test:    ## tries that package on a fresh Debian 12 of its own, as root | 10 min | debootstrap iproute2 pandoc binutils
+plant-test:    ## tries that package, and runs the tools' tests, on a fresh Debian 12 of its own, as root | 15 min | debootstrap iproute2 pandoc binutils
 	$(say)
 	@tools/plant-test

@@ -1,37 +1,14 @@
 // The screen Changeover: the product of each machine, and the kit for so many boards with what is on the slots already.
-import { TEXTS } from "./texts.js";
+import { TEXTS } from "./words.js";
 import { button, el, field, table } from "./dom.js";
 import { filled, isName, MOST_BOARDS, numberIn } from "./names.js";
 import * as clock from "./clock.js";
 import * as desk from "./desk.js";
+import { ALL_BOARDS, allotted, unclear } from "./allot.js";
 import { lifeText, piecesText } from "./life.js";
-import { productText } from "./line.js";
+import { productText } from "./known.js";
 
-const piecesOf = (reels) => reels.reduce((sum, it) => sum + Number(it.remaining), 0);
-
-/** What each row of a kit has on its slot, has to get, and has not. Of another part the page can't know whether it is an alternate: its pieces are told apart, and not called missing. */
-export function needsOf(kit, slots) {
-  const rows = new Map();
-  for (const it of kit) {
-    const row = rows.get(it.slot) ?? { slot: it.slot, part: it.part, needed: Number(it.needed), reels: [], short: 0 };
-    if (it.reel === "") {
-      row.short = Number(it.pieces);
-    } else {
-      row.reels.push(it);
-    }
-    rows.set(it.slot, row);
-  }
-  return [...rows.values()].map((row) => {
-    const on = slots.filter((it) => it.slot === row.slot), live = on.filter((it) => it.minutes_left !== "0"), others = live.filter((it) => it.part !== row.part);
-    const mounted = piecesOf(live.filter((it) => it.part === row.part)), other = piecesOf(others), rest = Math.max(0, row.needed - mounted - other);
-    const bring = [];
-    for (let pieces = 0, at = 0; pieces < rest && at < row.reels.length; at += 1) {
-      bring.push(row.reels[at]);
-      pieces += Number(row.reels[at].pieces);
-    }
-    return { ...row, mounted, other, otherParts: [...new Set(others.map((it) => it.part))], bring, missing: Math.max(0, row.short - mounted - other), isEmpty: on.length === 0 };
-  });
-}
+const MOST_CARDS = 100;
 
 export class ChangeoverScreen {
   constructor(station) {
@@ -76,39 +53,63 @@ export class ChangeoverScreen {
 
   async show(event) {
     event.preventDefault();
-    if (this.station.takesFrom(document.activeElement)) {
-      return;
-    }
     const asked = this.asked();
     if (!asked) {
       return;
     }
-    const shown = [];
+    const lines = [];
     for (const { machine } of this.station.model.lines) {
-      shown.push(await this.kit(machine, asked));
+      lines.push(await this.read(machine, asked));
     }
-    this.kits.replaceChildren(...shown);
+    const had = lines.filter((it) => !it.fault), rows = await this.allotted(had, asked.boards);
+    this.kits.replaceChildren(...lines.map((it) => (it.fault ? this.fault(it, asked) : this.kit(it, asked, rows.filter((row) => row.machine === it.machine)))));
   }
 
-  async kit(machine, { product, boards }) {
-    const texts = TEXTS.changeover;
-    let kit, slots;
+  /** What the desk says of a machine: its slots and its kit lists, or why there are none. */
+  async read(machine, { product, boards }) {
+    const kit = (count) => desk.rows("kit", { product, machine, boards: String(count) });
     try {
-      slots = await desk.rows("slots", { machine });
-      kit = await desk.rows("kit", { product, machine, boards: String(boards) });
+      const slots = await desk.rows("slots", { machine }), all = await kit(ALL_BOARDS), more = await kit(boards);
+      return { machine, slots: slots.rows, kit: all.rows, more: more.rows, had: more.had };
     } catch (fault) {
-      const text = fault.status !== 404 ? texts.notHad : fault.body.Kind === "Machine" ? texts.unknownMachine : texts.unknownSheet;
-      return el("section", { class: "machine" }, el("h2", null, machine), el("p", { class: "note wrong" }, filled(text, { product, machine })));
+      return { machine, fault };
     }
-    const needs = needsOf(kit.rows, slots.rows), count = (test) => needs.filter(test).length;
-    const missing = count((it) => it.missing), empty = count((it) => it.isEmpty), other = count((it) => it.other);
-    const { head } = texts, columns = [[head.slot], [head.part], [head.needed, "n"], [head.mounted, "n"], [head.bring], [head.missing, "n"]];
-    const rows = needs.map((it) => [[it.slot, "slot"], [it.part, "name"], piecesText(it.needed),
-      it.other ? filled(texts.onSlot, { mounted: piecesText(it.mounted), other: piecesText(it.other), parts: it.otherParts.join(", ") }) : piecesText(it.mounted),
-      [it.bring.map((reel) => `${reel.reel} (${piecesText(reel.pieces)}, ${lifeText(reel.minutes_left)})`).join("; "), "name"], it.missing ? piecesText(it.missing) : ""]);
-    return el("section", { class: "machine" }, el("h2", null, machine, el("small", null, filled(texts.asked, { product, machine, boards, time: clock.shown(kit.had ?? clock.now()) }))),
-      el("p", { class: missing ? "note wrong" : "note" }, missing ? filled(texts.missing, { count: missing }) : texts.ready),
-      empty ? el("p", { class: "note" }, filled(texts.empty, { count: empty })) : null, other ? el("p", { class: "note" }, filled(texts.other, { count: other })) : null,
-      table(columns, rows, (at) => (needs[at].missing ? "EMPTY" : needs[at].other ? "OTHER" : "")), el("p", { class: "legend" }, texts.how));
+  }
+
+  /** The rows of all machines. Where some are short, the cards of reels are asked that are named for another part alone. */
+  async allotted(lines, boards) {
+    const { model } = this.station, rows = allotted(lines, boards, model.parts), asked = unclear(lines, rows, model.parts).slice(0, MOST_CARDS);
+    for (const reel of asked) {
+      await model.card(reel);
+    }
+    return asked.length ? allotted(lines, boards, model.parts) : rows;
+  }
+
+  fault({ machine, fault }, { product }) {
+    const texts = TEXTS.changeover, text = fault.status !== 404 ? texts.notHad : fault.body.Kind === "Machine" ? texts.unknownMachine : texts.unknownSheet;
+    return el("section", { class: "machine" }, el("h2", null, machine), el("p", { class: "note wrong" }, filled(text, { product, machine })));
+  }
+
+  kit({ machine, had }, { product, boards }, rows) {
+    const texts = TEXTS.changeover, count = (test) => rows.filter(test).length, missing = count((it) => it.missing), { head } = texts;
+    const told = [["unsure", count((it) => it.unsure)], ["empty", count((it) => it.isEmpty)], ["expired", count((it) => it.expired.length)], ["other", count((it) => it.other)]];
+    const columns = [[head.slot], [head.part], [head.needed, "n"], [head.mounted, "n"], [head.bring], [head.missing, "n"]];
+    const cells = rows.map((it) => [[it.slot, "slot"], [it.part, "name"], piecesText(it.needed), this.onSlot(it), [it.bring.map((reel) => this.bring(reel)).join("; "), "name"],
+      it.missing ? piecesText(it.missing) : it.unsure ? filled(texts.orMissing, { unsure: piecesText(it.unsure), parts: it.otherParts.join(", ") }) : ""]);
+    const isReady = !missing && !told[0][1];
+    return el("section", { class: "machine" }, el("h2", null, machine, el("small", null, filled(texts.asked, { product, machine, boards, time: clock.shown(had ?? clock.now()) }))),
+      missing || isReady ? el("p", { class: missing ? "note wrong" : "note" }, missing ? filled(texts.missing, { count: missing }) : texts.ready) : null,
+      told.filter(([, number]) => number).map(([name, number]) => el("p", { class: "note" }, filled(texts[name], { count: number }))),
+      table(columns, cells, (at) => (rows[at].missing ? "EMPTY" : rows[at].other || rows[at].expired.length ? "OTHER" : "")), el("p", { class: "legend" }, texts.how));
+  }
+
+  onSlot({ mounted, other, otherParts, expired }) {
+    const texts = TEXTS.changeover, parts = [other ? filled(texts.onSlot, { mounted: piecesText(mounted), other: piecesText(other), parts: otherParts.join(", ") }) : piecesText(mounted)];
+    return [...parts, ...(expired.length ? [filled(texts.onExpired, { reels: expired.join(", ") })] : [])].join("; ");
+  }
+
+  bring({ reel, pieces, minutes_left, from }) {
+    const text = filled(TEXTS.changeover.reel, { reel, pieces: piecesText(pieces), life: lifeText(minutes_left) });
+    return from ? filled(TEXTS.changeover.from, { reel: text, ...from }) : text;
   }
 }

@@ -1,9 +1,10 @@
 // The page of codes to print: actions, screens, digits, and the slots of each machine's sheet.
-import { TEXTS } from "./texts.js";
+import { TEXTS } from "./words.js";
 import { button, el } from "./dom.js";
-import { filled } from "./names.js";
+import { filled, LEVELS } from "./names.js";
 import { bars } from "./code128.js";
 import * as desk from "./desk.js";
+import { letterOf } from "./keys.js";
 import * as setup from "./setup.js";
 import { ACTIONS } from "./scan.js";
 
@@ -26,7 +27,22 @@ async function slotsOf({ machine, product }, codes) {
   }
 }
 
+/** A scan on this page is taken by the station. */
+function handOver() {
+  let text = "";
+  document.addEventListener("keydown", (event) => {
+    if (event.key === "Enter" && text !== "") {
+      event.preventDefault();
+      sessionStorage.setItem("scanned", text);
+      location.assign("./");
+    } else if (event.key !== " " || text !== "") {
+      text += letterOf(event) ?? "";
+    }
+  }, true);
+}
+
 async function begin() {
+  handOver();
   const { setup: read, fault, member } = await setup.read(), texts = TEXTS.codesPage, main = document.getElementById("main");
   if (!read) {
     main.replaceChildren(el("p", { class: "note wrong" }, filled(TEXTS.setup.wanting, { fault: filled(TEXTS.setup[fault], { member }) })));
@@ -36,6 +52,7 @@ async function begin() {
   const parts = [el("h1", null, `${read.title}: ${texts.title}`), el("p", { class: "no-print" }, texts.hint, " ", button(texts.print, () => window.print()), " ", el("a", { href: "./" }, TEXTS.title)),
     group(texts.actions, ACTIONS.map((it) => card(TEXTS.actions[it], action(it)))),
     group(texts.digits, [...[..."0123456789"].map((it) => card(it, action(it))), card(TEXTS.actions.ENTER, action("ENTER"))]),
+    group(texts.levels, LEVELS.map((it) => card(filled(texts.level, { level: it }), action(`LEVEL-${it}`)))),
     group(texts.screens, Object.entries(TEXTS.screens).map(([name, text]) => card(text, action(name.toUpperCase())))),
     el("p", null, filled(texts.badge, { code: filled(codes.badge, { badge: "NAME" }) }))];
   for (const machine of read.machines.filter((it) => it.product)) {

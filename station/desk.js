@@ -4,15 +4,15 @@ import { rowsOf } from "./csv.js";
 
 const GET_SECONDS = 25;
 const POST_SECONDS = 30; // then the same bytes are sent again: a message acts once
+const ANEW = 300, ANEW_TIMES = 8; // milliseconds, and how often an answer of before is asked for again while the desk makes a new one
 const DECIDED = { 200: ["Accepted"], 202: ["Ignored"], 400: ["Faulty"], 409: ["Refused"], 422: ["Faulty"] };
 const OF_THE_REQUEST = ["BadHead", "BadLength", "BadQuery"];
 
-/** No report: `status` 0 is no answer at all; `body` is what was said. */
+/** No report: `status` 0 is no answer at all; `body` is what was said, and `isDesk` that the desk itself said it, of the moment `had`. */
 export class NotHad extends Error {
-  constructor(status, body) {
+  constructor({ status, body, had, age, old }) {
     super(`status ${status}`);
-    this.status = status;
-    this.body = body;
+    Object.assign(this, { status, body, had, age, old, isDesk: status === 404 && body.Answer === "NotFound" && had !== null });
   }
 }
 
@@ -28,24 +28,33 @@ function objectOf(text) {
 async function asked(target, how, seconds) {
   try {
     const answer = await fetch(target, { ...how, cache: "no-store", credentials: "same-origin", redirect: "error", signal: AbortSignal.timeout(seconds * 1000) });
+    hear(answer.headers); // before the body, which may take a while
     const text = await answer.text();
-    hear(answer.headers);
     return { status: answer.status, text, headers: answer.headers };
   } catch {
     return { status: 0, text: "", headers: new Headers() };
   }
 }
 
+/** An answer of the proxy's cache: of which moment of the server it is, whether the desk didn't answer, and whether it is asked anew at this moment. */
+async function looked(target) {
+  const { status, text, headers } = await asked(target, {}, GET_SECONDS), cached = headers.get("X-Station-Cache");
+  const had = Number(headers.get("X-Desk-Answered")) * 1000, now = Number(headers.get("X-Station-Now")) * 1000;
+  return { status, text, had: had > 0 ? had : null, age: had > 0 && now > 0 ? Math.max(0, now - had) : null, old: cached === "STALE", anew: cached === "UPDATING" };
+}
+
 /** A report: its text, and of which moment of the server it is. A report that isn't had is a NotHad. */
 export async function report(path, query = {}) {
-  const words = new URLSearchParams(query).toString();
-  const { status, text, headers } = await asked(`/station/desk/${path}${words ? `?${words}` : ""}`, {}, GET_SECONDS);
-  if (status !== 200) {
-    throw new NotHad(status, objectOf(text));
+  const words = new URLSearchParams(query).toString(), target = `/station/desk/${path}${words ? `?${words}` : ""}`;
+  let told = await looked(target);
+  for (let turn = 0; told.anew && turn < ANEW_TIMES; turn += 1) { // another station asks the desk at this moment: its answer is ours too
+    await new Promise((resolve) => setTimeout(resolve, ANEW));
+    told = await looked(target);
   }
-  const had = Number(headers.get("X-Desk-Answered")) * 1000, now = Number(headers.get("X-Station-Now")) * 1000;
-  const old = ["STALE", "UPDATING"].includes(headers.get("X-Station-Cache") ?? "");
-  return { text, had: had > 0 ? had : null, age: had > 0 && now > 0 ? Math.max(0, now - had) : null, old };
+  if (told.status !== 200) {
+    throw new NotHad({ ...told, body: objectOf(told.text) });
+  }
+  return told;
 }
 
 /** The rows of a report by the names of its header, beside what `report` says of it. */
@@ -54,10 +63,10 @@ export async function rows(path, query) {
   return { ...told, rows: rowsOf(told.text) };
 }
 
-/** A file of the station itself as JSON, or null. */
+/** A file of the station itself as JSON, or null; `since` is when it was last changed. */
 export async function file(name) {
-  const { status, text } = await asked(`/station/${name}`, {}, GET_SECONDS);
-  return { status, told: status === 200 ? objectOf(text) : null };
+  const { status, text, headers } = await asked(`/station/${name}`, {}, GET_SECONDS);
+  return { status, told: status === 200 ? objectOf(text) : null, since: Date.parse(headers.get("Last-Modified") ?? "") || null };
 }
 
 /** Sends a message once. `answer` is the desk's, where there is one; `again` says that sending again may bring one. */

@@ -1,6 +1,7 @@
 // The screen Scan: what is held, buttons in place of action codes, a number pad, and the last scans of this station.
-import { TEXTS } from "./texts.js";
+import { TEXTS } from "./words.js";
 import { button, el, table } from "./dom.js";
+import { filled } from "./names.js";
 import * as clock from "./clock.js";
 import * as store from "./store.js";
 import { ACTIONS } from "./scan.js";
@@ -45,7 +46,7 @@ export class ScanScreen {
     }
     const rows = scans.map((it) => {
       const words = it.answer ? wordsOf(it) : null;
-      const answer = !words ? texts.waiting : words.kind === "accepted" ? TEXTS.verdict.accepted : `${TEXTS.verdict.refused}: ${words.title}`;
+      const answer = !words ? texts.waiting : words.kind === "accepted" ? filled(TEXTS.verdict.accepted, { done: words.title }) : `${TEXTS.verdict.refused}: ${words.title}`;
       return [clock.shown(it.at), whatOf(it), [answer, words?.kind ?? "asked"]];
     });
     this.list.replaceChildren(rows.length ? table([[texts.head.time], [texts.head.what], [texts.head.answer]], rows) : el("p", null, texts.noHistory));

@@ -1,6 +1,8 @@
 // Floor lives and pieces as an operator reads them.
-import { TEXTS } from "./texts.js";
+import { TEXTS } from "./words.js";
 import { filled } from "./names.js";
+
+const numbers = new Intl.NumberFormat(TEXTS.lang);
 
 /** The floor life that a report or an answer says: minutes, or a word. */
 export function lifeText(minutes) {
@@ -24,5 +26,5 @@ export function lifeOrder(minutes) {
 }
 
 export function piecesText(number) {
-  return Number(number).toLocaleString("en");
+  return numbers.format(Number(number));
 }

@@ -9,11 +9,17 @@ const LEAST_PERIOD = 3; // seconds
 const KIT_PERIOD = 300; // of sheets, free reels and the overdue list, which seldom change
 const CACHE = 2_100; // milliseconds after which the proxy asks the desk anew
 const ALL_BOARDS = "100000";
+const ENOUGH = 6, CARDS = 24; // free reels that are enough to choose from, and cards that are asked for at most to find more
 
 /** Every how many seconds the slots are asked for, so that all stations together use up so many connections a day at most. */
 export function period(machines, connections) {
-  const rest = connections - ((machines + 1) * 86_400) / KIT_PERIOD;
+  const rest = connections - kitsADay(machines);
   return rest <= 0 ? 600 : Math.max(LEAST_PERIOD, (machines * 86_400) / rest);
+}
+
+/** How many connections a day the sheets, free reels and the overdue list use up. */
+export function kitsADay(machines) {
+  return ((machines + 1) * 86_400) / KIT_PERIOD;
 }
 
 export class Model {
@@ -22,11 +28,14 @@ export class Model {
     this.setup = setup;
     this.changed = changed;
     this.period = period(setup.machines.length, setup.connectionsADay) * 1000;
-    this.lines = setup.machines.map(({ machine, product }) => ({ machine, configured: product ?? null, slots: null, kit: null, missing: null }));
+    this.lines = setup.machines.map(({ machine, product }) => ({ machine, configured: product ?? null, slots: null, kit: null, kitHad: null, missing: null }));
     this.overdue = null;
+    this.overdueHad = null;
+    this.parts = new Map(); // of reels, as the desk's reports told them
+    this.answers = new Map(); // of slots: what the last answer to a scan said, {isLive, at}
     this.selected = {}; // of each machine: what this station's accepted selection said
     this.state = { had: null, age: null, at: 0, old: false, ok: false, status: 0 };
-    this.kitAt = 0;
+    this.kitTurn = null; // which of the server's periods the kits are of
   }
 
   async begin() {
@@ -48,7 +57,13 @@ export class Model {
   /** The product of a machine, and where this page has it from. */
   product(machine) {
     const said = this.selected[machine], configured = this.line(machine)?.configured;
-    return said ? { product: said.product, from: "station", number: said.number, at: said.at } : configured ? { product: configured, from: "setup" } : null;
+    return said ? { product: said.product, from: "station", number: said.number, at: said.at } : configured ? { product: configured, from: "setup", at: this.setup.since } : null;
+  }
+
+  /** What this page's sheet says of a slot that is scanned: its part, by which sheet, known from where. */
+  wanted({ machine, slot }) {
+    const part = slot ? this.slot(machine, slot).part : null;
+    return part === null ? { part } : { part, ...this.product(machine) };
   }
 
   /** Takes an accepted selection of this station. */
@@ -62,32 +77,42 @@ export class Model {
     for (const line of this.lines) {
       await this.slots(line);
     }
-    const now = performance.now();
-    if (this.kitAt === 0 || now - this.kitAt > KIT_PERIOD * 1000) {
+    if (this.kitTurn === null || this.kitTurn !== this.turn()) {
       await this.kits();
     }
   }
 
+  /** The number of the server's period: it changes at the same moment at every station. */
+  turn() {
+    return Math.floor((clock.now() ?? Date.now()) / (KIT_PERIOD * 1000));
+  }
+
   async kits() {
-    this.kitAt = performance.now();
+    const turn = this.turn();
     for (const line of this.lines) {
       await this.kit(line);
     }
-    await this.had(desk.rows("overdue", {}), (told) => { this.overdue = told.rows.length; });
+    await this.had(desk.rows("overdue", {}), (told) => {
+      this.overdue = told.rows.length;
+      this.overdueHad = told.had;
+    });
+    this.kitTurn = this.state.ok ? turn : null;
   }
 
-  /** Takes a report where it is had, and notes how the desk is. */
+  /** Takes a report where it is had, and notes how the desk is. That a thing is unknown is the desk's answer too. */
   async had(asking, take, without = () => {}) {
+    const heard = (told) => { this.state = { had: told.had, age: told.age, at: performance.now(), old: told.old, ok: true, status: 200 }; };
     try {
       const told = await asking;
-      this.state = { had: told.had, age: told.age, at: performance.now(), old: told.old, ok: true, status: 200 };
+      heard(told);
       take(told);
     } catch (fault) {
       if (!(fault instanceof desk.NotHad)) {
         throw fault;
       }
-      if (fault.status === 404) {
-        without(fault.body.Kind);
+      if (fault.isDesk) {
+        heard(fault);
+        without(fault.body.Kind, fault.had);
       } else {
         this.state = { ...this.state, ok: false, status: fault.status };
       }
@@ -100,8 +125,10 @@ export class Model {
       line.slots = told.rows;
       line.had = told.had;
       line.missing = null;
-    }, (kind) => {
+      told.rows.forEach((it) => this.parts.set(it.reel, it.part));
+    }, (kind, had) => {
       line.slots = [];
+      line.had = had;
       line.missing = kind;
     });
   }
@@ -114,9 +141,11 @@ export class Model {
     }
     await this.had(desk.rows("kit", { product, machine: line.machine, boards: "1" }), (told) => {
       line.kit = sheetOf(told.rows);
+      line.kitHad = told.had;
       line.noSheet = false;
-    }, () => {
+    }, (kind, had) => {
       line.kit = null;
+      line.kitHad = had;
       line.noSheet = true;
     });
   }
@@ -128,7 +157,7 @@ export class Model {
       return;
     }
     await this.slots(line);
-    if (since && this.state.ok && line.had !== null && line.had < since) {
+    if (since && this.state.ok && line.had && line.had < since) {
       await new Promise((resolve) => setTimeout(resolve, CACHE));
       await this.slots(line);
     }
@@ -141,13 +170,37 @@ export class Model {
     return { known: Boolean(line?.slots), sheet: Boolean(line?.kit), part: wanted?.part ?? null, reels: (line?.slots ?? []).filter((it) => it.slot === slot) };
   }
 
-  /** The free reels that the kit list names for a slot or another one of the same part, the first to end first; null where it isn't had. */
+  /** Takes what an answer to a scan says of a slot: it holds until a later slot list says it. */
+  heard({ word, body, answer }) {
+    const isLive = answer.Answer === "Accepted" ? { MaterialsLoaded: true, MaterialsSpliced: true, MaterialsUnloaded: false }[word] : { SlotTaken: true, SlotEmpty: false }[answer.Refusal];
+    if (body.Slot && isLive !== undefined) {
+      this.answers.set(JSON.stringify([body.Machine, body.Slot]), { isLive, at: clock.now() });
+    }
+  }
+
+  /** Whether a slot has a live reel: by the last slot list, or by an answer after it. */
+  isLive(machine, slot) {
+    const said = this.answers.get(JSON.stringify([machine, slot]));
+    return said && !(this.line(machine).had > said.at) ? said.isLive : this.slot(machine, slot).reels.length > 0;
+  }
+
+  /** The card of a reel, or null where the desk does not tell it. */
+  async card(reel) {
+    try {
+      const [card] = (await desk.rows("reel", { reel })).rows;
+      this.parts.set(reel, card.part);
+      return card;
+    } catch {
+      return null;
+    }
+  }
+
+  /** The free reels that the kit list names for a slot or another one of the same part, the first to end first, and alternates that it has at earlier slots; null where it isn't had. */
   async freeFor(machine, slot) {
-    const product = this.product(machine)?.product;
+    const product = this.product(machine)?.product, found = new Map(), earlier = new Map();
     if (!product) {
       return null;
     }
-    const found = new Map();
     let part = null;
     for (const boards of ["1", ALL_BOARDS]) {
       let told;
@@ -157,10 +210,29 @@ export class Model {
         return null;
       }
       part = told.rows.find((it) => it.slot === slot)?.part ?? null;
-      told.rows.filter((it) => it.part === part && it.reel !== "").forEach((it) => found.set(it.reel, it));
+      const first = told.rows.findIndex((it) => it.part === part);
+      told.rows.forEach((it, at) => it.reel !== "" && (it.part === part ? found : at < first ? earlier : new Map()).set(it.reel, it));
     }
-    const reels = [...found.values()].sort((a, b) => lifeOrder(a.minutes_left) - lifeOrder(b.minutes_left) || (a.reel < b.reel ? -1 : 1));
-    return { part, reels };
+    found.forEach((_, reel) => earlier.delete(reel));
+    const sorted = (reels) => [...reels].sort((a, b) => lifeOrder(a.minutes_left) - lifeOrder(b.minutes_left) || (a.reel < b.reel ? -1 : 1));
+    return { part, reels: sorted(found.values()), alternates: part !== null && found.size < ENOUGH ? sorted(await this.alternates(earlier)) : [] };
+  }
+
+  /** Those of some rows' reels whose own part is another than the row's: the kit has an alternate at one slot only, whatever parts it stands for. */
+  async alternates(rows) {
+    const found = [];
+    let cards = 0;
+    for (const row of rows.values()) {
+      if (!this.parts.has(row.reel) && cards < CARDS) {
+        cards += 1;
+        await this.card(row.reel);
+      }
+      const own = this.parts.get(row.reel);
+      if (own !== undefined && own !== row.part) {
+        found.push({ ...row, own });
+      }
+    }
+    return found;
   }
 }
 
@@ -171,29 +243,37 @@ function sheetOf(rows) {
   return [...found.values()];
 }
 
-/** The rows of a machine as they are shown: its sheet's, then the slots that are on no row of it. */
+/** The rows of a machine as they are shown: its sheet's, then the slots that are on no row of it. Without a slot list there are none. */
 export function shownRows(line, setup) {
-  const slots = line.slots ?? [];
-  const bySlot = Map.groupBy ? Map.groupBy(slots, (it) => it.slot) : slots.reduce((map, it) => map.set(it.slot, [...(map.get(it.slot) ?? []), it]), new Map());
+  if (!line.slots) {
+    return [];
+  }
+  const bySlot = new Map();
+  line.slots.forEach((it) => bySlot.set(it.slot, [...(bySlot.get(it.slot) ?? []), it]));
   const sheet = (line.kit ?? []).map((row) => rowOf(row, bySlot.get(row.slot) ?? [], setup));
-  const named = new Set(sheet.map((it) => it.slot));
+  const named = new Set(sheet.map((it) => it.slot)), off = line.kit ? "OFF" : "NOSHEET";
   const rest = [...bySlot].filter(([slot]) => !named.has(slot)).sort(([a], [b]) => a.localeCompare(b, "en", { numeric: true }));
-  return [...sheet, ...rest.map(([slot, reels]) => rowOf({ slot, part: reels[0].part, needed: 0 }, reels, setup, line.kit !== null))];
+  return [...sheet, ...rest.map(([slot, reels]) => rowOf({ slot, part: reels[0].part, needed: 0 }, reels, setup, off))];
 }
 
-function rowOf({ slot, part, needed }, reels, setup, isOff = false) {
-  const front = reels[0] ?? null, pieces = reels.reduce((sum, it) => sum + Number(it.remaining), 0);
-  const boards = needed ? Math.floor(pieces / needed) : null, life = front ? lifeOrder(front.minutes_left) : null, states = [];
-  if (!front) {
-    states.push("EMPTY");
-  } else if (front.minutes_left === "0") {
-    states.push("EXPIRED");
-  } else if (life < setup.expires) {
-    states.push("EXPIRES");
-  }
-  if (front && boards !== null && boards < setup.boards) {
-    states.push("LOW");
-  }
-  const other = Boolean(front && needed && front.part !== part);
-  return { slot, part, front, behind: reels.slice(1), pieces, boards, life, other, isOff, states: isOff ? [...states, "OFF"] : other ? [...states, "OTHER"] : states };
+/**
+ * A slot as it is shown. `boards` are those of the reels before the first that is expired; `worst` is the reel whose floor
+ * life ends first, wherever it stands on the tape; `off` says that no row of the sheet names the slot, or that no sheet is known.
+ */
+function rowOf({ slot, part, needed }, reels, setup, off = null) {
+  const front = reels[0] ?? null, pieces = sumOf(reels), expired = reels.findIndex((it) => it.minutes_left === "0");
+  const boards = needed ? Math.floor(sumOf(expired < 0 ? reels : reels.slice(0, expired)) / needed) : null;
+  const worst = reels.reduce((least, it) => (least === null || lifeOrder(it.minutes_left) < lifeOrder(least.minutes_left) ? it : least), null);
+  const life = worst && lifeOrder(worst.minutes_left), others = [...new Set(reels.map((it) => it.part).filter((it) => it !== part))], states = [];
+  const isLow = front && expired !== 0 && boards !== null && boards < setup.boards;
+  [["EMPTY", !front], ["EXPIRED", expired >= 0], ["LOW", isLow], ["EXPIRES", expired < 0 && front && life < setup.expires], ["OTHER", others.length], [off, off]].forEach(([state, holds]) => {
+    if (holds) {
+      states.push(state);
+    }
+  });
+  return { slot, part, front, behind: reels.slice(1), pieces, boards, worst, life, others, off, states };
+}
+
+function sumOf(reels) {
+  return reels.reduce((sum, it) => sum + Number(it.remaining), 0);
 }

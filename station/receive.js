@@ -1,30 +1,50 @@
-// The screen Receive: a supplier's label or fields by hand, and one ReelReceived.
-import { TEXTS } from "./texts.js";
+// The screen Receive: a supplier's label or fields by hand, and one ReelReceived. What was filled in stays until the desk accepted it.
+import { TEXTS } from "./words.js";
 import { button, el, field } from "./dom.js";
 import { filled, isName, LEVELS, MOST_MINUTES, MOST_PIECES, numberIn } from "./names.js";
 import { fieldsOf, receiptOf } from "./label.js";
+import { bodyOf, WORDS } from "./scan.js";
+import { wordsOf } from "./verdict.js";
 
 const FIELDS = ["reel", "part", "lot", "quantity"];
+const ALL = [...FIELDS, "level", "minutes"];
 
 export class ReceiveScreen {
   constructor(station) {
     this.station = station;
     this.levels = new Map(); // the level that a part had the last time
+    this.digits = ""; // those that were scanned as codes
+    this.kept = {}; // what the fields hold, also while another screen is shown
+    this.said = el("p", { class: "note", role: "status" }, TEXTS.receive.hint);
   }
 
   parts() {
     const texts = TEXTS.receive;
-    this.said = el("p", { class: "note", role: "status" }, texts.hint);
-    this.inputs = {};
     const levels = el("fieldset", { class: "levels" }, el("legend", null, texts.level), LEVELS.map((it) => el("label", null, el("input", { type: "radio", name: "level", value: it }), it)));
-    this.form = el("form", { class: "receive", on: { submit: (event) => this.submit(event) } }, el("h2", null, texts.title), this.said,
+    this.form = el("form", { class: "receive", on: { submit: (event) => this.submit(event), input: () => this.keep() } }, el("h2", null, texts.title), this.said,
       FIELDS.map((name) => field(name, texts[name], { inputmode: name === "quantity" ? "numeric" : "text", maxlength: "200" })), levels, field("minutes", texts.minutes, { inputmode: "numeric" }),
       el("p", { class: "buttons" }, el("button", { type: "submit" }, texts.go), button(texts.clear, () => this.clear())));
+    this.fill(this.kept);
     return [this.form];
   }
 
-  clear() {
+  held() {
+    return Object.fromEntries(ALL.map((name) => [name, this.form.elements[name].value]));
+  }
+
+  keep() {
+    this.kept = this.held();
+    this.digits = "";
+  }
+
+  fill(values) {
     this.form.reset();
+    Object.entries(values).forEach(([name, value]) => { this.form.elements[name].value = value; });
+    this.keep();
+  }
+
+  clear() {
+    this.fill({});
     this.say(TEXTS.receive.hint, false);
     this.form.elements.reel.focus();
   }
@@ -41,15 +61,50 @@ export class ReceiveScreen {
       this.say(TEXTS.fault.label, true);
       return;
     }
-    const receipt = receiptOf(found, this.station.setup.label);
-    this.form.reset();
-    FIELDS.forEach((name) => { this.form.elements[name].value = receipt[name]; });
-    const known = this.levels.get(receipt.part);
-    if (known) {
-      this.form.elements.level.value = known;
+    const receipt = receiptOf(found, this.station.setup.label), known = this.levels.get(receipt.part);
+    this.fill(known ? { ...receipt, level: known } : receipt);
+    const read = filled(TEXTS.receive.read, { fields: Object.entries(found).map(([name, value]) => `${name} ${value}`).join(", ") });
+    this.moveOn();
+    this.say(`${read}. ${this.wanted()}`, false);
+  }
+
+  /** The first field that is empty, or undefined. */
+  empty() {
+    const { elements } = this.form;
+    return [...FIELDS, ...(elements.level.value === "6" ? ["minutes"] : [])].map((name) => elements[name]).find((it) => it.value.trim() === "");
+  }
+
+  /** What is wanted next, in words. */
+  wanted() {
+    const texts = TEXTS.receive, next = this.empty();
+    return next ? filled(texts.next, { field: texts[next.name] }) : this.form.elements.level.value ? texts.ready : texts.levelWanted;
+  }
+
+  /** To the first empty field, or to the level. */
+  moveOn() {
+    (this.empty() ?? this.form.querySelector("input[type=radio]:checked") ?? this.form.querySelector("input[type=radio]")).focus();
+  }
+
+  /** Takes an action code: a level, a digit of the pieces or of a label's minutes, or that all is filled in. */
+  coded(action) {
+    const { elements } = this.form, level = /^LEVEL-(.+)$/.exec(action)?.[1];
+    if (LEVELS.includes(level)) {
+      elements.level.value = level;
+    } else if (/^[0-9]$/.test(action)) {
+      this.digits += action; // the first one takes the place of what stood there
+      elements[elements.level.value === "6" ? "minutes" : "quantity"].value = this.digits;
+      this.kept = this.held();
+      this.say(this.wanted(), false);
+      return true;
+    } else if (action === "ENTER") {
+      this.send();
+      return true;
+    } else {
+      return false;
     }
-    this.say(filled(TEXTS.receive.read, { fields: Object.entries(found).map(([name, value]) => `${name} ${value}`).join(", ") }), false);
-    (FIELDS.map((name) => this.form.elements[name]).find((it) => it.value === "") ?? this.form.querySelector("input[type=radio]:checked, input[type=radio]")).focus();
+    this.keep();
+    this.say(this.wanted(), false);
+    return true;
   }
 
   /** The field that the desk would not take, or null. */
@@ -58,28 +113,47 @@ export class ReceiveScreen {
     return name ?? (values.quantity === null ? "quantity" : values.level === "6" && values.minutes === null ? "minutes" : null);
   }
 
+  /** Enter in a field goes on to the next one, since a wedge ends each scan with it. The button, Enter on a level and the code of ENTER send. */
   submit(event) {
     event.preventDefault();
-    const { elements } = this.form, texts = TEXTS.receive;
-    if (this.station.takesFrom(document.activeElement?.form === this.form && document.activeElement.type !== "radio" ? document.activeElement : null)) {
-      return;
+    const { activeElement } = document;
+    if (activeElement?.form === this.form && activeElement.tagName === "INPUT" && activeElement.type !== "radio") {
+      this.moveOn();
+      this.say(this.wanted(), false);
+    } else {
+      this.send();
     }
-    const next = FIELDS.map((name) => elements[name]).find((it) => it.value.trim() === "");
-    if (next && document.activeElement?.tagName === "INPUT") { // a wedge ends each field with Enter
-      next.focus();
-      return;
-    }
-    const values = { ...Object.fromEntries(["reel", "part", "lot"].map((it) => [it, elements[it].value.trim()])), quantity: numberIn(elements.quantity.value.trim(), 1, MOST_PIECES),
-      level: elements.level.value, minutes: numberIn(elements.minutes.value.trim(), 1, MOST_MINUTES) };
-    const wrong = this.wrongField(values);
+  }
+
+  values() {
+    const { elements } = this.form, text = (name) => elements[name].value.trim();
+    return { reel: text("reel"), part: text("part"), lot: text("lot"), quantity: numberIn(text("quantity"), 1, MOST_PIECES), level: elements.level.value, minutes: numberIn(text("minutes"), 1, MOST_MINUTES) };
+  }
+
+  async send() {
+    const texts = TEXTS.receive, values = this.values(), wrong = this.wrongField(values);
     if (wrong || !values.level) {
       this.say(wrong ? filled(texts.bad, { field: texts[wrong] }) : texts.levelWanted, true);
-      (wrong ? elements[wrong] : this.form.querySelector("input[type=radio]")).focus();
+      (wrong ? this.form.elements[wrong] : this.form.querySelector("input[type=radio]")).focus();
       return;
     }
     this.levels.set(values.part, values.level);
     this.station.closeVerdict();
-    this.station.act("RECEIVE", values);
-    this.clear();
+    if (await this.station.act("RECEIVE", values)) {
+      this.say(texts.sent, false);
+    }
+  }
+
+  /** Takes the answer to a receipt: where it is the one that the fields hold they are cleared once it is accepted. */
+  answered({ word, body, answer }) {
+    if (word !== WORDS.RECEIVE || !this.form || JSON.stringify(bodyOf("RECEIVE", this.values())) !== JSON.stringify(body)) {
+      return;
+    }
+    if (answer.Answer === "Accepted") {
+      this.fill({});
+      this.say(TEXTS.receive.hint, false);
+    } else {
+      this.say(filled(TEXTS.receive.notTaken, { title: wordsOf({ word, body, answer }).title }), true);
+    }
   }
 }

@@ -1,15 +1,17 @@
 // What a scan does: codes in, a message out. It holds at most a slot or a reel, an action that waits for one, and a number.
-import { TEXTS } from "./texts.js";
-import { filled, readCode, stripped, numberIn, MOST_PIECES } from "./names.js";
+import { TEXTS } from "./words.js";
+import { filled, LEVELS, MOST_PIECES, numberIn, readCode, stripped } from "./names.js";
 import { piecesText } from "./life.js";
 import * as desk from "./desk.js";
 
 const OF_SLOT = ["UNLOAD", "SCRAP"], OF_REEL = ["OPEN", "SEAL", "BAKE", "COUNT"], WITH_NUMBER = { SCRAP: 1, COUNT: 0 };
 export const ACTIONS = [...OF_SLOT, ...OF_REEL, "CANCEL"];
+export const OF_RECEIVE = [...LEVELS.map((it) => `LEVEL-${it}`), "ENTER"];
 export const WORDS = {
   LOAD: "MaterialsLoaded", SPLICE: "MaterialsSpliced", UNLOAD: "MaterialsUnloaded", SCRAP: "MaterialsScrapped", OPEN: "ReelOpened", SEAL: "ReelSealed", BAKE: "ReelBaked",
   COUNT: "CountsTaken", RECEIVE: "ReelReceived", SELECT: "ProductSelected",
 };
+const isOfReceive = (action) => OF_RECEIVE.includes(action) || /^[0-9]$/.test(action);
 const FRESH = 3_000; // milliseconds: what is known of a slot is asked for again when it is older
 
 export class Scan {
@@ -26,6 +28,11 @@ export class Scan {
     this.action = null;
     this.asking = null; // {action, values}: a number is wanted
     this.digits = "";
+  }
+
+  /** Whether the next scan is a reel, a slot or a number that belongs to what is held, whatever has the focus. */
+  waits() {
+    return Boolean(this.slot || this.action || this.asking);
   }
 
   /** Takes what the scanner or the keyboard read. */
@@ -94,7 +101,7 @@ export class Scan {
     }
   }
 
-  /** Whether a slot has a live reel: by the desk's last slot list, and by the scans that it has not answered. */
+  /** Whether a slot has a live reel: by what the desk said last, and by the scans that it has not answered. */
   isLive({ machine, slot }) {
     const about = this.station.waiting.filter((it) => it.body.Machine === machine && it.body.Slot === slot);
     for (const it of about.reverse()) {
@@ -102,7 +109,7 @@ export class Scan {
         return it.word !== "MaterialsUnloaded";
       }
     }
-    return this.station.model.slot(machine, slot).reels.length > 0;
+    return this.station.model.isLive(machine, slot);
   }
 
   async readCard(reel) {
@@ -110,7 +117,7 @@ export class Scan {
     try {
       card = { ...(await desk.rows("reel", { reel })).rows[0], known: true };
     } catch (fault) {
-      card = { known: false, none: fault.status === 404 };
+      card = { known: false, none: fault.isDesk };
     }
     if (this.reel === reel) {
       this.card = card;
@@ -131,8 +138,8 @@ export class Scan {
       this.begin(action, this.slot);
     } else if (OF_REEL.includes(action)) {
       this.begin(action, this.reel && { reel: this.reel });
-    } else {
-      this.station.fault(filled(TEXTS.fault.action, { text: action }));
+    } else if (!this.station.coded(action)) {
+      this.station.fault(filled(isOfReceive(action) ? TEXTS.fault.receiveFirst : TEXTS.fault.action, { text: action }));
     }
   }
 
@@ -169,7 +176,7 @@ export class Scan {
   held() {
     const { strip, actions } = TEXTS;
     if (this.asking) {
-      const { action, values } = this.asking, what = values.reel ?? values.slot;
+      const { action, values } = this.asking, what = values.reel ?? filled(strip.slot, values);
       return [filled(strip.number, { action: actions[action], what }), this.digits];
     }
     if (this.action) {
@@ -193,8 +200,8 @@ export class Scan {
     if (!known.known) {
       return strip.slotUnknown;
     }
-    const part = known.part ?? "?", left = piecesText(known.reels.reduce((sum, it) => sum + Number(it.remaining), 0));
-    const does = this.isLive(this.slot) ? filled(strip.slotSplice, { part, reel: known.reels[0]?.reel ?? "?", left }) : filled(strip.slotLoad, { part });
+    const part = known.part ?? "?", [front] = known.reels, all = piecesText(known.reels.reduce((sum, it) => sum + Number(it.remaining), 0));
+    const does = this.isLive(this.slot) ? filled(known.reels.length > 1 ? strip.slotSpliceMore : strip.slotSplice, { part, reel: front?.reel ?? "?", left: piecesText(front?.remaining ?? 0), all }) : filled(strip.slotLoad, { part });
     return known.sheet && !known.part ? strip.slotNoSheet : does;
   }
 }

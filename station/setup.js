@@ -2,11 +2,11 @@
 import { isName, MOST_BOARDS } from "./names.js";
 import * as desk from "./desk.js";
 
-const USUAL = {
+export const USUAL = {
   title: "Line",
   boards: 10,
   expires: 60,
-  connectionsADay: 28_000, // of the desk's, which all stations of this line may use up together by looking
+  connectionsADay: 26_000, // of the desk's, which all stations of this line may use up together by looking
   scanner: { prefix: "", suffix: "", separators: ["{GS}"] },
   codes: { slot: "S/{machine}/{slot}", badge: "B/{badge}", action: "A/{action}" },
   label: { part: "P", reel: "S" },
@@ -44,14 +44,14 @@ function areMachines(machines) {
 
 /** Reads the set-up: {setup}, or {fault} with the name of its text and, of a member, its name. */
 export async function read() {
-  const { status, told } = await desk.file("setup.json");
+  const { status, told, since } = await desk.file("setup.json");
   if (status !== 200) {
     return { status, fault: "missing" };
   }
   if (Object.keys(told).length === 0) {
     return { status, fault: "json" };
   }
-  const setup = { ...USUAL, ...told };
+  const setup = { ...USUAL, ...told, since };
   for (const part of ["scanner", "codes", "label"]) {
     setup[part] = { ...USUAL[part], ...told[part] };
   }

@@ -1,11 +1,12 @@
 // The page at the line: its screens, its scanner, and what goes on whatever screen is shown.
-import { TEXTS } from "./texts.js";
+import { TEXTS } from "./words.js";
 import { button, el, field } from "./dom.js";
 import { filled, isName, readCode, stripped } from "./names.js";
 import * as clock from "./clock.js";
 import * as desk from "./desk.js";
 import * as setup from "./setup.js";
 import * as store from "./store.js";
+import { Keys } from "./keys.js";
 import { Model } from "./model.js";
 import { Outbox } from "./outbox.js";
 import { bodyOf, Scan, WORDS } from "./scan.js";
@@ -18,7 +19,6 @@ import { ChangeoverScreen } from "./changeover.js";
 import { TraceScreen } from "./trace.js";
 
 const SCREENS = { line: LineScreen, scan: ScanScreen, receive: ReceiveScreen, changeover: ChangeoverScreen, trace: TraceScreen };
-const CONTROLS = { "]": "\x1d", "^": "\x1e", 6: "\x1e", d: "\x04" }; // what a wedge types for the separators of a label
 const at = (id) => document.getElementById(id);
 
 class Station {
@@ -45,52 +45,40 @@ class Station {
     at("scan-label").textContent = TEXTS.strip.label;
     at("scan-form").addEventListener("submit", (event) => {
       event.preventDefault();
-      const text = at("scan").value;
-      at("scan").value = "";
-      this.scan.take(text);
+      this.scan.take(this.keys.scanned());
     });
-    document.addEventListener("keydown", (event) => this.key(event), true);
+    this.keys = new Keys(this, at("scan"));
     at("verdict").addEventListener("click", () => this.closeVerdict());
     window.addEventListener("hashchange", () => this.go(location.hash.slice(1)));
     setInterval(() => this.head(), 1000);
     this.go(location.hash.slice(1));
     this.outbox.begin();
     this.model.begin();
+    const scanned = sessionStorage.getItem("scanned"); // on the page of codes
+    sessionStorage.removeItem("scanned");
+    this.scan.take(scanned ?? "");
   }
 
-  /** Leads what a wedge types into the scan field, wherever the focus is but in another field. */
-  key(event) {
-    const target = document.activeElement, isField = ["INPUT", "SELECT", "TEXTAREA"].includes(target?.tagName);
-    const control = event.ctrlKey && CONTROLS[event.key];
-    if (control) {
-      event.preventDefault();
-      const into = isField ? target : at("scan");
-      into.setRangeText(control, into.selectionStart, into.selectionEnd, "end");
-    } else if (event.key === "Escape") {
-      at("scan").value = "";
-      this.scan.clear();
-      this.closeVerdict();
-      this.scanned();
-      at("scan").focus();
-    } else if (!isField && event.key.length === 1 && !event.ctrlKey && !event.altKey && !event.metaKey && !(event.key === " " && at("scan").value === "")) {
-      at("scan").focus();
-    }
+  /** Whether something lies over the page, so that what has the focus isn't seen. */
+  isCovered() {
+    return !at("verdict").hidden;
   }
 
-  /** Takes a code that was scanned while the focus was in a form's field; false where it is none. */
-  takesFrom(input) {
-    const text = input ? stripped(input.value, this.setup.scanner) : "", code = text && readCode(text, this.setup);
-    if (!code || !["slot", "action", "badge", "label", "foreign"].includes(code.kind)) {
-      return false;
-    }
-    input.value = "";
+  cancel() {
+    at("scan").value = "";
+    this.scan.clear();
+    this.closeVerdict();
+    this.scanned();
     at("scan").focus();
-    this.scan.take(text);
-    return true;
   }
 
   isScreen(action) {
     return action.toLowerCase() in SCREENS;
+  }
+
+  /** Gives an action code to the screen that is shown; false where it has no use for it. */
+  coded(action) {
+    return this.screens[this.screen].coded?.(action) ?? false;
   }
 
   go(name) {
@@ -117,14 +105,14 @@ class Station {
   head() {
     const { state } = this.model, texts = TEXTS.head;
     const seconds = state.had === null ? null : Math.round((state.age + performance.now() - state.at) / 1000);
-    const isOld = state.ok && (state.old || seconds * 1000 > 3 * this.model.period + 5000);
+    const isSlow = seconds * 1000 > 3 * this.model.period + 5000, isFresh = state.ok && state.had !== null && !state.old && !isSlow;
     let text = texts.none;
     if (state.status === 401) {
       text = texts.loggedOut;
     } else if (state.had !== null) {
-      text = filled(state.ok && !isOld ? texts.fresh : texts.old, { seconds, time: clock.shown(state.had) });
+      text = filled(isFresh ? texts.fresh : state.ok && !state.old ? texts.slow : texts.old, { seconds, time: clock.shown(state.had) });
     }
-    at("state").className = state.ok && !isOld ? "fresh" : "old";
+    at("state").className = isFresh ? "fresh" : "old";
     const parts = [el("span", null, text)];
     if (!this.maySend) {
       parts.push(el("span", { class: "read-only" }, texts.readOnly), el("a", { href: "log-in" }, texts.logIn));
@@ -178,28 +166,24 @@ class Station {
     return this.send(action, bodyOf(action, values), values);
   }
 
-  /** Keeps a message and has it sent; its answer comes to `told`. */
+  /** Keeps a message and has it sent; its answer comes to `told`. False where it isn't kept. */
   async send(action, body, values) {
-    const word = WORDS[action], same = JSON.stringify(body);
-    if (!this.maySend) {
-      return this.fault(TEXTS.fault.readOnly);
+    const word = WORDS[action], same = JSON.stringify(body), { fault } = TEXTS;
+    const isAsked = this.waiting.some((it) => it.word === word && JSON.stringify(it.body) === same);
+    if (!this.maySend || isAsked || clock.now() === null) {
+      this.fault(!this.maySend ? fault.readOnly : isAsked ? fault.kept : fault.noTime);
+      return false;
     }
-    if (this.waiting.some((it) => it.word === word && JSON.stringify(it.body) === same)) {
-      return this.fault(TEXTS.fault.kept);
-    }
-    if (clock.now() === null) {
-      return this.fault(TEXTS.fault.noTime);
-    }
-    const part = values.slot ? this.model.slot(values.machine, values.slot).part : null;
     try {
-      const scan = await this.outbox.add(word, body, this.source(), { part });
+      const scan = await this.outbox.add(word, body, this.source(), this.model.wanted(values));
       this.mine.add(scan.uid);
       this.verdict.asked(scan);
       play("waiting");
-    } catch (fault) {
-      this.fault(filled(TEXTS.fault.notKept, { fault: fault.message }));
+      return true;
+    } catch (why) {
+      this.fault(filled(fault.notKept, { fault: why.message }));
+      return false;
     }
-    return undefined;
   }
 
   /** What the outbox tells: scans that wait, and an answer. */
@@ -214,6 +198,8 @@ class Station {
       if (isMine || answered.at < this.began) {
         this.verdict.answered(answered, !isMine || (this.verdict.current !== null && this.verdict.current.uid !== answered.uid));
       }
+      this.model.heard(answered);
+      this.screens.receive.answered(answered);
       this.screens.scan.refresh();
       if (answered.answer.Answer === "Accepted") {
         await this.accepted(answered);

@@ -1,5 +1,5 @@
 // The screen Trace: boards of a lot, pieces of a board, a reel's card and the overdue list, to sort, filter, save and print.
-import { TEXTS } from "./texts.js";
+import { TEXTS } from "./words.js";
 import { button, el, field } from "./dom.js";
 import { filled, isName } from "./names.js";
 import { fieldsOf } from "./csv.js";
@@ -7,7 +7,7 @@ import * as clock from "./clock.js";
 import * as desk from "./desk.js";
 import * as store from "./store.js";
 
-const SHOWN = 1000;
+const SHOWN = 1000; // rows on the screen; printed are all
 const QUESTIONS = { lot: "trace/lot", board: "trace/board", reel: "reel", overdue: "overdue" };
 const compare = new Intl.Collator("en", { numeric: true }).compare;
 
@@ -16,6 +16,8 @@ export class TraceScreen {
     this.station = station;
     this.question = "lot";
     this.answer = null;
+    window.addEventListener("beforeprint", () => this.print(Infinity));
+    window.addEventListener("afterprint", () => this.print(SHOWN));
   }
 
   parts() {
@@ -42,9 +44,6 @@ export class TraceScreen {
   async ask(event) {
     event.preventDefault();
     const { elements } = this.form, texts = TEXTS.trace;
-    if (this.station.takesFrom(document.activeElement?.id === "name" ? document.activeElement : null)) {
-      return;
-    }
     this.question = elements.question.value;
     const name = elements.name.value.trim(), detail = elements.detail.value;
     if (this.question !== "overdue" && !isName(name)) {
@@ -64,12 +63,14 @@ export class TraceScreen {
     this.show();
   }
 
-  /** What was asked, when, of which desk, up to which command at least. */
-  evidence() {
-    const { told, question, query, time, rows, last } = this.answer, texts = TEXTS.trace;
+  /** What was asked, when, of which desk, up to which command at least; and which of the rows stand below, in which order. */
+  evidence(count) {
+    const { told, question, query, time, rows, last, head, sort, filter } = this.answer, texts = TEXTS.trace;
     const asked = [texts[question], Object.entries(query).map(([name, value]) => `${name} ${value}`).join(", ")].filter(Boolean).join(": ");
     const upTo = last ? filled(texts.upTo, { number: last.number, time: clock.stamp(last.at) }) : texts.upToNone;
-    return [filled(texts.evidence, { asked, desk: this.station.setup.title, host: location.host, time: clock.stamp(time), count: rows.length }), upTo, ...(told.old ? [texts.old] : []), texts.archives];
+    return [filled(texts.evidence, { asked, desk: this.station.setup.title, host: location.host, time: clock.stamp(time), count: rows.length }), upTo,
+      filter ? filled(texts.filtered, { filter, shown: count, count: rows.length }) : texts.unfiltered, sort ? filled(sort.way > 0 ? texts.ascending : texts.descending, { column: head[sort.column] }) : texts.unsorted,
+      ...(told.old ? [texts.old] : []), texts.archives];
   }
 
   show() {
@@ -89,7 +90,8 @@ export class TraceScreen {
       this.list();
     });
     this.rows = el("div");
-    this.result.replaceChildren(el("div", { class: "evidence" }, this.evidence().map((it) => el("p", null, it))),
+    this.proof = el("div", { class: "evidence" });
+    this.result.replaceChildren(this.proof,
       el("div", { class: "buttons tools" }, filter, save, button(texts.print, () => window.print())), this.rows);
     this.list();
   }
@@ -99,7 +101,14 @@ export class TraceScreen {
     return `${words.replace(/[^A-Za-z0-9._-]+/g, "_")}.csv`;
   }
 
-  list() {
+  /** Lists all rows for the printer, and as many as before for the screen. */
+  print(most) {
+    if (this.answer && this.rows?.isConnected) {
+      this.list(most);
+    }
+  }
+
+  list(most = SHOWN) {
     const { head, rows, sort, filter } = this.answer, texts = TEXTS.trace;
     const chosen = rows.filter((row) => row.some((it) => it.toLowerCase().includes(filter.toLowerCase())));
     if (sort) {
@@ -107,14 +116,15 @@ export class TraceScreen {
     }
     const heads = head.map((name, column) => {
       const way = sort?.column === column ? sort.way : 0;
-      return el("th", { scope: "col", "aria-sort": way > 0 ? "ascending" : way < 0 ? "descending" : "none" }, button(`${name}${way > 0 ? " ▲" : way < 0 ? " ▼" : ""}`, () => {
+      return el("th", { scope: "col", "aria-sort": way > 0 ? "ascending" : way < 0 ? "descending" : "none" }, el("span", { class: "printed" }, name), button(`${name}${way > 0 ? " ▲" : way < 0 ? " ▼" : ""}`, () => {
         this.answer.sort = { column, way: way > 0 ? -1 : 1 };
         this.list();
         this.rows.querySelectorAll("th button")[column].focus();
       }));
     });
-    const shown = chosen.slice(0, SHOWN).map((row) => el("tr", null, row.map((it) => el("td", { class: "name" }, it))));
-    const count = chosen.length > SHOWN ? filled(texts.more, { shown: SHOWN, count: chosen.length }) : filled(texts.shown, { shown: chosen.length, count: rows.length });
+    const shown = chosen.slice(0, most).map((row) => el("tr", null, row.map((it) => el("td", { class: "name" }, it))));
+    const count = chosen.length > most ? filled(texts.more, { shown: most, count: chosen.length }) : filled(texts.shown, { shown: chosen.length, count: rows.length });
+    this.proof.replaceChildren(...this.evidence(chosen.length).map((it) => el("p", null, it)));
     this.rows.replaceChildren(el("p", { class: "count" }, count), el("table", null, el("thead", null, el("tr", null, heads)), el("tbody", null, shown)));
   }
 }

@@ -1,15 +1,17 @@
 // The answer to a scan, over the whole screen: what the desk said, in words, and what to do. Only what it accepted is green.
-import { TEXTS } from "./texts.js";
+import { TEXTS } from "./words.js";
 import { el } from "./dom.js";
 import { filled } from "./names.js";
 import { lifeText, piecesText } from "./life.js";
+import { sourceText } from "./known.js";
 import * as clock from "./clock.js";
 import { play } from "./sound.js";
 import { WORDS } from "./scan.js";
 
-const FREE_SHOWN = 6;
+const FREE_SHOWN = 4;
 const GREEN_SECONDS = 25; // then the screen behind it is seen again; a refusal stays until the next scan
-const ASKS_FOR_ANOTHER = ["WrongPart", "Expired", "NotBaked", "ReelEmpty"];
+const LOADS = ["LOAD", "SPLICE"];
+const BY_ANOTHER_SHEET = ["WrongPart", "SlotNotOnSheet"]; // where the page's sheet and the desk's may be two
 
 /** The action of a message. */
 export function actionOf(scan) {
@@ -21,6 +23,12 @@ export function whatOf(scan) {
   const { Machine: machine, Slot: slot, Reel, Product: product, PartNumber: part, Counts } = scan.body;
   const reel = Reel ?? Counts?.[0].Reel, quantity = piecesText(scan.body.Quantity ?? Counts?.[0].Quantity ?? 0);
   return filled(TEXTS.what[actionOf(scan)], { machine, slot, reel, product, part, quantity });
+}
+
+/** The slot and the reel of a scan, or what else it is of: what an operator looks for first. */
+function whereOf(scan) {
+  const { Machine: machine, Slot: slot, Reel, Product: product, Counts } = scan.body, reel = Reel ?? Counts?.[0].Reel, texts = TEXTS.verdict.where;
+  return filled(slot && reel ? texts.both : slot ? texts.slot : reel ? texts.reel : texts.product, { machine, slot, reel, product });
 }
 
 /** The kind of an answer, the words for it, and what to do. */
@@ -92,52 +100,65 @@ export class Verdict {
     if (kind === "accepted" && this.late.length === 0) {
       this.timer = setTimeout(() => this.close(), GREEN_SECONDS * 1000);
     }
-    if (!isLate) {
-      this.explain(scan);
+    if (this.current?.answer) {
+      this.explain(this.current);
     }
   }
 
   one(scan, isLate) {
-    const { kind, title, todo } = wordsOf(scan), { answer } = scan, facts = [];
-    if (answer.Answer === "Accepted") {
-      if ("MinutesLeft" in answer) {
-        facts.push(filled(TEXTS.verdict.minutes, { life: lifeText(answer.MinutesLeft) }));
-      }
-      if ("Taken" in answer) {
-        facts.push(filled(TEXTS.verdict.taken, { taken: piecesText(answer.Taken) }));
-      }
-      facts.push(filled(TEXTS.verdict.number, { number: answer.Number }));
-    }
-    const { Machine: machine, Slot: slot } = scan.body, wanted = slot && (this.model.slot(machine, slot).part ?? scan.about?.part);
-    const part = wanted && kind === "accepted" ? el("p", { class: "part" }, filled(TEXTS.verdict.wants, { slot, part: wanted })) : null;
-    return el("div", { class: `one ${kind}` }, isLate ? el("p", { class: "late" }, filled(TEXTS.verdict.again, { time: clock.shown(scan.at) })) : null,
-      el("p", { class: "word" }, kind === "accepted" ? TEXTS.verdict.accepted : answer.Answer === "Refused" ? TEXTS.verdict.refused : TEXTS.verdict.faulty),
-      el("h2", null, title), el("p", { class: "what" }, whatOf(scan)), part, el("p", { class: "todo" }, todo), el("p", { class: "facts" }, facts.join(" · ")));
+    const { kind, title, todo } = wordsOf(scan), { answer } = scan, isGreen = kind === "accepted", texts = TEXTS.verdict;
+    const word = isGreen ? filled(texts.accepted, { done: title }) : answer.Answer === "Refused" ? texts.refused : texts.faulty;
+    const line = (mark, text) => (text ? el("p", { class: mark }, text) : null);
+    const life = "MinutesLeft" in answer ? filled(texts.minutes, { life: lifeText(answer.MinutesLeft) }) : "Taken" in answer ? filled(texts.taken, { taken: piecesText(answer.Taken) }) : "";
+    const more = el("div", { class: "more", data: { scan: scan.uid } });
+    const late = line("late", isLate ? filled(texts.again, { time: clock.shown(scan.at) }) : "");
+    const parts = isGreen ? [line("where", whereOf(scan)), line("life", life), more, line("facts", `${whatOf(scan)} · ${filled(texts.number, { number: answer.Number })}`)]
+      : [el("h2", null, title), line("where", whereOf(scan)), more, line("todo", todo), line("facts", whatOf(scan))];
+    return el("div", { class: `one ${kind}` }, late, el("p", { class: "word" }, el("span", { class: "sign" }, isGreen ? "\u2713 " : "\u2717 "), word), parts);
   }
 
-  /** Puts behind a refusal what the desk's reports say of it. */
+  /** Puts to an answer what the desk's reports say of it: of a load that is accepted the reel's own part, of one that is refused what to bring. */
   async explain(scan) {
-    const { answer } = scan, { Machine: machine, Slot: slot } = scan.body;
-    let more = null;
-    if (answer.Refusal === "NoProduct") {
-      await this.model.refresh(machine);
-      more = this.model.line(machine)?.missing ? el("p", { class: "todo", id: "more" }, TEXTS.unknownMachine) : null;
-    } else if (ASKS_FOR_ANOTHER.includes(answer.Refusal) && slot) {
-      more = this.freeReels(slot, await this.model.freeFor(machine, slot));
+    const { answer } = scan, { Machine: machine, Slot: slot, Reel: reel, PartNumber: part } = scan.body, isLoad = LOADS.includes(actionOf(scan)), more = [];
+    if (answer.Answer === "Accepted") {
+      more.push(...(part ? [this.own({ part, lot: scan.body.Lot })] : isLoad ? this.stood(await this.model.card(reel), scan.about) : []));
+    } else if (isLoad && answer.Answer === "Refused") {
+      if (answer.Refusal === "NoProduct") {
+        await this.model.refresh(machine);
+      }
+      const isUnknown = answer.Refusal === "NoProduct" && this.model.line(machine)?.missing;
+      more.push(isUnknown ? el("p", { class: "todo" }, TEXTS.unknownMachine) : this.toBring(slot, this.model.product(machine), await this.model.freeFor(machine, slot)));
+      if (BY_ANOTHER_SHEET.includes(answer.Refusal)) {
+        more.push(el("p", { class: "from" }, filled(TEXTS.verdict.otherSheet, { machine })));
+      }
     }
-    if (more && this.current === scan && !this.place.hidden) {
-      this.place.insertBefore(more, this.place.lastChild);
-    }
+    [...this.place.querySelectorAll(".more")].find((it) => it.dataset.scan === scan.uid)?.replaceChildren(...more);
   }
 
-  freeReels(slot, free) {
-    const texts = TEXTS.verdict;
-    if (free === null) {
-      return el("p", { class: "todo", id: "more" }, texts.freeUnknown);
+  own(card) {
+    return el("p", { class: "part" }, filled(TEXTS.verdict.own, card));
+  }
+
+  /** A reel's own part, by its card, and where the sheet that the page knows names another one. */
+  stood(card, about) {
+    if (!card) {
+      return [el("p", { class: "from" }, TEXTS.verdict.ownUnknown)];
     }
-    const rows = free.reels.slice(0, FREE_SHOWN).map((it) => el("li", null, filled(texts.freeRow, { reel: it.reel, pieces: piecesText(it.pieces), life: lifeText(it.minutes_left) })));
-    const rest = free.reels.length - rows.length;
-    return el("div", { class: "free", id: "more" }, el("p", { class: "part" }, free.part ? filled(texts.wants, { slot, part: free.part }) : TEXTS.strip.slotNoSheet),
-      rows.length ? [el("p", null, texts.free), el("ol", null, rows)] : el("p", null, texts.freeNone), rest > 0 ? el("p", null, filled(texts.freeMore, { count: rest })) : null);
+    const differs = about?.part && about.part !== card.part;
+    return [this.own(card), ...(differs ? [el("p", { class: "from" }, filled(TEXTS.verdict.alternate, { part: about.part, product: about.product, source: sourceText(about) }))] : [])];
+  }
+
+  /** The part that a slot wants, by which sheet, and the free reels for it. */
+  toBring(slot, known, free) {
+    const texts = TEXTS.verdict;
+    if (!known || free === null) {
+      return el("p", { class: "todo" }, known ? texts.freeUnknown : texts.noSheet);
+    }
+    const row = (it) => el("li", null, filled(it.own ? texts.otherRow : texts.freeRow, { reel: it.reel, own: it.own, slot: it.slot, pieces: piecesText(it.pieces), life: lifeText(it.minutes_left) }));
+    const shown = free.reels.slice(0, FREE_SHOWN), others = free.alternates.slice(0, FREE_SHOWN - shown.length), rest = free.reels.length - shown.length;
+    const list = (title, rows) => (rows.length ? [el("p", { class: "from" }, title), el("ol", null, rows.map(row))] : []);
+    return el("div", { class: "free" }, el("p", { class: "part" }, free.part ? filled(texts.wants, { slot, part: free.part }) : TEXTS.strip.slotNoSheet),
+      el("p", { class: "from" }, filled(texts.bySheet, { product: known.product, source: sourceText(known) })), list(texts.free, shown), list(texts.freeOthers, others),
+      free.part && !shown.length && !others.length ? el("p", { class: "todo" }, texts.freeNone) : null, rest > 0 ? el("p", { class: "from" }, filled(texts.freeMore, { count: rest })) : null);
   }
 }

@@ -209,7 +209,8 @@ class Service:
     def stop(self):
         self.stopped = time.monotonic()
         self.call("stop")
-        wait_until_closed(self.db, PATIENCE)
+        if self.db.exists():  # after a loss of the disk, or of the file, it is not
+            wait_until_closed(self.db, PATIENCE)
 
     def start(self, pieces=0):
         """Starts the service where it doesn't run, lets senders in once it answers, and returns how many seconds it was not there."""

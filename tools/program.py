@@ -45,6 +45,13 @@ def want(command, package):
         stop(f"there is no {command}: apt-get install {package}")
 
 
+def can_compile():
+    """Whether there is a C compiler, with the C library's headers."""
+    if shutil.which("cc") is None:
+        return False
+    return subprocess.run(["cc", "-E", "-x", "c", "-"], input=b"#include <stdio.h>", capture_output=True).returncode == 0
+
+
 def want_kit():
     if shutil.which("rt") is None:
         older = f"{BUILT.relative_to(ROOT)} is older than {newest().relative_to(ROOT)}, and " if can_run(BUILT) else ""

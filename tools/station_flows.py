@@ -12,6 +12,7 @@ import sqlite3
 import subprocess
 import time
 
+from station_line import line_is_as_reported, report
 from station_site import ROOT, SETUP, Difference, Operator, Site, wait_for
 
 MEMORY = "/dev/shm"
@@ -35,10 +36,6 @@ def plant(site, selected=("M1", "M2")):
         site.say("ReelReceived", {"Reel": reel, "PartNumber": part, "Lot": lot, "Level": level, **label, "Quantity": quantity}, minutes_ago=5)
 
 
-def report(site, target):
-    return list(csv.DictReader(io.StringIO(site.report(target))))
-
-
 def accepted(site):
     """How often each UniqueID is in the desk's file, and the messages' sources."""
     site.report("/overdue")
@@ -54,30 +51,6 @@ def whole(site, operator, count):
     if wrong or len(scans) != count or len(set(uids)) != count or any(it > 1 for it in kept.values()):
         raise Difference(f"of {count} scans there are {len(scans)}, and wrong in the desk's file are {wrong}")
     return scans
-
-
-def line_is_as_reported(site, operator, machine="M1", place=0):
-    """Compares the screen Line with the slot list and the kit of the program's `report`."""
-    operator.go("line")
-    operator.script("return import('/station/life.js').then((it) => { window.life = it; })")
-
-    def differs():
-        slots = report(site, f"/slots?machine={machine}")
-        sheet = list(dict.fromkeys((it["slot"], it["part"], int(it["needed"])) for it in report(site, f"/kit?product=CTRL-A&machine={machine}&boards=1")))
-        wanted = [wanted_row(operator, slot, part, needed, [it for it in slots if it["slot"] == slot]) for slot, part, needed in sheet]
-        got = [[row[0], row[2], row[3], row[4], row[6]] for row in operator.rows(place)]
-        return None if wanted == got else f"wanted {wanted}, got {got}"
-    end = time.monotonic() + 25
-    while (wrong := differs()) and time.monotonic() < end:
-        time.sleep(0.3)
-    if wrong:
-        raise Difference(f"Line and report differ: {wrong}")
-
-
-def wanted_row(operator, slot, part, needed, reels):
-    pieces = sum(int(it["remaining"]) for it in reels)
-    life = operator.script("return window.life.lifeText(arguments[0])", reels[0]["minutes_left"]) if reels else ""
-    return [slot, reels[0]["reel"] if reels else "", f"{pieces:,}" if reels else "", f"{pieces // needed:,}", life]
 
 
 # --- The flows. Each is given a site with a plant, and says what it saw.
@@ -555,6 +528,16 @@ def folder():
     return MEMORY if os.access(MEMORY, os.W_OK) and shutil.disk_usage(MEMORY).free > 2**30 else None
 
 
+def agrees(operator):
+    """The Line of each machine as `report` has it, at the end of what an operator does: where the desk runs, has the sheets, and the page is the station."""
+    site = operator.site
+    if site.desk and site.nginx and site.setup == SETUP and operator.agrees and operator.script("return location.pathname === '/station/' && document.getElementById('screens').children.length > 0"):
+        for machine in ("M1", "M2"):
+            if site.report(f"/kit?product=CTRL-A&machine={machine}&boards=1").startswith("slot,"):
+                line_is_as_reported(site, operator, machine)
+                site.agreed += 1
+
+
 def run(program, flows):
     """Tries each flow on a site of its own; the exit status."""
     from selenium.common.exceptions import WebDriverException
@@ -564,9 +547,11 @@ def run(program, flows):
         try:
             with Site(program, folder()) as site:
                 plant(site)
+                site.last_look = agrees
                 saw = flow(site)
+                compared = f"; then Line as `report` has it, {site.agreed} times" if site.agreed else ""
             passed += 1
-            print(f"ok      {name}: {saw} ({time.monotonic() - began:.0f} s)", flush=True)
+            print(f"ok      {name}: {saw}{compared} ({time.monotonic() - began:.0f} s)", flush=True)
         except (Difference, WebDriverException, OSError, subprocess.SubprocessError, ValueError, LookupError, AttributeError, TypeError) as fault:
             failed += 1
             print(f"FAILED  {name}: {type(fault).__name__} {str(fault)[:1500]}", flush=True)

@@ -1,26 +1,20 @@
 """How the station looks, and what it costs: contrast, sizes, the keyboard alone, printed codes; pictures; and figures."""
 import base64
-import json
+import contextlib
 import pathlib
 import re
 import shutil
-import ssl
-import statistics
 import subprocess
 import tempfile
-import threading
 import time
-from http.client import HTTPException, HTTPSConnection
 
 import station_flows
+import station_line
 from station_site import Difference, Operator, Site, wait_for
 
 SCREENS = ("line", "scan", "receive", "changeover", "trace")
-TABLET = (800, 1280)
-STATIONS = 50
-A_DAY = 86_400  # seconds
+SCREEN, TABLET = (1920, 1080), (800, 1280)
 SEEN_ANEW = 4  # seconds, after which the page looks at a slot again before it takes a scan for a load
-MACHINES = ("M1", "M2")
 
 # Each element with text of its own: its letters against what is behind them, as WCAG 2.1 reckons it.
 CONTRAST = r"""
@@ -150,119 +144,67 @@ FLOWS = [letters_stand_out, all_is_on_the_screen, the_keyboard_alone, printed_co
 # --- Pictures for docs/station.md
 
 
+def taken(it, folder, name):
+    """Takes a picture of the screen as it stands."""
+    from selenium.common.exceptions import TimeoutException
+    time.sleep(1.5)
+    for _ in range(10):
+        with contextlib.suppress(TimeoutException):  # of a machine that has much to do
+            it.page.save_screenshot(str(folder / f"station-{name}.png"))
+            return
+    raise Difference(f"no picture of {name}")
+
+
 def pictures(program, folder):
     """Takes each picture, 1080p and a tablet's; the exit status."""
     folder.mkdir(parents=True, exist_ok=True)
     with Site(program, station_flows.folder()) as site:
         station_flows.plant(site)
+        for reel, part, level, pieces in (("K-11", "CAP", "3", 2500), ("K-12", "CAP", "5a", 1800), ("K-13", "RES", "1", 5000)):
+            site.say("ReelReceived", {"Reel": reel, "PartNumber": part, "Lot": "L-11", "Level": level, "Quantity": pieces}, minutes_ago=3)
         with Operator(site) as it:
+            station_line.view(it, *SCREEN)
             set_up(it)
             for number in (1, 2, 3):
                 board = f"SN-{number:04}"
                 site.say("WorkStarted", {"Machine": "M1", "Board": board})
                 site.say("MaterialsInstalled", {"Machine": "M1", "Board": board, "Designators": [name for _, _, names in station_flows.SHEET for name in names]})
                 site.say("WorkCompleted", {"Machine": "M1", "Board": board})
-            taken = lambda name: (time.sleep(0.6), it.page.save_screenshot(str(folder / f"station-{name}.png")))  # noqa: E731
-            it.go("line")
-            taken("line")
-            it.does("K-6", "A/OPEN")
-            taken("accepted")
-            it.does("S/M1/2", "K-7", kind="refused")
-            wait_for("the free reels", lambda: "Slot 2 wants" in it.text("verdict"))
-            taken("refused")
+            it.does("S/M2/1", "K-11")
+            taken(it, folder, "accepted")
+            it.does("S/M2/3", "K-13", kind="refused")
+            wait_for("the free reels", lambda: "K-12" in it.text("verdict"))
+            taken(it, folder, "refused")
             it.keys("\ue00c")
-            for screen in ("scan", "receive", "changeover"):
-                it.go(screen)
-                if screen == "changeover":
-                    it.script("document.querySelector('#main form button').click()")
-                    wait_for("the kit", lambda: it.rows())
-                taken(screen)
+            it.go("scan")
+            it.scan("S/M1/1")
+            taken(it, folder, "scan")
+            it.keys("\ue00c")
+            station_flows.type_label(it, station_flows.LABEL[0])
+            it.scan("A/LEVEL-3")
+            taken(it, folder, "receive")
+            it.go("changeover")
+            it.script("document.querySelector('#main form button').click()")
+            wait_for("the kit", lambda: it.rows())
+            taken(it, folder, "changeover")
             station_flows.asks(it, "lot", "L-1", "2")
-            taken("trace")
+            taken(it, folder, "trace")
             it.page.get(f"{site.url}/station/codes.html?station=W1")
             wait_for("the codes", lambda: it.script("return document.querySelectorAll('.cards').length > 3"))
-            taken("codes")
-        with Operator(site, name="W2", size=TABLET) as it:
-            it.ready()
-            it.go("line")
-            time.sleep(0.6)
-            it.page.save_screenshot(str(folder / "station-tablet.png"))
-    print("\n".join(sorted(str(it) for it in folder.glob("station-*.png"))))
-    return 0
-
-
-# --- What it costs
-
-
-class Looker(threading.Thread):
-    """A station's looks without a browser, at the moments at which the page looks: the slots of each machine, and each five minutes the kits and the overdue list."""
-
-    def __init__(self, site, period):
-        super().__init__(daemon=True)
-        self.site, self.period, self.ends = site, period, threading.Event()
-        self.link = HTTPSConnection("localhost", site.port, timeout=30, context=ssl.create_default_context(cafile=site.room / "etc/server.crt"))
-
-    def ask(self, target):
-        try:
-            self.link.request("GET", f"/station/desk/{target}", headers={"Authorization": "Basic " + base64.b64encode(b"office:office").decode()})
-            self.link.getresponse().read()
-        except (OSError, HTTPException):
-            self.link.close()
-
-    def run(self):
-        kits = 0
-        while not self.ends.wait(self.period - time.time() % self.period + 0.05):
-            for machine in MACHINES:
-                self.ask(f"slots?machine={machine}")
-            if time.time() >= kits:
-                kits = time.time() + 300
-                for target in (*(f"kit?product=CTRL-A&machine={machine}&boards=1" for machine in MACHINES), "overdue"):
-                    self.ask(target)
-
-
-def to_a_verdict(it, turns):
-    """The milliseconds from the last letter of a scan to its verdict, as the page's own clock has them."""
-    it.script("""window.took = []; let began = 0;
-        addEventListener("keydown", (event) => { if (event.key === "Enter") { began = performance.now(); } }, true);
-        new MutationObserver(() => { const v = document.getElementById("verdict");
-          if (began && !v.hidden && ["accepted", "refused"].includes(v.className)) { took.push(performance.now() - began); began = 0; } })
-          .observe(document.getElementById("verdict"), { attributes: true, childList: true, subtree: true });""")
-    for turn in range(turns):
-        it.does("A/OPEN" if turn % 2 == 0 else "A/SEAL", "K-4", kind="accepted")
-    return it.script("return window.took")
-
-
-def heap(it):
-    it.script("window.gc && gc()")
-    return it.script("return performance.memory.usedJSHeapSize") / 1e6
-
-
-def measure(program, minutes):
-    """From scan to verdict beside fifty stations' looks, the tab's memory over 5,000 scans, and how long a million connections last; the exit status."""
-    told = {}
+            taken(it, folder, "codes")
     with Site(program, station_flows.folder()) as site:
-        station_flows.plant(site)
+        told = station_line.real_line(site)
+        site.say("MaterialsUnloaded", {"Machine": told.machines[0], "Slot": "3"})
         with Operator(site) as it:
+            station_line.view(it, *SCREEN)
             it.ready()
-            period = it.script("return import('/station/model.js').then((it) => it.period(2, 28_000))")
-            lookers = [Looker(site, period) for _ in range(STATIONS)]
-            for looker in lookers:
-                looker.start()
-            took = to_a_verdict(it, 200)
-            told["from scan to verdict, milliseconds"] = {"scans": len(took), "median": statistics.median(took), "95 %": statistics.quantiles(took, n=20)[-1], "stations that look": STATIONS}
-            memory = [heap(it)]
-            for turn in range(5_000 - 200):
-                it.does("A/OPEN" if turn % 2 == 0 else "A/SEAL", "K-4")
-                if turn % 1_000 == 999:
-                    memory.append(heap(it))
-            told["heap of the tab, MB, each 1,000 scans"] = [round(value, 1) for value in memory]
-            for looker in lookers[10:]:
-                looker.ends.set()
-            before, began = site.connections(), time.monotonic()
-            time.sleep(minutes * 60)
-            used = (site.connections() - before) / (time.monotonic() - began)
-            told["connections under ten stations"] = {"a second": round(used, 3), "days of a million": round(1_000_000 / used / A_DAY, 1), "measured minutes": minutes}
-            for looker in lookers:
-                looker.ends.set()
-    print(json.dumps(told, indent=1))
+            wait_for("the Line", lambda: len(station_line.shown_tiles(it)) > 2)
+            taken(it, folder, "line")
+            it.scan(f"S/{told.machines[0]}/3")
+            wait_for("the slot is held", lambda: "is empty" in it.text("held"))
+            taken(it, folder, "held")
+            it.keys("\ue00c")
+            station_line.view(it, *TABLET)
+            taken(it, folder, "tablet")
+    print("\n".join(sorted(str(it) for it in folder.glob("station-*.png"))))
     return 0

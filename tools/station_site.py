@@ -18,7 +18,7 @@ import uuid
 ROOT = pathlib.Path(__file__).resolve().parent.parent
 PEOPLE = {"op": "senders", "office": "readers"}  # their passwords are their names
 SETUP = {"title": "Line 1", "machines": [{"machine": "M1", "product": "CTRL-A"}, {"machine": "M2", "product": "CTRL-A"}], "boards": 50, "expires": 60}
-PATIENCE = 30  # seconds
+PATIENCE = 90  # seconds: of a machine that has much to do
 
 
 class Difference(Exception):
@@ -64,6 +64,8 @@ class Site:
         self.room = pathlib.Path(tempfile.mkdtemp(prefix="station-", dir=folder))
         self.port, self.desk_port, self.inner_port = free_ports(3)
         self.desk = self.nginx = None
+        self.last_look = lambda operator: None  # what an operator looks at before the browser is closed
+        self.agreed = 0
         self.drained = self.room / "drained"
         for it in ("etc/station", "share", "log", "temporary"):
             (self.room / it).mkdir(parents=True)
@@ -87,6 +89,7 @@ class Site:
         return f"https://localhost:{self.port}"
 
     def set_up(self, setup):
+        self.setup = setup
         (self.room / "etc/station/setup.json").write_text(json.dumps(setup), encoding="utf-8")
 
     def make_secrets(self):
@@ -114,7 +117,7 @@ class Site:
                                               f"http {{ include /etc/nginx/mime.types; default_type application/octet-stream; {temporary} include {self.room}/tracedesk.conf; }}\n")
 
     def start_nginx(self):
-        self.nginx = subprocess.Popen(["nginx", "-c", self.room / "nginx.conf", "-e", self.room / "log/start.log"], env={**os.environ, "PATH": os.environ["PATH"] + ":/usr/sbin"})
+        self.nginx = subprocess.Popen(["nginx", "-c", self.room / "nginx.conf", "-e", self.room / "log/start.log"], start_new_session=True, env={**os.environ, "PATH": os.environ["PATH"] + ":/usr/sbin"})
         wait_for("nginx listens", lambda: self.nginx.poll() is None and socket.create_connection(("127.0.0.1", self.port), 1).close() is None)
 
     def stop_nginx(self):
@@ -122,6 +125,12 @@ class Site:
             self.nginx.send_signal(signal.SIGTERM)
             self.nginx.wait()
             self.nginx = None
+
+    def kill_nginx(self):
+        """Ends nginx with its workers as a power cut does."""
+        os.killpg(self.nginx.pid, signal.SIGKILL)
+        self.nginx.wait()
+        self.nginx = None
 
     def start_desk(self, connections=1_000_000):
         with open(self.room / "served.txt", "ab") as served:
@@ -164,10 +173,10 @@ class Site:
         finally:
             link.close()
 
-    def say(self, word, body, minutes_ago=0, source="host"):
+    def say(self, word, body, minutes_ago=0, source="host", uid=None):
         """Has the desk take a message, and gives its answer."""
         at = datetime.datetime.now(datetime.timezone.utc) - datetime.timedelta(minutes=minutes_ago)
-        told = {"MessageName": f"TraceDesk.{word}", "UniqueID": str(uuid.uuid4()), "Source": source, "TimeStamp": at.strftime("%Y-%m-%dT%H:%M:%SZ"), "MessageBody": body}
+        told = {"MessageName": f"TraceDesk.{word}", "UniqueID": uid or str(uuid.uuid4()), "Source": source, "TimeStamp": at.strftime("%Y-%m-%dT%H:%M:%SZ"), "MessageBody": body}
         link = http.client.HTTPConnection("127.0.0.1", self.desk_port, timeout=30)
         try:
             link.request("POST", "/messages", json.dumps(told), {"Connection": "close"})
@@ -231,18 +240,28 @@ class Operator:
     def __init__(self, site, name="W1", user="op", size=(1920, 1080), setup="", begin=True):
         self.site, self.name, self.user, self.size, self.setup = site, name, user, size, setup
         self.page = None
+        self.agrees = True  # whether its Line is compared with `report` at the end
         if begin:
-            self.open()
+            with contextlib.ExitStack() as kept:
+                kept.callback(self.close)
+                self.open()
+                kept.pop_all()
 
     def __enter__(self):
         return self
 
-    def __exit__(self, *_):
-        self.close()
+    def __exit__(self, kind, *_):
+        try:
+            if kind is None and self.page and not self.setup:
+                self.site.last_look(self)
+        finally:
+            self.close()
 
-    def open(self):
-        """Begins the browser, logs in and waits until the page has the desk's answers."""
+    def open(self, before=""):
+        """Begins the browser, logs in and waits until the page is there. `before` is a script that is run before those of each page."""
         self.page = browser(self.site.room, f"profile-{self.name}", self.size)
+        if before:
+            self.page.execute_cdp_cmd("Page.addScriptToEvaluateOnNewDocument", {"source": before})
         self.load()
 
     def load(self, where=""):
@@ -297,8 +316,10 @@ class Operator:
 
     def verdict(self, kinds=("accepted", "refused", "fault"), seconds=PATIENCE):
         """The kind and the text of the verdict, once there is one of these kinds."""
-        kind = wait_for(f"a verdict of {kinds}: {self.text('verdict')!r}", lambda: (it := self.script("const v = document.getElementById('verdict'); return v.hidden ? '' : v.className")) in kinds and it, seconds)
-        return kind, self.text("verdict")
+        def shown():
+            kind, text = self.script("const v = document.getElementById('verdict'); return v.hidden ? ['', ''] : [v.className, v.innerText]")
+            return (kind, text) if kind in kinds else None
+        return wait_for(f"a verdict of {kinds}: {self.text('verdict')!r}", shown, seconds)
 
     def does(self, *codes, kind="accepted", holds=()):
         """Scans, and looks whether the verdict is of this kind and has these texts."""

@@ -50,7 +50,7 @@ abbrev pub AnswersByTheList : Reports → Ledger → List Call → History → T
 AnswersByTheList reports G [] H = H ≡ G.history
 AnswersByTheList reports G (call ∷ calls) H = (H₁ : History) × IsAnswered reports G call H₁ × AnswersByTheList reports (record G { history = H₁ }) calls H
 
--- what the contract of a call says of an owner of a list before and after it
+-- what a call does to an owner of a list, where what that keeps the list in told the truth: it answers by the list before, and stands for the list after
 abbrev pub CallsOnce : {S : Type 0} → Reports → (S → Ledger → Type 0) → (S → Type 0) → S → Call → S → Type 0
 CallsOnce reports Stands Trusts old call new = (Trusts new → Trusts old) × ForLists Stands Trusts old new (λ G H. IsAnswered reports G call H)
 

@@ -1,8 +1,12 @@
 //! The headline: what any number of calls on one desk answer, and what its list and tables then are.
 //!
-//! `specs/Calls.antt` says what a call answers and what calls one after the other do. That each call of
-//! the program does so is in the contract of that call.
+//! `specs/Calls.antt` says what a call answers and what calls one after the other do. `feed`, `serve`,
+//! `command` and `ask` show it of each call that the program makes.
 #![tactic(auto)]
+
+mod calls;
+#[cfg(test)]
+mod tests;
 
 ghost use Rattle.std.specs.Prelude.{List};
 ghost use Rattle.desk_types.specs.History.{History};
@@ -11,6 +15,7 @@ ghost use Rattle.desk_answers.specs.Ledger.{Ledger};
 ghost use Rattle.consistency.specs.Consistent.{IsConsistent};
 ghost use Rattle.headline.specs.Calls.{AnswersByTheList, Call, Calls};
 
+pub use calls::{ask, command, feed, serve};
 use http_answers::ReportedLine;
 
 /// A law: for every stream of requests, in whatever pieces and with repeats and refusals, every answer

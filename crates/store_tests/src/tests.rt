@@ -4,7 +4,7 @@
 mod feeding;
 
 use desk_answers::{Answer, Line};
-use desk_types::{Command, Id, Minute, Stamped};
+use desk_types::{Command, Desk, Id, Minute, Stamped};
 use feeder_state::StateDesk;
 use line_schema::{LineStore, OpenFault, in_memory};
 use sqlite::{Alter, Connection, MemStore};
@@ -196,53 +196,88 @@ fn other_tables_stay(rt: HostRuntime) -> Result<(), Fail> {
     Ok(())
 }
 
-/// A part, its sheet, the product, a reel, and the load of that reel, each with the members that its
-/// answer begins with.
-const FIRST_RUN: [(&str, &str); 5] = [
+/// A line that shows whether its desk is at hand. Where it isn't, the next command that is judged has
+/// it made of the tables first.
+trait Shown: Line {
+    fn has_desk(&self) -> bool;
+}
+
+impl<S: Alter, D: Desk + Drop> Shown for LineStore<S, D> {
+    fn has_desk(&self) -> bool {
+        self.desk().is_some()
+    }
+}
+
+/// A part, its sheet, the product, a reel, the load of that reel, and another part, each with the
+/// members that its answer begins with.
+const FIRST_RUN: [(&str, &str); 6] = [
     ("PartDefined\tP", ""),
     ("SheetDefined\tPR\tM\t1\t1\tP\t5\tR1\tR2\tR3\tR4\tR5", ""),
     ("ProductSelected\tM\tPR", ""),
     ("ReelReceived\tK1\tP\tL1\t1\t100\t0", ""),
     ("MaterialsLoaded\tM\t1\tK1", "\"MinutesLeft\":null,"),
+    ("PartDefined\tP2", ""),
 ];
 
-/// The command of this number, sent once more where it was Unavailable.
-fn insist<L: Line>(rt: &impl Abort, alloc: Global, line: &mut L, number: u32) -> Result<(), Fail>
+/// The command of this number, sent once more where it was Unavailable: how often it was, at most once.
+fn insist<L: Line>(rt: &impl Abort, alloc: Global, line: &mut L, number: u32) -> Result<u32, Fail>
     requires { L.Ready line.old }
     ensures { L.Ready line.new }
 {
-    let (text, members) = FIRST_RUN[(number.saturating_sub(1) % 5) as usize];
+    let (text, members) = FIRST_RUN[(number.saturating_sub(1) % 6) as usize];
     let (message, wanted) = message_of(alloc, number, text, members)?;
-    let answer = match line.command(&message) {
-        Answer::Unavailable => line.command(&message),
-        answer => answer,
-    };
-    is_accepted(rt, answer, number, wanted.as_str())
+    match line.command(&message) {
+        Answer::Unavailable => {
+            let answer = line.command(&message);
+            if matches!(answer, Answer::Unavailable) {
+                return Err(Fail::from("Unavailable twice"));
+            }
+            is_accepted(rt, answer, number, wanted.as_str())?;
+            Ok(1)
+        }
+        answer => {
+            is_accepted(rt, answer, number, wanted.as_str())?;
+            Ok(0)
+        }
+    }
 }
 
-/// Each command of the first run, until it is accepted, and all of them once more.
-fn insist_on_all<L: Line>(rt: &impl Abort, alloc: Global, line: &mut L) -> Result<(), Fail>
+/// Each command of the first run, until it is accepted, and all of them once more; at most one was
+/// Unavailable. Returns how often a command came while no desk was at hand, and left one.
+fn insist_on_all<L: Shown>(rt: &impl Abort, alloc: Global, line: &mut L) -> Result<u32, Fail>
     requires { L.Ready line.old }
     ensures { L.Ready line.new }
 {
-    for n in 0..10u32 {
-        insist(rt, alloc, line, (n % 5).saturating_add(1))?;
+    let mut unavailable = 0u32;
+    let mut made_again = 0u32;
+    for n in 0..12u32 {
+        let is_gone = !line.has_desk();
+        let met = insist(rt, alloc, line, (n % 6).saturating_add(1))?;
+        unavailable = unavailable.saturating_add(met);
+        if is_gone && line.has_desk() {
+            made_again = made_again.saturating_add(1);
+        }
     }
-    Ok(())
+    assert!(rt; unavailable <= 1);
+    Ok(made_again)
 }
 
 /// Whichever allocation is refused, that of the fifth command's settling or a later one among them:
 /// the command that meets it may be Unavailable, and sent again it has the answer that it has for good.
+/// Where it was refused in settling, the next command has the desk made again, which is told.
 #[test]
 fn refused_memory_is_made_good(rt: HostRuntime) -> Result<(), Fail> {
-    let Ok(mut store) = in_memory::<StateDesk>(rt.alloc(), 5) else {
+    let Ok(mut store) = in_memory::<StateDesk>(rt.alloc(), 6) else {
         return Err(Fail::from(AllocError));
     };
     let outcome = insist_on_all(&rt, rt.alloc(), &mut store);
     let count = store.count();
     let _conn = store.into_connection();
-    outcome?;
-    assert_eq!(rt; count, 5);
+    let made_again = outcome?;
+    assert_eq!(rt; count, 6);
+    if made_again > 0 {
+        eprintln!(rt; "the desk was made again")?;
+    }
     Ok(())
 }
 
@@ -257,7 +292,7 @@ const BOARDS: [&str; 6] = [
 ];
 
 /// Each command of the boards, after those of the first run.
-fn build_boards<L: Line>(rt: &impl Abort, alloc: Global, line: &mut L) -> Result<(), Fail>
+fn build_boards<L: Shown>(rt: &impl Abort, alloc: Global, line: &mut L) -> Result<(), Fail>
     requires { L.Ready line.old }
     ensures { L.Ready line.new }
 {
@@ -273,25 +308,41 @@ fn build_boards<L: Line>(rt: &impl Abort, alloc: Global, line: &mut L) -> Result
     Ok(())
 }
 
-/// The boards of a lot are told each once and in byte order. No report asks the store for them: it is
-/// for a caller that wants the names alone, and needs no rows.
-#[test]
-fn boards_of_a_lot(rt: HostRuntime) -> Result<(), Fail> {
+/// The boards of the lot that there is, and none of another one.
+fn tell_boards<S: Alter>(rt: &impl Abort, store: &mut LineStore<S, StateDesk>) -> Result<(), Fail> {
     let (lot, other) = (id("L1")?, id("L2")?);
-    let Ok(mut store) = in_memory::<StateDesk>(rt.alloc(), 11) else {
-        return Err(Fail::from(AllocError));
-    };
-    let outcome = build_boards(&rt, rt.alloc(), &mut store);
-    let boards = store.lot_boards(&lot);
-    let unknown = store.lot_boards(&other);
-    let _conn = store.into_connection();
-    outcome?;
-    let Ok(Some(boards)) = boards else {
+    let Ok(Some(boards)) = store.lot_boards(&lot) else {
         return Err(Fail::from(AllocError));
     };
     assert!(rt; boards.as_slice() == [id("B10")?, id("B9")?].as_slice());
+    let unknown = store.lot_boards(&other);
     assert!(rt; matches!(unknown, Ok(None)));
     Ok(())
+}
+
+/// The boards of a lot are told each once and in byte order. No report asks the store for them: it is
+/// for a caller that wants the names alone, and needs no rows. They are told by a query where rows
+/// don't stand where the lists have them.
+#[test]
+fn boards_of_a_lot(rt: HostRuntime) -> Result<(), Fail> {
+    let Ok(mut store) = in_memory::<StateDesk>(rt.alloc(), 12) else {
+        return Err(Fail::from(AllocError));
+    };
+    let outcome = match build_boards(&rt, rt.alloc(), &mut store) {
+        Ok(()) => tell_boards(&rt, &mut store),
+        Err(fault) => Err(fault),
+    };
+    let mut conn = store.into_connection();
+    outcome?;
+    conn.execute_batch("UPDATE placement SET rowid = -rowid")?;
+    match LineStore::<_, StateDesk>::open(rt.alloc(), conn) {
+        Ok(mut store) => {
+            let told = tell_boards(&rt, &mut store);
+            let _conn = store.into_connection();
+            told
+        }
+        Err((fault, _)) => refused(fault),
+    }
 }
 
 /// A database of version 1, in which as many parts are defined.

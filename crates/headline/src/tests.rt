@@ -1,0 +1,94 @@
+//! Each call once, on an owner that stands for no list.
+
+use crate::{ask, command, feed, headline, serve};
+use desk_answers::{Answer, Line};
+use desk_types::{Command, Id, Minute, Stamped, Text, Wire};
+use http_answers::{Gateway, ReportedLine, Unavailable};
+use http_routes::{Report, RouteTable};
+use std::alloc::Global;
+use std::test::Fail;
+
+const PART: &str =
+    "{\"MessageName\":\"TraceDesk.PartDefined\",\"UniqueID\":\"u1\",\"Source\":\"S\",\"TimeStamp\":\"1970-01-01T00:00:00Z\",\"MessageBody\":{\"PartNumber\":\"P\"}}\n";
+
+/// It answers each command that the desk is full, and finds no report.
+#[derive(Drop)]
+struct Full;
+
+impl Line for Full {
+    ghost use Rattle.std.specs.Prelude.{⊤};
+
+    ghost Stands = { λ _ _. ⊥ };
+
+    ghost Ready = { λ _. ⊤ };
+
+    ghost Trusts = { λ _. ⊤ };
+
+    fn command(&mut self, _stamped: &Stamped) -> Answer {
+        Answer::DeskFull
+    }
+
+    fn is_lawful(&self) {}
+}
+
+impl ReportedLine for Full {
+    ghost use Rattle.std.specs.Prelude.{None};
+
+    ghost reports = { λ _ _. None };
+
+    fn report(&mut self, _alloc: Global, _asked: Report) -> Result<Option<Text>, Unavailable> {
+        Ok(None)
+    }
+}
+
+/// A feed of one message, and the command of it.
+#[test]
+fn commands(rt: HostRuntime) -> Result<(), Fail> {
+    let mut line = Full;
+    let mut output = Wire::new(Vec::new(rt.alloc()));
+    let served = feed(
+        rt.alloc(),
+        &mut Wire::new(PART.as_bytes()),
+        &mut output,
+        &mut line,
+    )?;
+    assert_eq!(rt; (served.answered, served.refused), (1, 1));
+    let told = "{\"Answer\":\"Refused\",\"Refusal\":\"DeskFull\",\"UniqueID\":\"u1\"}\n";
+    assert_eq!(rt; output.into_inner().as_slice(), told.as_bytes());
+    let name = Id::read(b"u1").ok_or("no name")?;
+    let stamped = Stamped {
+        uid: name,
+        source: name,
+        minute: Minute::new(0).ok_or("no minute")?,
+        command: Command::PartDefined { part: name },
+    };
+    assert!(rt; matches!(command(&mut line, &stamped), Answer::DeskFull));
+    headline(&Full, &line);
+    Ok(())
+}
+
+/// A connection with one request, and the same question without one.
+#[test]
+fn reports(rt: HostRuntime) -> Result<(), Fail> {
+    let mut gateway = Gateway::new(Full, RouteTable::new(rt.alloc())?);
+    let mut output = Wire::new(Vec::new(rt.alloc()));
+    let request = "GET /overdue HTTP/1.1\r\n\r\n";
+    let served = serve(
+        rt.alloc(),
+        &mut Wire::new(request.as_bytes()),
+        &mut output,
+        &mut gateway,
+    );
+    let told = ask(rt.alloc(), &mut gateway, b"/overdue");
+    let _line = gateway.into_line();
+    let served = served?;
+    assert_eq!(rt; (served.answered, served.refused), (1, 1));
+    assert_eq!(rt; told.status.code(), 404);
+    assert!(rt;
+        output
+            .into_inner()
+            .as_slice()
+            .ends_with(told.body.as_slice())
+    );
+    Ok(())
+}
