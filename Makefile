@@ -9,7 +9,7 @@ say = @$(call row,$@) >&2
 help:          ## prints these rows
 	@echo "make TARGET [PROGRAM=FILE]  what it does | how long, on four cores | what it wants beside Python 3: rt is Rattle's kit"
 	@$(call row,[a-z-]*)
-demo:          ## the answers to five messages: at once where a program is there, else by a run before its proof | 3 min | rt
+demo:          ## the answers to five messages: at once where a program is there, else by a run before its proof | 5 min | rt
 	@tools/demo
 build:         ## proves and builds the program, and prints its path | 40 min, then at once | rt
 	@tools/program.py --build
