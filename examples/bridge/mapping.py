@@ -1,0 +1,312 @@
+"""Turns messages of another vocabulary into a desk's, by a table. README.md says what a table has."""
+import datetime
+import hashlib
+import json
+import re
+
+from tracedesk import MESSAGES, OutOfRange, forms
+
+WORDS = {it.WORD: it for it in MESSAGES}
+HOLE = re.compile(r"\{([^{}]*)\}")
+TIME = re.compile(r"(\d{4}-\d\d-\d\d)[Tt ](\d\d:\d\d:\d\d)(?:\.\d+)?(?:[Zz]|([+-]\d\d:\d\d))")
+NUMBER = "#"  # the place of an element in its list, from 1 on
+OTHERS = "*"  # in a list of names: all that it doesn't have
+
+
+class BadTable(Exception):
+    """What is wrong with a table, and where."""
+
+
+class NotMapped(Exception):
+    """Why a message that the table names gives none of the desk's."""
+
+
+class NothingToSay(Exception):
+    """It is of a machine that the table passes over, or of an empty list."""
+
+
+# --- Where something stands. A path is a JSON Pointer. With `/` in front it leads from the top of the message, else from the
+# element of the list that is gone through; `../` leads to the element around that. A scope is the message and these elements.
+
+
+def found_at(path, scope, number):
+    """The value at a path; NotMapped where there is none."""
+    if path == NUMBER:
+        return number
+    steps, at = path.split("/"), len(scope) - 1
+    if path.startswith("/"):
+        steps, at = steps[1:], 0
+    while steps[0] == ".." and at > 0:
+        steps, at = steps[1:], at - 1
+    value = scope[at]
+    for step in steps:
+        step = step.replace("~1", "/").replace("~0", "~")
+        if isinstance(value, dict) and value.get(step) is not None:
+            value = value[step]
+        elif isinstance(value, list) and step.isdecimal() and int(step) < len(value):
+            value = value[int(step)]
+        else:
+            raise NotMapped(f"{path} is not there")
+    return value
+
+
+def whole(path, value):
+    """A whole number, of a text or of a number."""
+    if isinstance(value, str) and re.fullmatch(r"-?\d{1,18}", value):
+        return int(value)
+    if isinstance(value, (int, float)) and not isinstance(value, bool) and value == value // 1:
+        return int(value)
+    raise NotMapped(f"{path} is {value!r:.100}, and no whole number")
+
+
+def as_text(path, value):
+    return value if isinstance(value, str) else str(whole(path, value))
+
+
+def elements(path, scope, number):
+    """The elements of a list; NothingToSay of an empty one."""
+    found = found_at(path, scope, number)
+    if not isinstance(found, list):
+        raise NotMapped(f"{path} is no list")
+    if not found:
+        raise NothingToSay(f"{path} is empty")
+    return found
+
+
+# --- Forms: what a member is made of. Each is called with the scope and the number of the element.
+
+
+class Text:
+    """A text, in which {PATH} stands for the value there."""
+
+    def __init__(self, text):
+        self.text = text
+        self.paths = HOLE.findall(text)
+
+    def made(self, scope, number):
+        return HOLE.sub(lambda it: as_text(it[1], found_at(it[1], scope, number)), self.text)
+
+
+class Number:
+    def __init__(self, path):
+        self.path = path
+
+    def made(self, scope, number):
+        return whole(self.path, found_at(self.path, scope, number))
+
+
+class Named:
+    """What a list of names has for a text: another text, or null, where the message is passed over."""
+
+    def __init__(self, text, which, names):
+        self.text, self.which, self.names = text, which, names
+
+    def made(self, scope, number):
+        text = self.text.made(scope, number)
+        if text not in self.names and OTHERS not in self.names:
+            raise NotMapped(f"the names {self.which} don't have {text!r:.100}")
+        name = self.names.get(text, self.names.get(OTHERS))
+        if name is None:
+            raise NothingToSay(f"{text} is passed over")
+        return name
+
+
+class Hash:
+    """A name for what has no name of its own: the beginning of the SHA-256 of a text."""
+
+    def __init__(self, text):
+        self.text, self.paths = text, text.paths
+
+    def made(self, scope, number):
+        return hashlib.sha256(self.text.made(scope, number).encode("utf-8", "surrogatepass")).hexdigest()[:32]
+
+
+class Each:
+    """A list, made of each element of another one."""
+
+    def __init__(self, path, form):
+        self.path, self.form = path, form
+
+    def made(self, scope, number):
+        return [self.form.made((*scope, it), at) for at, it in enumerate(elements(self.path, scope, number), 1)]
+
+
+class OrNone:
+    """A member that is read in a case alone; its constructor knows in which."""
+
+    def __init__(self, form):
+        self.form = form
+
+    def made(self, scope, number):
+        try:
+            return self.form.made(scope, number)
+        except NotMapped:
+            return None
+
+
+class Members:
+    """A body, or a row of one, by its constructor, which looks at each range."""
+
+    def __init__(self, kind, made_of):
+        self.kind, self.made_of = kind, made_of
+
+    def made(self, scope, number):
+        return self.kind(**{attribute: form.made(scope, number) for attribute, form in self.made_of.items()})
+
+
+# --- A table
+
+
+def members_of(place, given, *wanted, **optional):
+    """The members of an object of a table, which has these and no others; of an optional one that is not there what stands for it."""
+    if not isinstance(given, dict) or not set(wanted) <= set(given) <= {*wanted, *optional}:
+        raise BadTable(f"{place} is no object with {', '.join(wanted)}" + (f", and if wanted {', '.join(optional)}" if optional else ""))
+    return [given.get(name, optional.get(name)) for name in (*wanted, *optional)]
+
+
+def path_of(place, path):
+    if not isinstance(path, str) or not path.strip("/"):
+        raise BadTable(f"{place}: {path!r:.100} is no path, as /MessageBody/Units/0/UnitIdentifier")
+    return path
+
+
+def text_of(place, text):
+    if not isinstance(text, str) or not text or re.search(r"[{}]", HOLE.sub("", text)) or "" in HOLE.findall(text):
+        raise BadTable(f"{place}: {text!r:.100} is no text with paths in braces, as {{/UniqueID}}-{{#}}")
+    return Text(text)
+
+
+def form_of(place, given, names, kind=None):
+    """A form of a table; `kind` is the row that is made of it, where it is a row."""
+    if kind is not None:
+        return row_of(place, given, names, kind)
+    if isinstance(given, str):
+        return text_of(place, given)
+    if isinstance(given, dict) and "Number" in given:
+        path, = members_of(place, given, "Number")
+        return Number(path_of(place, path))
+    if isinstance(given, dict) and "Hash" in given:
+        text, = members_of(place, given, "Hash")
+        return Hash(text_of(place, text))
+    text, which = members_of(place, given, "Of", "Names")
+    if which not in names:
+        raise BadTable(f"{place}: Names of the table has no {which!r:.100}")
+    return Named(text_of(place, text), which, names[which])
+
+
+def row_of(place, given, names, kind):
+    """The members of a body, or of a row of one, each by its name in the message."""
+    if not isinstance(given, dict):
+        raise BadTable(f"{place} is no object")
+    known = {name: (attribute, form) for name, attribute, form in kind.MEMBERS}
+    needed = {name for name, (_, form) in known.items() if not isinstance(form, forms.Where)}
+    if not needed <= set(given) <= set(known):
+        raise BadTable(f"{place} has {', '.join(given) or 'nothing'}, and {kind.__name__} has {', '.join(known)}")
+    made_of = {}
+    for name, it in given.items():
+        attribute, form = known[name]
+        there = f"{place}, {name}"
+        if isinstance(form, forms.ListOf):
+            path, each = members_of(there, it, "Each", "Make")
+            made_of[attribute] = Each(path_of(there, path), form_of(there, each, names, getattr(form.form, "kind", None)))
+        else:
+            made = form_of(there, it, names)
+            made_of[attribute] = OrNone(made) if isinstance(form, forms.Where) else made
+    return Members(kind, made_of)
+
+
+class Entry:
+    """How one message is made, or one for each element of a list."""
+
+    def __init__(self, place, given, names):
+        word, uid, source, time, body, self.each = members_of(place, given, "Word", "UniqueID", "Source", "TimeStamp", "Members", Each=None)
+        if word not in WORDS:
+            raise BadTable(f"{place}: {word!r:.100} is none of {', '.join(WORDS)}")
+        if self.each is not None:
+            path_of(place, self.each)
+        self.uid = form_of(f"{place}, UniqueID", uid, names)
+        self.source, self.time = form_of(f"{place}, Source", source, names), form_of(f"{place}, TimeStamp", time, names)
+        self.body = row_of(f"{place}, Members", body, names, WORDS[word])
+        self.spelled = json.dumps(uid)
+        if self.each is not None and NUMBER not in getattr(self.uid, "paths", ()):
+            raise BadTable(f"{place}: the UniqueID has to have {{#}}, since there is a message for each element of {self.each}")
+
+    def one(self, scope, number):
+        uid, source, time = (it.made(scope, number) for it in (self.uid, self.source, self.time))
+        return self.body.made(scope, number).message(source, unique_id=uid, at=moment(time))
+
+    def made(self, message):
+        """The messages, with the elements that have nothing to say left out."""
+        found = []
+        try:
+            scopes = [(message, it) for it in elements(self.each, (message,), 0)] if self.each else [(message,)]
+        except NothingToSay:
+            return found
+        for number, scope in enumerate(scopes, 1):
+            try:
+                found.append(self.one(scope, number))
+            except NothingToSay:
+                pass
+        return found
+
+
+def moment(text):
+    """The moment of a time of RFC 3339."""
+    told = TIME.fullmatch(text)
+    if not told:
+        raise NotMapped(f"{text!r:.100} is no time with its offset, as 2026-03-02T06:00:00.5+01:00")
+    try:
+        return datetime.datetime.fromisoformat(f"{told[1]}T{told[2]}{told[3] or '+00:00'}")
+    except ValueError:
+        raise NotMapped(f"{text!r:.100} is in no calendar") from None
+
+
+def names_of(given):
+    for which, names in given.items() if isinstance(given, dict) else [("Names", None)]:
+        if not isinstance(names, dict) or not all(it is None or isinstance(it, str) for it in names.values()):
+            raise BadTable(f"Names, {which}: it is no object of texts; null passes a message over, and * is any other")
+    return given
+
+
+class Table:
+    """A table that was looked at: it makes messages of a message."""
+
+    def __init__(self, given):
+        messages, _, self.name, names = members_of("the table", given, "Messages", About=None, Name="/MessageName", Names={})
+        path_of("Name", self.name)
+        names_of(names)
+        if not isinstance(messages, dict):
+            raise BadTable("Messages is no object")
+        self.entries = {}
+        for name, entries in messages.items():
+            if not isinstance(entries, list) or not entries:
+                raise BadTable(f"{name} has no list of messages")
+            self.entries[name] = [Entry(f"{name}, the {number}. message", it, names) for number, it in enumerate(entries, 1)]
+            if len({it.spelled for it in self.entries[name]}) < len(entries):
+                raise BadTable(f"{name}: each of its messages needs a UniqueID of its own")
+
+    @classmethod
+    def read(cls, text):
+        try:
+            given = json.loads(text)
+        except (ValueError, RecursionError) as fault:
+            raise BadTable(f"it is no JSON: {fault}") from None
+        return cls(given)
+
+    def name_of(self, message):
+        """The name of a message."""
+        if not isinstance(message, dict):
+            raise NotMapped("it is no JSON object")
+        return as_text(self.name, found_at(self.name, (message,), 0))
+
+    def made(self, message):
+        """The desk's messages that it gives, all or none; none where the table passes it over."""
+        found = []
+        for entry in self.entries.get(self.name_of(message), ()):
+            try:
+                found += entry.made(message)
+            except OutOfRange as fault:
+                raise NotMapped(f"{entry.body.kind.__name__}: {fault}") from None
+        if len({it.unique_id for it in found}) < len(found):
+            raise NotMapped("two of its messages have one UniqueID: look at the table")
+        return found
