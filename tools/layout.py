@@ -2,6 +2,7 @@
 
 What stands in a folder by a rule needs no line here: all units, users and folders of packaging/, all queries, pages of
 the station, schemas and documents, and each tool whose help calls it tracedesk-NAME, with the modules that it imports.
+A folder of packaging/ but debian goes to share/tracedesk.
 Sources name the places of the .deb; `place` writes those of another prefix.
 """
 import concurrent.futures
@@ -49,7 +50,9 @@ def files():
     def these(*patterns):
         found = [it for pattern in patterns for it in sorted(ROOT.glob(pattern)) if it.is_file()]
         return found or stop(f"there is no {patterns[0]}")
+    own = [it.name for it in sorted((ROOT / "packaging").iterdir()) if it.is_dir() and it.name != "debian"]
     return [
+        *((f"share/tracedesk/{name}", these(f"packaging/{name}/*"), False) for name in own),
         ("lib/tracedesk", tools(), True),
         ("lib/tracedesk", only_modules(tools()), False),
         ("lib/systemd/system", these("packaging/*.service", "packaging/*.timer"), False),
