@@ -2,7 +2,7 @@
 # wants beside Python 3: rt is Rattle's kit, and the others are packages of Debian 12.
 # The program is that of PROGRAM=FILE, else crates/tracedesk/out/tracedesk as long as no source is newer; where neither is
 # there, it is proved and built first (tools/program.py).
-.PHONY: help demo build test wrong-bodies day plant-recall client-test send-test station-test torture damage fail-each watch-test bench pictures docs dist dist-test plant-test
+.PHONY: help demo build test wrong-bodies day plant-recall client-test send-test bridge-test station-test torture damage fail-each watch-test bench pictures docs dist dist-test plant-test
 row = sed -n 's/^\($(1)\):\( *\)\#\# /make \1\2/p' $(firstword $(MAKEFILE_LIST))
 say = @$(call row,$@) >&2
 
@@ -32,6 +32,10 @@ client-test:   ## kills `serve` twenty times under examples/client.py and traced
 send-test:     ## kills tracedesk-send, nginx and `serve` 200 times while 10,000 messages go through | 5 min | nginx openssl
 	$(say)
 	@tools/send-test
+bridge-test:   ## the bridge: its table, its sources, kills, and kills of RabbitMQ under it | 3 min | rabbitmq-server python3-qpid-proton
+	$(say)
+	@examples/bridge/test
+	@examples/bridge/test broker
 station-test:  ## the station in headless Chromium behind nginx: each flow, kills, looks: docs/station.md | 15 min | chromium chromium-driver python3-selenium nginx zbar-tools poppler-utils openssl
 	$(say)
 	@tools/station-test

@@ -58,7 +58,9 @@ def files():
         ("lib/systemd/system", these("packaging/*.service", "packaging/*.timer"), False),
         ("share/tracedesk/plant", these("examples/plant/*.sql"), False),
         ("share/tracedesk/station", these("station/*"), False),
-        ("share/doc/tracedesk/api", these("docs/api/*.json"), False),
+        ("lib/tracedesk/bridge", these("examples/bridge/tracedesk-bridge"), True),
+        ("lib/tracedesk/bridge", these("examples/bridge/*.py", "examples/bridge/*.json", "examples/bridge/README.md"), False),
+        ("share/doc/tracedesk/api", these("docs/api/*.json", "docs/api/README.md"), False),
         ("share/doc/tracedesk/examples", these("examples/client.py"), True),
         ("share/doc/tracedesk/examples", these("packaging/Containerfile"), False),
     ]
@@ -84,6 +86,8 @@ def lay(base, program, date, version):
             put(it, below / folder / it.name, can_run)
     for it in tools():
         (below / f"bin/tracedesk-{it.name}").symlink_to(f"../lib/tracedesk/{it.name}")
+    (below / "bin/tracedesk-bridge").symlink_to("../lib/tracedesk/bridge/tracedesk-bridge")
+    subprocess.run([ROOT / "tools/api", "--vectors", below / "share/doc/tracedesk/api/vectors.jsonl.gz"], check=True, stdout=subprocess.DEVNULL)
     for kind in ("sysusers", "tmpfiles"):
         for it in sorted((ROOT / "packaging").glob(f"*.{kind}")):
             put(it, below / f"lib/{kind}.d/{it.stem}.conf")
