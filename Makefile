@@ -2,7 +2,7 @@
 # wants beside Python 3: rt is Rattle's kit, and the others are packages of Debian 12.
 # The program is that of PROGRAM=FILE, else crates/tracedesk/out/tracedesk as long as no source is newer; where neither is
 # there, it is proved and built first (tools/program.py).
-.PHONY: help demo build test wrong-bodies day plant-recall client-test send-test bridge-test station-test torture damage fail-each bench pictures docs dist plant-test
+.PHONY: help demo build test wrong-bodies day plant-recall client-test send-test bridge-test station-test torture damage fail-each bench pictures docs dist dist-test plant-test
 row = sed -n 's/^\($(1)\):\( *\)\#\# /make \1\2/p' $(firstword $(MAKEFILE_LIST))
 say = @$(call row,$@) >&2
 
@@ -59,9 +59,12 @@ pictures:      ## the SVGs of docs/: crates, a splice, starts by pieces, two yea
 docs:          ## out/docs: the documents and the definitions as HTML and one PDF | 1 min | pandoc weasyprint
 	$(say)
 	@tools/print-docs
-dist:          ## dist/tracedesk-VERSION-x86_64.tar.gz: the program and what a plant installs beside it | 10 s | pandoc binutils
+dist:          ## a .deb and a tarball in dist: the program and what a plant installs beside it | 20 s | pandoc binutils debhelper
 	$(say)
 	@tools/dist
-plant-test:    ## tries that package, and runs the tools' tests, on a fresh Debian 12 of its own, as root | 15 min | debootstrap iproute2 pandoc binutils
+dist-test:     ## builds both packages twice, asks lintian, renders the man pages, asks bash for completions | 1 min | pandoc binutils debhelper, and lintian man-db mandoc zsh, or a part is left out
+	$(say)
+	@tools/dist-test
+plant-test:    ## tries those packages, and runs the tools' tests, on a fresh Debian 12 of its own, as root | 20 min | debootstrap iproute2 pandoc binutils debhelper
 	$(say)
 	@tools/plant-test

@@ -104,7 +104,7 @@ class Site:
     def write_proxy(self):
         """The packaged configuration, with the paths and the ports of this folder."""
         text = (ROOT / "packaging/nginx.conf").read_text(encoding="utf-8")
-        for old, new in (("/etc/tracedesk", self.room / "etc"), ("/usr/local/share/tracedesk", self.room / "share"), ("/var/lib/nginx/tracedesk-station", self.room / "cache"),
+        for old, new in (("/etc/tracedesk", self.room / "etc"), ("/usr/share/tracedesk", self.room / "share"), ("/var/lib/nginx/tracedesk-station", self.room / "cache"),
                          ("/run/tracedesk-drained", self.drained), ("/var/log/nginx", self.room / "log"),
                          ("listen 443 ssl", f"listen 127.0.0.1:{self.port} ssl"), ("127.0.0.1:8080", f"127.0.0.1:{self.desk_port}"), ("127.0.0.1:8081", f"127.0.0.1:{self.inner_port}")):
             if old not in text:

@@ -1,0 +1,136 @@
+"""What a plant installs, and where it lies: one list for the .deb, below /usr, and for the tarball, below /usr/local.
+
+What stands in a folder by a rule needs no line here: all units, users and folders of packaging/, all queries, pages of
+the station, schemas and documents, and each tool whose help calls it tracedesk-NAME, with the modules that it imports.
+A folder of packaging/ but debian goes to share/tracedesk.
+Sources name the places of the .deb; `place` writes those of another prefix.
+"""
+import concurrent.futures
+import gzip
+import os
+import pathlib
+import re
+import shutil
+import subprocess
+
+ROOT = pathlib.Path(__file__).resolve().parent.parent
+OURS = re.compile(rb"/usr/(?:local/)?(?=(?:bin|lib|lib/systemd/system|lib/sysusers\.d|lib/tmpfiles\.d|share|share/doc)/tracedesk)")
+AS_THEY_ARE = {".png", ".gz"}  # and what is in bin
+LINK = re.compile(r'<a href="(?:\.\./)?[A-Za-z_-]+(?:/[^"]*)?">([^<]*(?:<code>[^<]*</code>)?[^<]*)</a>')
+
+
+class NotWhole(Exception):
+    """Something that the package has to have is not there."""
+
+
+def tools():
+    """The tools that a plant calls: those whose help calls them tracedesk-NAME."""
+    found = []
+    for it in sorted((ROOT / "tools").iterdir()):
+        if it.is_file() and os.access(it, os.X_OK):
+            text = it.read_text(encoding="utf-8", errors="replace")
+            if text.startswith("#!/usr/bin/env python3\n") and re.search(rf"\btracedesk-{it.name}\b(?!-)", text.split('"""')[1]):
+                found.append(it)
+    return found
+
+
+def modules(files):
+    """The modules of tools/ that these files import, and those that they import."""
+    names = {name for it in files for name in re.findall(r"^\s*(?:import|from) (\w+)", it.read_text(encoding="utf-8"), re.M)}
+    own = {ROOT / f"tools/{name}.py" for name in names if (ROOT / f"tools/{name}.py").exists()}
+    return sorted(own if own <= set(files) else modules([*{*files, *own}]))
+
+
+def only_modules(files):
+    return [it for it in modules(files) if it not in files]
+
+
+def files():
+    """Of each folder below the prefix: what goes there, and whether it can be run."""
+    def these(*patterns):
+        found = [it for pattern in patterns for it in sorted(ROOT.glob(pattern)) if it.is_file()]
+        return found or stop(f"there is no {patterns[0]}")
+    own = [it.name for it in sorted((ROOT / "packaging").iterdir()) if it.is_dir() and it.name != "debian"]
+    return [
+        *((f"share/tracedesk/{name}", these(f"packaging/{name}/*"), False) for name in own),
+        ("lib/tracedesk", tools(), True),
+        ("lib/tracedesk", only_modules(tools()), False),
+        ("lib/systemd/system", these("packaging/*.service", "packaging/*.timer"), False),
+        ("share/tracedesk/plant", these("examples/plant/*.sql"), False),
+        ("share/tracedesk/station", these("station/*"), False),
+        ("share/doc/tracedesk/api", these("docs/api/*.json"), False),
+        ("share/doc/tracedesk/examples", these("examples/client.py"), True),
+        ("share/doc/tracedesk/examples", these("packaging/Containerfile"), False),
+    ]
+
+
+def stop(why):
+    raise NotWhole(why)
+
+
+def put(source, path, can_run=False):
+    path.parent.mkdir(parents=True, exist_ok=True)
+    shutil.copyfile(source, path)
+    path.chmod(0o755 if can_run else 0o644)
+
+
+def lay(base, program, date, version):
+    """All of it, with what stands below the prefix in base/prefix and the rest in base/etc."""
+    below = base / "prefix"
+    put(program, below / "bin/tracedesk", True)
+    subprocess.run([ROOT / "clients/python/bundle", below / "bin/tracedesk-send"], check=True)
+    for folder, these, can_run in files():
+        for it in these:
+            put(it, below / folder / it.name, can_run)
+    for it in tools():
+        (below / f"bin/tracedesk-{it.name}").symlink_to(f"../lib/tracedesk/{it.name}")
+    for kind in ("sysusers", "tmpfiles"):
+        for it in sorted((ROOT / "packaging").glob(f"*.{kind}")):
+            put(it, below / f"lib/{kind}.d/{it.stem}.conf")
+    put(ROOT / "packaging/nginx.conf", base / "etc/nginx/sites-available/tracedesk")
+    put(ROOT / "packaging/setup.json", base / "etc/tracedesk/station/setup.json")
+    documents(below / "share/doc/tracedesk")
+    subprocess.run([ROOT / "tools/api", "--vectors", below / "share/doc/tracedesk/api/vectors.jsonl.gz"], check=True, stdout=subprocess.DEVNULL)
+    manual(below, date, version)
+
+
+def manual(below, date, version):
+    """Man pages and completions, made by the commands' own help."""
+    subprocess.run([ROOT / "tools/manual", below / "share", *sorted((below / "bin").iterdir()), "--date", date, "--version", version], check=True)
+    for it in sorted((below / "share/man/man1").iterdir()):
+        it.with_name(f"{it.name}.gz").write_bytes(gzip.compress(it.read_bytes(), 9, mtime=0))
+        it.unlink()
+
+
+def documents(folder):
+    """The pages as HTML, in one folder; a link that leads out of it is left as its text."""
+    pages = [ROOT / it for it in ("README.md", "CONTRIBUTING.md", "CHANGELOG.md")] + sorted((ROOT / "docs").glob("*.md"))
+    folder.mkdir(parents=True, exist_ok=True)
+    with concurrent.futures.ThreadPoolExecutor() as threads:
+        texts = list(threads.map(html, pages))
+    for page, text in zip(pages, texts):
+        (folder / f"{page.stem}.html").write_text(text, encoding="utf-8")
+    for page, text in zip(pages, texts):
+        for link in re.findall(r'href="([^"#:]+)["#]', text):
+            if not (folder / link).exists():
+                stop(f"{page.relative_to(ROOT)} links to {link}, which is not in the package")
+
+
+def html(page):
+    title = re.search(r"^# (.*)", page.read_text(encoding="utf-8"), re.M)[1]
+    words = ["pandoc", "--from", "gfm", "--to", "html5", "--no-highlight", "--standalone", "--self-contained", f"--resource-path={page.parent}",
+             "--metadata", f"pagetitle={title}", "--include-in-header", ROOT / "packaging/style.html", page]
+    made = subprocess.run(words, check=True, stdout=subprocess.PIPE, text=True).stdout
+    return LINK.sub(r"\1", re.sub(r'href="(?:\.\./)?(?:docs/)?([A-Za-z-]+)\.md(#[^"]*)?"', r'href="\1.html\2"', made))
+
+
+def place(base, tree, prefix):
+    """What was laid, below another folder and as it is installed with this prefix."""
+    shutil.copytree(base / "prefix", tree / prefix.lstrip("/"), symlinks=True, dirs_exist_ok=True)
+    shutil.copytree(base / "etc", tree / "etc", symlinks=True, dirs_exist_ok=True)
+    for it in sorted(tree.rglob("*")):
+        if it.is_symlink() or not it.is_file() or it.parent.name == "bin" or it.suffix in AS_THEY_ARE:
+            continue
+        text = it.read_bytes()
+        if (new := OURS.sub(f"{prefix}/".encode(), text)) != text:
+            it.write_bytes(new)
