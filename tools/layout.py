@@ -91,6 +91,7 @@ def lay(base, program, date, version):
     put(ROOT / "packaging/nginx.conf", base / "etc/nginx/sites-available/tracedesk")
     put(ROOT / "packaging/setup.json", base / "etc/tracedesk/station/setup.json")
     documents(below / "share/doc/tracedesk")
+    subprocess.run([ROOT / "tools/api", "--vectors", below / "share/doc/tracedesk/api/vectors.jsonl.gz"], check=True, stdout=subprocess.DEVNULL)
     manual(below, date, version)
 
 

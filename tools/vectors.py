@@ -120,7 +120,7 @@ class Exchange(NamedTuple):
     answer: bytes
 
     def line(self):
-        """It as a line of the file that docs/api/README.md describes."""
+        """It as a line of the file that docs/api.md describes."""
         told = {"Rows": list(self.rows), "Shows": self.shows, "Form": self.form, "Greatest": self.greatest, "Status": self.status}
         told.update([spelled("Request", self.request), spelled("Answer", self.answer)])
         return json.dumps({name: it for name, it in told.items() if it is not None}, separators=(",", ":")).encode() + b"\n"

@@ -1,4 +1,4 @@
-"""Turns messages of another vocabulary into a desk's, by a table. README.md says what a table has."""
+"""Turns messages of another vocabulary into a desk's, by a table. tables.md says what a table has."""
 import datetime
 import hashlib
 import json

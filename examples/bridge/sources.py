@@ -113,9 +113,22 @@ def unpacked(message):
         return json.dumps(body, default=str).encode()
     data = body.encode() if isinstance(body, str) else bytes(body)
     if data[:2] == b"\x1f\x8b":
+        packed = zlib.decompressobj(31)
         with contextlib.suppress(zlib.error):
-            return zlib.decompressobj(31).decompress(data, LONGEST)
+            text = packed.decompress(data, LONGEST)
+            return text if packed.eof else data
     return data
+
+
+def connection_of(proton):
+    """Connections that also tell when the broker ends their session: so RabbitMQ says that there is no such queue."""
+    from proton.utils import BlockingConnection
+
+    class Connection(BlockingConnection):
+        def on_session_remote_close(self, event):
+            if not self.closing:
+                raise proton.SessionException(str(event.session.remote_condition))
+    return Connection
 
 
 class Queue:
@@ -123,7 +136,6 @@ class Queue:
 
     def __init__(self, bridge, asked, tell):
         import proton
-        import proton.utils
         self.proton, self.bridge, self.asked, self.tell = proton, bridge, asked, tell
         self.pause, self.why = FIRST_PAUSE, None
 
@@ -134,7 +146,7 @@ class Queue:
             domain.set_trusted_ca_db(asked.ca or "/etc/ssl/certs/ca-certificates.crt")
             domain.set_peer_authentication(self.proton.SSLDomain.VERIFY_PEER_NAME)
         who = {"user": asked.user, "password": asked.password, "allowed_mechs": "PLAIN"} if asked.user else {"allowed_mechs": "ANONYMOUS"}
-        return self.proton.utils.BlockingConnection(asked.broker, timeout=20, ssl_domain=domain, heartbeat=HEARTBEAT, **who)
+        return connection_of(self.proton)(asked.broker, timeout=20, ssl_domain=domain, heartbeat=HEARTBEAT, **who)
 
     def is_answered(self, names):
         return all(map(self.bridge.kept.is_answered, names))

@@ -15,7 +15,7 @@ from . import answers, forms, words
 FIRST_PAUSE, LONGEST_PAUSE = 0.05, 5.0  # seconds
 PATIENCE = 600.0  # seconds for one message: a desk of a month starts in two minutes
 TIMEOUT = 150.0  # seconds for one answer: longer than the proxy waits for the desk
-NEWS = 60.0  # seconds without an answer, after which that is told
+FIRST_NEWS, NEWS = 10.0, 60.0  # seconds without an answer, after which that is told, and told again
 
 
 class GivenUp(Exception):
@@ -91,7 +91,7 @@ class Desk:
     def until(self, call: Callable[[], Tuple[Optional[Any], str, float]]) -> Any:
         """Tries until the call finds something. It gives none with why, and how long to wait at least."""
         begun, pause = time.monotonic(), FIRST_PAUSE
-        end, news = None if self.patience is None else begun + self.patience, begun + NEWS
+        end, news = None if self.patience is None else begun + self.patience, begun + FIRST_NEWS
         while True:
             time.sleep(max(0.0, self.next_try - time.monotonic()))
             self.next_try = time.monotonic() + self.interval

@@ -35,7 +35,8 @@ aside in its folder `aside`, with the reason beside it, and the next one is sent
 --stop-at-refusal  ends the run at such a message, on standard error. It stays the next one that is sent, so that it is sent
                    again once what it names is mended
 --rate N           at most so many tries in a second (with a spool 40, since nginx lets 50 pass); 0 is no limit
---patience SECONDS  for one message: 600, and with a spool no end. A line tells each minute that there is no answer
+--patience SECONDS  for one message: 600, and with a spool no end. A line tells after ten seconds, and
+                   then each minute, that there is no answer, and why
 The password stands in FILE, or in the environment as TRACEDESK_PASSWORD.
 
 Exit status: 0 every message has its answer; 1 stopped at a message that was not taken; or some are set aside in
