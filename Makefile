@@ -2,7 +2,7 @@
 # wants beside Python 3: rt is Rattle's kit, and the others are packages of Debian 12.
 # The program is that of PROGRAM=FILE, else crates/tracedesk/out/tracedesk as long as no source is newer; where neither is
 # there, it is proved and built first (tools/program.py).
-.PHONY: help demo build test wrong-bodies day plant-recall client-test send-test bridge-test station-test torture damage fail-each bench pictures docs dist dist-test plant-test
+.PHONY: help demo build test wrong-bodies day plant-recall client-test send-test bridge-test station-test torture damage fail-each watch-test bench pictures docs dist dist-test plant-test
 row = sed -n 's/^\($(1)\):\( *\)\#\# /make \1\2/p' $(firstword $(MAKEFILE_LIST))
 say = @$(call row,$@) >&2
 
@@ -51,6 +51,9 @@ fail-each:     ## fails every read, write, sync and allocation in turn, and the 
 	@tools/fail-each
 	@tools/fail-each --planted
 	@tools/many-reads
+watch-test:    ## what the watch writes, the idle clock, rules and units, and each source failing in turn | 2 min | nginx openssl prometheus
+	$(say)
+	@tools/watch-test
 bench:         ## what a day costs, beside stock SQLite | 5 min | time
 	$(say)
 	@tools/bench

@@ -46,21 +46,20 @@ def only_modules(files):
 
 
 def files():
-    """Of each folder below the prefix: what goes there, and whether it can be run."""
+    """Of each folder below the prefix: what goes there. What can be run here can be run there."""
     def these(*patterns):
         found = [it for pattern in patterns for it in sorted(ROOT.glob(pattern)) if it.is_file()]
         return found or stop(f"there is no {patterns[0]}")
     own = [it.name for it in sorted((ROOT / "packaging").iterdir()) if it.is_dir() and it.name != "debian"]
     return [
-        *((f"share/tracedesk/{name}", these(f"packaging/{name}/*"), False) for name in own),
-        ("lib/tracedesk", tools(), True),
-        ("lib/tracedesk", only_modules(tools()), False),
-        ("lib/systemd/system", these("packaging/*.service", "packaging/*.timer"), False),
-        ("share/tracedesk/plant", these("examples/plant/*.sql"), False),
-        ("share/tracedesk/station", these("station/*"), False),
-        ("share/doc/tracedesk/api", these("docs/api/*.json"), False),
-        ("share/doc/tracedesk/examples", these("examples/client.py"), True),
-        ("share/doc/tracedesk/examples", these("packaging/Containerfile"), False),
+        *((f"share/tracedesk/{name}", these(f"packaging/{name}/*")) for name in own),
+        ("lib/tracedesk", [*tools(), *only_modules(tools())]),
+        ("lib/systemd/system", these("packaging/*.service", "packaging/*.timer")),
+        ("share/tracedesk/plant", these("examples/plant/*.sql")),
+        ("share/tracedesk/station", these("station/*")),
+        ("share/doc/tracedesk/api", these("docs/api/*.json", "docs/api/README.md")),
+        ("share/doc/tracedesk/examples", these("examples/client.py", "packaging/Containerfile")),
+        ("lib/tracedesk/bridge", [it for it in these("examples/bridge/*") if it.name != "test"]),
     ]
 
 
@@ -79,11 +78,13 @@ def lay(base, program, date, version):
     below = base / "prefix"
     put(program, below / "bin/tracedesk", True)
     subprocess.run([ROOT / "clients/python/bundle", below / "bin/tracedesk-send"], check=True)
-    for folder, these, can_run in files():
+    for folder, these in files():
         for it in these:
-            put(it, below / folder / it.name, can_run)
+            put(it, below / folder / it.name, os.access(it, os.X_OK))
     for it in tools():
         (below / f"bin/tracedesk-{it.name}").symlink_to(f"../lib/tracedesk/{it.name}")
+    (below / "bin/tracedesk-bridge").symlink_to("../lib/tracedesk/bridge/tracedesk-bridge")
+    subprocess.run([ROOT / "tools/api", "--vectors", below / "share/doc/tracedesk/api/vectors.jsonl.gz"], check=True, stdout=subprocess.DEVNULL)
     for kind in ("sysusers", "tmpfiles"):
         for it in sorted((ROOT / "packaging").glob(f"*.{kind}")):
             put(it, below / f"lib/{kind}.d/{it.stem}.conf")

@@ -1,6 +1,7 @@
 """What tools/rollover, tools/backup, tools/check and tools/plant-load share: the program, the service of a desk, the proxy in front of it, and its copies."""
 import argparse
 import contextlib
+import datetime
 import fcntl
 import http.client
 import os
@@ -24,6 +25,7 @@ QUIET = 1.0  # seconds without a connection, after which nobody waits for an ans
 CONNECTED = ("01", "08")  # in /proc/net/tcp: open, and closed by the client alone
 LONGEST_OTHER = 3600  # seconds that another roll-over or backup may take
 ARCHIVE, SUMS = "archive", "SHA256SUMS"  # of a copy that tools/backup makes, beside `desk`
+NAMED = "%Y-%m-%dT%H%M%SZ"  # of such a copy, by when it was taken
 PATIENCE = 120  # seconds that a start may take beside what the pieces ask for
 
 
@@ -131,6 +133,11 @@ def wait_for_lock(take, seconds, held):
 def kept_in(to):
     """The copies in a folder, from the oldest to the newest. Each was lawful when it got its name, which is when it was taken, in UTC."""
     return sorted(it for it in to.iterdir() if re.fullmatch(r"\d{4}-\d\d-\d\dT\d{6}Z", it.name)) if to.is_dir() else []
+
+
+def taken(copy):
+    """When a copy was taken."""
+    return datetime.datetime.strptime(copy.name, NAMED).replace(tzinfo=datetime.timezone.utc)
 
 
 def start_seconds(pieces):

@@ -102,6 +102,14 @@ row-fits H name row minute judged is now =
           omega (arith, few, used, now);
     })
 
+-- the found pieces of a row are among its received ones
+pub found-fits : (H : History) (name : Name) (row : ReelRow) → reel_row H name ≡ Some row → found_of H name ≤ row.received
+found-fits H name row is =
+    let of = row-of H name row is in
+    let quantity = option_map_or (λ (r : Receipt). r.quantity) (receipt_of H name) 0 in
+    let sum : row.received ≡ quantity + found_of H name = ap (λ (r : ReelRow). r.received) (sym of.row_is) in
+    omega (arith, sum)
+
 -- ---- the reel
 
 -- the reel has what the row says, so many found pieces, and the minute as its last

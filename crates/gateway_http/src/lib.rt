@@ -8,6 +8,6 @@
 mod store;
 
 pub use http_answers::Gateway;
-pub use http_stream::{Response, serve};
+pub use http_stream::{Body, Kind, Response, Status, serve};
 pub use served::{ServeFault, Served};
 pub use store::ReportedStore;

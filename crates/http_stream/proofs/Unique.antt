@@ -1,5 +1,5 @@
 -- Outside of one corner a stream begins with one portion.
-use Rattle.std.proofs.Common.{◌≡◌, ◌∙◌, ◌<◌, ◌+◌, ◌-◌, ℕ, Bool, true, false, List, [], ◌∷◌, ◌++◌, sym, ap, refl, subst, take, length, length-append, Result, Ok, Err, arith, inl, inr, ◌⊎◌, append-nil, append_assoc}
+use Rattle.std.proofs.Common.{◌≡◌, ◌∙◌, ◌<◌, ◌+◌, ◌-◌, ℕ, Bool, true, false, List, [], ◌∷◌, ◌++◌, sym, ap, refl, subst, take, length, length-append, Result, Ok, Err, arith, inl, inr, ◌⊎◌, append-nil}
 use Rattle.std.proofs.lemmas.List.{take_all, append_cancel_left}
 use Rattle.std.proofs.Math.Seq.{take-append-add, take-append_seam}
 use Rattle.httparse.specs.Grammar.{RequestHead, ReadsRequest, print_request}
@@ -115,20 +115,11 @@ one_portion input starved starved l m a b st su = cc
 
 -- ---- whole cuts
 
-suffix_of : (input : List ℕ) (p : Portion) (rest : List ℕ) → IsPortion input p rest → is_last p ≡ false → (front : List ℕ) × (input ≡ front ++ rest)
-suffix_of input (whole r e) rest is going = (print_request is.0 ++ r.body, is.1.0.0.1 ∙ sym (append_assoc (print_request is.0) r.body rest))
-suffix_of input bad_head rest is going = cc
-suffix_of input head_too_large rest is going = cc
-suffix_of input (unread method fault) rest is going = cc
-suffix_of input starved rest is going = cc
-
 clear_rest : (input : List ℕ) (p : Portion) (rest : List ℕ) → IsPortion input p rest → is_last p ≡ false → IsClear input → IsClear rest
-clear_rest input p rest is going clear front left e =
-    let s = suffix_of input p rest is going in
-    clear (s.0 ++ front) left (s.1 ∙ ap (λ l. s.0 ++ l) e ∙ sym (append_assoc s.0 front left))
+clear_rest input p rest is going clear left begins = clear left (p ∷ begins.0, (rest, is, going, begins.1))
 
 here_clear : (input : List ℕ) → IsClear input → IsOpen input → ⊥
-here_clear input clear open_here = clear [] input refl open_here
+here_clear input clear open_here = clear input ([], refl) open_here
 
 one_or : (input : List ℕ) {P : Type 0} → IsClear input → IsOpen input ⊎ P → P
 one_or input clear (inl o) = absurd (here_clear input clear o)

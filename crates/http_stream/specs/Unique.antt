@@ -1,7 +1,7 @@
 -- How far the bytes decide what a stream begins with.
-use Rattle.std.specs.Prelude.{◌≡◌, ℕ, Bool, true, false, List, [], ◌∷◌, ◌++◌}
+use Rattle.std.specs.Prelude.{◌≡◌, ℕ, Bool, true, false, List, [], ◌∷◌}
 use Rattle.http_stream.specs.Heads.{window, IsBadHead, IsUnfinished}
-use Rattle.http_stream.specs.Cut.{Portion, whole, bad_head, head_too_large, unread, starved, is_last}
+use Rattle.http_stream.specs.Cut.{Portion, whole, bad_head, head_too_large, unread, starved, is_last, Leads}
 
 -- The one corner that the head grammar leaves open: the window can be told to begin no head, and to be unfinished.
 abbrev pub IsOpen : List ℕ → Type 0
@@ -23,6 +23,10 @@ abbrev pub NoneStarved : List Portion → Type 0
 NoneStarved [] = Unit {0}
 NoneStarved (p ∷ ps) = (is_starved p ≡ false) × NoneStarved ps
 
--- the corner is met nowhere
+-- a request begins here in the stream, or the stream ends: before it stand whole requests alone, and after each of them the connection goes on
+abbrev pub BeginsAt : List ℕ → List ℕ → Type 0
+BeginsAt input left = (ps : List Portion) × Leads input ps left
+
+-- the corner is met nowhere where a request begins
 abbrev pub IsClear : List ℕ → Type 0
-IsClear input = (front left : List ℕ) → input ≡ front ++ left → ¬ (IsOpen left)
+IsClear input = (left : List ℕ) → BeginsAt input left → ¬ (IsOpen left)

@@ -8,7 +8,8 @@ ghost use Rattle.http_stream.specs.Stream.{Rule};
 ghost use Rattle.http_stream.specs.Unique.{IsOpen, IsClear, IsOnePortion, NoneStarved, is_starved};
 
 /// A law: but in one open corner of the head grammar, a stream begins with one portion alone or ends
-/// inside a request, unless memory was refused. So its bytes alone decide how it is cut.
+/// inside a request, unless memory was refused. So its bytes alone decide how it is cut, where no
+/// request of it begins in that corner.
 pub fn bytes_decide()
     ensures one { (input : List ℕ) (p q : Portion) (l m : List ℕ) → IsPortion input p l → IsPortion input q m
         → is_starved p ≡ false → is_starved q ≡ false → IsOpen input ⊎ IsOnePortion p l q m }

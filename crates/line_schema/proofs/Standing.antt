@@ -1,5 +1,5 @@
 -- For which list a store stands after a call.
-use Rattle.std.proofs.Common.{◌≡◌, ◌∙◌, ◌+◌, ◌<◌, ◌≤◌, inl, refl, IsTrue, IfSome, IsSomeAnd, Option, Some, None, is_some, Result, Ok, Err, IfOk, OnOk, OnErr, List, [], map, length, false, true≢false, sym, ap, subst, arith}
+use Rattle.std.proofs.Common.{◌≡◌, ◌∙◌, ◌+◌, ◌<◌, ◌≤◌, inl, inr, refl, IsTrue, IfSome, IsSomeAnd, Option, Some, None, is_some, Result, Ok, Err, IfOk, OnOk, OnErr, List, [], map, length, false, true≢false, sym, ap, subst, arith}
 use Rattle.std.specs.Prelude.{⊤}
 use Rattle.std.specs.List.{IsDistinct}
 use Rattle.std.proofs.lemmas.Map.Keys.{IsDistinct-cons}
@@ -34,7 +34,7 @@ use Rattle.line_rows.specs.Rows.{tables_of}
 use Rattle.line_rows.proofs.Judgements.{next_is, stamped_is}
 use Rattle.line_schema.specs.declared.store.LineStore.{LineStore}
 use Rattle.line_schema.specs.declared.unavailable.Unavailable.{Unavailable as Fault}
-use Rattle.line_schema.specs.Stands.{Kept, Stands, accepting}
+use Rattle.line_schema.specs.Stands.{Kept, Stands, StaysOpen, ShowsTables, accepting}
 use Rattle.trace_lists.specs.declared.lists.TraceLists.{TraceLists}
 use Rattle.trace_lists.specs.Lists.{IsListed}
 
@@ -73,6 +73,19 @@ pub answered_as : (H : History) (s : Stamped) (change : Change) (r : Result Answ
 answered_as H s change (Ok a) is told = told ∙ ap (λ (c : Change). judged_answer H c.stamped (Accepted c.detail)) is.value ∙ sym (ap (λ o. judged_answer H s (option_map_or Refused o (Accepted (change_of H s).detail))) is.accepted)
 answered_as H s change (Err e) is told = tt
 
+-- ---- a connection after a call
+
+module _ {old new : State} (P : Trees → Type 0) (survives : Survives old new P) where
+  pub clean_before : HasCleanDisk new → HasCleanDisk old
+  clean_before clean = omega (arith, survives.clean, clean)
+
+  -- it stays open, or the disk fails
+  pub still_open : StaysOpen old → StaysOpen new
+  still_open was clean = elim (was (clean_before clean)) [
+    | inl was_open ↦ elim (survives.closes clean was_open) [ inl still ↦ inl still | inr more ↦ inr (omega (arith, more)) ]
+    | inr failed ↦ inr (omega (arith, survives.counts, failed))
+  ]
+
 -- what stands whatever the call answered
 pub err_still : {A E : Type 0} {P : Type 0} (r : Result A E) → P → OnErr r P
 err_still (Ok a) p = tt
@@ -92,15 +105,16 @@ module _ {S D : Type 0} (g : Ghosts S) (F : D → History → Type 0) (K : D →
     lists = s.lists;
     beside = s.beside;
     mode = s.mode;
+    stays_open = s.stays_open;
     lawful = λ clean own. absurd (true≢false (sym own));
     tables = λ clean own. absurd (true≢false (sym own));
   }
 
   -- the desk and the lists were made again
-  pub remade : (old new : LineStore S D) (d : D) (l : TraceLists) (H : History) → new.greatest ≡ old.greatest → new.count ≡ length H → new.desk ≡ Some d → new.lists ≡ Some l → new.conn.in_transaction ≡ false
-      → F d H → IsListed l H → K d ≡ Two → IsJudged Two H
+  pub remade : {P : Trees → Type 0} (old new : LineStore S D) (d : D) (l : TraceLists) (H : History) → new.greatest ≡ old.greatest → new.count ≡ length H → new.desk ≡ Some d → new.lists ≡ Some l → new.conn.in_transaction ≡ false
+      → F d H → IsListed l H → K d ≡ Two → IsJudged Two H → Survives (state g old.conn) (state g new.conn) P
       → (L : Kept) → Stands g F K old L → length H ≤ L.greatest → Stands g F K new (record { greatest = L.greatest; history = H; own = false })
-  remade old new d l H greatest count desk lists mode stands listed rules judged L s within = record {
+  remade {P} old new d l H greatest count desk lists mode stands listed rules judged survives L s within = record {
     greatest = greatest ∙ s.greatest;
     bound = s.bound;
     count = count;
@@ -111,15 +125,16 @@ module _ {S D : Type 0} (g : Ghosts S) (F : D → History → Type 0) (K : D →
     lists = subst (λ (o : Option TraceLists). IfSome o (λ l. IsListed l H)) (sym lists) listed;
     beside = ap is_some lists ∙ sym (ap is_some desk);
     mode = mode;
+    stays_open = still_open P survives s.stays_open;
     lawful = λ clean own. absurd (true≢false (sym own));
     tables = λ clean own. absurd (true≢false (sym own));
   }
 
   -- and for the list that the store stood for
-  pub remade_same : (old new : LineStore S D) (d : D) (l : TraceLists) (L : Kept) → new.greatest ≡ old.greatest → new.count ≡ length L.history → new.desk ≡ Some d → new.lists ≡ Some l → new.conn.in_transaction ≡ false
+  pub remade_same : {P : Trees → Type 0} (old new : LineStore S D) (d : D) (l : TraceLists) (L : Kept) → new.greatest ≡ old.greatest → new.count ≡ length L.history → new.desk ≡ Some d → new.lists ≡ Some l → new.conn.in_transaction ≡ false
       → F d L.history → IsListed l L.history → K d ≡ Two
-      → (HasCleanDisk (state g new.conn) → HasCleanDisk (state g old.conn)) → (HasCleanDisk (state g new.conn) → KeepsCommit (state g old.conn) (state g new.conn)) → Stands g F K old L → Stands g F K new L
-  remade_same old new d l L greatest count desk lists mode stands listed rules early kept s = record {
+      → Survives (state g old.conn) (state g new.conn) P → (HasCleanDisk (state g new.conn) → KeepsCommit (state g old.conn) (state g new.conn)) → Stands g F K old L → Stands g F K new L
+  remade_same {P} old new d l L greatest count desk lists mode stands listed rules survives kept s = record {
     greatest = greatest ∙ s.greatest;
     bound = s.bound;
     count = count;
@@ -130,16 +145,17 @@ module _ {S D : Type 0} (g : Ghosts S) (F : D → History → Type 0) (K : D →
     lists = subst (λ (o : Option TraceLists). IfSome o (λ l. IsListed l L.history)) (sym lists) listed;
     beside = ap is_some lists ∙ sym (ap is_some desk);
     mode = mode;
-    lawful = λ clean own. s.lawful (early clean) own;
-    tables = λ clean own is_open. subst (λ (db : Database). Holds db (tables_of L.greatest L.history)) (sym ((kept clean).committed is_open)) (s.tables (early clean) own ((kept clean).was_open is_open));
+    stays_open = still_open P survives s.stays_open;
+    lawful = λ clean own. s.lawful (clean_before P survives clean) own;
+    tables = λ clean own is_open. subst (λ (db : Database). Holds db (tables_of L.greatest L.history)) (sym ((kept clean).committed is_open)) (s.tables (clean_before P survives clean) own ((kept clean).was_open is_open));
   }
 
   -- a call failed: memory was taken for the lists, and what is committed was let be
-  pub failed_on : (old new : LineStore S D) (before after : TraceLists) → old.lists ≡ Some before → new.lists ≡ Some after → ((H : History) → IsListed before H → IsListed after H)
+  pub failed_on : {P : Trees → Type 0} (old new : LineStore S D) (before after : TraceLists) → old.lists ≡ Some before → new.lists ≡ Some after → ((H : History) → IsListed before H → IsListed after H)
       → new.greatest ≡ old.greatest → new.count ≡ old.count → new.desk ≡ old.desk → new.conn.in_transaction ≡ false
-      → (HasCleanDisk (state g new.conn) → HasCleanDisk (state g old.conn)) → (HasCleanDisk (state g new.conn) → KeepsCommit (state g old.conn) (state g new.conn))
+      → Survives (state g old.conn) (state g new.conn) P → (HasCleanDisk (state g new.conn) → KeepsCommit (state g old.conn) (state g new.conn))
       → (L : Kept) → Stands g F K old L → Stands g F K new L
-  failed_on old new before after was is listed greatest count desk mode early kept L s = record {
+  failed_on {P} old new before after was is listed greatest count desk mode survives kept L s = record {
     greatest = greatest ∙ s.greatest;
     bound = s.bound;
     count = count ∙ s.count;
@@ -150,20 +166,21 @@ module _ {S D : Type 0} (g : Ghosts S) (F : D → History → Type 0) (K : D →
     lists = subst (λ (o : Option TraceLists). IfSome o (λ l. IsListed l L.history)) (sym is) (listed L.history (subst (λ (o : Option TraceLists). IfSome o (λ l. IsListed l L.history)) was s.lists));
     beside = ap is_some is ∙ sym (ap is_some was) ∙ s.beside ∙ sym (ap is_some desk);
     mode = mode;
-    lawful = λ clean own. s.lawful (early clean) own;
-    tables = λ clean own is_open. subst (λ (db : Database). Holds db (tables_of L.greatest L.history)) (sym ((kept clean).committed is_open)) (s.tables (early clean) own ((kept clean).was_open is_open));
+    stays_open = still_open P survives s.stays_open;
+    lawful = λ clean own. s.lawful (clean_before P survives clean) own;
+    tables = λ clean own is_open. subst (λ (db : Database). Holds db (tables_of L.greatest L.history)) (sym ((kept clean).committed is_open)) (s.tables (clean_before P survives clean) own ((kept clean).was_open is_open));
   }
 
   -- a change was committed
-  pub stands_on : (old new : LineStore S D) (L : Kept) (change : Change) (edits : List Edit) → Stands g F K old L → old.count < old.greatest
+  pub stands_on : {P : Trees → Type 0} (old new : LineStore S D) (L : Kept) (change : Change) (edits : List Edit) → Stands g F K old L → old.count < old.greatest
       → IsChange Two L.history change.stamped change → IsStamped change.stamped → IsMinute change.minute
       → new.count ≡ old.count + 1 → new.greatest ≡ old.greatest → new.conn.in_transaction ≡ false → IfSome new.desk (λ d. F d (accept L.history change.stamped) × (K d ≡ Two))
       → IfSome new.lists (λ l. IsListed l (accept L.history change.stamped)) → is_some new.lists ≡ is_some new.desk
       → edited edits (tables_of L.greatest L.history) ≡ tables_of L.greatest (accept L.history change.stamped) → AreNew edits (tables_of L.greatest L.history)
-      → (HasCleanDisk (state g new.conn) → HasCleanDisk (state g old.conn)) → (HasCleanDisk (state g new.conn) → Edits edits (state g old.conn).committed (state g new.conn).committed)
+      → Survives (state g old.conn) (state g new.conn) P → (HasCleanDisk (state g new.conn) → Edits edits (state g old.conn).committed (state g new.conn).committed)
       → (HasCleanDisk (state g new.conn) → IsTrue (state g old.conn).is_open) → (HasCleanDisk (state g new.conn) → IsTrue L.own → earlier_answer L.history change.stamped ≡ None)
       → Stands g F K new (accepting L change.stamped)
-  stands_on old new L change edits s room is stamped minute count greatest mode desk lists beside after fresh early done was_open first = record {
+  stands_on {P} old new L change edits s room is stamped minute count greatest mode desk lists beside after fresh survives done was_open first = record {
     greatest = greatest ∙ s.greatest;
     bound = s.bound;
     count = omega (arith, count, s.count);
@@ -174,13 +191,37 @@ module _ {S D : Type 0} (g : Ghosts S) (F : D → History → Type 0) (K : D →
     lists = lists;
     beside = beside;
     mode = mode;
-    lawful = λ clean own. lawful_on L.greatest L.history change.stamped (s.lawful (early clean) own) judged (first clean own) (omega (arith, room, s.count, s.greatest));
+    stays_open = still_open P survives s.stays_open;
+    lawful = λ clean own. lawful_on L.greatest L.history change.stamped (s.lawful (clean_before P survives clean) own) judged (first clean own) (omega (arith, room, s.count, s.greatest));
     tables = λ clean own is_open.
-        subst (Holds (state g new.conn).committed) after (done clean (tables_of L.greatest L.history) (s.tables (early clean) own (was_open clean)) fresh).1;
+        subst (Holds (state g new.conn).committed) after (done clean (tables_of L.greatest L.history) (s.tables (clean_before P survives clean) own (was_open clean)) fresh).1;
   }
     where
       judged : IsJudged Two (accept L.history change.stamped)
       judged = (next_is Two L.history change.stamped change stamped minute is, s.judged)
+
+  -- a call only read
+  pub read_on : {P : Trees → Type 0} (old new : LineStore S D) → new.greatest ≡ old.greatest → new.count ≡ old.count → new.desk ≡ old.desk → new.lists ≡ old.lists → (old.conn.in_transaction ≡ false → new.conn.in_transaction ≡ false)
+      → Survives (state g old.conn) (state g new.conn) P → (HasCleanDisk (state g new.conn) → KeepsCommit (state g old.conn) (state g new.conn)) → (L : Kept) → Stands g F K old L → Stands g F K new L
+  read_on {P} old new greatest count desk lists mode survives kept L s = record {
+    greatest = greatest ∙ s.greatest;
+    bound = s.bound;
+    count = count ∙ s.count;
+    within = s.within;
+    judged = s.judged;
+    consistent = s.consistent;
+    desk = subst (λ (o : Option D). IfSome o (λ d. F d L.history × (K d ≡ Two))) (sym desk) s.desk;
+    lists = subst (λ (o : Option TraceLists). IfSome o (λ l. IsListed l L.history)) (sym lists) s.lists;
+    beside = ap is_some lists ∙ s.beside ∙ sym (ap is_some desk);
+    mode = mode s.mode;
+    stays_open = still_open P survives s.stays_open;
+    lawful = λ clean own. s.lawful (clean_before P survives clean) own;
+    tables = λ clean own is_open. subst (λ (db : Database). Holds db (tables_of L.greatest L.history)) (sym ((kept clean).committed is_open)) (s.tables (clean_before P survives clean) own ((kept clean).was_open is_open));
+  }
+
+  -- every table is there, or the disk has failed
+  pub tables_there : (store : LineStore S D) (L : Kept) → Stands g F K store L → ShowsTables g store L
+  tables_there store L s clean own = elim (s.stays_open clean) [ inl is_open ↦ inl (s.tables clean own is_open) | inr failed ↦ inr failed ]
 
   -- a call that may have accepted it
   pub stands_either : (r : Result Answer Fault) (new : LineStore S D) (L M : Kept) → OnOk r (Stands g F K new M) → OnErr r (Stands g F K new L) → (N : Kept) × Stands g F K new N

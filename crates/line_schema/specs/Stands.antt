@@ -28,7 +28,15 @@ pub record Kept : Type 0 where
   pub history : History
   pub own : Bool
 
--- The store stands for the list by rules Two, which is judged, and so consistent: so does its desk, where it has one, and then it has lists beside it, which list the list. Where the tables are its own and the disk is honest, the list is lawful, and what is committed are its tables.
+-- the disk has failed or refused since its files were opened
+abbrev pub HasFailed : State → Type 0
+HasFailed s = 0 < s.faults
+
+-- on a disk that is honest the connection is open, or the disk has failed or refused
+abbrev pub StaysOpen : State → Type 0
+StaysOpen s = HasCleanDisk s → IsTrue s.is_open ⊎ HasFailed s
+
+-- The store stands for the list by rules Two, which is judged, and so consistent: so does its desk, where it has one, and then it has lists beside it, which list the list. Its connection is open, or the disk has failed. Where the tables are its own and the disk is honest, the list is lawful, and what is committed are its tables.
 pub record Stands {S D : Type 0} (g : Ghosts S) (StandsFor : D → History → Type 0) (kept_rules : D → Rules) (store : LineStore S D) (L : Kept) : Type 0 where
   pub greatest : store.greatest ≡ L.greatest
   pub bound : L.greatest ≤ MOST_ENTRIES
@@ -40,8 +48,13 @@ pub record Stands {S D : Type 0} (g : Ghosts S) (StandsFor : D → History → T
   pub lists : IfSome store.lists (λ l. IsListed l L.history)
   pub beside : is_some store.lists ≡ is_some store.desk
   pub mode : store.conn.in_transaction ≡ false
+  pub stays_open : StaysOpen (state g store.conn)
   pub lawful : HasCleanDisk (state g store.conn) → IsTrue L.own → IsLawful Two L.greatest L.history
   pub tables : HasCleanDisk (state g store.conn) → IsTrue L.own → IsTrue (state g store.conn).is_open → Holds (state g store.conn).committed (tables_of L.greatest L.history)
+
+-- every table is that of the list, or the disk has failed or refused: where it is honest, and the tables are the store's own
+abbrev pub ShowsTables : {S D : Type 0} → Ghosts S → LineStore S D → Kept → Type 0
+ShowsTables g store L = HasCleanDisk (state g store.conn) → IsTrue L.own → Holds (state g store.conn).committed (tables_of L.greatest L.history) ⊎ HasFailed (state g store.conn)
 
 -- the store's connection, and what it shows
 abbrev pub conn_of : {S D : Type 0} → LineStore S D → Held S

@@ -7,7 +7,10 @@ mod settled;
 mod store;
 mod unavailable;
 
+pub use desk_answers::Answer;
+pub use line_audit::StateTable;
 pub use line_opening::OpenFault;
+pub use line_traces::{PlacedRow, PlacedRows};
 pub use memory::in_memory;
 pub use store::LineStore;
 pub use unavailable::Unavailable;

@@ -20,7 +20,7 @@ ghost use Rattle.line_tables.specs.Rows.{Holds, HoldsAt, blank};
 ghost use Rattle.line_rows.specs.Rows.{tables_of};
 ghost use Rattle.line_opening.specs.declared.fault.OpenFault.TheVariants as Fault;
 ghost use Rattle.line_opening.specs.Opening.{IsFaultOf, IsNamed, IsToldOf};
-ghost use Rattle.line_schema.specs.Stands.{Kept, Stands, state_of, conn_of, has_desk, accepting, ledger, kept_after, answer_in, NewlyLeaves, Leaves};
+ghost use Rattle.line_schema.specs.Stands.{Kept, Stands, ShowsTables, state_of, conn_of, has_desk, accepting, ledger, kept_after, answer_in, NewlyLeaves, Leaves};
 
 mod migration;
 mod traces;
@@ -217,6 +217,7 @@ impl<S: Alter, D: Desk + Drop> LineStore<S, D> {
         ensures kept { (L : Kept) × Stands S.Store D.Stands D.kept_rules self.new L }
         ensures answer { (L : Kept) → Stands S.Store D.Stands D.kept_rules self.old L → HasCleanDisk (state_of S.Store self.new) → IsTrue L.own → IsAnswer (ledger L) stamped.now result }
         ensures stands { (L : Kept) → Stands S.Store D.Stands D.kept_rules self.old L → HasCleanDisk (state_of S.Store self.new) → IsTrue L.own → Stands S.Store D.Stands D.kept_rules self.new (kept_after L stamped.now result) }
+        ensures tables { (L : Kept) → Stands S.Store D.Stands D.kept_rules self.old L → ShowsTables S.Store self.new (kept_after L stamped.now result) }
         ensures crash { (L : Kept) → Stands S.Store D.Stands D.kept_rules self.old L → HasCleanDisk (state_of S.Store self.new) → IsTrue L.own → (trees : Trees) → (state_of S.Store self.new).may_leave trees → Leaves L stamped.now result ((state_of S.Store self.old).may_leave trees) trees }
         ensures clean { HasCleanDisk (state_of S.Store self.new) → HasCleanDisk (state_of S.Store self.old) }
         ensures survives { Survives (state_of S.Store self.old) (state_of S.Store self.new) (λ _. ⊤) }

@@ -1,9 +1,8 @@
 //! The names of the tables and of their columns, in any case, as SQL reads names.
 
-ghost use Rattle.std.specs.Prelude.{◌≡◌, ◌↔◌, ◌&&◌, IsTrue};
+ghost use Rattle.std.specs.Prelude.{◌≡◌, ◌&&◌};
 ghost use Rattle.std.specs.List.{list_any, list_all};
 ghost use Rattle.sqlite.specs.Held.{state};
-ghost use Rattle.line_tables.specs.Line.{no_schema};
 ghost use Rattle.line_tables.specs.Names.{has_name, is_version, is_accepted, has_column, has_setup, has_floor, has_placements, has_found, has_state};
 ghost use Rattle.sqlite_schema.specs.Names.{same_name};
 
@@ -11,14 +10,6 @@ use desk_types::Rules;
 use sqlite::{Alter, Connection};
 use sqlite_schema::names::same_name;
 use sqlite_schema::schema::Table;
-
-/// Whether there is no table, index or view.
-pub fn is_blank<S: Alter>(conn: &Connection<S>) -> bool
-    ensures { IsTrue result ↔ ((state S.Store conn.now).now.schema ≡ no_schema) }
-{
-    let schema = conn.schema();
-    schema.tables.is_empty() && schema.indexes.is_empty() && schema.views.is_empty()
-}
 
 /// Whether some table is named as one of ours.
 pub fn has_our_name<S: Alter>(conn: &Connection<S>) -> bool

@@ -1,11 +1,12 @@
 -- What a reel stands for.
-use Rattle.std.specs.Prelude.{◌≡◌, ℕ, ◌+◌, ◌-◌, ◌≤◌, Bool, true, false, Some, unwrap_or}
-use Rattle.std.specs.Option.{option_map_or}
+use Rattle.std.specs.Prelude.{◌≡◌, ℕ, ◌+◌, ◌-◌, ◌≤◌, nat_le, Bool, true, false, not, ◌&&◌, Option, Some, None, unwrap_or}
+use Rattle.std.specs.Option.{option_map, option_map_or}
 use Rattle.desk_types.specs.declared.command.Receipt.{Receipt}
 use Rattle.desk_types.specs.Id.{Name}
+use Rattle.desk_types.specs.Level.{LevelWithLabel, limit_of}
 use Rattle.desk_types.specs.History.{History}
 use Rattle.desk_types.specs.Setup.{receipt_of}
-use Rattle.desk_types.specs.FloorLife.{out_since, exposure_of, exposure_starts, is_baked}
+use Rattle.desk_types.specs.FloorLife.{out_since, exposure_of, exposure_starts, is_baked, is_six}
 use Rattle.reels.specs.declared.reel.Reel.{Reel}
 use Rattle.reels.specs.declared.reel.Usage.{Usage}
 use Rattle.reels.specs.declared.reel.Usage.TheVariants.{Placed, Scrapped}
@@ -13,6 +14,18 @@ use Rattle.reels.specs.declared.reel.Usage.TheVariants.{Placed, Scrapped}
 -- the exposure that the reel says it has at a minute: what it has kept, and the minutes since which it is out
 abbrev pub exposure_at : Reel → ℕ → ℕ
 exposure_at reel minute = reel.used + option_map_or (λ since. minute - since) reel.open_since 0
+
+-- the minutes of floor life that the reel says are left, 0 when expired; none without a limit
+abbrev pub minutes_left_at : Reel → ℕ → Option ℕ
+minutes_left_at reel minute = option_map (λ limit. limit - exposure_at reel minute) (limit_of reel.level reel.label)
+
+-- the exposure that the reel says it has is at least its limit, where it has one
+abbrev pub is_expired_at : Reel → ℕ → Bool
+is_expired_at reel minute = option_map_or (λ limit. nat_le limit (exposure_at reel minute)) (limit_of reel.level reel.label) false
+
+-- the reel says that it waits for its bake: it is of level 6, and not baked
+abbrev pub is_unbaked_reel : Reel → Bool
+is_unbaked_reel reel = is_six reel.level && not reel.baked
 
 -- the list has a receipt of the reel of this name, and it said what the reel says; its pieces are those that were not found since
 pub record HasReceipt (H : History) (name : Name) (reel : Reel) : Type 0 where
@@ -41,6 +54,37 @@ pub record IsReceived (quantity : ℕ) (reel : Reel) : Type 0 where
   pub placed : reel.placed ≡ 0
   pub scrapped : reel.scrapped ≡ 0
   pub remaining : reel.remaining ≡ quantity
+
+-- the reel says what the receipt said of the part, the lot and the moisture
+pub record IsOfReceipt (part lot : Name) (moisture : LevelWithLabel) (reel : Reel) : Type 0 where
+  pub is_part : reel.part ≡ part
+  pub is_lot : reel.lot ≡ lot
+  pub level : reel.level ≡ moisture.level
+  pub label : reel.label ≡ moisture.label
+
+-- the reel is in its bag, and was neither out of it nor baked
+pub record IsInNewBag (reel : Reel) : Type 0 where
+  pub used : reel.used ≡ 0
+  pub open_since : reel.open_since ≡ None
+  pub baked : reel.baked ≡ false
+
+-- the reel is out of its bag, from this minute on where it was not out already
+pub record IsOpened (minute : ℕ) (old new : Reel) : Type 0 where
+  pub used : new.used ≡ old.used
+  pub open_since : new.open_since ≡ Some (unwrap_or old.open_since minute)
+  pub baked : new.baked ≡ old.baked
+
+-- the reel is in its bag, and keeps the exposure that it had at this minute
+pub record IsSealed (minute : ℕ) (old new : Reel) : Type 0 where
+  pub used : new.used ≡ exposure_at old minute
+  pub open_since : new.open_since ≡ None
+  pub baked : new.baked ≡ old.baked
+
+-- the reel is in its bag, baked and without exposure
+pub record IsBaked (new : Reel) : Type 0 where
+  pub used : new.used ≡ 0
+  pub open_since : new.open_since ≡ None
+  pub baked : new.baked ≡ true
 
 -- what the receipt said of the part, the lot and the moisture is as before
 pub record SameReceipt (old new : Reel) : Type 0 where

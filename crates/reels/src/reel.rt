@@ -42,6 +42,7 @@ pub struct Reel {
     pub last: Minute,
     ghost label_range: { label ≤ GREATEST_LABEL },
     ghost balance: { received ≡ placed + scrapped + remaining },
+    ghost found_range: { found ≤ received },
     ghost open_minutes: { ForSome open_since (λ since. (used ≤ since) × (since ≤ last)) },
     ghost sealed_minutes: { ForNone open_since (used ≤ last) },
 }
@@ -56,11 +57,13 @@ impl Reel {
     ghost use Rattle.desk_types.specs.Id.{Name};
     ghost use Rattle.desk_types.specs.History.{History};
     ghost use Rattle.desk_types.specs.FloorLife.{open_by, IsUntouched, exposure_of, minutes_left, is_expired, is_unbaked};
-    ghost use Rattle.reels.specs.Reel.{StandsFor, SameReceipt, SamePieces, SameLife, IsReceived, exposure_at, is_placed_usage};
+    ghost use Rattle.reels.specs.Reel.{StandsFor, SameReceipt, SamePieces, SameLife, IsReceived, IsOfReceipt, IsInNewBag, IsOpened, IsSealed, IsBaked, exposure_at, minutes_left_at, is_expired_at, is_unbaked_reel, is_placed_usage};
 
     /// A reel that came in at this minute, sealed.
     pub fn receive(part: Id, lot: Id, moisture: Moisture, quantity: Quantity, at: Minute) -> Reel
         ensures pieces { IsReceived quantity result }
+        ensures receipt { IsOfReceipt part lot moisture result }
+        ensures life { IsInNewBag result }
         ensures last { result.last ≡ at }
         ensures stands { (H : History) (name : Name) (e : Entry) → IsUntouched H name → e.stamped.command ≡ ReelReceived name part lot moisture quantity
             → e.effective ≡ at → StandsFor (e ∷ H) name result }
@@ -88,6 +91,7 @@ impl Reel {
         requires { self.old.last ≤ at }
         ensures receipt { SameReceipt self.old self.new }
         ensures pieces { SamePieces self.old self.new }
+        ensures life { IsOpened at self.old self.new }
         ensures last { self.new.last ≡ at }
         ensures stands { (H : History) (name : Name) (e : Entry) → StandsFor H name self.old → open_by name e.stamped.command ≡ Some true
             → e.effective ≡ at → StandsFor (e ∷ H) name self.new }
@@ -101,6 +105,7 @@ impl Reel {
         requires { self.old.last ≤ at }
         ensures receipt { SameReceipt self.old self.new }
         ensures pieces { SamePieces self.old self.new }
+        ensures life { IsSealed at self.old self.new }
         ensures last { self.new.last ≡ at }
         ensures stands { (H : History) (name : Name) (e : Entry) → StandsFor H name self.old → e.stamped.command ≡ ReelSealed name
             → e.effective ≡ at → StandsFor (e ∷ H) name self.new }
@@ -115,6 +120,7 @@ impl Reel {
         requires { self.old.last ≤ at }
         ensures receipt { SameReceipt self.old self.new }
         ensures pieces { SamePieces self.old self.new }
+        ensures life { IsBaked self.new }
         ensures last { self.new.last ≡ at }
         ensures stands { (H : History) (name : Name) (e : Entry) → StandsFor H name self.old → e.stamped.command ≡ ReelBaked name
             → e.effective ≡ at → StandsFor (e ∷ H) name self.new }
@@ -150,6 +156,7 @@ impl Reel {
     /// The minutes of floor life that are left, 0 when expired, or none where there is no limit.
     pub fn minutes_left(&self, at: Minute) -> Option<u64>
         requires { self.now.last ≤ at }
+        ensures value { result ≡ minutes_left_at self.now at }
         ensures bound { IfSome result (λ left. left ≤ GREATEST_LABEL) }
         ensures stands { (H : History) (name : Name) → StandsFor H name self.now → result ≡ minutes_left H name at }
     {
@@ -160,7 +167,8 @@ impl Reel {
 
     /// Whether the reel waits for its bake: it is of level 6, and was not baked since its receipt.
     pub fn is_unbaked(&self) -> bool
-        ensures { (H : History) (name : Name) → StandsFor H name self.now → result ≡ is_unbaked H name }
+        ensures value { result ≡ is_unbaked_reel self.now }
+        ensures stands { (H : History) (name : Name) → StandsFor H name self.now → result ≡ is_unbaked H name }
     {
         self.level == Level::Six && !self.baked
     }
@@ -168,7 +176,8 @@ impl Reel {
     /// Whether the reel's floor life is used up at this minute.
     pub fn is_expired(&self, at: Minute) -> bool
         requires { self.now.last ≤ at }
-        ensures { (H : History) (name : Name) → StandsFor H name self.now → result ≡ is_expired H name at }
+        ensures value { result ≡ is_expired_at self.now at }
+        ensures stands { (H : History) (name : Name) → StandsFor H name self.now → result ≡ is_expired H name at }
     {
         match self.level.limit(self.label) {
             Some(limit) => self.exposure(at) >= limit,
@@ -179,7 +188,8 @@ impl Reel {
     /// Whether the reel may be used at this minute: it waits for no bake, and is not expired.
     pub fn usable(&self, at: Minute) -> bool
         requires { self.now.last ≤ at }
-        ensures { (H : History) (name : Name) → StandsFor H name self.now → result ≡ (not (is_unbaked H name) && not (is_expired H name at)) }
+        ensures value { result ≡ (not (is_unbaked_reel self.now) && not (is_expired_at self.now at)) }
+        ensures stands { (H : History) (name : Name) → StandsFor H name self.now → result ≡ (not (is_unbaked H name) && not (is_expired H name at)) }
     {
         !self.is_unbaked() && !self.is_expired(at)
     }
@@ -220,13 +230,12 @@ impl Reel {
     }
 
     /// So many pieces were counted, and they are more than remain: those above are found, and count as
-    /// received. It asks that the sums fit.
+    /// received. It asks that the sum fits.
     pub fn rise(&mut self, pieces: u64)
         requires live { 1 ≤ self.old.remaining }
         requires above { self.old.remaining < pieces }
         requires quantity { pieces ≤ GREATEST_QUANTITY }
         requires new_received { self.old.received + (pieces - self.old.remaining) < 2 ^ 64 }
-        requires new_found { self.old.found + (pieces - self.old.remaining) < 2 ^ 64 }
         ensures remaining { self.new.remaining ≡ pieces }
         ensures placed { self.new.placed ≡ self.old.placed }
         ensures scrapped { self.new.scrapped ≡ self.old.scrapped }

@@ -12,3 +12,4 @@ mod takes;
 
 pub use rows::rows_of;
 pub use set::RowSet;
+pub use state_tables::{BoardRow, MountRow, PlacementRow, ReelRow, RowEdit, RowEdits};

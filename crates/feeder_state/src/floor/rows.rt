@@ -26,7 +26,7 @@ use std::collections::{BTreeMap, VecDeque};
 
 /// The reel of a row at the desk minute, which stands for the minute of its last command.
 fn reel_of(row: &ReelRow, found: u64, minute: Minute) -> Reel
-    requires { (H : History) × (name : Name) × IsJudged Two H × (reel_row H name ≡ Some row.now) × (now_of H ≡ minute) }
+    requires { (H : History) × (name : Name) × IsJudged Two H × (reel_row H name ≡ Some row.now) × (now_of H ≡ minute) × (found ≡ found_of H name) }
     ensures { (H : History) (name : Name) → IsJudged Two H → reel_row H name ≡ Some row.now → now_of H ≡ minute → found ≡ found_of H name
         → IsHeld H name (record { reel = result; on_slot = is_mounted H name }) }
 {

@@ -1,5 +1,5 @@
-use Rattle.std.proofs.Common.{refl}
-use Rattle.feeder_state.proofs.Returning.{row-fits, row-held}
+use Rattle.std.proofs.Common.{◌≤◌, refl, sym, subst}
+use Rattle.feeder_state.proofs.Returning.{row-fits, row-held, found-fits}
 use Rattle.feeder_state.proofs.floor.rows.reel_of.Goals as goal
 
 pub returns : goal.returns
@@ -24,4 +24,10 @@ pub invariant_of-result : goal.invariant_of-result
 invariant_of-result c =
     let known = c.requires in
     let fits = row-fits known.0 known.1 c.args.row.now c.args.minute known.2 known.3 known.4 in
-    record { label_range = fits.label; balance = fits.balance; open_minutes = fits.opened; sealed_minutes = fits.sealed }
+    record {
+      label_range = fits.label;
+      balance = fits.balance;
+      found_range = subst (λ n. n ≤ c.args.row.now.received) (sym known.5) (found-fits known.0 known.1 c.args.row.now known.3);
+      open_minutes = fits.opened;
+      sealed_minutes = fits.sealed;
+    }

@@ -7,7 +7,10 @@ use Rattle.feeder_state.proofs.Returning.{mounted-row}
 use Rattle.feeder_state.proofs.floor.rows.restore_reel.Goals as goal
 
 pub reel_of-reel-requires : goal.reel_of-reel-requires
-reel_of-reel-requires c = let known = c.requires in (known.0, c.args.name.now, known.1.judged, known.3, known.2)
+reel_of-reel-requires c =
+    let known = c.requires in
+    let finds = c.found_on.ensures ∙ ap (λ (t : Tables). unwrap_or (t.found c.args.name.now) 0) known.1.tables ∙ found-kept known.0 c.args.name.now in
+    (known.0, c.args.name.now, known.1.judged, known.3, known.2, finds)
 
 pub returns-clause-held : goal.returns-clause-held
 returns-clause-held c = λ H rows now row.

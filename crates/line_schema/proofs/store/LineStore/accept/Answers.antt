@@ -4,18 +4,18 @@ use Rattle.sqlite.specs.Held.{state}
 use Rattle.desk_types.specs.declared.rules.Rules.TheVariants.{Two}
 use Rattle.desk_types.specs.Number.{IsMinute}
 use Rattle.line_tables.proofs.Keeps.{keeps_same}
-use Rattle.line_schema.proofs.Standing.{judged_for, stood_for, stands_on, left_on, survives_on, failed_on, err_still}
+use Rattle.line_schema.proofs.Standing.{judged_for, stood_for, stands_on, left_on, survives_on, failed_on, survives_still, err_still}
 use Rattle.line_schema.proofs.store.LineStore.accept.Goals as goal
 
 pub returns-in_err-reserve-clause-err : goal.returns-in_err-reserve-clause-err
 returns-in_err-reserve-clause-err g c L stands =
     err_still c.from_residual-in_err-reserve.result
-    (failed_on g.S.Store g.D.Desk.Stands g.D.Desk.kept_rules c.args.self.now _ c.in-Some-lists.lists c.reserve.new.self c.in-Some-lists.is refl c.reserve.ensures.same refl refl refl stands.mode (λ clean. clean) (λ _. keeps_same _) L stands)
+    (failed_on g.S.Store g.D.Desk.Stands g.D.Desk.kept_rules c.args.self.now _ c.in-Some-lists.lists c.reserve.new.self c.in-Some-lists.is refl c.reserve.ensures.same refl refl refl stands.mode (survives_still _) (λ _. keeps_same _) L stands)
 
 pub returns-in_err-append-clause-err : goal.returns-in_err-append-clause-err
 returns-in_err-append-clause-err g c L stands =
     err_still c.from_residual-in_err-append.result
-    (failed_on g.S.Store g.D.Desk.Stands g.D.Desk.kept_rules c.args.self.now _ c.in-Some-lists.lists c.reserve.new.self c.in-Some-lists.is refl c.reserve.ensures.same refl refl refl (c.append.ensures.mode stands.mode) (λ clean. omega (arith, c.append.ensures.crash.clean, clean)) c.in_err-append.ensures.neither L stands)
+    (failed_on g.S.Store g.D.Desk.Stands g.D.Desk.kept_rules c.args.self.now _ c.in-Some-lists.lists c.reserve.new.self c.in-Some-lists.is refl c.reserve.ensures.same refl refl refl (c.append.ensures.mode stands.mode) c.append.ensures.crash c.in_err-append.ensures.neither L stands)
 
 pub returns-in_err-append-clause-survives : goal.returns-in_err-append-clause-survives
 returns-in_err-append-clause-survives g c L stands own =
@@ -58,4 +58,4 @@ returns-clause-ok g c L stands first =
     let new = c.in_ok-text.ensures.new L.greatest L.history by (ap (λ n. n + 1) stands.count) in
     let minute : IsMinute change.minute = search rules in
     stands_on g.S.Store g.D.Desk.Stands g.D.Desk.kept_rules old _ L change c.in_ok-text.field-0.edits.items stands c.requires.room is c.ranges_hold.ensures minute refl refl (search rules) (c.settled-desk.ensures.desk Two L.history (search rules)) (c.settled-desk.ensures.lists L.history (search rules) (search rules) (ap (λ n. n + 1) stands.count)) c.settled-desk.ensures.beside after new
-    (λ clean. omega (arith, c.append.ensures.crash.clean, clean)) (λ clean. rw c.as_slice.ensures.value at (c.in_ok-append.ensures.done clean)) (λ clean. (c.in_ok-append.ensures.stays_open clean).0) first
+    c.append.ensures.crash (λ clean. rw c.as_slice.ensures.value at (c.in_ok-append.ensures.done clean)) (λ clean. (c.in_ok-append.ensures.stays_open clean).0) first

@@ -5,8 +5,9 @@ use Rattle.desk_answers.specs.declared.answer.Answer.{Answer}
 use Rattle.desk_answers.specs.declared.answer.Answer.TheVariants.{Accepted, Refused, IdReused, DeskFull, Unavailable}
 use Rattle.desk_answers.specs.Commands.{command_answer}
 use Rattle.desk_answers.specs.Ledger.{IsAnswer}
-use Rattle.line_schema.specs.Stands.{Kept, Stands, ledger}
+use Rattle.line_schema.specs.Stands.{Kept, Stands, ledger, kept_after}
 use Rattle.line_schema.proofs.Leaving.{kept_so}
+use Rattle.line_schema.proofs.Standing.{tables_there}
 use Rattle.line_schema.proofs.store.LineStore.command.Goals as goal
 
 answer_so : (L : Kept) (s : Stamped) (a : Answer) → a ≡ command_answer Two L.greatest L.history s → IsAnswer (ledger L) s a
@@ -27,6 +28,10 @@ returns-in-Ok-clause-stands g c L stands clean own =
     subst (λ (M : Kept). Stands g.S.Store g.D.Desk.Stands g.D.Desk.kept_rules c.answer.new.self M)
     (sym (kept_so L c.args.stamped.now c.in-Ok.answer (c.in-Ok.ensures.answer L stands clean own))) (c.in-Ok.ensures.ok L stands clean own)
 
+pub returns-in-Ok-clause-tables : goal.returns-in-Ok-clause-tables
+returns-in-Ok-clause-tables g c L stands clean own =
+    tables_there g.S.Store g.D.Desk.Stands g.D.Desk.kept_rules c.answer.new.self (kept_after L c.args.stamped.now c.in-Ok.answer) (returns-in-Ok-clause-stands g c L stands clean own) clean own
+
 pub returns-in-Ok-clause-crash : goal.returns-in-Ok-clause-crash
 returns-in-Ok-clause-crash g c = c.in-Ok.ensures.crash
 
@@ -44,6 +49,9 @@ returns-in-Err-clause-answer g c L stands clean own = tt
 
 pub returns-in-Err-clause-stands : goal.returns-in-Err-clause-stands
 returns-in-Err-clause-stands g c = c.in-Err.ensures.err
+
+pub returns-in-Err-clause-tables : goal.returns-in-Err-clause-tables
+returns-in-Err-clause-tables g c L stands clean own = tables_there g.S.Store g.D.Desk.Stands g.D.Desk.kept_rules c.answer.new.self L (c.in-Err.ensures.err L stands clean own) clean own
 
 pub returns-in-Err-clause-crash : goal.returns-in-Err-clause-crash
 returns-in-Err-clause-crash g c = c.in-Err.ensures.crash

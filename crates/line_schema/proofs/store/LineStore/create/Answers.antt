@@ -1,4 +1,4 @@
-use Rattle.std.proofs.Common.{[], refl, rules, arith}
+use Rattle.std.proofs.Common.{[], inl, refl, rules, arith}
 use Rattle.desk_types.specs.declared.rules.Rules.TheVariants.{Two}
 use Rattle.consistency.proofs.Judged.{consistent}
 use Rattle.line_tables.proofs.Ours.{blank_is}
@@ -17,6 +17,7 @@ returns-in-Ok-clause-stands g c = record {
   lists = c.new.ensures.listed;
   beside = refl;
   mode = search rules;
+  stays_open = λ clean. inl (c.in-Ok.ensures.stays_open clean).1;
   lawful = λ clean own. record { judged = tt; uids = none_yet; numbers = omega arith };
   tables = λ clean own is_open. c.in-Ok.ensures.made clean (blank_is _ own);
 }

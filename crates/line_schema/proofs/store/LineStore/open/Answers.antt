@@ -1,4 +1,4 @@
-use Rattle.std.proofs.Common.{IsTrue, refl, sym, subst, rules}
+use Rattle.std.proofs.Common.{IsTrue, inl, refl, sym, subst, rules}
 use Rattle.sqlite.specs.Effect.{Database}
 use Rattle.sqlite.specs.Held.{state}
 use Rattle.desk_types.specs.declared.rules.Rules.TheVariants.{Two}
@@ -9,6 +9,7 @@ use Rattle.line_tables.proofs.Ours.{ours_is}
 use Rattle.line_rows.specs.Rows.{tables_of}
 use Rattle.line_schema.specs.Stands.{Kept}
 use Rattle.line_opening.proofs.Reading.{opened_lawful, opened_holds}
+use Rattle.line_schema.proofs.Standing.{still_open}
 use Rattle.line_schema.proofs.store.LineStore.open.Goals as goal
 
 pub returns-in-Ok-clause-stands : goal.returns-in-Ok-clause-stands
@@ -34,6 +35,7 @@ returns-in-Ok-clause-stands g c =
         lists = o.lists;
         beside = refl;
         mode = search rules;
+        stays_open = λ clean. still_open _ c.read_tables.ensures.survives (λ was. inl (o.apart clean).was_open) clean;
         lawful = λ clean own. opened_lawful F K _ old c.in-Ok.field-0 all.0 o clean own;
         tables = λ clean own is_open. subst (λ (db : Database). Holds db (tables_of L.greatest L.history)) (sym ((c.read_tables.ensures.kept clean).committed is_open)) ((holds clean).are (let ours = ours_is old.committed.schema own in (Two, ours.0, ours.1)));
       },

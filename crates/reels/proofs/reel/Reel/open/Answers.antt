@@ -8,6 +8,7 @@ invariant_of-self c =
     record {
       label_range = reel.label_range;
       balance = reel.balance;
+      found_range = reel.found_range;
       open_minutes = λ x is. since-between reel.open_since reel.used reel.last c.args.at x reel.open_minutes reel.sealed_minutes c.requires (sym c.unwrap_or.ensures ∙ cc);
       sealed_minutes = λ is. absurd (cc);
     }

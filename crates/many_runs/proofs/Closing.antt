@@ -1,0 +1,50 @@
+-- What the program's contracts say of a run is what a run is.
+use Rattle.std.proofs.Common.{◌≡◌, ℕ, List, [], ◌∷◌, true, Option, Some, None, Result, Ok, Err, refl}
+use Rattle.sqlite_disk.specs.declared.Disk as disk
+use Rattle.sqlite_disk.specs.declared.Files.{Files}
+use Rattle.sqlite_disk.specs.declared.start.Start as start
+use Rattle.sqlite_wal.specs.Recovery.{Image}
+use Rattle.sqlite_store.specs.declared.store.FileStore.{FileStore}
+use Rattle.desk_types.specs.History.{History}
+use Rattle.desk_answers.specs.Ledger.{Ledger}
+use Rattle.feeder_state.specs.declared.desk.StateDesk.{StateDesk}
+use Rattle.line_schema.specs.declared.store.LineStore.{LineStore}
+use Rattle.http_answers.specs.Requests.{Reports, request_rule}
+use Rattle.http_listener.specs.Connections.{Connected, ConnectedEach, Ended}
+use Rattle.served.specs.declared.serving.ServeFault.TheVariants.{Read, Write, TooManyReads}
+use Rattle.gateway_http.specs.Reports.{report_of}
+use Rattle.headline.specs.Calls.{AnswersByTheList, Call, Serves}
+use Rattle.desk_commands.specs.Runs.{RunsOn, ServesEach}
+use Rattle.many_runs.specs.Runs.{by_two, IsRun}
+use Rattle.many_runs.specs.Closed.{ClosesTo, connections_of, run_of}
+
+module _ {T D : Type 0} {g : disk.Ghosts D} (first : start.Ghosts T) (make : Option ℕ) (desk : LineStore (FileStore D g) StateDesk) (files : Files D) (image : Image) where
+  pub is_run : (Fact : Ledger → History → Type 0) (calls : List Call) → ((G : Ledger) (H : History) → Fact G H → AnswersByTheList report_of G calls H)
+      → RunsOn first make (Some desk) Fact → ClosesTo desk files image → IsRun report_of (run_of first make calls image)
+  is_run Fact calls tells runs (closes, was_clean, clean, left) alone =
+      let (greatest, H, begins, lawful, H', stands, fact) = runs was_clean alone in (
+        greatest,
+        H,
+        H',
+        record {
+          begins = begins;
+          lawful_first = lawful;
+          answers = tells (by_two greatest H) H' fact;
+          lawful = stands.lawful was_clean refl;
+          consistent = stands.consistent;
+          ends = closes (record { greatest = greatest; history = H'; own = true }) stands refl clean image left;
+        },
+      )
+
+-- a connection of which no socket says the bytes
+serves : (reports : Reports) (G : Ledger) (ended : Ended) (H : History) → Connected (request_rule reports G.rules G.greatest) G.history ended H
+    → Serves (request_rule reports G.rules G.greatest) G.history None None None None ended H
+serves reports G (Ok served) H connected = connected
+serves reports G (Err (Read served)) H connected = connected
+serves reports G (Err (TooManyReads served)) H connected = connected
+serves reports G (Err (Write served)) H connected = connected
+
+-- connections one after the other are calls one after the other
+pub serves_each : (ends : List Ended) (G : Ledger) (H : History) → ServesEach ends G H → AnswersByTheList report_of G (connections_of ends) H
+serves_each [] G H same = same
+serves_each (ended ∷ ends) G H (H₁, one, rest) = (H₁, serves report_of G ended H₁ one, serves_each ends (record G { history = H₁ }) H rest)

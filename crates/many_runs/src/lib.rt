@@ -1,0 +1,44 @@
+//! Any number of runs on the same files: what their calls are answered, and what the files then hold.
+//!
+//! `specs/Runs.antt` says what a run is, and how runs are as one.
+#![tactic(auto)]
+
+ghost use Rattle.std.specs.Prelude.{ℕ, List, [], ◌∷◌, Option, Some};
+ghost use Rattle.sqlite_wal.specs.Recovery.{Image};
+ghost use Rattle.http_answers.specs.Requests.{Reports};
+ghost use Rattle.http_listener.specs.Connections.{Ended};
+ghost use Rattle.http_stream.specs.Answers.{Told};
+ghost use Rattle.gateway_http.specs.Reports.{report_of};
+ghost use Rattle.desk_runs.specs.Runs.{StaysSame, TellsReport};
+ghost use Rattle.desk_commands.specs.Runs.{RunsOn, ServesEach};
+ghost use Rattle.headline.specs.Calls.{Feeds};
+ghost use Rattle.headline.specs.Calls.Call.{asked, fed};
+ghost use Rattle.many_runs.specs.Closed.{ClosesTo, connections_of, run_of};
+ghost use Rattle.many_runs.specs.Runs.{AreRuns, IsRun, Run, as_one};
+
+use desk_file::{FileDesk, next_run_goes_on};
+use feeder_state::StateDesk;
+use sqlite::{FileFrom, Files, Start};
+
+/// A law: runs one after the other, each on the files that the one before it left, are as one run that
+/// makes their calls. So every answer of every run is that of one list of accepted commands, which is
+/// lawful and consistent, and the files hold its tables. It is for proofs, and does nothing when it
+/// runs.
+pub fn many_runs_are_one()
+    ensures { (reports : Reports) (run : Run) (runs : List Run) → IsRun reports run → AreRuns reports run.last runs → IsRun reports (as_one run runs) }
+{
+    next_run_goes_on();
+}
+
+/// A law: a run of the program that closed its desk's file is a run, with the calls that its contracts
+/// tell. It is for proofs, and does nothing when it runs.
+pub fn closed_runs_are_runs<T: Start>(desk: &FileDesk<T, StateDesk>, files: &Files<FileFrom<T>>)
+    ensures feeds { (make : Option ℕ) (input out out' : Option (List ℕ)) (ended : Ended) (image : Image) → RunsOn T.Start make (Some desk.now) (λ G H. Feeds G input out out' ended H)
+        → ClosesTo desk.now files.now image → IsRun report_of (run_of T.Start make (fed input out out' ended ∷ []) image) }
+    ensures serves { (make : Option ℕ) (ends : List Ended) (image : Image) → RunsOn T.Start make (Some desk.now) (ServesEach ends)
+        → ClosesTo desk.now files.now image → IsRun report_of (run_of T.Start make (connections_of ends) image) }
+    ensures reports { (make : Option ℕ) (target : List ℕ) (told : Told) (image : Image) → RunsOn T.Start make (Some desk.now) (TellsReport report_of target told)
+        → ClosesTo desk.now files.now image → IsRun report_of (run_of T.Start make (asked target told ∷ []) image) }
+    ensures stays { (make : Option ℕ) (image : Image) → RunsOn T.Start make (Some desk.now) StaysSame
+        → ClosesTo desk.now files.now image → IsRun report_of (run_of T.Start make [] image) }
+{}
