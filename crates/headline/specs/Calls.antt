@@ -19,7 +19,7 @@ use Rattle.http_answers.specs.Requests.{Reports, request_rule}
 abbrev pub Ended : Type 0
 Ended = Result Served ServeFault
 
--- a call of `feed`, of `serve`, of `command` or of `ask`, with what went in, what was left of it, and what had gone out before and after, as far as the reader and the writer tell it
+-- a call of `feed`, of `serve`, of `command` or of `ask`, with what went in, of a connection what was left of it, and what had gone out before and after, as far as the reader and the writer tell it
 pub data Call : Type 0 where
   fed : Option (List ℕ) → Option (List ℕ) → Option (List ℕ) → Ended → Call
   connected : Option (List ℕ) → Option (List ℕ) → Option (List ℕ) → Option (List ℕ) → Ended → Call
