@@ -57,7 +57,7 @@ def files():
         ("lib/systemd/system", these("packaging/*.service", "packaging/*.timer")),
         ("share/tracedesk/plant", these("examples/plant/*.sql")),
         ("share/tracedesk/station", these("station/*")),
-        ("share/doc/tracedesk/api", these("docs/api/*.json", "docs/api/README.md")),
+        ("share/doc/tracedesk/api", these("docs/api/*.json")),
         ("share/doc/tracedesk/examples", these("examples/client.py", "packaging/Containerfile")),
         ("lib/tracedesk/bridge", [it for it in these("examples/bridge/*") if it.name != "test"]),
     ]
@@ -91,7 +91,6 @@ def lay(base, program, date, version):
     put(ROOT / "packaging/nginx.conf", base / "etc/nginx/sites-available/tracedesk")
     put(ROOT / "packaging/setup.json", base / "etc/tracedesk/station/setup.json")
     documents(below / "share/doc/tracedesk")
-    subprocess.run([ROOT / "tools/api", "--vectors", below / "share/doc/tracedesk/api/vectors.jsonl.gz"], check=True, stdout=subprocess.DEVNULL)
     manual(below, date, version)
 
 
