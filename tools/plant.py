@@ -1,6 +1,7 @@
 """What tools/rollover, tools/backup, tools/check and tools/plant-load share: the program, the service of a desk, the proxy in front of it, and its copies."""
 import argparse
 import contextlib
+import ctypes
 import datetime
 import fcntl
 import http.client
@@ -27,6 +28,7 @@ LONGEST_OTHER = 3600  # seconds that another roll-over or backup may take
 ARCHIVE, SUMS = "archive", "SHA256SUMS"  # of a copy that tools/backup makes, beside `desk`
 NAMED = "%Y-%m-%dT%H%M%SZ"  # of such a copy, by when it was taken
 PATIENCE = 120  # seconds that a start may take beside what the pieces ask for
+LIBC, PR_SET_PDEATHSIG = ctypes.CDLL(None), 1
 
 
 class Fault(Exception):
@@ -163,24 +165,32 @@ def without_log(file):
 
 
 class Program:
-    """The program, run as the owner of the desk's file, so that nothing beside that file is root's."""
+    """The program, run as the owner of the desk's file, so that nothing beside that file is root's. A run ends with the tool,
+    also where that is killed: else it would have a file open that the next call of the tool wants."""
 
     def __init__(self, program, db):
         self.program, owner = program, db.stat()
         self.uid, self.gid = owner.st_uid, owner.st_gid
         own = os.geteuid() == self.uid
         self.how = {} if own else {"user": self.uid, "group": self.gid, "extra_groups": []}
+        self.parent = os.getpid()
 
     def give(self, path):
         """Makes a file or a folder the owner's."""
         if self.how:
             os.chown(path, self.uid, self.gid)
 
+    def end_with_the_tool(self):
+        """What a run does before it is the program."""
+        LIBC.prctl(PR_SET_PDEATHSIG, signal.SIGKILL)
+        if os.getppid() != self.parent:
+            os._exit(1)
+
     def begun(self, *words, **how):
-        return subprocess.Popen([self.program, *map(str, words)], **self.how, **how)
+        return subprocess.Popen([self.program, *map(str, words)], preexec_fn=self.end_with_the_tool, **self.how, **how)
 
     def run(self, *words, **how):
-        return subprocess.run([self.program, *map(str, words)], **self.how, **how)
+        return subprocess.run([self.program, *map(str, words)], preexec_fn=self.end_with_the_tool, **self.how, **how)
 
     def audit(self, file):
         """How many commands a lawful desk has; a Fault says what else the audit found."""

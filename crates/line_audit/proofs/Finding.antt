@@ -11,10 +11,9 @@ use Rattle.sqlite_trees.specs.declared.store.Store.{Ghosts}
 use Rattle.sqlite.specs.Held.{Held, state}
 use Rattle.line_tables.specs.StateRows.{columns, rows_in}
 use Rattle.line_tables.specs.Line.{tree_in}
-use Rattle.line_tables.proofs.FindTexts.{IsSelectBy, rows_from, count_from}
+use Rattle.line_tables.proofs.FindTexts.{IsSelectBy, rows_from}
 use Rattle.line_tables.proofs.Finds.{finds_rows, one_order}
-use Rattle.line_tables.proofs.Numbers.{finds_count}
-use Rattle.line_audit.specs.Alone.{ShowsOnly, FindsAlone, ShowsCount, Counts}
+use Rattle.line_audit.specs.Alone.{ShowsOnly, FindsAlone}
 
 -- one row is shown just where one row passes
 alone_as : (passed shown : List Row) (row : Row) (b : Bool) → IsPermutation passed shown → (IsTrue b ↔ (shown ≡ row ∷ [])) → IsTrue b ↔ (passed ≡ row ∷ [])
@@ -31,7 +30,3 @@ finds_alone g sql table test project names is params has passes out old row b sh
     let rows = shows.0 in
     let found = finds_rows g sql (tree_in table) test project names is params (columns table) has passes out old rows shows.1 in
     record { was_open = found.was_open; are = λ schema. alone_as (filter has (rows_in table (state g old).committed)) rows row b (found.are schema) shows.2 }
-
--- a query of a table of ours counts its rows
-pub counts_rows : {S : Type 0} (g : Ghosts S) (sql : List ℕ) (table : Table) (names : List (List ℕ)) → IsSelectBy sql (λ schema. count_from (tree_in table schema)) names → (old : Held S) (n : ℕ) → ShowsCount g sql old n → Counts table (state g old) n
-counts_rows g sql table names is old n shows = finds_count g sql (tree_in table) names is (columns table) old shows.0 n shows.1 shows.2 shows.3

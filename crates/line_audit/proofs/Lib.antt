@@ -3,7 +3,6 @@ pub mod Finding
 pub mod Here
 pub mod Keys
 pub mod Listing
-pub mod Looked
 pub mod Matching
 pub mod Members
 pub mod Placing

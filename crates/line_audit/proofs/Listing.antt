@@ -5,7 +5,7 @@ use Rattle.std.specs.List.{AllByRecursion}
 use Rattle.std.specs.List.Sorted.{IsStrictlySortedBy}
 use Rattle.std.specs.Map.{keys_of, lookup}
 use Rattle.std.proofs.lemmas.Map.Keys.{sorted_head, sorted_tail}
-use Rattle.state_rows.specs.Kept.{has_key, row_at, by_piece, by_sheet_place, by_since, since_is, Lists, ListsKeys, ListsMounts}
+use Rattle.state_rows.specs.Kept.{has_key, row_at, by_sheet_place, by_since, since_is, Lists, ListsKeys, ListsMounts}
 use Rattle.line_tables.specs.StateRows.{unit_if}
 use Rattle.std.specs.Ordering.{ordering_then}
 use Rattle.std.proofs.lemmas.Bool.{eqb-true}
@@ -15,14 +15,10 @@ use Rattle.desk_types.specs.Id.{Name, same, by_name}
 use Rattle.desk_types.specs.Pair.{by_pair}
 use Rattle.desk_types.proofs.Keys.{same-true, is_at-by_name, is_at-by_pair}
 use Rattle.state_tables.specs.declared.row.MountRow.{MountRow}
-use Rattle.state_rows.proofs.Keeping.{is_at-by_piece, is_at-by_sheet_place}
+use Rattle.state_rows.proofs.Keeping.{is_at-by_sheet_place}
 use Rattle.line_audit.specs.Alone.{Listed, IsNew, AreApart, IsNamed}
 use Rattle.line_audit.proofs.Keys.{both}
 use Rattle.line_audit.proofs.Alike.{some_same}
-
-map_whole : {X : Type 0} (xs : List X) → map (λ (x : X). x) xs ≡ xs
-map_whole [] = refl
-map_whole (x ∷ xs) = ap (λ rest. x ∷ rest) (map_whole xs)
 
 less_equal : ◌≡◌ {A = Ordering} Less Equal → ⊥
 less_equal e = cc
@@ -65,8 +61,8 @@ module _ {K R : Type 0} (cmp : K → K → Ordering) (tied : (k : K) → cmp k k
       each_by [] h = tt
       each_by (x ∷ xs) h = (sym (found x.0) ∙ h.0, each_by xs h.1)
 
-  pub listed : (es : List (K × R)) (f : K → Option R) → Lists cmp es f → Listed (map (λ (e : K × R). e) es) f
-  listed es f lists = subst (λ (l : List (K × R)). Listed l f) (sym (map_whole es)) (listed_as es f lists.ascending lists.rows)
+  pub listed : (es : List (K × R)) (f : K → Option R) → Lists cmp es f → Listed es f
+  listed es f lists = listed_as es f lists.ascending lists.rows
 
 -- a key with no row but itself
 abbrev pub alone : {K : Type 0} → K → K × Unit {0}
@@ -111,26 +107,17 @@ sheet_same k q h =
     let r = both _ _ p.0 in
     ap₂ (λ (a : Name) (b : Name × ℕ). (a, b.0, b.1)) (same-true k.0 q.0 r.0) (ap₂ (λ (a : Name) (n : ℕ). (a, n)) (same-true k.1 q.1 r.1) (eqb-true k.2 q.2 p.1))
 
-pub names_listed : {R : Type 0} (es : List (Name × R)) (f : Name → Option R) → Lists by_name es f → Listed (map (λ (e : Name × R). e) es) f
-names_listed es f = listed by_name name_tied name_same es f
+pub names_listed : {R : Type 0} (es : List (Name × R)) (f : Name → Option R) → Lists by_name es f → Listed es f
+names_listed = listed by_name name_tied name_same
 
-pub sheets_listed : {R : Type 0} (es : List ((Name × Name × ℕ) × R)) (f : Name × Name × ℕ → Option R) → Lists by_sheet_place es f → Listed (map (λ (e : (Name × Name × ℕ) × R). e) es) f
-sheets_listed es f = listed by_sheet_place sheet_tied sheet_same es f
-
-piece_tied : (k : ℕ × ℕ) → by_piece k k ≡ Equal
-piece_tied k = ap₂ ordering_then (tied_itself nat_cmp_total k.0) (tied_itself nat_cmp_total k.1)
-
-piece_same : (k q : ℕ × ℕ) → is_at (by_piece k) q ≡ true → k ≡ q
-piece_same k q h = let p = both _ _ (sym (is_at-by_piece k q) ∙ h) in ap₂ (λ (m n : ℕ). (m, n)) (eqb-true k.0 q.0 p.0) (eqb-true k.1 q.1 p.1)
-
-pub pieces_listed : {R : Type 0} (es : List ((ℕ × ℕ) × R)) (f : ℕ × ℕ → Option R) → Lists by_piece es f → Listed es f
-pieces_listed es f lists = listed_as by_piece piece_tied piece_same es f lists.ascending lists.rows
+pub sheets_listed : {R : Type 0} (es : List ((Name × Name × ℕ) × R)) (f : Name × Name × ℕ → Option R) → Lists by_sheet_place es f → Listed es f
+sheets_listed = listed by_sheet_place sheet_tied sheet_same
 
 pub keys_listed : (ks : List Name) (f : Name → Bool) → ListsKeys by_name ks f → Listed (map alone ks) (λ k. unit_if (f k))
-keys_listed ks f = listed_keys by_name name_tied name_same ks f
+keys_listed = listed_keys by_name name_tied name_same
 
 pub pairs_listed : (ks : List (Name × Name)) (f : Name × Name → Bool) → ListsKeys by_pair ks f → Listed (map alone ks) (λ k. unit_if (f k))
-pairs_listed ks f = listed_keys by_pair pair_tied pair_same ks f
+pairs_listed = listed_keys by_pair pair_tied pair_same
 
 -- ---- mounted reels, in the order of their numbers
 

@@ -1,10 +1,11 @@
 -- What the texts mean, and what they find.
-use Rattle.std.proofs.Common.{◌&&◌, ℕ, Bool, true, false, List, [], ◌∷◌, codes, refl, ap, pos, inl, inr}
+use Rattle.std.proofs.Common.{◌≡◌, ◌&&◌, ◌++◌, ◌<◌, ℕ, Bool, true, false, List, [], ◌∷◌, Result, Ok, Err, IfOk, codes, refl, ap, pos, inl, inr}
 use Rattle.sqlite.specs.Term.{Term, col, op2}
 use Rattle.sqlite.specs.Collation.TheVariants.{Binary}
 use Rattle.sqlite_sql.specs.declared.ops.BinaryOp.TheVariants.{Compare}
 use Rattle.sqlite_sql.specs.declared.ops.CompareOp.TheVariants.{Eq}
 use Rattle.sqlite.specs.declared.types.Value.TheVariants.{Int, Text}
+use Rattle.sqlite.specs.declared.error.Error.{Error}
 use Rattle.sqlite.specs.Listing.{understood, listing_schema}
 use Rattle.sqlite_tied.specs.Compute.{everything}
 use Rattle.sqlite_value.specs.Order.{Row}
@@ -13,12 +14,19 @@ use Rattle.sqlite.specs.Held.{Held, state}
 use Rattle.desk_types.specs.Id.{Name}
 use Rattle.state_tables.specs.declared.row.PlacementRow.{PlacementRow}
 use Rattle.line_tables.specs.Line as line
+use Rattle.line_tables.specs.Line.{tree_in}
+use Rattle.line_tables.specs.Calls.{Selects}
+use Rattle.line_tables.specs.declared.reading.TheConstants.{MOST_COUNTED}
 use Rattle.line_tables.specs.StateRows.{columns, has_text, has_int, has_pair, has_sheet_place}
 use Rattle.line_tables.proofs.FindTexts.{IsSelect, IsSelectBy, rows_from, count_from}
 use Rattle.line_tables.proofs.Finds.{and_true}
-use Rattle.line_audit.specs.Alone.{ShowsOnly, FindsAlone, ShowsCount, Counts}
+use Rattle.line_tables.proofs.Numbers.{finds_count}
+use Rattle.line_audit.specs.Alone.{ShowsOnly, FindsAlone, Counts}
 use Rattle.line_audit.specs.Placed.{has_placement}
-use Rattle.line_audit.proofs.Finding.{finds_alone, counts_rows}
+use Rattle.line_audit.specs.TableNames.{name_of, table_of}
+use Rattle.line_audit.specs.declared.table.StateTable.{StateTable}
+use Rattle.line_audit.specs.declared.table.StateTable.TheVariants.{Part, Alternate, SheetRow, Selected, Reel, Mount, Board, Placement, Found}
+use Rattle.line_audit.proofs.Finding.{finds_alone}
 use Rattle.desk_types.specs.declared.rules.Rules.TheVariants.{One, Two}
 
 -- the column is the parameter
@@ -144,70 +152,27 @@ placement_is : IsSelect select_placement (rows_from 17 placement_test placement_
 unfolding understood everything
 placement_is rules indexed = inl (refl, refl, (refl, refl))
 
-abbrev count_part : List ℕ
-count_part = codes "SELECT count(*) FROM part"
+abbrev count_text : StateTable → List ℕ
+count_text table = codes "SELECT count(*) FROM " ++ name_of table
 
-count_part_is : IsSelect count_part (count_from 3) (codes "count(*)" ∷ [])
-unfolding understood everything
-count_part_is rules indexed = inl (refl, refl, (refl, refl))
-
-abbrev count_alternate : List ℕ
-count_alternate = codes "SELECT count(*) FROM alternate"
-
-count_alternate_is : IsSelect count_alternate (count_from 5) (codes "count(*)" ∷ [])
-unfolding understood everything
-count_alternate_is rules indexed = inl (refl, refl, (refl, refl))
-
-abbrev count_sheet_row : List ℕ
-count_sheet_row = codes "SELECT count(*) FROM sheet_row"
-
-count_sheet_row_is : IsSelect count_sheet_row (count_from 7) (codes "count(*)" ∷ [])
-unfolding understood everything
-count_sheet_row_is rules indexed = inl (refl, refl, (refl, refl))
-
-abbrev count_selected : List ℕ
-count_selected = codes "SELECT count(*) FROM selected"
-
-count_selected_is : IsSelect count_selected (count_from 9) (codes "count(*)" ∷ [])
-unfolding understood everything
-count_selected_is rules indexed = inl (refl, refl, (refl, refl))
-
-abbrev count_reel : List ℕ
-count_reel = codes "SELECT count(*) FROM reel"
-
-count_reel_is : IsSelect count_reel (count_from 11) (codes "count(*)" ∷ [])
-unfolding understood everything
-count_reel_is rules indexed = inl (refl, refl, (refl, refl))
-
-abbrev count_mount : List ℕ
-count_mount = codes "SELECT count(*) FROM mount"
-
-count_mount_is : IsSelect count_mount (count_from 13) (codes "count(*)" ∷ [])
-unfolding understood everything
-count_mount_is rules indexed = inl (refl, refl, (refl, refl))
-
-abbrev count_board : List ℕ
-count_board = codes "SELECT count(*) FROM board"
-
-count_board_is : IsSelect count_board (count_from 15) (codes "count(*)" ∷ [])
-unfolding understood everything
-count_board_is rules indexed = inl (refl, refl, (refl, refl))
-
-abbrev count_placement : List ℕ
-count_placement = codes "SELECT count(*) FROM placement"
-
-count_placement_is : IsSelect count_placement (count_from 17) (codes "count(*)" ∷ [])
-unfolding understood everything
-count_placement_is rules indexed = inl (refl, refl, (refl, refl))
-
-abbrev count_found : List ℕ
-count_found = codes "SELECT count(*) FROM found"
-
-count_found_is : IsSelectBy count_found (λ schema. count_from (line.tree_in line.found schema)) (codes "count(*)" ∷ [])
+count_is : (table : StateTable) → IsSelectBy (count_text table) (λ schema. count_from (line.tree_in (table_of table) schema)) (codes "count(*)" ∷ [])
 unfolding understood everything listing_schema
-count_found_is One indexed = inr refl
-count_found_is Two true = inl (refl, refl, (refl, refl))
-count_found_is Two false = inl (refl, refl, (refl, refl))
+count_is Part rules indexed = inl (refl, refl, (refl, refl))
+count_is Alternate rules indexed = inl (refl, refl, (refl, refl))
+count_is SheetRow rules indexed = inl (refl, refl, (refl, refl))
+count_is Selected rules indexed = inl (refl, refl, (refl, refl))
+count_is Reel rules indexed = inl (refl, refl, (refl, refl))
+count_is Mount rules indexed = inl (refl, refl, (refl, refl))
+count_is Board rules indexed = inl (refl, refl, (refl, refl))
+count_is Placement rules indexed = inl (refl, refl, (refl, refl))
+count_is Found One indexed = inr refl
+count_is Found Two true = inl (refl, refl, (refl, refl))
+count_is Found Two false = inl (refl, refl, (refl, refl))
+
+pub counted : {S : Type 0} (g : Ghosts S) (old : Held S) (table : StateTable) (rows : List Row) → Selects g (count_text table) [] old rows
+    → (r : Result ℕ Error) → IfOk r (λ n. rows ≡ (Int (pos n) ∷ []) ∷ []) → IfOk r (λ n. n < MOST_COUNTED) → IfOk r (Counts (table_of table) (state g old))
+counted g old table rows shows (Ok n) row below = finds_count g (count_text table) (tree_in (table_of table)) _ (count_is table) (columns (table_of table)) old rows n shows row below
+counted g old table rows shows (Err e) row below = tt
 
 module _ {S : Type 0} (g : Ghosts S) (old : Held S) (row : Row) (b : Bool) where
   pub part_alone : (part : Name) → ShowsOnly g select_part (Text part ∷ []) old row b → FindsAlone line.part (has_text 0 part) row (state g old) b
@@ -238,31 +203,3 @@ module _ {S : Type 0} (g : Ghosts S) (old : Held S) (row : Row) (b : Bool) where
   placement_alone p shows =
       finds_alone g select_placement line.placement placement_test placement_places _ placement_is (Text p.board ∷ Text p.designator ∷ Int (pos p.number) ∷ Int (pos p.place) ∷ []) (has_placement p)
       (λ r. let row = columns line.placement r in ap (λ c. has_text 2 p.board row && (has_text 3 p.designator row && (has_int 0 p.number row && c))) (and_true _)) (λ r. refl) old row b shows
-
-module _ {S : Type 0} (g : Ghosts S) (old : Held S) where
-  pub part_counted : (n : ℕ) → ShowsCount g count_part old n → Counts line.part (state g old) n
-  part_counted n shows = counts_rows g count_part line.part _ count_part_is old n shows
-
-  pub alternate_counted : (n : ℕ) → ShowsCount g count_alternate old n → Counts line.alternate (state g old) n
-  alternate_counted n shows = counts_rows g count_alternate line.alternate _ count_alternate_is old n shows
-
-  pub sheet_row_counted : (n : ℕ) → ShowsCount g count_sheet_row old n → Counts line.sheet_row (state g old) n
-  sheet_row_counted n shows = counts_rows g count_sheet_row line.sheet_row _ count_sheet_row_is old n shows
-
-  pub selected_counted : (n : ℕ) → ShowsCount g count_selected old n → Counts line.selected (state g old) n
-  selected_counted n shows = counts_rows g count_selected line.selected _ count_selected_is old n shows
-
-  pub reel_counted : (n : ℕ) → ShowsCount g count_reel old n → Counts line.reel (state g old) n
-  reel_counted n shows = counts_rows g count_reel line.reel _ count_reel_is old n shows
-
-  pub mount_counted : (n : ℕ) → ShowsCount g count_mount old n → Counts line.mount (state g old) n
-  mount_counted n shows = counts_rows g count_mount line.mount _ count_mount_is old n shows
-
-  pub board_counted : (n : ℕ) → ShowsCount g count_board old n → Counts line.board (state g old) n
-  board_counted n shows = counts_rows g count_board line.board _ count_board_is old n shows
-
-  pub placement_counted : (n : ℕ) → ShowsCount g count_placement old n → Counts line.placement (state g old) n
-  placement_counted n shows = counts_rows g count_placement line.placement _ count_placement_is old n shows
-
-  pub found_counted : (n : ℕ) → ShowsCount g count_found old n → Counts line.found (state g old) n
-  found_counted n shows = counts_rows g count_found line.found _ count_found_is old n shows

@@ -1,8 +1,7 @@
 -- Rows that are looked up by their keys.
-use Rattle.std.specs.Prelude.{◌≡◌, ◌↔◌, ◌⊎◌, ◌<◌, ◌+◌, ⊤, ℕ, pos, length, Bool, IsTrue, Option, Some, List, [], ◌∷◌, map, filter}
+use Rattle.std.specs.Prelude.{◌≡◌, ◌↔◌, ◌⊎◌, ◌+◌, ⊤, ℕ, length, Bool, true, IsTrue, Option, Some, List, [], ◌∷◌, map, filter}
 use Rattle.std.specs.List.{AllByRecursion}
 use Rattle.sqlite_value.specs.declared.value.ValueRef.{ValueRef}
-use Rattle.sqlite.specs.declared.types.Value.TheVariants.{Int}
 use Rattle.sqlite_value.specs.Value.{owned}
 use Rattle.sqlite_value.specs.Order.{Row}
 use Rattle.sqlite_schema.specs.declared.schema.Table.{Table}
@@ -10,7 +9,6 @@ use Rattle.sqlite_trees.specs.declared.store.Store.{Ghosts}
 use Rattle.sqlite.specs.Held.{Held}
 use Rattle.sqlite.specs.State.{State}
 use Rattle.sqlite.specs.Effect.{Database}
-use Rattle.line_tables.specs.declared.reading.TheConstants.{MOST_COUNTED}
 use Rattle.line_tables.specs.Calls.{Selects, Reads}
 use Rattle.line_tables.specs.StateRows.{rows_in}
 
@@ -25,10 +23,6 @@ ShowsOnly g sql params old row b = (rows : List Row) × Selects g sql params old
 -- of what is committed, this is the one row that passes the test
 abbrev pub FindsAlone : Table → (Row → Bool) → Row → State → Bool → Type 0
 FindsAlone table has row old b = Reads old (λ db. IsTrue b ↔ (filter has (rows_in table db) ≡ row ∷ []))
-
--- the query shows one number, below the greatest that SQL counts
-abbrev pub ShowsCount : {S : Type 0} → Ghosts S → List ℕ → Held S → ℕ → Type 0
-ShowsCount g sql old n = (rows : List Row) × Selects g sql [] old rows × (rows ≡ (Int (pos n) ∷ []) ∷ []) × (n < MOST_COUNTED)
 
 -- of what is committed, the table has so many rows
 abbrev pub Counts : Table → State → ℕ → Type 0
@@ -65,3 +59,7 @@ pub record Listed {K R : Type 0} (es : List (K × R)) (f : K → Option R) : Typ
   pub each : AllByRecursion (λ e. f e.0 ≡ Some e.1) es
   pub all : (k : K) (r : R) → f k ≡ Some r → IsNamed k es
   pub distinct : AreApart es
+
+-- a row has at most one key
+abbrev pub HasOneKey : {K : Type 0} → (K → Row → Bool) → Type 0
+HasOneKey has = (k l : _) (row : Row) → has k row ≡ true → has l row ≡ true → k ≡ l

@@ -9,11 +9,8 @@ ghost use Rattle.line_tables.specs.Calls.{Reads};
 ghost use Rattle.line_audit.specs.Alone.{Tells};
 ghost use Rattle.line_audit.specs.Audit.{Pieces, IsExpected, HasPlacements, HoldsTable, IsVerdict, state_tables, with_placements};
 
-use crate::compared::{
-    are_alternates, are_boards, are_found, are_mounts, are_parts, are_reels, are_selected,
-    are_sheets,
-};
-use crate::placed::count_placements;
+use crate::compared::are_rows;
+use crate::shown::count;
 use crate::table::StateTable;
 use desk_types::Rules;
 use sqlite::{Alter, Connection, Error};
@@ -98,15 +95,15 @@ fn is_same<S: Alter>(
     ensures survives { Survives (state S.Store conn.old) (state S.Store conn.new) (λ _. ⊥) }
 {
     match table {
-        StateTable::Part => are_parts(conn, rows),
-        StateTable::Alternate => are_alternates(conn, rows),
-        StateTable::SheetRow => are_sheets(alloc, conn, rows),
-        StateTable::Selected => are_selected(conn, rows),
-        StateTable::Reel => are_reels(conn, rows),
-        StateTable::Mount => are_mounts(conn, rows),
-        StateTable::Board => are_boards(conn, rows),
+        StateTable::Part => are_rows(alloc, conn, table, rows.parts()),
+        StateTable::Alternate => are_rows(alloc, conn, table, rows.alternates()),
+        StateTable::SheetRow => are_rows(alloc, conn, table, rows.sheets()),
+        StateTable::Selected => are_rows(alloc, conn, table, rows.selected()),
+        StateTable::Reel => are_rows(alloc, conn, table, rows.reels()),
+        StateTable::Mount => are_rows(alloc, conn, table, rows.mounts()),
+        StateTable::Board => are_rows(alloc, conn, table, rows.boards()),
         StateTable::Placement => are_placements(conn, placed),
-        StateTable::Found => are_found(conn, rows),
+        StateTable::Found => are_rows(alloc, conn, table, rows.found()),
     }
 }
 
@@ -117,6 +114,6 @@ fn are_placements<S: Alter>(conn: &mut Connection<S>, placed: Placed) -> Result<
     ensures mode { conn.old.in_transaction ≡ false → conn.new.in_transaction ≡ false }
     ensures survives { Survives (state S.Store conn.old) (state S.Store conn.new) (λ _. ⊥) }
 {
-    let count = count_placements(conn)?;
+    let count = count(conn, StateTable::Placement)?;
     Ok(placed.all && count == placed.count)
 }

@@ -3,6 +3,7 @@
 
 mod auditing;
 mod compared;
+mod entry;
 mod floor;
 mod pieces;
 mod placed;

@@ -5,10 +5,10 @@ ghost use Rattle.sqlite.specs.State.{HasCleanDisk, Survives, KeepsCommit};
 ghost use Rattle.sqlite.specs.Held.{state};
 ghost use Rattle.line_tables.specs.Line as line;
 ghost use Rattle.line_tables.specs.StateRows.{placement_columns};
-ghost use Rattle.line_audit.specs.Alone.{Counts, FindsAlone};
+ghost use Rattle.line_audit.specs.Alone.{FindsAlone};
 ghost use Rattle.line_audit.specs.Placed.{has_placement};
 
-use crate::shown::{shows_count, shows_only};
+use crate::shown::shows_only;
 use crate::values::{designator, number, text, yes_or_no};
 use sqlite::{Alter, Connection, Error};
 use state_tables::PlacementRow;
@@ -41,14 +41,4 @@ pub fn has_placement<S: Alter>(conn: &mut Connection<S>, row: &PlacementRow) -> 
             yes_or_no(row.overdue),
         ],
     )
-}
-
-/// How many rows `placement` has.
-pub fn count_placements<S: Alter>(conn: &mut Connection<S>) -> Result<u64, Error>
-    ensures counted { HasCleanDisk (state S.Store conn.new) → IfOk result (Counts line.placement (state S.Store conn.old)) }
-    ensures kept { HasCleanDisk (state S.Store conn.new) → KeepsCommit (state S.Store conn.old) (state S.Store conn.new) }
-    ensures mode { conn.old.in_transaction ≡ false → conn.new.in_transaction ≡ false }
-    ensures survives { Survives (state S.Store conn.old) (state S.Store conn.new) (λ _. ⊥) }
-{
-    shows_count(conn, "SELECT count(*) FROM placement")
 }

@@ -1,48 +1,50 @@
 //! The table `sheet_row`.
 
-ghost use Rattle.std.specs.Prelude.{◌≡◌, ◌∷◌, ◌++◌, false, IfOk, OnOk};
+ghost use Rattle.std.specs.Prelude.{◌≡◌, ◌∷◌, ◌++◌, IfOk, OnOk};
 ghost use Rattle.std.specs.List.{flat_map, join_with_byte};
-ghost use Rattle.sqlite.specs.State.{HasCleanDisk, Survives, KeepsCommit};
-ghost use Rattle.sqlite.specs.Held.{state};
-ghost use Rattle.line_tables.specs.Line as line;
-ghost use Rattle.line_tables.specs.StateRows.{has_sheet_place, sheet_columns};
-ghost use Rattle.line_audit.specs.Alone.{Counts, FindsAlone};
 
-use crate::shown::{shows_count, shows_only};
+use crate::entry::Entry;
+use crate::shown::shows_only;
 use crate::values::{number, text};
 use desk_types::{Designator, Id, SheetRow};
 use sqlite::types::ValueRef;
 use sqlite::{Alter, Connection, Error};
 use std::alloc::{AllocError, Global};
 
-/// Whether the row of the sheet at the place, counted from 1, is one, with these columns.
-pub fn has_sheet_row<'x, S: Alter>(
-    alloc: Global,
-    conn: &mut Connection<S>,
-    product: &'x Id,
-    machine: &'x Id,
-    place: u64,
-    row: &'x SheetRow,
-) -> Result<bool, Error>
-    ensures found { HasCleanDisk (state S.Store conn.new) → IfOk result (FindsAlone line.sheet_row (has_sheet_place (product.now, machine.now, place)) (sheet_columns (product.now, machine.now, place) row.now) (state S.Store conn.old)) }
-    ensures kept { HasCleanDisk (state S.Store conn.new) → KeepsCommit (state S.Store conn.old) (state S.Store conn.new) }
-    ensures mode { conn.old.in_transaction ≡ false → conn.new.in_transaction ≡ false }
-    ensures survives { Survives (state S.Store conn.old) (state S.Store conn.new) (λ _. ⊥) }
-{
-    let designators = spaced(alloc, row.designators.as_slice())?;
-    shows_only(
-        conn,
-        "SELECT product, machine, place, slot, part, designators FROM sheet_row WHERE product = ?1 AND machine = ?2 AND place = ?3",
-        &[text(product), text(machine), number(place)?],
-        &[
-            text(product),
-            text(machine),
-            number(place)?,
-            text(&row.slot),
-            text(&row.part),
-            ValueRef::Text(designators.as_slice()),
-        ],
-    )
+/// A row of a sheet, with its product, its machine and its place from 1.
+impl<'a> Entry for (&'a (Id, Id, u64), &'a SheetRow) {
+    ghost use Rattle.line_tables.specs.StateRows.{has_sheet_place, sheet_columns};
+    ghost use Rattle.line_audit.specs.declared.table.StateTable.TheVariants.{SheetRow as SheetRows};
+
+    type Key = (Id, Id, u64);
+
+    type Kept = SheetRow;
+
+    ghost table = { SheetRows };
+
+    ghost has = { has_sheet_place };
+
+    ghost columns = { sheet_columns };
+
+    ghost entry = { λ e. (e.0.now, e.1.now) };
+
+    fn is_alone<S: Alter>(self, alloc: Global, conn: &mut Connection<S>) -> Result<bool, Error> {
+        let (at, row) = self;
+        let designators = spaced(alloc, row.designators.as_slice())?;
+        shows_only(
+            conn,
+            "SELECT product, machine, place, slot, part, designators FROM sheet_row WHERE product = ?1 AND machine = ?2 AND place = ?3",
+            &[text(&at.0), text(&at.1), number(at.2)?],
+            &[
+                text(&at.0),
+                text(&at.1),
+                number(at.2)?,
+                text(&row.slot),
+                text(&row.part),
+                ValueRef::Text(designators.as_slice()),
+            ],
+        )
+    }
 }
 
 /// The designators with one space between each two.
@@ -67,14 +69,4 @@ fn add_spaced(bytes: &mut Vec<u8>, designators: &[Designator]) -> Result<(), All
         bytes.extend_from_slice(designator.as_bytes())?;
     }
     Ok(())
-}
-
-/// How many rows `sheet_row` has.
-pub fn count_sheet_rows<S: Alter>(conn: &mut Connection<S>) -> Result<u64, Error>
-    ensures counted { HasCleanDisk (state S.Store conn.new) → IfOk result (Counts line.sheet_row (state S.Store conn.old)) }
-    ensures kept { HasCleanDisk (state S.Store conn.new) → KeepsCommit (state S.Store conn.old) (state S.Store conn.new) }
-    ensures mode { conn.old.in_transaction ≡ false → conn.new.in_transaction ≡ false }
-    ensures survives { Survives (state S.Store conn.old) (state S.Store conn.new) (λ _. ⊥) }
-{
-    shows_count(conn, "SELECT count(*) FROM sheet_row")
 }

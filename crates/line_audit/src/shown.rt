@@ -1,11 +1,13 @@
 //! Queries that look up one row, and that count rows.
 
-ghost use Rattle.std.specs.Prelude.{◌≡◌, ◌↔◌, false, [], ◌∷◌, IsTrue, IfOk};
+ghost use Rattle.std.specs.Prelude.{◌≡◌, ◌↔◌, ◌++◌, codes, false, [], ◌∷◌, IsTrue, IfOk};
 ghost use Rattle.sqlite.specs.State.{HasCleanDisk, Survives, KeepsCommit};
 ghost use Rattle.sqlite.specs.Values.{bound};
 ghost use Rattle.sqlite.specs.Held.{state};
-ghost use Rattle.line_audit.specs.Alone.{values_of, ShowsOnly, ShowsCount};
+ghost use Rattle.line_audit.specs.Alone.{values_of, ShowsOnly, Counts};
+ghost use Rattle.line_audit.specs.TableNames.{name_of, table_of};
 
+use crate::table::StateTable;
 use crate::values::is_row;
 use line_tables::count_of;
 use line_tables::select::select;
@@ -37,13 +39,29 @@ fn is_only(rows: &[Row], wanted: &[ValueRef<'_>]) -> bool
     }
 }
 
-/// The number that the query shows.
-pub fn shows_count<S: Alter>(conn: &mut Connection<S>, sql: &str) -> Result<u64, Error>
-    ensures shown { HasCleanDisk (state S.Store conn.new) → IfOk result (ShowsCount S.Store sql.now conn.old) }
+/// How many rows the table has.
+pub fn count<S: Alter>(conn: &mut Connection<S>, table: StateTable) -> Result<u64, Error>
+    ensures counted { HasCleanDisk (state S.Store conn.new) → IfOk result (Counts (table_of table) (state S.Store conn.old)) }
     ensures kept { HasCleanDisk (state S.Store conn.new) → KeepsCommit (state S.Store conn.old) (state S.Store conn.new) }
     ensures mode { conn.old.in_transaction ≡ false → conn.new.in_transaction ≡ false }
     ensures survives { Survives (state S.Store conn.old) (state S.Store conn.new) (λ _. ⊥) }
 {
-    let rows = select(conn, sql, &[])?;
+    let rows = select(conn, count_text(table), &[])?;
     count_of(rows.as_slice())
+}
+
+fn count_text(table: StateTable) -> &'static str
+    ensures { result.now ≡ codes "SELECT count(*) FROM " ++ name_of table }
+{
+    match table {
+        StateTable::Part => "SELECT count(*) FROM part",
+        StateTable::Alternate => "SELECT count(*) FROM alternate",
+        StateTable::SheetRow => "SELECT count(*) FROM sheet_row",
+        StateTable::Selected => "SELECT count(*) FROM selected",
+        StateTable::Reel => "SELECT count(*) FROM reel",
+        StateTable::Mount => "SELECT count(*) FROM mount",
+        StateTable::Board => "SELECT count(*) FROM board",
+        StateTable::Placement => "SELECT count(*) FROM placement",
+        StateTable::Found => "SELECT count(*) FROM found",
+    }
 }

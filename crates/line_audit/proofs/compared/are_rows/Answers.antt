@@ -1,0 +1,53 @@
+use Rattle.std.proofs.Common.{arith}
+use Rattle.sqlite.specs.State.{HasCleanDisk}
+use Rattle.sqlite.specs.Held.{state}
+use Rattle.sqlite.proofs.StateLemmas.{survives_then}
+use Rattle.line_tables.proofs.Keeps.{keeps_then}
+use Rattle.line_audit.specs.TableNames.{table_of}
+use Rattle.line_audit.proofs.Matching.{matched_more, too_few, not_alone, all_alone}
+use Rattle.line_audit.proofs.compared.are_rows.Goals as goal
+
+pub returns-then-left-eq0-clause-same : goal.returns-then-left-eq0-clause-same
+returns-then-left-eq0-clause-same g c clean es yields f listed one_key =
+    let e = g.E.Entry in
+    let old = state g.S.Store c.args.conn.now in
+    too_few e.entry (table_of c.args.table) e.has e.columns one_key f es listed old g.I.Iterator.next_gives c.loop-entry.yielded c.args.entries _ c.loop-entry.entry-iterator c.next.new.self c.next.result c.into_iter-entry-iterator.ensures.into_iter_gives yields c.loop-entry.yielded_by c.next.ensures.steps
+    c.in-Some.entry c.in-Some.is c.loop-entry.left c.if-left-eq0.true (c.loop-entry.invariant.matched clean)
+
+pub returns-then-not-branch-clause-same : goal.returns-then-not-branch-clause-same
+returns-then-not-branch-clause-same g c clean es yields f listed one_key =
+    let e = g.E.Entry in
+    let old = state g.S.Store c.args.conn.now in
+    let mid = state g.S.Store c.loop-entry.conn in
+    let early : HasCleanDisk mid = omega (arith, c.is_alone.ensures.survives.clean) in
+    not_alone e.entry (table_of c.args.table) e.has e.columns one_key f es listed old g.I.Iterator.next_gives c.loop-entry.yielded c.args.entries _ c.loop-entry.entry-iterator c.next.new.self c.next.result c.into_iter-entry-iterator.ensures.into_iter_gives yields c.loop-entry.yielded_by c.next.ensures.steps
+    c.in-Some.entry c.in-Some.is mid (c.loop-entry.invariant.kept early) c.in_ok-is_alone.field-0 (rw c.requires.theirs (c.in_ok-is_alone.ensures.found clean)) c.if-not-branch.true
+
+pub returns-then-not-branch-clause-survives : goal.returns-then-not-branch-clause-survives
+returns-then-not-branch-clause-survives g c =
+    survives_then (state g.S.Store c.args.conn.now) (state g.S.Store c.loop-entry.conn) (state g.S.Store c.is_alone.new.conn) _ _ (λ _. ⊥) (λ _ db none. none) (λ _ db none. none) c.loop-entry.invariant.survives c.is_alone.ensures.survives
+
+pub loop-entry-preserved : goal.loop-entry-preserved
+loop-entry-preserved g c =
+    let e = g.E.Entry in
+    let old = state g.S.Store c.args.conn.now in
+    let mid = state g.S.Store c.loop-entry.conn in
+    let new = state g.S.Store c.is_alone.new.conn in
+    let was = c.loop-entry.invariant in
+    let goes = c.in-Some.ensures.goes.on was.ends in
+    let early : HasCleanDisk new → HasCleanDisk mid = λ clean. omega (arith, c.is_alone.ensures.survives.clean) in record {
+      can = goes.0;
+      ends = goes.1;
+      matched = λ clean. matched_more e.entry (table_of c.args.table) e.has e.columns old mid (was.kept (early clean)) c.loop-entry.left _ c.loop-entry.yielded c.in-Some.entry (was.matched (early clean)) c.in_ok-is_alone.field-0
+          (rw c.requires.theirs (c.in_ok-is_alone.ensures.found clean)) c.if-not-branch.false (omega (arith, c.if-left-eq0.false));
+      kept = λ clean. keeps_then old mid new (was.kept (early clean)) (c.is_alone.ensures.kept clean);
+      mode = λ is. c.is_alone.ensures.mode (was.mode is);
+      survives = survives_then old mid new _ _ (λ _. ⊥) (λ _ db none. none) (λ _ db none. none) was.survives c.is_alone.ensures.survives;
+    }
+
+pub returns-clause-same : goal.returns-clause-same
+returns-clause-same g c clean es yields f listed one_key =
+    let e = g.E.Entry in
+    let old = state g.S.Store c.args.conn.now in
+    all_alone e.entry (table_of c.args.table) e.has e.columns one_key f es listed old g.I.Iterator.next_gives c.loop-entry.yielded c.args.entries _ c.loop-entry.entry-iterator c.next.new.self c.next.result c.into_iter-entry-iterator.ensures.into_iter_gives yields c.loop-entry.yielded_by c.next.ensures.steps
+    c.in-None.is c.loop-entry.left (c.loop-entry.invariant.matched clean)

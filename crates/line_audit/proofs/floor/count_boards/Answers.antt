@@ -1,6 +1,0 @@
-use Rattle.std.proofs.lemmas.Result.{IfOk-weaker}
-use Rattle.line_audit.proofs.Texts.{board_counted}
-use Rattle.line_audit.proofs.floor.count_boards.Goals as goal
-
-pub returns-clause-counted : goal.returns-clause-counted
-returns-clause-counted g c clean = IfOk-weaker c.shows_count.result _ _ (board_counted g.S.Store c.args.conn.now) (c.shows_count.ensures.shown clean)

@@ -1,6 +1,0 @@
-use Rattle.std.proofs.lemmas.Result.{IfOk-weaker}
-use Rattle.line_audit.proofs.Texts.{placement_counted}
-use Rattle.line_audit.proofs.placed.count_placements.Goals as goal
-
-pub returns-clause-counted : goal.returns-clause-counted
-returns-clause-counted g c clean = IfOk-weaker c.shows_count.result _ _ (placement_counted g.S.Store c.args.conn.now) (c.shows_count.ensures.shown clean)

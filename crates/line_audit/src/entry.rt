@@ -1,0 +1,42 @@
+//! What a row of a state table is expected to be.
+
+ghost use Rattle.std.specs.Prelude.{◌≡◌, false, IfOk};
+ghost use Rattle.sqlite.specs.State.{HasCleanDisk, Survives, KeepsCommit};
+ghost use Rattle.sqlite.specs.Held.{state};
+ghost use Rattle.line_audit.specs.Alone.{FindsAlone};
+ghost use Rattle.line_audit.specs.TableNames.{table_of};
+
+use sqlite::{Alter, Connection, Error};
+use std::alloc::Global;
+
+/// An entry of a set of rows, as the set lends it.
+pub trait Entry: Drop + Sized {
+    ghost use Rattle.std.specs.Prelude.{Bool};
+    ghost use Rattle.sqlite_value.specs.Order.{Row};
+    ghost use Rattle.line_audit.specs.declared.table.StateTable.{StateTable};
+
+    /// What its row is looked up by.
+    type Key;
+
+    /// What is kept of it beside the key.
+    type Kept;
+
+    /// The table of its row.
+    ghost table: { StateTable };
+
+    /// Whether a row has the key.
+    ghost has: { Self.Key → Row → Bool };
+
+    /// The columns of a row.
+    ghost columns: { Self.Key → Self.Kept → Row };
+
+    /// The entry's key, and what is kept of it.
+    ghost entry: { Self → Self.Key × Self.Kept };
+
+    /// Whether the row with its key is one, and has its columns.
+    fn is_alone<S: Alter>(self, alloc: Global, conn: &mut Connection<S>) -> Result<bool, Error>
+        ensures found { HasCleanDisk (state S.Store conn.new) → IfOk result (FindsAlone (table_of table) (has (entry self).0) (columns (entry self).0 (entry self).1) (state S.Store conn.old)) }
+        ensures kept { HasCleanDisk (state S.Store conn.new) → KeepsCommit (state S.Store conn.old) (state S.Store conn.new) }
+        ensures mode { conn.old.in_transaction ≡ false → conn.new.in_transaction ≡ false }
+        ensures survives { Survives (state S.Store conn.old) (state S.Store conn.new) (λ _. ⊥) };
+}
