@@ -11,8 +11,6 @@ use Rattle.desk_types.specs.History.{History}
 use Rattle.desk_answers.specs.Ledger.{Ledger}
 use Rattle.feeder_state.specs.declared.desk.StateDesk.{StateDesk}
 use Rattle.feeder_state.specs.contracts.desk.StateDeskDesk.TheImpl.{ghosts as state}
-use Rattle.line_opening.specs.declared.fault.OpenFault.{OpenFault}
-use Rattle.line_opening.specs.declared.fault.OpenFault.TheVariants.{NotBlank, Unavailable}
 use Rattle.line_schema.specs.declared.store.LineStore.{LineStore}
 use Rattle.line_schema.specs.Stands.{Kept, Stands, state_of}
 use Rattle.desk_file.specs.Files.{Begins, HasLineAlone}
@@ -21,7 +19,9 @@ use Rattle.desk_runs.specs.Runs.{StaysSame}
 use Rattle.http_answers.specs.declared.gateway.Gateway.{Gateway}
 use Rattle.gateway_http.specs.declared.store.ReportedStore.{ReportedStore}
 use Rattle.gateway_http.specs.Stores.{store_in}
-use Rattle.desk_commands.specs.Runs.{Audits, RunsOn, refusal_line}
+use Rattle.desk_commands.specs.declared.left.Left.{Left}
+use Rattle.desk_commands.specs.declared.left.Left.TheVariants.{Desk}
+use Rattle.desk_commands.specs.Runs.{Audits, RunsOn}
 
 -- the store of a file stands for the list by rules Two, its tables being its own
 abbrev pub IsKept : {D : Type 0} {g : disk.Ghosts D} → LineStore (FileStore D g) StateDesk → Ledger → Type 0
@@ -32,7 +32,7 @@ pub runs_on : {T D : Type 0} {g : disk.Ghosts D} (first : start.Ghosts T) (make 
     → (HasCleanDisk (state_of over_files new) → HasCleanDisk (state_of over_files old))
     → (HasCleanDisk (state_of over_files old) → HasLineAlone (image_at first) → (greatest : ℕ) × (H : History) × Begins (image_at first) make greatest H
     × Stands over_files state.Stands state.kept_rules old (record { greatest = greatest; history = H; own = true }))
-    → ForLists IsKept (λ store. HasCleanDisk (state_of over_files store)) old new Fact → RunsOn first make (Some new) Fact
+    → ForLists IsKept (λ store. HasCleanDisk (state_of over_files store)) old new Fact → RunsOn first make (Desk new) Fact
 runs_on first make old new Fact trusts begins goes clean alone =
     let b = begins (trusts clean) alone in
     let after = goes (record { rules = Two; greatest = b.0; history = b.1 }) (refl, b.3) clean in
@@ -42,9 +42,9 @@ runs_on first make old new Fact trusts begins goes clean alone =
 pub stays : {T D : Type 0} {g : disk.Ghosts D} (first : start.Ghosts T) (make : Option ℕ) (old new : LineStore (FileStore D g) StateDesk) → new ≡ old
     → (HasCleanDisk (state_of over_files old) → HasLineAlone (image_at first) → (greatest : ℕ) × (H : History) × Begins (image_at first) make greatest H
     × Stands over_files state.Stands state.kept_rules old (record { greatest = greatest; history = H; own = true }))
-    → RunsOn first make (Some new) StaysSame
+    → RunsOn first make (Desk new) StaysSame
 stays first make old new same begins =
-    subst (λ (store : LineStore (FileStore _ _) StateDesk). RunsOn first make (Some store) StaysSame) (sym same)
+    subst (λ (store : LineStore (FileStore _ _) StateDesk). RunsOn first make (Desk store) StaysSame) (sym same)
     (runs_on first make old old StaysSame (λ clean. clean) begins (λ G stands clean. (G.history, stands, refl)))
 
 -- it was opened with a list, and counted
@@ -52,7 +52,7 @@ pub audits : {T D : Type 0} {g : disk.Ghosts D} (first : start.Ghosts T) (store 
     → (L : Kept) × Stands over_files state.Stands state.kept_rules store L
     → (HasCleanDisk (state_of over_files store) → HasLineAlone (image_at first) → (greatest : ℕ) × (H : History) × Begins (image_at first) None greatest H
     × Stands over_files state.Stands state.kept_rules store (record { greatest = greatest; history = H; own = true }))
-    → ((L : Kept) → Stands over_files state.Stands state.kept_rules store L → count ≡ length L.history) → Audits first (Some store) count
+    → ((L : Kept) → Stands over_files state.Stands state.kept_rules store L → count ≡ length L.history) → Audits first (Desk store) count
 audits first store count stands begins counts = (
   (stands.0, stands.1, counts stands.0 stands.1),
   λ clean alone.
@@ -71,21 +71,11 @@ pub runs_behind : {T D : Type 0} {g : disk.Ghosts D} (first : start.Ghosts T) (m
     → (HasCleanDisk (state_of over_files (store_in new)) → HasCleanDisk (state_of over_files (store_in old)))
     → (HasCleanDisk (state_of over_files store) → HasLineAlone (image_at first) → (greatest : ℕ) × (H : History) × Begins (image_at first) make greatest H
     × Stands over_files state.Stands state.kept_rules store (record { greatest = greatest; history = H; own = true }))
-    → ForLists IsKept (λ store. HasCleanDisk (state_of over_files store)) (store_in old) (store_in new) Fact → RunsOn first make (Some last) Fact
+    → ForLists IsKept (λ store. HasCleanDisk (state_of over_files store)) (store_in old) (store_in new) Fact → RunsOn first make (Desk last) Fact
 runs_behind first make store last old new Fact before after trusts begins goes =
     let begun = subst (λ (d : LineStore (FileStore _ _) StateDesk). HasCleanDisk (state_of over_files d) → HasLineAlone (image_at first) → (greatest : ℕ) × (H : History) × Begins (image_at first) make greatest H
     × Stands over_files state.Stands state.kept_rules d (record { greatest = greatest; history = H; own = true })) (sym before) begins in
-    subst (λ (d : LineStore (FileStore _ _) StateDesk). RunsOn first make (Some d) Fact) (sym after) (runs_on first make (store_in old) (store_in new) Fact trusts begun goes)
-
--- Unavailable was told
-pub told_unavailable : (Told : List ℕ → Type 0) → Told (refusal_line Unavailable) → (told : OpenFault) × (told ≢ NotBlank) × Told (refusal_line told)
-told_unavailable Told is = (Unavailable, λ same. absurd (cc), is)
-
--- the fault was told, or Unavailable in its place
-pub told_refused : (Told : List ℕ → Type 0) (fault : OpenFault) → fault ≢ NotBlank → Told (refusal_line fault) ⊎ Told (refusal_line Unavailable)
-    → (told : OpenFault) × (told ≢ NotBlank) × Told (refusal_line told)
-told_refused Told fault apart (inl is) = (fault, apart, is)
-told_refused Told fault apart (inr is) = told_unavailable Told is
+    subst (λ (d : LineStore (FileStore _ _) StateDesk). RunsOn first make (Desk d) Fact) (sym after) (runs_on first make (store_in old) (store_in new) Fact trusts begun goes)
 
 -- an exit status of an open desk is not that of a refused one
 pub never_refused : {A : Type 0} (status : ℕ) → (status ≡ 0) ⊎ (status ≡ 1) ⊎ (status ≡ 4) → status ≡ 3 → A

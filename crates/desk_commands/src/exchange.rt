@@ -1,13 +1,12 @@
 //! Messages and files, answered by a desk in memory or in a file.
 
-ghost use Rattle.std.specs.Prelude.{◌≡◌, ◌≢◌, ◌⊎◌, ◌+◌, ◌^◌, ◌<◌, ◌≤◌, true, false, None, Some};
+ghost use Rattle.std.specs.Prelude.{◌≡◌, ◌⊎◌, ◌+◌, ◌^◌, ◌<◌, ◌≤◌, true, false, None, Some};
 ghost use Rattle.std.specs.Io.KnownBytes.{IsAtEnd};
 ghost use Rattle.desk_types.specs.declared.desk.TheConstants.{MOST_ENTRIES};
 ghost use Rattle.desk_types.specs.History.{History};
 ghost use Rattle.consistency.specs.Consistent.{IsConsistent};
 ghost use Rattle.desk_types.specs.Wire.{inner_of, reads_of, failures_of};
-ghost use Rattle.line_opening.specs.declared.fault.OpenFault.{OpenFault};
-ghost use Rattle.line_opening.specs.declared.fault.OpenFault.TheVariants.{NotBlank, Unavailable};
+ghost use Rattle.line_opening.specs.declared.fault.OpenFault.TheVariants.{Unavailable};
 ghost use Rattle.desk_feed.specs.Stream.{LeavesNone};
 ghost use Rattle.served.specs.declared.serving.Served.{Served};
 ghost use Rattle.served.specs.declared.serving.ServeFault.{ServeFault};
@@ -17,16 +16,17 @@ ghost use Rattle.served.specs.Counts.{none_served};
 ghost use Rattle.served.specs.Shown.{FailsNever, IsShown};
 ghost use Rattle.desk_runs.specs.Runs.{AnswersAll, AnswersImport, AnswersUpTo, CutsImport, StaysSame};
 ghost use Rattle.desk_runs.specs.Told.{fault_line, TellsLine};
-ghost use Rattle.desk_commands.specs.Runs.{RunsOn, fresh, refusal_line};
+ghost use Rattle.desk_commands.specs.Runs.{HasNoDesk, LeavesDesk, Refuses, RunsOn, fresh, refusal_line};
 
+use crate::left::Left;
 use crate::refusal::refused;
-use desk_file::{FileDesk, open_desk};
+use desk_file::open_desk;
 use desk_import::{Folder, Import};
 use desk_runs::{feed_lines, import_rows, unavailable};
 use desk_types::Wire;
 use feeder_state::StateDesk;
 use line_schema::in_memory;
-use sqlite::Start;
+use sqlite::{FileFrom, Start};
 use std::alloc::Global;
 use std::io::{Read, Write};
 
@@ -68,7 +68,7 @@ pub fn feed_in_memory<R: Read, W: Write, E: Write>(
 }
 
 /// Answers the lines of the input by the desk in a file, which is made where there is none: the exit
-/// status, and the desk.
+/// status, and the desk or the file that was refused.
 pub fn feed_in_file<T: Start, R: Read, W: Write, E: Write>(
     rt: &HostRuntime,
     file: &str,
@@ -77,7 +77,7 @@ pub fn feed_in_file<T: Start, R: Read, W: Write, E: Write>(
     input: &mut Wire<R>,
     output: &mut Wire<W>,
     errors: &mut Wire<E>,
-) -> (u8, Option<FileDesk<T, StateDesk>>)
+) -> (u8, Left<FileFrom<T>>)
     requires least { 1 ≤ greatest }
     requires most { greatest ≤ MOST_ENTRIES }
     requires reads { reads_of input.old < 2 ^ 63 }
@@ -87,9 +87,9 @@ pub fn feed_in_file<T: Start, R: Read, W: Write, E: Write>(
     ensures status { (result.0 ≡ 0) ⊎ (result.0 ≡ 1) ⊎ (result.0 ≡ 3) ⊎ (result.0 ≡ 4) }
     ensures done { result.0 ≡ 0 → (served : Served) × (served.refused ≡ 0) × RunsOn T.Start (Some greatest) result.1 (AnswersAll R.remaining W.contents input.old output.old output.new served) }
     ensures refused { result.0 ≡ 1 → (served : Served) × (0 < served.refused) × RunsOn T.Start (Some greatest) result.1 (AnswersAll R.remaining W.contents input.old output.old output.new served) }
-    ensures no_desk { result.0 ≡ 3 → (told : OpenFault) × TellsLine E.contents errors.old errors.new (refusal_line told) }
+    ensures no_desk { result.0 ≡ 3 → HasNoDesk (Refuses T.Start (Some greatest) result.1) ⊥ (TellsLine E.contents errors.old errors.new) }
+    ensures left { LeavesDesk result.1 }
     ensures untouched { result.0 ≡ 3 → (input.new ≡ input.old) × (output.new ≡ output.old) }
-    ensures left { result.0 ≡ 3 → result.1 ≡ None }
     ensures failed { result.0 ≡ 4 → (fault : ServeFault) × IsShown fault input.old input.new output.old output.new × LeavesNone (R.remaining (inner_of input.old)) (R.remaining (inner_of input.new)) fault × TellsLine E.contents errors.old errors.new (fault_line fault)
         × RunsOn T.Start (Some greatest) result.1 (AnswersUpTo R.remaining W.contents input.old output.old output.new fault) }
     ensures end { (result.0 ≡ 0) ⊎ (result.0 ≡ 1) → IsAtEnd (R.remaining (inner_of input.new)) }
@@ -101,13 +101,16 @@ pub fn feed_in_file<T: Start, R: Read, W: Write, E: Write>(
         Ok(store) => {
             let mut store = store;
             let status = feed_lines(rt.alloc(), input, output, errors, &mut store);
-            (status, Some(store))
+            (status, Left::Desk(store))
         }
-        Err(fault) => (refused(rt.alloc(), &fault, errors), None),
+        Err(refusal) => (
+            refused(rt.alloc(), &refusal.fault, errors),
+            Left::Refused(refusal),
+        ),
     }
 }
 
-/// Answers an import by the desk in a file: the exit status, and the desk.
+/// Answers an import by the desk in a file: the exit status, and the desk or the file that was refused.
 pub fn import_in_file<T: Start, F: Folder, W: Write, E: Write>(
     rt: &HostRuntime,
     file: &str,
@@ -117,19 +120,19 @@ pub fn import_in_file<T: Start, F: Folder, W: Write, E: Write>(
     from: &str,
     output: &mut Wire<W>,
     errors: &mut Wire<E>,
-) -> (u8, Option<FileDesk<T, StateDesk>>)
+) -> (u8, Left<FileFrom<T>>)
     requires write_failures { failures_of output.old < 2 ^ 63 }
     requires error_failures { failures_of errors.old < 2 ^ 63 }
     ensures status { (result.0 ≡ 0) ⊎ (result.0 ≡ 1) ⊎ (result.0 ≡ 3) ⊎ (result.0 ≡ 4) }
     ensures done { result.0 ≡ 0 → RunsOn T.Start None result.1 (AnswersImport W.contents output.old output.new false import.now (F.holds folder.now from.now)) }
     ensures refused { result.0 ≡ 1 → RunsOn T.Start None result.1 (AnswersImport W.contents output.old output.new true import.now (F.holds folder.now from.now)) }
-    ensures no_desk { result.0 ≡ 3 → (told : OpenFault) × (told ≢ NotBlank) × TellsLine E.contents errors.old errors.new (refusal_line told) }
+    ensures no_desk { result.0 ≡ 3 → HasNoDesk (Refuses T.Start None result.1) (RunsOn T.Start None result.1 StaysSame) (TellsLine E.contents errors.old errors.new) }
+    ensures left { LeavesDesk result.1 }
     ensures untouched { result.0 ≡ 3 → output.new ≡ output.old }
-    ensures left { result.0 ≡ 3 → (result.1 ≡ None) ⊎ RunsOn T.Start None result.1 StaysSame }
     ensures failed { result.0 ≡ 4
         → ((failures_of output.new ≡ failures_of output.old + 1) × TellsLine E.contents errors.old errors.new (fault_line (WriteFault none_served))
         × RunsOn T.Start None result.1 (CutsImport W.contents output.old output.new import.now (F.holds folder.now from.now)))
-        ⊎ ((output.new ≡ output.old) × TellsLine E.contents errors.old errors.new (fault_line (ReadFault none_served)) × RunsOn T.Start None result.1 StaysSame) }
+        ⊎ (F.may_fail folder.now from.now × (output.new ≡ output.old) × TellsLine E.contents errors.old errors.new (fault_line (ReadFault none_served)) × RunsOn T.Start None result.1 StaysSame) }
     ensures kept { (result.0 ≡ 0) ⊎ (result.0 ≡ 1) → failures_of output.new ≡ failures_of output.old }
     ensures quiet { (result.0 ≡ 0) ⊎ (result.0 ≡ 1) → errors.new ≡ errors.old }
 {
@@ -138,8 +141,11 @@ pub fn import_in_file<T: Start, F: Folder, W: Write, E: Write>(
         Ok(store) => {
             let mut store = store;
             let status = import_rows(rt.alloc(), &mut store, import, folder, from, output, errors);
-            (status, Some(store))
+            (status, Left::Desk(store))
         }
-        Err(fault) => (refused(rt.alloc(), &fault, errors), None),
+        Err(refusal) => (
+            refused(rt.alloc(), &refusal.fault, errors),
+            Left::Refused(refusal),
+        ),
     }
 }

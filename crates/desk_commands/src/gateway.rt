@@ -4,8 +4,6 @@ ghost use Rattle.std.specs.Prelude.{◌≡◌, ◌≢◌, ◌⊎◌, ◌+◌, �
 ghost use Rattle.std.specs.Io.KnownBytes.{Appends};
 ghost use Rattle.desk_types.specs.declared.desk.TheConstants.{MOST_ENTRIES};
 ghost use Rattle.desk_types.specs.Wire.{inner_of, failures_of};
-ghost use Rattle.line_opening.specs.declared.fault.OpenFault.{OpenFault};
-ghost use Rattle.line_opening.specs.declared.fault.OpenFault.TheVariants.{NotBlank};
 ghost use Rattle.served.specs.declared.serving.ServeFault.TheVariants.{Write as WriteFault};
 ghost use Rattle.served.specs.Counts.{none_served};
 ghost use Rattle.served.specs.Sent.{SendsFront};
@@ -14,21 +12,23 @@ ghost use Rattle.http_stream.specs.Answers.{Told, code_of};
 ghost use Rattle.gateway_http.specs.Reports.{report_of};
 ghost use Rattle.desk_runs.specs.Runs.{TellsReport};
 ghost use Rattle.desk_runs.specs.Told.{fault_line, printed, TellsEnd, TellsLine};
-ghost use Rattle.desk_commands.specs.Runs.{RunsOn, ServesEach, refusal_line};
+ghost use Rattle.desk_commands.specs.declared.left.Left.TheVariants.{Nothing};
+ghost use Rattle.desk_commands.specs.Runs.{HasNoDesk, LeavesDesk, Refuses, RunsOn, ServesEach};
 
+use crate::left::Left;
 use crate::refusal::refused;
-use desk_file::{FileDesk, open_desk};
+use desk_file::open_desk;
 use desk_runs::{serve_port, tell_report, unavailable};
 use desk_types::Wire;
 use feeder_state::StateDesk;
 use gateway_http::ReportedStore;
 use http_answers::Gateway;
 use http_routes::RouteTable;
-use sqlite::Start;
+use sqlite::{FileFrom, Start};
 use std::io::Write;
 
 /// Serves so many connections on a port by the desk in a file, which is made where there is none: the
-/// exit status, and the desk.
+/// exit status, and the desk or the file that was refused.
 pub fn serve_in_file<T: Start, W: Write, E: Write>(
     rt: &HostRuntime,
     file: &str,
@@ -38,7 +38,7 @@ pub fn serve_in_file<T: Start, W: Write, E: Write>(
     greatest: u32,
     output: &mut Wire<W>,
     errors: &mut Wire<E>,
-) -> (u8, Option<FileDesk<T, StateDesk>>)
+) -> (u8, Left<FileFrom<T>>)
     requires some { 1 ≤ connections }
     requires least { 1 ≤ greatest }
     requires most { greatest ≤ MOST_ENTRIES }
@@ -47,27 +47,31 @@ pub fn serve_in_file<T: Start, W: Write, E: Write>(
     ensures status { (result.0 ≡ 0) ⊎ (result.0 ≡ 1) ⊎ (result.0 ≡ 3) ⊎ (result.0 ≡ 4) }
     ensures served { (result.0 ≡ 0) ⊎ (result.0 ≡ 1) ⊎ (result.0 ≡ 4) → (ends : List Ended) × Tells connections ends result.0 (W.contents (inner_of output.old)) (W.contents (inner_of output.new)) (failures_of output.old) (failures_of output.new)
         × RunsOn T.Start (Some greatest) result.1 (ServesEach ends) }
-    ensures no_desk { result.0 ≡ 3 → (told : OpenFault) × TellsLine E.contents errors.old errors.new (refusal_line told) }
+    ensures no_desk { result.0 ≡ 3 → HasNoDesk (Refuses T.Start (Some greatest) result.1) (result.1 ≡ Nothing) (TellsLine E.contents errors.old errors.new) }
+    ensures left { LeavesDesk result.1 }
     ensures untouched { result.0 ≡ 3 → output.new ≡ output.old }
-    ensures left { result.0 ≡ 3 → result.1 ≡ None }
     ensures failed { result.0 ≡ 4 → TellsEnd E.contents output.old output.new errors.old errors.new }
     ensures kept { (result.0 ≡ 0) ⊎ (result.0 ≡ 1) → failures_of output.new ≡ failures_of output.old }
     ensures quiet { (result.0 ≡ 0) ⊎ (result.0 ≡ 1) → errors.new ≡ errors.old }
 {
     let Ok(routes) = RouteTable::new(rt.alloc()) else {
-        return (unavailable(errors), None);
+        return (unavailable(errors), Left::Nothing);
     };
     match open_desk::<T, StateDesk>(rt, file, start, Some(greatest)) {
         Ok(store) => {
             let mut gateway = Gateway::new(ReportedStore::new(store), routes);
             let status = serve_port(rt, port, connections, output, errors, &mut gateway);
-            (status, Some(gateway.into_line().into_store()))
+            (status, Left::Desk(gateway.into_line().into_store()))
         }
-        Err(fault) => (refused(rt.alloc(), &fault, errors), None),
+        Err(refusal) => (
+            refused(rt.alloc(), &refusal.fault, errors),
+            Left::Refused(refusal),
+        ),
     }
 }
 
-/// Tells what a GET of a target is answered by the desk in a file: the exit status, and the desk.
+/// Tells what a GET of a target is answered by the desk in a file: the exit status, and the desk or the
+/// file that was refused.
 pub fn report_in_file<T: Start, W: Write, E: Write>(
     rt: &HostRuntime,
     file: &str,
@@ -75,7 +79,7 @@ pub fn report_in_file<T: Start, W: Write, E: Write>(
     target: &str,
     output: &mut Wire<W>,
     errors: &mut Wire<E>,
-) -> (u8, Option<FileDesk<T, StateDesk>>)
+) -> (u8, Left<FileFrom<T>>)
     requires write_failures { failures_of output.old < 2 ^ 63 }
     requires error_failures { failures_of errors.old < 2 ^ 63 }
     ensures status { (result.0 ≡ 0) ⊎ (result.0 ≡ 1) ⊎ (result.0 ≡ 3) ⊎ (result.0 ≡ 4) }
@@ -83,9 +87,9 @@ pub fn report_in_file<T: Start, W: Write, E: Write>(
         × RunsOn T.Start None result.1 (TellsReport report_of target.now answer) }
     ensures refused { result.0 ≡ 1 → (answer : Told) × (code_of answer.status ≢ 200) × Appends (W.contents (inner_of output.old)) (W.contents (inner_of output.new)) (printed answer)
         × RunsOn T.Start None result.1 (TellsReport report_of target.now answer) }
-    ensures no_desk { result.0 ≡ 3 → (told : OpenFault) × (told ≢ NotBlank) × TellsLine E.contents errors.old errors.new (refusal_line told) }
+    ensures no_desk { result.0 ≡ 3 → HasNoDesk (Refuses T.Start None result.1) (result.1 ≡ Nothing) (TellsLine E.contents errors.old errors.new) }
+    ensures left { LeavesDesk result.1 }
     ensures untouched { result.0 ≡ 3 → output.new ≡ output.old }
-    ensures left { result.0 ≡ 3 → result.1 ≡ None }
     ensures failed { result.0 ≡ 4 → (failures_of output.new ≡ failures_of output.old + 1) × TellsLine E.contents errors.old errors.new (fault_line (WriteFault none_served))
         × (answer : Told) × SendsFront (W.contents (inner_of output.old)) (W.contents (inner_of output.new)) (printed answer)
         × RunsOn T.Start None result.1 (TellsReport report_of target.now answer) }
@@ -93,14 +97,17 @@ pub fn report_in_file<T: Start, W: Write, E: Write>(
     ensures quiet { (result.0 ≡ 0) ⊎ (result.0 ≡ 1) → errors.new ≡ errors.old }
 {
     let Ok(routes) = RouteTable::new(rt.alloc()) else {
-        return (unavailable(errors), None);
+        return (unavailable(errors), Left::Nothing);
     };
     match open_desk::<T, StateDesk>(rt, file, start, None) {
         Ok(store) => {
             let mut gateway = Gateway::new(ReportedStore::new(store), routes);
             let status = tell_report(rt.alloc(), target, output, errors, &mut gateway);
-            (status, Some(gateway.into_line().into_store()))
+            (status, Left::Desk(gateway.into_line().into_store()))
         }
-        Err(fault) => (refused(rt.alloc(), &fault, errors), None),
+        Err(refusal) => (
+            refused(rt.alloc(), &refusal.fault, errors),
+            Left::Refused(refusal),
+        ),
     }
 }

@@ -1,42 +1,41 @@
 //! A desk in a file, audited or migrated.
 
-ghost use Rattle.std.specs.Prelude.{◌≡◌, ◌≢◌, ◌⊎◌, ◌+◌, ◌^◌, ◌<◌, None, ℕ};
+ghost use Rattle.std.specs.Prelude.{◌≡◌, ◌⊎◌, ◌+◌, ◌^◌, ◌<◌, None, ℕ};
 ghost use Rattle.std.specs.Io.KnownBytes.{Appends};
 ghost use Rattle.desk_types.specs.Wire.{inner_of, failures_of};
-ghost use Rattle.line_opening.specs.declared.fault.OpenFault.{OpenFault};
-ghost use Rattle.line_opening.specs.declared.fault.OpenFault.TheVariants.{NotBlank, Unavailable};
 ghost use Rattle.served.specs.declared.serving.ServeFault.TheVariants.{Write as WriteFault};
 ghost use Rattle.served.specs.Counts.{none_served};
 ghost use Rattle.served.specs.Sent.{SendsFront};
 ghost use Rattle.desk_runs.specs.Runs.{StaysSame};
 ghost use Rattle.desk_runs.specs.Told.{fault_line, lawful_line, version_line, TellsLine};
-ghost use Rattle.desk_commands.specs.Runs.{Audits, Migrates, RunsOn, refusal_line};
+ghost use Rattle.desk_commands.specs.Runs.{Audits, HasNoDesk, LeavesDesk, LeavesFile, Migrates, Refuses, RefusesToMigrate, RunsOn};
 
+use crate::left::Left;
 use crate::refusal::refused;
-use desk_file::{DeskFile, FileDesk, migrate_desk, open_desk};
+use desk_file::{migrate_desk, open_desk};
 use desk_runs::{send_text, tell_lawful};
 use desk_types::Wire;
 use feeder_state::StateDesk;
-use sqlite::Start;
+use sqlite::{FileFrom, Start};
 use std::io::Write;
 
 /// Opens the desk in a file, each of whose commands is judged again, and tells how many they are: the
-/// exit status, and the desk.
+/// exit status, and the desk or the file that was refused.
 pub fn audit_file<T: Start, W: Write, E: Write>(
     rt: &HostRuntime,
     file: &str,
     start: T,
     output: &mut Wire<W>,
     errors: &mut Wire<E>,
-) -> (u8, Option<FileDesk<T, StateDesk>>)
+) -> (u8, Left<FileFrom<T>>)
     requires write_failures { failures_of output.old < 2 ^ 63 }
     requires error_failures { failures_of errors.old < 2 ^ 63 }
     ensures status { (result.0 ≡ 0) ⊎ (result.0 ≡ 3) ⊎ (result.0 ≡ 4) }
     ensures done { result.0 ≡ 0 → (count : ℕ) × Appends (W.contents (inner_of output.old)) (W.contents (inner_of output.new)) (lawful_line count)
         × Audits T.Start result.1 count }
-    ensures no_desk { result.0 ≡ 3 → (told : OpenFault) × (told ≢ NotBlank) × TellsLine E.contents errors.old errors.new (refusal_line told) }
+    ensures no_desk { result.0 ≡ 3 → HasNoDesk (Refuses T.Start None result.1) (RunsOn T.Start None result.1 StaysSame) (TellsLine E.contents errors.old errors.new) }
+    ensures left { LeavesDesk result.1 }
     ensures untouched { result.0 ≡ 3 → output.new ≡ output.old }
-    ensures left { result.0 ≡ 3 → (result.1 ≡ None) ⊎ RunsOn T.Start None result.1 StaysSame }
     ensures failed { result.0 ≡ 4 → (failures_of output.new ≡ failures_of output.old + 1) × TellsLine E.contents errors.old errors.new (fault_line (WriteFault none_served))
         × (count : ℕ) × SendsFront (W.contents (inner_of output.old)) (W.contents (inner_of output.new)) (lawful_line count) × Audits T.Start result.1 count }
     ensures kept { result.0 ≡ 0 → failures_of output.new ≡ failures_of output.old }
@@ -45,28 +44,31 @@ pub fn audit_file<T: Start, W: Write, E: Write>(
     match open_desk::<T, StateDesk>(rt, file, start, None) {
         Ok(store) => {
             let status = tell_lawful(rt.alloc(), store.count(), output, errors);
-            (status, Some(store))
+            (status, Left::Desk(store))
         }
-        Err(fault) => (refused(rt.alloc(), &fault, errors), None),
+        Err(refusal) => (
+            refused(rt.alloc(), &refusal.fault, errors),
+            Left::Refused(refusal),
+        ),
     }
 }
 
 /// Makes the file of version 1 at a path one of version 2, and tells so: the exit status, and the
-/// file.
+/// file, migrated or refused.
 pub fn migrate_file<T: Start, W: Write, E: Write>(
     rt: &HostRuntime,
     file: &str,
     start: T,
     output: &mut Wire<W>,
     errors: &mut Wire<E>,
-) -> (u8, Option<DeskFile<T>>)
+) -> (u8, Left<FileFrom<T>>)
     requires write_failures { failures_of output.old < 2 ^ 63 }
     requires error_failures { failures_of errors.old < 2 ^ 63 }
     ensures status { (result.0 ≡ 0) ⊎ (result.0 ≡ 3) ⊎ (result.0 ≡ 4) }
     ensures done { result.0 ≡ 0 → Appends (W.contents (inner_of output.old)) (W.contents (inner_of output.new)) version_line × Migrates T.Start result.1 }
-    ensures no_desk { result.0 ≡ 3 → (told : OpenFault) × (told ≢ NotBlank) × TellsLine E.contents errors.old errors.new (refusal_line told) }
+    ensures no_desk { result.0 ≡ 3 → HasNoDesk (RefusesToMigrate T.Start result.1) ⊥ (TellsLine E.contents errors.old errors.new) }
+    ensures left { LeavesFile result.1 }
     ensures untouched { result.0 ≡ 3 → output.new ≡ output.old }
-    ensures left { result.0 ≡ 3 → result.1 ≡ None }
     ensures failed { result.0 ≡ 4 → (failures_of output.new ≡ failures_of output.old + 1) × TellsLine E.contents errors.old errors.new (fault_line (WriteFault none_served))
         × SendsFront (W.contents (inner_of output.old)) (W.contents (inner_of output.new)) version_line × Migrates T.Start result.1 }
     ensures kept { result.0 ≡ 0 → failures_of output.new ≡ failures_of output.old }
@@ -75,8 +77,11 @@ pub fn migrate_file<T: Start, W: Write, E: Write>(
     match migrate_desk::<T, StateDesk>(rt, file, start) {
         Ok(conn) => {
             let status = send_text("version 2\n", output, errors);
-            (status, Some(conn))
+            (status, Left::Migrated(conn))
         }
-        Err(fault) => (refused(rt.alloc(), &fault, errors), None),
+        Err(refusal) => (
+            refused(rt.alloc(), &refusal.fault, errors),
+            Left::Refused(refusal),
+        ),
     }
 }

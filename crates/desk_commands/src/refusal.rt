@@ -2,8 +2,7 @@
 
 ghost use Rattle.std.specs.Prelude.{◌≡◌, ◌⊎◌, ◌^◌, ◌<◌};
 ghost use Rattle.desk_types.specs.Wire.{failures_of};
-ghost use Rattle.line_opening.specs.declared.fault.OpenFault.TheVariants.{Unavailable};
-ghost use Rattle.desk_runs.specs.Told.{TellsLine};
+ghost use Rattle.desk_runs.specs.Told.{unavailable_line, TellsLine};
 ghost use Rattle.desk_commands.specs.Runs.{refusal_line};
 
 use desk_runs::{Exit, tell_line, unavailable};
@@ -16,7 +15,7 @@ use std::io::Write;
 pub fn refused<E: Write>(alloc: Global, fault: &OpenFault, errors: &mut Wire<E>) -> u8
     requires error_failures { failures_of errors.old < 2 ^ 63 }
     ensures status { result ≡ 3 }
-    ensures told { TellsLine E.contents errors.old errors.new (refusal_line fault.now) ⊎ TellsLine E.contents errors.old errors.new (refusal_line Unavailable) }
+    ensures told { TellsLine E.contents errors.old errors.new (refusal_line fault.now) ⊎ TellsLine E.contents errors.old errors.new unavailable_line }
 {
     match format!(in alloc; "tracedesk: {fault}") {
         Ok(line) => {

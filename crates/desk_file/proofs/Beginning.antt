@@ -1,5 +1,5 @@
 -- The list with which a run on the files begins.
-use Rattle.std.proofs.Common.{◌≡◌, ◌∙◌, ◌⊎◌, ℕ, List, [], Bool, true, false, true≢false, Option, Some, None, refl, sym, ap, inl, inr}
+use Rattle.std.proofs.Common.{◌≡◌, ◌∙◌, ℕ, [], Bool, true, false, true≢false, Option, Some, None, refl, sym, ap, inl, inr}
 use Rattle.std.proofs.Math.Logic.{∥∥₁_elim}
 use Rattle.std.specs.List.{list_any}
 use Rattle.std.specs.List.Sorted.{IsPermutation}
@@ -9,7 +9,7 @@ use Rattle.sqlite_trees.specs.Props.{Trees-set}
 use Rattle.sqlite_trees.specs.Tree.{Trees}
 use Rattle.sqlite_schema.specs.Names.{same_name}
 use Rattle.sqlite_schema.specs.declared.schema.Schema.{Schema}
-use Rattle.sqlite.specs.Effect.{Database, IsDatabase}
+use Rattle.sqlite.specs.Effect.{Database}
 use Rattle.sqlite.specs.Files.{HoldsDatabase}
 use Rattle.sqlite.specs.State.{State, Opens, IsLive}
 use Rattle.desk_types.specs.declared.rules.Rules.{Rules}
@@ -26,7 +26,7 @@ use Rattle.line_rows.specs.Rows.{rows_of, tables_of}
 use Rattle.line_schema.specs.Opening.{IsNamed, IsNamedBy}
 use Rattle.line_schema.specs.Versions.{IsMigrated}
 use Rattle.small_pages.specs.Found.{FindsAs}
-use Rattle.desk_file.specs.Files.{IsFoundIn, IsOfOne, HasLineAlone, HasTables, HasNoTable, FindsNoTable, Begins}
+use Rattle.desk_file.specs.Files.{IsFoundIn, IsOfOne, HasLineAlone, FindsNoTable, Begins}
 
 -- the tables of each version have our names
 named_by : (rules : Rules) (indexed : Bool) → list_any has_name (schema_of rules indexed).tables ≡ true
@@ -35,7 +35,7 @@ named_by rules indexed = refl
 
 module _ (image : Image) (s : State) (finds : FindsAs image s) (opens : Opens s) (live : IsLive s) where
   -- what is committed is what the files hold
-  found : IsFoundIn image s.committed
+  pub found : IsFoundIn image s.committed
   found = record { sound = (live opens.is_open).1; reads = finds.reads; same = finds.holds }
 
   -- files with the tables of a line have some table

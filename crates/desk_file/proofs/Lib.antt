@@ -1,2 +1,3 @@
 pub mod Beginning
 pub mod Closing
+pub mod Refusing

@@ -1,5 +1,5 @@
 -- With which list a run begins, by what its files held.
-use Rattle.std.specs.Prelude.{◌≡◌, ◌⊎◌, ℕ, IsTrue, List, [], Option, Some}
+use Rattle.std.specs.Prelude.{◌≡◌, ◌⊎◌, ℕ, IsTrue, [], Option, Some}
 use Rattle.sqlite_disk.specs.declared.Disk as disk
 use Rattle.sqlite_disk.specs.declared.Files.{Files}
 use Rattle.sqlite_wal.specs.Files.{outcomes}
@@ -8,7 +8,7 @@ use Rattle.sqlite_wal.specs.Recovery.{Image}
 use Rattle.sqlite_store.specs.declared.store.FileStore.{FileStore}
 use Rattle.sqlite_trees.specs.Tree.{Trees}
 use Rattle.sqlite.specs.Effect.{Database, IsDatabase}
-use Rattle.sqlite.specs.Closing.{HoldsAlone}
+use Rattle.sqlite.specs.Closing.{HoldsAlone, IsCopied}
 use Rattle.sqlite.specs.Files.{HoldsDatabase, file_state, image_of, over_files}
 use Rattle.sqlite.specs.Held.{Held}
 use Rattle.sqlite.specs.State.{HasCleanDisk}
@@ -63,6 +63,14 @@ MigratedFrom image conn = (greatest : ℕ) × (H : History) × IsOfOne image gre
 -- the two files hold these tables, and so does the database file with no log
 abbrev pub IsWhole : Tables → Image → Type 0
 IsWhole tables image = (trees : Trees) × HoldsAt tables trees × HoldsAlone image trees
+
+-- the connection was closed, and its last commit is in these files, where the disk told the truth to the end
+abbrev pub Copies : {D : Type 0} {g : disk.Ghosts D} → Held (FileStore D g) → Files D → Type 0
+Copies {g = g} conn files = AreClean g files.log files.db → IsCopied conn files
+
+-- the connection could not be closed, and left these files: where they are honest its disk was
+abbrev pub Leaves : {D : Type 0} {g : disk.Ghosts D} → Held (FileStore D g) → Files D → Type 0
+Leaves {g = g} conn files = AreClean g files.log files.db → HasCleanDisk (file_state conn)
 
 -- The files of a connection hold whatever tables it held, where it was sound and open: as they read now and, whatever a crash leaves of them, then too. That is, where the disk told the truth to the end.
 abbrev pub KeepsTables : {D : Type 0} {g : disk.Ghosts D} → Held (FileStore D g) → Files D → Type 0

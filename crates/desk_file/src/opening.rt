@@ -6,13 +6,16 @@ ghost use Rattle.sqlite.specs.State.{HasCleanDisk};
 ghost use Rattle.sqlite.specs.Files.{file_state, over_files, IsOpened};
 ghost use Rattle.small_pages.specs.Found.{FindsAs};
 ghost use Rattle.desk_types.specs.declared.desk.TheConstants.{MOST_ENTRIES};
+ghost use Rattle.desk_types.specs.declared.rules.Rules.TheVariants.{Two};
 ghost use Rattle.desk_types.specs.History.{History};
 ghost use Rattle.sqlite_trees.specs.Tree.{Trees};
 ghost use Rattle.line_tables.specs.Rows.{HoldsAt, blank};
 ghost use Rattle.line_opening.specs.declared.fault.OpenFault.TheVariants as Fault;
-ghost use Rattle.line_schema.specs.Stands.{Kept, Stands, state_of};
-ghost use Rattle.desk_file.specs.Files.{Begins, Closes, FindsNoTable, HasLineAlone, KeepsTables, MigratedFrom};
+ghost use Rattle.line_schema.specs.Stands.{Kept, Stands, conn_of, state_of};
+ghost use Rattle.desk_file.specs.Files.{Begins, Closes, Copies, FindsNoTable, HasLineAlone, KeepsTables, Leaves, MigratedFrom};
+ghost use Rattle.desk_file.specs.Refused.{IsFaultFor, IsFaultIn, IsRefused, LeavesMade, RefusesMigration, RefusesRun};
 
+use crate::refusal::Refusal;
 use desk_types::Desk;
 use line_schema::{LineStore, OpenFault};
 use sqlite::{Connection, FileFrom, FileStore, Files, Start};
@@ -27,89 +30,108 @@ pub type DeskFile<T> = Connection<FileStore<FileFrom<T>>>;
 
 /// The desk that the file at a path keeps. Where there is no file, or one of no bytes, a desk of an
 /// empty list is made in it if `make` says up to which number, from 1 to 1,000,000,000; else it is
-/// NotADesk. What is no regular file, or can't be opened, is Unavailable.
+/// NotADesk. What is no regular file, or can't be opened, is Unavailable. A file that is refused comes
+/// back, unchanged.
 pub fn open_desk<T: Start, D: Desk + Drop>(
     rt: &HostRuntime,
     path: &str,
     start: T,
     make: Option<u32>,
-) -> Result<FileDesk<T, D>, OpenFault>
+) -> Result<FileDesk<T, D>, Refusal<FileFrom<T>>>
     requires range { IfSome make (λ greatest. (1 ≤ greatest) × (greatest ≤ MOST_ENTRIES)) }
     ensures stands { IfOk result (λ store. (L : Kept) × Stands over_files D.Stands D.kept_rules store L) }
-    ensures never { make ≡ None → IfErr result (λ fault. fault ≢ Fault.NotBlank) }
+    ensures refused { IfErr result (RefusesRun (image_at T.Start) make) }
     ensures begins { IfOk result (λ store. HasCleanDisk (state_of over_files store) → HasLineAlone (image_at T.Start)
         → (greatest : _) × (H : History) × Begins (image_at T.Start) make greatest H × Stands over_files D.Stands D.kept_rules store (record { greatest = greatest; history = H; own = true })) }
     ensures alone { IfOk result (λ store. HasCleanDisk (state_of over_files store) → FindsNoTable (image_at T.Start) → IfSome make (λ greatest. (trees : Trees) → (state_of over_files store).may_leave trees → HoldsAt (blank greatest) trees)) }
 {
-    let is_blank = is_blank(rt, path)?;
+    let is_blank = is_blank::<T>(rt, path)?;
     match make {
         Some(greatest) if is_blank => made(rt, path, start, greatest),
-        None if is_blank => Err(OpenFault::NotADesk),
+        None if is_blank => Err(Refusal {
+            fault: OpenFault::NotADesk,
+            file: None,
+        }),
         _ => opened(rt, path, start),
     }
 }
 
 /// Makes the file at a path, which keeps a desk in the tables of version 1, one of version 2: each of
 /// its commands is judged again by rules One, and its tables are compared, before it is written to.
-/// Where there is no file, or one of no bytes, it is NotADesk, and none is made. A fault leaves the
-/// file as it was; after Unavailable it may be of version 2.
+/// Where there is no file, or one of no bytes, it is NotADesk, and none is made. A file that is refused
+/// comes back, unchanged; after Unavailable a crash may leave it of version 2.
 pub fn migrate_desk<T: Start, D: Desk + Drop>(
     rt: &HostRuntime,
     path: &str,
     start: T,
-) -> Result<DeskFile<T>, OpenFault>
+) -> Result<DeskFile<T>, Refusal<FileFrom<T>>>
     ensures migrated { IfOk result (λ conn. HasCleanDisk (file_state conn) → HasLineAlone (image_at T.Start) → MigratedFrom (image_at T.Start) conn) }
-    ensures never { IfErr result (λ fault. fault ≢ Fault.NotBlank) }
+    ensures refused { IfErr result (RefusesMigration (image_at T.Start)) }
 {
-    if is_blank(rt, path)? {
-        return Err(OpenFault::NotADesk);
+    if is_blank::<T>(rt, path)? {
+        return Err(Refusal {
+            fault: OpenFault::NotADesk,
+            file: None,
+        });
     }
     let mut conn = connect(rt, path, start)?;
     match LineStore::<FileStore<FileFrom<T>>, D>::migrate(rt.alloc(), &mut conn) {
         Ok(_) => Ok(conn),
-        Err(fault) => {
-            let _ = conn.close();
-            Err(fault)
-        }
+        Err(fault) => Err(Refusal {
+            fault,
+            file: Some(conn),
+        }),
     }
 }
 
 /// Closes the file of a desk: what was committed is in it then, without its log. The files come back
-/// for clauses to name; they are closed where they are dropped.
+/// for clauses to name, those too that could not be closed; they go where they are dropped.
 pub fn close_desk<T: Start, D: Desk + Drop>(
     desk: FileDesk<T, D>,
-) -> Result<Files<FileFrom<T>>, OpenFault>
+) -> Result<Files<FileFrom<T>>, (OpenFault, Files<FileFrom<T>>)>
     ensures whole { IfOk result (Closes D.Stands D.kept_rules desk) }
-    ensures err { IfErr result (λ fault. fault ≡ Fault.Unavailable) }
+    ensures copied { IfOk result (Copies (conn_of desk)) }
+    ensures err { IfErr result (λ e. e.0 ≡ Fault.Unavailable) }
+    ensures left { IfErr result (λ e. Leaves (conn_of desk) e.1) }
 {
     let conn = desk.into_connection();
     close_file(conn)
 }
 
 /// Closes the file of a desk by its connection, as `close_desk` does.
-pub fn close_file<T: Start>(conn: DeskFile<T>) -> Result<Files<FileFrom<T>>, OpenFault>
+pub fn close_file<T: Start>(
+    conn: DeskFile<T>,
+) -> Result<Files<FileFrom<T>>, (OpenFault, Files<FileFrom<T>>)>
     ensures whole { IfOk result (KeepsTables conn) }
-    ensures err { IfErr result (λ fault. fault ≡ Fault.Unavailable) }
+    ensures copied { IfOk result (Copies conn) }
+    ensures err { IfErr result (λ e. e.0 ≡ Fault.Unavailable) }
+    ensures left { IfErr result (λ e. Leaves conn e.1) }
 {
     let _obeyed = conn.schema();
     match conn.close_files() {
         Ok(files) => Ok(files),
-        Err((_, store)) => {
-            drop(store.close());
-            Err(OpenFault::Unavailable)
-        }
+        Err((_, store)) => Err((OpenFault::Unavailable, store.close())),
     }
 }
 
 /// Whether there is no file at the path, or one of no bytes.
-fn is_blank(rt: &HostRuntime, path: &str) -> Result<bool, OpenFault>
-    ensures { IfErr result (λ fault. fault ≡ Fault.Unavailable) }
+fn is_blank<T: Start>(rt: &HostRuntime, path: &str) -> Result<bool, Refusal<FileFrom<T>>>
+    ensures { IfErr result (λ r. r ≡ record { fault = Fault.Unavailable; file = None }) }
 {
     match fs::metadata(rt, path) {
         Ok(found) if found.is_file() => Ok(found.len() == 0),
-        Ok(_) => Err(OpenFault::Unavailable),
         Err(error) if error.kind() == ErrorKind::NotFound => Ok(true),
-        Err(_) => Err(OpenFault::Unavailable),
+        _ => Err(unconnected()),
+    }
+}
+
+/// A file to which no connection could be made.
+fn unconnected<T: Start>() -> Refusal<FileFrom<T>>
+    ensures { result ≡ record { fault = Fault.Unavailable; file = None } }
+{
+    Refusal {
+        fault: OpenFault::Unavailable,
+        file: None,
     }
 }
 
@@ -119,9 +141,10 @@ fn made<T: Start, D: Desk + Drop>(
     path: &str,
     start: T,
     greatest: u32,
-) -> Result<FileDesk<T, D>, OpenFault>
+) -> Result<FileDesk<T, D>, Refusal<FileFrom<T>>>
     requires least { 1 ≤ greatest }
     requires most { greatest ≤ MOST_ENTRIES }
+    ensures refused { IfErr result (RefusesRun (image_at T.Start) (Some greatest)) }
     ensures stands { IfOk result (λ store. (L : Kept) × Stands over_files D.Stands D.kept_rules store L) }
     ensures begins { IfOk result (λ store. HasCleanDisk (state_of over_files store) → HasLineAlone (image_at T.Start)
         → Begins (image_at T.Start) (Some greatest) greatest [] × Stands over_files D.Stands D.kept_rules store (record { greatest = greatest; history = []; own = true })) }
@@ -130,10 +153,10 @@ fn made<T: Start, D: Desk + Drop>(
     let conn = connect(rt, path, start)?;
     match LineStore::create(rt.alloc(), conn, greatest) {
         Ok(store) => Ok(store),
-        Err((fault, conn)) => {
-            let _ = conn.close();
-            Err(fault)
-        }
+        Err((fault, conn)) => Err(Refusal {
+            fault,
+            file: Some(conn),
+        }),
     }
 }
 
@@ -142,19 +165,20 @@ fn opened<T: Start, D: Desk + Drop>(
     rt: &HostRuntime,
     path: &str,
     start: T,
-) -> Result<FileDesk<T, D>, OpenFault>
+) -> Result<FileDesk<T, D>, Refusal<FileFrom<T>>>
     ensures stands { IfOk result (λ store. (L : Kept) × Stands over_files D.Stands D.kept_rules store L) }
     ensures begins { IfOk result (λ store. HasCleanDisk (state_of over_files store) → HasLineAlone (image_at T.Start)
         → (greatest : _) × (H : History) × Begins (image_at T.Start) None greatest H × Stands over_files D.Stands D.kept_rules store (record { greatest = greatest; history = H; own = true })) }
-    ensures never { IfErr result (λ fault. fault ≢ Fault.NotBlank) }
+    ensures refused { IfErr result (IsRefused (image_at T.Start) (IsFaultIn (image_at T.Start) Two) (λ _ _. ⊥) ⊥) }
+    ensures never { IfErr result (λ r. r.fault ≢ Fault.NotBlank) }
 {
     let conn = connect(rt, path, start)?;
     match LineStore::open(rt.alloc(), conn) {
         Ok(store) => Ok(store),
-        Err((fault, conn)) => {
-            let _ = conn.close();
-            Err(fault)
-        }
+        Err((fault, conn)) => Err(Refusal {
+            fault,
+            file: Some(conn),
+        }),
     }
 }
 
@@ -163,14 +187,14 @@ fn connect<T: Start>(
     rt: &HostRuntime,
     path: &str,
     start: T,
-) -> Result<Connection<FileStore<FileFrom<T>>>, OpenFault>
+) -> Result<DeskFile<T>, Refusal<FileFrom<T>>>
     ensures opened { IfOk result (λ conn. HasCleanDisk (file_state conn) → IsOpened conn) }
     ensures found { IfOk result (λ conn. HasCleanDisk (file_state conn) → FindsAs (image_at T.Start) (file_state conn)) }
     ensures mode { IfOk result (λ conn. conn.in_transaction ≡ false) }
-    ensures err { IfErr result (λ fault. fault ≡ Fault.Unavailable) }
+    ensures err { IfErr result (λ r. r ≡ record { fault = Fault.Unavailable; file = None }) }
 {
     match small_pages::open(rt, path, start) {
         Ok(conn) => Ok(conn),
-        Err(_) => Err(OpenFault::Unavailable),
+        Err(_) => Err(unconnected()),
     }
 }

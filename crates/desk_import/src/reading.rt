@@ -13,17 +13,20 @@ const MOST_READ: u64 = LONGEST_FILE as u64 + 1;
 
 /// Where files are read from.
 pub trait Folder {
-    ghost use Rattle.std.specs.Prelude.{◌≡◌, ℕ, List, Option, IfOk};
+    ghost use Rattle.std.specs.Prelude.{◌≡◌, ℕ, List, Option, IfOk, IfErr};
+    ghost use Rattle.desk_import.specs.Folder.{IsRead};
+    ghost use Rattle.desk_import.specs.declared.reading.Unread.TheVariants.{Failed};
 
     /// What the file at a path holds, where that is known.
     ghost holds: { Self → List ℕ → Option (List ℕ) };
 
-    /// An open file.
-    type File: Read + Drop;
+    /// Whether the file at a path may fail to be opened or read.
+    ghost may_fail: { Self → List ℕ → Type 0 };
 
-    /// Opens the file at a path.
-    fn open(&self, path: &str) -> io::Result<Self::File>
-        ensures { IfOk result (λ file. Self.File.remaining file ≡ holds self.now path.now) };
+    /// Reads the file at a path, as far as it may be long and one byte further.
+    fn read(&self, alloc: Global, path: &str) -> Result<Vec<u8>, Unread>
+        ensures bytes { IfOk result (λ bytes. IsRead (holds self.now path.now) bytes.items) }
+        ensures failed { IfErr result (λ unread. unread ≡ Failed → may_fail self.now path.now) };
 }
 
 /// Why a file is not read.
@@ -51,11 +54,10 @@ impl From<io::Error> for Unread {
     }
 }
 
-/// Reads a file, as far as it may be long and one byte further.
-pub fn read_file<F: Folder>(alloc: Global, folder: &F, path: &str) -> Result<Vec<u8>, Unread>
-    ensures { IfOk result (λ bytes. IsRead (F.holds folder.now path.now) bytes.items) }
+/// Reads an open file, as far as it may be long and one byte further.
+pub fn read_file<R: Read + Drop>(alloc: Global, file: R) -> Result<Vec<u8>, Unread>
+    ensures { IfOk result (λ bytes. IsRead (R.remaining file) bytes.items) }
 {
-    let file = folder.open(path)?;
     let mut bytes = Vec::new(alloc);
     file.take(MOST_READ).read_to_end(&mut bytes)?;
     Ok(bytes)

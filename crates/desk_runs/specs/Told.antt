@@ -1,5 +1,5 @@
 -- What a run tells on standard output and standard error.
-use Rattle.std.specs.Prelude.{◌≡◌, ◌<◌, ◌⊎◌, ℕ, List, [], ◌∷◌, ◌++◌, Option, codes, decimal}
+use Rattle.std.specs.Prelude.{◌≡◌, ◌<◌, ◌+◌, ◌⊎◌, ℕ, List, [], ◌∷◌, ◌++◌, Option, codes, decimal}
 use Rattle.std.specs.Io.KnownBytes.{Appends}
 use Rattle.desk_types.specs.declared.wire.Wire.{Wire}
 use Rattle.desk_types.specs.Wire.{inner_of, failures_of}
@@ -54,11 +54,11 @@ option_line option.Machine = codes "tracedesk: Bad machine"
 
 -- ---- standard error
 
--- a text went out, or its writing failed and only its first bytes did
+-- a text went out and nothing failed, or one write failed and only its first bytes did
 abbrev pub Tells : {E : Type 0} → (E → Option (List ℕ)) → Wire E → Wire E → List ℕ → Type 0
 Tells contents errors errors' text =
-    Appends (contents (inner_of errors)) (contents (inner_of errors')) text
-    ⊎ ((failures_of errors < failures_of errors') × SendsFront (contents (inner_of errors)) (contents (inner_of errors')) text)
+    ((failures_of errors' ≡ failures_of errors) × Appends (contents (inner_of errors)) (contents (inner_of errors')) text)
+    ⊎ ((failures_of errors' ≡ failures_of errors + 1) × SendsFront (contents (inner_of errors)) (contents (inner_of errors')) text)
 
 -- so did a line, with its line feed
 abbrev pub TellsLine : {E : Type 0} → (E → Option (List ℕ)) → Wire E → Wire E → List ℕ → Type 0

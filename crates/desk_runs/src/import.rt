@@ -10,7 +10,7 @@ ghost use Rattle.desk_runs.specs.Told.{fault_line, unavailable_line, TellsLine};
 
 use crate::exit::{Exit, tell_line, unavailable};
 use desk_answers::Line;
-use desk_import::{Folder, Import, Unread, read_file, serve_import};
+use desk_import::{Folder, Import, Unread, serve_import};
 use desk_types::Wire;
 use std::alloc::Global;
 use std::io::Write;
@@ -38,11 +38,11 @@ pub fn import_rows<F: Folder, W: Write, E: Write, L: Line>(
     ensures failed { result ≡ 4
         → ((failures_of output.new ≡ failures_of output.old + 1) × TellsLine E.contents errors.old errors.new (fault_line (WriteFault none_served))
         × ForLists L.Stands L.Trusts line.old line.new (CutsImport W.contents output.old output.new import.now (F.holds folder.now from.now)))
-        ⊎ ((output.new ≡ output.old) × TellsLine E.contents errors.old errors.new (fault_line (ReadFault none_served)) × ForLists L.Stands L.Trusts line.old line.new StaysSame) }
+        ⊎ (F.may_fail folder.now from.now × (output.new ≡ output.old) × TellsLine E.contents errors.old errors.new (fault_line (ReadFault none_served)) × ForLists L.Stands L.Trusts line.old line.new StaysSame) }
     ensures kept { (result ≡ 0) ⊎ (result ≡ 1) → failures_of output.new ≡ failures_of output.old }
     ensures quiet { (result ≡ 0) ⊎ (result ≡ 1) → errors.new ≡ errors.old }
 {
-    let bytes = match read_file(alloc, folder, from) {
+    let bytes = match folder.read(alloc, from) {
         Ok(bytes) => bytes,
         Err(Unread::Failed) => {
             tell_line(errors, "tracedesk: Read");

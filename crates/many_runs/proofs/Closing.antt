@@ -14,13 +14,15 @@ use Rattle.http_listener.specs.Connections.{Connected, ConnectedEach, Ended}
 use Rattle.served.specs.declared.serving.ServeFault.TheVariants.{Read, Write, TooManyReads}
 use Rattle.gateway_http.specs.Reports.{report_of}
 use Rattle.headline.specs.Calls.{AnswersByTheList, Call, Serves}
+use Rattle.desk_commands.specs.declared.left.Left.TheVariants.{Desk}
 use Rattle.desk_commands.specs.Runs.{RunsOn, ServesEach}
+use Rattle.desk_commands.specs.Closed.{RunsTo, whole}
 use Rattle.many_runs.specs.Runs.{by_two, IsRun}
-use Rattle.many_runs.specs.Closed.{ClosesTo, connections_of, run_of}
+use Rattle.many_runs.specs.Closed.{ClosesTo, ReadsClean, connections_of, run_of}
 
 module _ {T D : Type 0} {g : disk.Ghosts D} (first : start.Ghosts T) (make : Option ℕ) (desk : LineStore (FileStore D g) StateDesk) (files : Files D) (image : Image) where
   pub is_run : (Fact : Ledger → History → Type 0) (calls : List Call) → ((G : Ledger) (H : History) → Fact G H → AnswersByTheList report_of G calls H)
-      → RunsOn first make (Some desk) Fact → ClosesTo desk files image → IsRun report_of (run_of first make calls image)
+      → RunsOn first make (Desk desk) Fact → ClosesTo desk files image → IsRun report_of (run_of first make calls image)
   is_run Fact calls tells runs (closes, was_clean, clean, left) alone =
       let (greatest, H, begins, lawful, H', stands, fact) = runs was_clean alone in (
         greatest,
@@ -33,6 +35,25 @@ module _ {T D : Type 0} {g : disk.Ghosts D} (first : start.Ghosts T) (make : Opt
           lawful = stands.lawful was_clean refl;
           consistent = stands.consistent;
           ends = closes (record { greatest = greatest; history = H'; own = true }) stands refl clean image left;
+        },
+      )
+
+-- a whole run, by what its files tell
+module _ {T D : Type 0} (g : disk.Ghosts D) (first : start.Ghosts T) (make : Option ℕ) (files : Files D) (image : Image) where
+  pub is_whole_run : (Fact : Ledger → History → Type 0) (calls : List Call) → ((G : Ledger) (H : History) → Fact G H → AnswersByTheList report_of G calls H)
+      → RunsTo whole first g (Some files) make Fact → ReadsClean g files image → IsRun report_of (run_of first make calls image)
+  is_whole_run Fact calls tells runs is alone =
+      let (greatest, H, begins, lawful, H', lawful_after, consistent, holds, fact) = runs is.clean alone in (
+        greatest,
+        H,
+        H',
+        record {
+          begins = begins;
+          lawful_first = lawful;
+          answers = tells (by_two greatest H) H' fact;
+          lawful = lawful_after;
+          consistent = consistent;
+          ends = holds image is.reads;
         },
       )
 

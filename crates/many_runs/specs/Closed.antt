@@ -14,6 +14,7 @@ use Rattle.feeder_state.specs.contracts.desk.StateDeskDesk.TheImpl.{ghosts as st
 use Rattle.line_schema.specs.declared.store.LineStore.{LineStore}
 use Rattle.line_schema.specs.Stands.{state_of}
 use Rattle.desk_file.specs.Files.{Closes}
+use Rattle.desk_commands.specs.Closed.{MayRead}
 use Rattle.http_listener.specs.Connections.{Ended}
 use Rattle.headline.specs.Calls.{Call}
 use Rattle.headline.specs.Calls.Call.{connected}
@@ -24,6 +25,11 @@ use Rattle.many_runs.specs.Runs.Ending.{closed}
 abbrev pub ClosesTo : {D : Type 0} {g : disk.Ghosts D} → LineStore (FileStore D g) StateDesk → Files D → Image → Type 0
 ClosesTo {g = g} desk files image = Closes state.Stands state.kept_rules desk files × HasCleanDisk (state_of over_files desk) × AreClean g files.log files.db
     × ((image ≡ image_of g files) ⊎ outcomes g files.log files.db image)
+
+-- the disk told the truth to the end, and the files that were closed read so then, or after a crash
+pub record ReadsClean {D : Type 0} (g : disk.Ghosts D) (files : Files D) (image : Image) : Type 0 where
+  pub clean : AreClean g files.log files.db
+  pub reads : MayRead g files image
 
 -- a run that made these calls
 abbrev pub run_of : {T : Type 0} → start.Ghosts T → Option ℕ → List Call → Image → Run

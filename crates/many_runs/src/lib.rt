@@ -10,15 +10,18 @@ ghost use Rattle.http_listener.specs.Connections.{Ended};
 ghost use Rattle.http_stream.specs.Answers.{Told};
 ghost use Rattle.gateway_http.specs.Reports.{report_of};
 ghost use Rattle.desk_runs.specs.Runs.{StaysSame, TellsReport};
+ghost use Rattle.desk_commands.specs.declared.left.Left.TheVariants.{Desk};
 ghost use Rattle.desk_commands.specs.Runs.{RunsOn, ServesEach};
+ghost use Rattle.desk_commands.specs.Closed.{RunsTo, whole};
 ghost use Rattle.headline.specs.Calls.{Feeds};
 ghost use Rattle.headline.specs.Calls.Call.{asked, fed};
-ghost use Rattle.many_runs.specs.Closed.{ClosesTo, connections_of, run_of};
+ghost use Rattle.many_runs.specs.Closed.{ClosesTo, ReadsClean, connections_of, run_of};
 ghost use Rattle.many_runs.specs.Runs.{AreRuns, IsRun, Run, as_one};
 
 use desk_file::{FileDesk, next_run_goes_on};
 use feeder_state::StateDesk;
 use sqlite::{FileFrom, Files, Start};
+use sqlite_disk::Disk;
 
 /// A law: runs one after the other, each on the files that the one before it left, are as one run that
 /// makes their calls. So every answer of every run is that of one list of accepted commands, which is
@@ -33,12 +36,25 @@ pub fn many_runs_are_one()
 /// A law: a run of the program that closed its desk's file is a run, with the calls that its contracts
 /// tell. It is for proofs, and does nothing when it runs.
 pub fn closed_runs_are_runs<T: Start>(desk: &FileDesk<T, StateDesk>, files: &Files<FileFrom<T>>)
-    ensures feeds { (make : Option ℕ) (input out out' : Option (List ℕ)) (ended : Ended) (image : Image) → RunsOn T.Start make (Some desk.now) (λ G H. Feeds G input out out' ended H)
+    ensures feeds { (make : Option ℕ) (input out out' : Option (List ℕ)) (ended : Ended) (image : Image) → RunsOn T.Start make (Desk desk.now) (λ G H. Feeds G input out out' ended H)
         → ClosesTo desk.now files.now image → IsRun report_of (run_of T.Start make (fed input out out' ended ∷ []) image) }
-    ensures serves { (make : Option ℕ) (ends : List Ended) (image : Image) → RunsOn T.Start make (Some desk.now) (ServesEach ends)
+    ensures serves { (make : Option ℕ) (ends : List Ended) (image : Image) → RunsOn T.Start make (Desk desk.now) (ServesEach ends)
         → ClosesTo desk.now files.now image → IsRun report_of (run_of T.Start make (connections_of ends) image) }
-    ensures reports { (make : Option ℕ) (target : List ℕ) (told : Told) (image : Image) → RunsOn T.Start make (Some desk.now) (TellsReport report_of target told)
+    ensures reports { (make : Option ℕ) (target : List ℕ) (told : Told) (image : Image) → RunsOn T.Start make (Desk desk.now) (TellsReport report_of target told)
         → ClosesTo desk.now files.now image → IsRun report_of (run_of T.Start make (asked target told ∷ []) image) }
-    ensures stays { (make : Option ℕ) (image : Image) → RunsOn T.Start make (Some desk.now) StaysSame
+    ensures stays { (make : Option ℕ) (image : Image) → RunsOn T.Start make (Desk desk.now) StaysSame
         → ClosesTo desk.now files.now image → IsRun report_of (run_of T.Start make [] image) }
+{}
+
+/// A law: a whole run of the program that closed its desk's file is a run, with the calls that its
+/// contract tells. It is for proofs, and does nothing when it runs.
+pub fn whole_runs_are_runs<T: Start>(files: &Files<FileFrom<T>>)
+    ensures feeds { (make : Option ℕ) (input out out' : Option (List ℕ)) (ended : Ended) (image : Image) → RunsTo whole T.Start ⟦<FileFrom<T> as Disk>⟧ (Some files.now) make (λ G H. Feeds G input out out' ended H)
+        → ReadsClean ⟦<FileFrom<T> as Disk>⟧ files.now image → IsRun report_of (run_of T.Start make (fed input out out' ended ∷ []) image) }
+    ensures serves { (make : Option ℕ) (ends : List Ended) (image : Image) → RunsTo whole T.Start ⟦<FileFrom<T> as Disk>⟧ (Some files.now) make (ServesEach ends)
+        → ReadsClean ⟦<FileFrom<T> as Disk>⟧ files.now image → IsRun report_of (run_of T.Start make (connections_of ends) image) }
+    ensures reports { (make : Option ℕ) (target : List ℕ) (told : Told) (image : Image) → RunsTo whole T.Start ⟦<FileFrom<T> as Disk>⟧ (Some files.now) make (TellsReport report_of target told)
+        → ReadsClean ⟦<FileFrom<T> as Disk>⟧ files.now image → IsRun report_of (run_of T.Start make (asked target told ∷ []) image) }
+    ensures stays { (make : Option ℕ) (image : Image) → RunsTo whole T.Start ⟦<FileFrom<T> as Disk>⟧ (Some files.now) make StaysSame
+        → ReadsClean ⟦<FileFrom<T> as Disk>⟧ files.now image → IsRun report_of (run_of T.Start make [] image) }
 {}

@@ -3,9 +3,10 @@
 #![tactic(auto)]
 
 mod program;
+mod run;
 
 use std::process::ExitCode;
 
 fn main(rt: HostRuntime) -> ExitCode {
-    ExitCode::from(program::run(&rt))
+    ExitCode::from(run::run(&rt))
 }

@@ -1,9 +1,8 @@
-use Rattle.std.proofs.Common.{◌∙◌, ap, refl, None}
+use Rattle.std.proofs.Common.{◌∙◌, ap, None, refl, inl, inr}
 use Rattle.gateway_http.specs.Reports.{report_of}
 use Rattle.gateway_http.specs.Stores.{store_of}
 use Rattle.desk_runs.specs.Runs.{TellsReport}
-use Rattle.desk_runs.specs.Told.{TellsLine}
-use Rattle.desk_commands.proofs.Running.{never_refused, runs_behind, stands_behind, told_refused, told_unavailable}
+use Rattle.desk_commands.proofs.Running.{never_refused, runs_behind, stands_behind}
 use Rattle.desk_commands.proofs.gateway.report_in_file.Goals as goal
 
 pub returns-in-Ok-open_desk-clause-done : goal.returns-in-Ok-open_desk-clause-done
@@ -31,7 +30,7 @@ pub returns-in-Ok-open_desk-clause-no_desk : goal.returns-in-Ok-open_desk-clause
 returns-in-Ok-open_desk-clause-no_desk g c = λ is. never_refused c.tell_report-status.result c.tell_report-status.ensures.status is
 
 pub returns-in-Err-clause-no_desk : goal.returns-in-Err-clause-no_desk
-returns-in-Err-clause-no_desk g c = λ _. told_refused (TellsLine g.E.Write.contents c.args.errors.now c.refused.new.errors) c.in-Err.fault (c.in-Err.ensures.never refl) c.refused.ensures.told
+returns-in-Err-clause-no_desk g c = λ _. inl (c.in-Err.refusal.fault, (refl, c.in-Err.ensures.refused), c.refused.ensures.told)
 
 pub returns-in_default-clause-no_desk : goal.returns-in_default-clause-no_desk
-returns-in_default-clause-no_desk g c = λ _. told_unavailable (TellsLine g.E.Write.contents c.args.errors.now c.unavailable.new.errors) c.unavailable.ensures.told
+returns-in_default-clause-no_desk g c = λ _. inr (refl, c.unavailable.ensures.told)

@@ -1,4 +1,4 @@
-use Rattle.std.proofs.Common.{◌∙◌, ap, Some}
+use Rattle.std.proofs.Common.{◌∙◌, ap, Some, refl, inl, inr}
 use Rattle.gateway_http.specs.Stores.{store_of}
 use Rattle.desk_commands.specs.Runs.{ServesEach}
 use Rattle.desk_commands.proofs.Running.{never_refused, runs_behind, stands_behind}
@@ -19,5 +19,8 @@ returns-in-Ok-open_desk-clause-no_desk g c = λ is. never_refused c.serve_port-s
 pub returns-in-Ok-open_desk-clause-untouched : goal.returns-in-Ok-open_desk-clause-untouched
 returns-in-Ok-open_desk-clause-untouched g c = λ is. never_refused c.serve_port-status.result c.serve_port-status.ensures.status is
 
-pub returns-in-Ok-open_desk-clause-left : goal.returns-in-Ok-open_desk-clause-left
-returns-in-Ok-open_desk-clause-left g c = λ is. never_refused c.serve_port-status.result c.serve_port-status.ensures.status is
+pub returns-in-Err-clause-no_desk : goal.returns-in-Err-clause-no_desk
+returns-in-Err-clause-no_desk g c = λ _. inl (c.in-Err.refusal.fault, (refl, c.in-Err.ensures.refused), c.refused.ensures.told)
+
+pub returns-in_default-clause-no_desk : goal.returns-in_default-clause-no_desk
+returns-in_default-clause-no_desk g c = λ _. inr (refl, c.unavailable.ensures.told)

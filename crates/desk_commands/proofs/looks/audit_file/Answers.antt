@@ -1,6 +1,5 @@
-use Rattle.std.proofs.Common.{None, inr, refl}
-use Rattle.desk_runs.specs.Told.{TellsLine}
-use Rattle.desk_commands.proofs.Running.{audits, stays, told_refused, told_unavailable}
+use Rattle.std.proofs.Common.{None, refl, inl, inr}
+use Rattle.desk_commands.proofs.Running.{audits, stays}
 use Rattle.desk_commands.proofs.looks.audit_file.Goals as goal
 
 pub returns-in-Ok-clause-done : goal.returns-in-Ok-clause-done
@@ -14,10 +13,7 @@ returns-in-Ok-clause-failed g c = λ is.
     (fault.0, fault.1, c.count.result, told.front is, audits g.T.Start c.in-Ok.store c.count.result c.in-Ok.ensures.stands c.in-Ok.ensures.begins c.count.ensures)
 
 pub returns-in-Ok-clause-no_desk : goal.returns-in-Ok-clause-no_desk
-returns-in-Ok-clause-no_desk g c = λ is. told_unavailable (TellsLine g.E.Write.contents c.args.errors.now c.tell_lawful-status.new.errors) (c.tell_lawful-status.ensures.no_desk is)
+returns-in-Ok-clause-no_desk g c = λ is. inr (stays g.T.Start None c.in-Ok.store c.in-Ok.store refl c.in-Ok.ensures.begins, c.tell_lawful-status.ensures.no_desk is)
 
 pub returns-in-Err-clause-no_desk : goal.returns-in-Err-clause-no_desk
-returns-in-Err-clause-no_desk g c = λ _. told_refused (TellsLine g.E.Write.contents c.args.errors.now c.refused.new.errors) c.in-Err.fault (c.in-Err.ensures.never refl) c.refused.ensures.told
-
-pub returns-in-Ok-clause-left : goal.returns-in-Ok-clause-left
-returns-in-Ok-clause-left g c = λ is. inr (stays g.T.Start None c.in-Ok.store c.in-Ok.store refl c.in-Ok.ensures.begins)
+returns-in-Err-clause-no_desk g c = λ _. inl (c.in-Err.refusal.fault, (refl, c.in-Err.ensures.refused), c.refused.ensures.told)

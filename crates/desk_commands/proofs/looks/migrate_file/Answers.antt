@@ -1,5 +1,4 @@
-use Rattle.desk_runs.specs.Told.{TellsLine}
-use Rattle.desk_commands.proofs.Running.{told_refused}
+use Rattle.std.proofs.Common.{refl, inl}
 use Rattle.desk_commands.proofs.looks.migrate_file.Goals as goal
 
 pub returns-in-Ok-clause-done : goal.returns-in-Ok-clause-done
@@ -12,4 +11,4 @@ returns-in-Ok-clause-failed g c = λ is.
     (fault.0, fault.1, told.front is, c.in-Ok.ensures.migrated)
 
 pub returns-in-Err-clause-no_desk : goal.returns-in-Err-clause-no_desk
-returns-in-Err-clause-no_desk g c = λ _. told_refused (TellsLine g.E.Write.contents c.args.errors.now c.refused.new.errors) c.in-Err.fault c.in-Err.ensures.never c.refused.ensures.told
+returns-in-Err-clause-no_desk g c = λ _. inl (c.in-Err.refusal.fault, (refl, c.in-Err.ensures.refused), c.refused.ensures.told)

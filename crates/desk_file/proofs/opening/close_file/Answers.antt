@@ -1,5 +1,8 @@
-use Rattle.desk_file.proofs.Closing.{keeps}
+use Rattle.desk_file.proofs.Closing.{keeps, leaves}
 use Rattle.desk_file.proofs.opening.close_file.Goals as goal
 
 pub returns-in-Ok-clause-whole : goal.returns-in-Ok-clause-whole
 returns-in-Ok-clause-whole g c = keeps c.args.conn c.in-Ok.files c.schema-obeyed.ensures.live c.in-Ok.ensures.copied
+
+pub returns-in-Err-clause-left : goal.returns-in-Err-clause-left
+returns-in-Err-clause-left g c = leaves c.args.conn c.in-Err.store c.close.result c.close.ensures c.in-Err.ensures.err.0

@@ -1,8 +1,13 @@
+use Rattle.std.specs.Prelude.{⊤}
 use Rattle.std.proofs.Common.{arith}
 use Rattle.sqlite_wal.specs.Files.{image_at}
 use Rattle.sqlite.specs.Files.{file_state}
 use Rattle.sqlite.specs.State.{HasCleanDisk}
+use Rattle.desk_types.specs.declared.rules.Rules.TheVariants.{One}
+use Rattle.line_tables.specs.Calls.{LeavesMigrated}
 use Rattle.desk_file.proofs.Beginning.{migrates}
+use Rattle.desk_file.specs.Refused.{IsFaultIn}
+use Rattle.desk_file.proofs.Refusing.{fault_in, refused}
 use Rattle.desk_file.proofs.opening.migrate_desk.Goals as goal
 
 pub returns-in-Ok-clause-migrated : goal.returns-in-Ok-clause-migrated
@@ -13,3 +18,12 @@ returns-in-Ok-clause-migrated g c = λ clean alone.
     let m = c.in-Ok.ensures.migrated clean in
     let told = migrates (image_at g.T.Start) (file_state conn) (c.in_ok-conn.ensures.found before) opened.0 opened.1 (file_state c.migrate.new.conn) m.0 m.1 _ c.in-Ok.ensures.named m.2 alone in
     (m.0, m.1, told.0, told.1, told.2)
+
+pub returns-in-Err-clause-refused : goal.returns-in-Err-clause-refused
+returns-in-Err-clause-refused g c =
+    let image = image_at g.T.Start in
+    let first = c.in_ok-conn in
+    let last = c.migrate.new.conn in
+    let told = c.in-Err.ensures in
+    let stands = fault_in image first.conn last LeavesMigrated first.ensures.opened first.ensures.found told.unchanged c.migrate.ensures.crash One c.in-Err.fault told.fault told.told in
+    refused image first.conn last LeavesMigrated first.ensures.opened first.ensures.found told.unchanged c.migrate.ensures.crash (IsFaultIn image One) ⊤ c.in-Err.fault stands (λ _. told.never)

@@ -1,4 +1,4 @@
-use Rattle.std.proofs.Common.{ℕ, [], Option, IfSome, inr, sym, subst}
+use Rattle.std.proofs.Common.{ℕ, [], Option, IfErr, IfSome, inr, sym, subst}
 use Rattle.std.proofs.lemmas.Result.{IfOk-weaker}
 use Rattle.sqlite_wal.specs.Files.{image_at}
 use Rattle.sqlite_trees.specs.Tree.{Trees}
@@ -7,6 +7,8 @@ use Rattle.line_tables.specs.Rows.{HoldsAt, blank}
 use Rattle.line_schema.specs.Stands.{state_of}
 use Rattle.desk_file.specs.Files.{Begins, HasLineAlone}
 use Rattle.desk_file.proofs.Beginning.{begins_any, reads_none}
+use Rattle.desk_file.specs.Refused.{RefusesRun}
+use Rattle.desk_file.proofs.Refusing.{refuses}
 use Rattle.desk_file.proofs.opening.open_desk.Goals as goal
 
 pub returns-in-Some-clause-begins : goal.returns-in-Some-clause-begins
@@ -33,3 +35,9 @@ returns-in_default-clause-alone g c =
     let bare : HasLineAlone (image_at g.T.Start) = λ db found. inr (none db found) in
     let b = begins clean bare in
     absurd (reads_none (image_at g.T.Start) b.0 b.1 b.2 none)) c.opened.ensures.begins
+
+pub returns-in-Some-clause-refused : goal.returns-in-Some-clause-refused
+returns-in-Some-clause-refused g c = subst (λ (make : Option ℕ). IfErr c.made.result (RefusesRun (image_at g.T.Start) make)) (sym c.in-Some.is) c.made.ensures.refused
+
+pub returns-in_default-clause-refused : goal.returns-in_default-clause-refused
+returns-in_default-clause-refused g c = refuses (image_at g.T.Start) c.args.make c.opened.result c.opened.ensures.never c.opened.ensures.refused

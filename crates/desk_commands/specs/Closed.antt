@@ -1,0 +1,101 @@
+-- What a run on a desk did, said of the files that it closed.
+use Rattle.std.specs.Prelude.{◌≡◌, ◌≢◌, ◌⊎◌, ⊤, ℕ, Option, None, IsSomeAnd, MatchOption, length}
+use Rattle.sqlite_disk.specs.declared.Disk as disk
+use Rattle.sqlite_disk.specs.declared.Files.{Files}
+use Rattle.sqlite_disk.specs.declared.start.Start as start
+use Rattle.sqlite_wal.specs.Files.{image_at, outcomes}
+use Rattle.sqlite_wal.specs.Reads.{AreClean}
+use Rattle.sqlite_wal.specs.Recovery.{Image}
+use Rattle.sqlite_store.specs.declared.store.FileStore.{FileStore}
+use Rattle.sqlite.specs.Closing.{HoldsAlone}
+use Rattle.sqlite.specs.Effect.{Database}
+use Rattle.sqlite.specs.Files.{image_of}
+use Rattle.sqlite.specs.Held.{Held}
+use Rattle.desk_types.specs.declared.rules.Rules.TheVariants.{One, Two}
+use Rattle.desk_types.specs.History.{History}
+use Rattle.desk_types.specs.Judged.{IsLawful}
+use Rattle.consistency.specs.Consistent.{IsConsistent}
+use Rattle.desk_answers.specs.Ledger.{Ledger}
+use Rattle.feeder_state.specs.declared.desk.StateDesk.{StateDesk}
+use Rattle.feeder_state.specs.contracts.desk.StateDeskDesk.TheImpl.{ghosts as state}
+use Rattle.line_tables.specs.Rows.{Tables}
+use Rattle.line_rows.specs.Rows.{tables_of}
+use Rattle.line_opening.specs.declared.fault.OpenFault.{OpenFault}
+use Rattle.line_opening.specs.declared.fault.OpenFault.TheVariants.{NotADesk, NotBlank, Unavailable}
+use Rattle.line_schema.specs.declared.store.LineStore.{LineStore}
+use Rattle.line_schema.specs.Stands.{conn_of}
+use Rattle.desk_file.specs.Files.{Begins, Closes, Copies, HasLineAlone, IsFoundIn, IsOfOne, IsWhole, KeepsTables, Leaves}
+use Rattle.desk_file.specs.Refused.{IsFaultFor, IsFaultIn}
+use Rattle.desk_commands.specs.declared.left.Left.{Left}
+use Rattle.desk_commands.specs.declared.left.Left.TheVariants.{Nothing, Desk, Migrated, Refused}
+
+-- ---- how files were closed
+
+-- whole, or a close failed and let them be
+pub data Close : Type 0 where
+  whole : Close
+  failed : Close
+
+-- what the files read as now, or what a crash leaves of them
+abbrev pub MayRead : {D : Type 0} → disk.Ghosts D → Files D → Image → Type 0
+MayRead g files image = (image ≡ image_of g files) ⊎ outcomes g files.log files.db image
+
+-- the connection was closed so
+abbrev pub ClosesConn : {D : Type 0} {g : disk.Ghosts D} → Close → Held (FileStore D g) → Files D → Type 0
+ClosesConn whole conn files = KeepsTables conn files × Copies conn files
+ClosesConn failed conn files = Leaves conn files
+
+-- so was a desk
+abbrev pub ClosesDesk : {D : Type 0} {g : disk.Ghosts D} → Close → LineStore (FileStore D g) StateDesk → Files D → Type 0
+ClosesDesk whole desk files = Closes state.Stands state.kept_rules desk files × Copies (conn_of desk) files
+ClosesDesk failed desk files = Leaves (conn_of desk) files
+
+-- and what a command left: of nothing, and of files that were never opened, there are none
+abbrev pub ClosesLeft : {D : Type 0} {g : disk.Ghosts D} → Close → Left D g → Option (Files D) → Type 0
+ClosesLeft how Nothing files = files ≡ None
+ClosesLeft how (Desk desk) files = IsSomeAnd files (ClosesDesk how desk)
+ClosesLeft how (Migrated conn) files = IsSomeAnd files (ClosesConn how conn)
+ClosesLeft how (Refused r) files = MatchOption r.file (files ≡ None) (λ conn. IsSomeAnd files (ClosesConn how conn))
+
+-- ---- what they hold
+
+-- files that were closed whole hold these tables, whole by themselves, also after a crash
+abbrev pub HoldsTables : {D : Type 0} → Close → disk.Ghosts D → Files D → Tables → Type 0
+HoldsTables whole g files tables = (image : Image) → MayRead g files image → IsWhole tables image
+HoldsTables failed g files tables = ⊤
+
+-- they hold the database that an open of the first files finds
+abbrev pub HoldsFound : {D : Type 0} → Close → disk.Ghosts D → Files D → Image → Type 0
+HoldsFound whole g files first = (db : Database) × IsFoundIn first db × ((image : Image) → MayRead g files image → HoldsAlone image db.trees)
+HoldsFound failed g files first = ⊤
+
+-- ---- what was done
+
+-- What holds of the list with which a run began, where its files told the truth to the end and no other table was beside the desk's: that list is lawful, the fact tells the list after it, which is lawful and consistent, and the files hold the tables of that one.
+abbrev pub RunsTo : {T D : Type 0} → Close → start.Ghosts T → disk.Ghosts D → Option (Files D) → Option ℕ → (Ledger → History → Type 0) → Type 0
+RunsTo how first g files make Fact = IsSomeAnd files (λ f. AreClean g f.log f.db → HasLineAlone (image_at first)
+    → (greatest : ℕ) × (H : History) × Begins (image_at first) make greatest H × IsLawful Two greatest H
+    × (H' : History) × IsLawful Two greatest H' × IsConsistent H' × HoldsTables how g f (tables_of greatest H')
+    × Fact (record { rules = Two; greatest = greatest; history = H }) H')
+
+-- an audit found so many commands
+abbrev pub AuditsTo : {T D : Type 0} → Close → start.Ghosts T → disk.Ghosts D → Option (Files D) → ℕ → Type 0
+AuditsTo how first g files count = RunsTo how first g files None (λ G H. (H ≡ G.history) × (count ≡ length H))
+
+-- files that held the tables of a list by version 1 hold them by version 2
+abbrev pub MigratesTo : {T D : Type 0} → Close → start.Ghosts T → disk.Ghosts D → Option (Files D) → Type 0
+MigratesTo how first g files = IsSomeAnd files (λ f. AreClean g f.log f.db → HasLineAlone (image_at first)
+    → (greatest : ℕ) × (H : History) × IsOfOne (image_at first) greatest H × HoldsTables how g f (tables_of greatest H))
+
+-- The files were refused for this fault. Where they told the truth to the end, it stands in what they held, and they hold that still. Where none was opened it is Unavailable, or there is no file or one of no bytes, and none may be made.
+abbrev pub IsRefusedTo : {T D : Type 0} → Close → start.Ghosts T → disk.Ghosts D → Option (Files D) → (OpenFault → Type 0) → Type 0 → OpenFault → Type 0
+IsRefusedTo how first g files StandsIn MakesNone fault =
+    MatchOption files ((fault ≡ Unavailable) ⊎ ((fault ≡ NotADesk) × MakesNone)) (λ f. AreClean g f.log f.db → StandsIn fault × HoldsFound how g f (image_at first))
+    × (MakesNone → fault ≢ NotBlank)
+
+-- by a run that may make a desk up to this number, or by a migration
+abbrev pub RefusesTo : {T D : Type 0} → Close → start.Ghosts T → disk.Ghosts D → Option (Files D) → Option ℕ → OpenFault → Type 0
+RefusesTo how first g files make = IsRefusedTo how first g files (IsFaultFor (image_at first) make) (make ≡ None)
+
+abbrev pub RefusesToMigrateTo : {T D : Type 0} → Close → start.Ghosts T → disk.Ghosts D → Option (Files D) → OpenFault → Type 0
+RefusesToMigrateTo how first g files = IsRefusedTo how first g files (IsFaultIn (image_at first) One) ⊤

@@ -1,0 +1,19 @@
+//! What a command leaves open.
+
+use desk_file::Refusal;
+use feeder_state::StateDesk;
+use line_schema::LineStore;
+use sqlite::{Connection, FileStore};
+use sqlite_disk::Disk;
+
+/// What is still to be closed after a command.
+pub enum Left<D: Disk + Drop> {
+    /// Nothing was opened.
+    Nothing,
+    /// The desk of a file.
+    Desk(LineStore<FileStore<D>, StateDesk>),
+    /// A file that was migrated.
+    Migrated(Connection<FileStore<D>>),
+    /// A file that was refused.
+    Refused(Refusal<D>),
+}

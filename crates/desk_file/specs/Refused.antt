@@ -1,0 +1,81 @@
+-- Why files are refused, and what is left of them then.
+use Rattle.std.specs.Prelude.{◌≡◌, ◌≢◌, ◌⊎◌, ⊤, ℕ, pos, true, false, [], Option, None, IfSome, IsSome, IsSomeAnd, IsTrue}
+use Rattle.std.specs.List.{list_any}
+use Rattle.sqlite_disk.specs.declared.Disk as disk
+use Rattle.sqlite_wal.specs.Recovery.{Image}
+use Rattle.sqlite_store.specs.declared.store.FileStore.{FileStore}
+use Rattle.sqlite_trees.specs.Tree.{Trees}
+use Rattle.sqlite.specs.Effect.{Database}
+use Rattle.sqlite.specs.Files.{file_state, IsOpened}
+use Rattle.sqlite.specs.Held.{Held}
+use Rattle.sqlite.specs.State.{State, HasCleanDisk, KeepsCommit, Survives}
+use Rattle.small_pages.specs.Found.{FindsAs}
+use Rattle.desk_types.specs.declared.rules.Rules.{Rules}
+use Rattle.desk_types.specs.declared.rules.Rules.TheVariants.{One, Two}
+use Rattle.line_tables.specs.Calls.{LeavesBlank, LeavesMigrated}
+use Rattle.line_tables.specs.Names.{has_name}
+use Rattle.line_opening.specs.declared.fault.OpenFault.{OpenFault}
+use Rattle.line_opening.specs.declared.fault.OpenFault.TheVariants.{NotADesk, NotBlank, Unavailable}
+use Rattle.line_opening.specs.Opening.{IsFaultBy, IsToldBy}
+use Rattle.desk_file.specs.declared.refusal.Refusal.{Refusal}
+use Rattle.desk_file.specs.Files.{IsFoundIn}
+
+-- ---- the fault
+
+-- an open connection over this database, outside of a transaction
+abbrev pub resting : Database → State
+resting db = record {
+  now = db;
+  committed = db;
+  in_transaction = false;
+  marks = [];
+  is_open = true;
+  is_clean = true;
+  faults = 0;
+  blamed = None;
+  changes = 0;
+  last_rowid = pos 0;
+  step_limit = None;
+  may_leave = λ trees. trees ≡ db.trees;
+  IsShielded = ⊤;
+}
+
+-- the fault stands in a database that an open of the files finds, where they were to keep a desk of the version that goes with the rules
+abbrev pub IsFaultIn : Image → Rules → OpenFault → Type 0
+IsFaultIn image rules fault = (db : Database) × IsFoundIn image db × IsFaultBy rules (resting db) fault × IsToldBy rules (resting db) fault
+
+-- the files hold a table of one of our names
+abbrev pub HasOurName : Image → Type 0
+HasOurName image = (db : Database) × IsFoundIn image db × (list_any has_name db.schema.tables ≡ true)
+
+-- why a run refuses the files: the fault of a desk of version 2; or a desk was to be made in them, and a table of one of our names is there
+abbrev pub IsFaultFor : Image → Option ℕ → OpenFault → Type 0
+IsFaultFor image make fault = IsFaultIn image Two fault ⊎ (IsSome make × (fault ≡ NotBlank) × HasOurName image)
+
+-- ---- the files
+
+-- An open of the files made the connection `first`, and it has become `last`. Nothing was committed, and a crash leaves what it left of `first` or, beside, this.
+pub record IsUnchangedSince {D : Type 0} {g : disk.Ghosts D} (image : Image) (Leaves : State → Trees → Type 0) (first last : Held (FileStore D g)) : Type 0 where
+  pub opened : HasCleanDisk (file_state first) → IsOpened first × FindsAs image (file_state first)
+  pub kept : HasCleanDisk (file_state last) → KeepsCommit (file_state first) (file_state last)
+  pub survives : Survives (file_state first) (file_state last) (Leaves (file_state first))
+
+-- The files were refused. With no connection to them the fault is Unavailable, or there is no file or one of no bytes, and none may be made. Else, where the disk told the truth, it stands in what they held, and what the connection has committed is that. A fault is never NotBlank where no desk may be made.
+pub record IsRefused {D : Type 0} {g : disk.Ghosts D} (image : Image) (StandsIn : OpenFault → Type 0) (Leaves : State → Trees → Type 0) (MakesNone : Type 0) (r : Refusal D g) : Type 0 where
+  pub unopened : r.file ≡ None → (r.fault ≡ Unavailable) ⊎ ((r.fault ≡ NotADesk) × MakesNone)
+  pub fault : IfSome r.file (λ conn. HasCleanDisk (file_state conn) → StandsIn r.fault)
+  pub found : IfSome r.file (λ conn. HasCleanDisk (file_state conn) → IsTrue (file_state conn).is_open → IsFoundIn image (file_state conn).committed)
+  pub since : IfSome r.file (λ conn. (first : Held (FileStore D g)) × IsUnchangedSince image Leaves first conn)
+  pub never : MakesNone → r.fault ≢ NotBlank
+
+-- what a crash may leave beside of a run that may make a desk: the tables of an empty list
+abbrev pub LeavesMade : Option ℕ → State → Trees → Type 0
+LeavesMade make s trees = IsSomeAnd make (λ greatest. LeavesBlank greatest s trees)
+
+-- a run refused them that may make a desk up to this number
+abbrev pub RefusesRun : {D : Type 0} {g : disk.Ghosts D} → Image → Option ℕ → Refusal D g → Type 0
+RefusesRun image make = IsRefused image (IsFaultFor image make) (LeavesMade make) (make ≡ None)
+
+-- a migration refused them, by rules One: a crash may leave the desk by version 2 all the same
+abbrev pub RefusesMigration : {D : Type 0} {g : disk.Ghosts D} → Image → Refusal D g → Type 0
+RefusesMigration image = IsRefused image (IsFaultIn image One) LeavesMigrated ⊤
