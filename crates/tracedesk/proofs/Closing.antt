@@ -102,8 +102,8 @@ module _ {R W E : Type 0} (ways ways' : Ways) (to : Follows ways ways') (holds :
   refused (inr (inr (inr report))) = inr (inr (inr (reported (λ answer. (code_of answer.status ≢ 200) × Appends (writes (inner_of output)) (writes (inner_of output')) (printed answer)) report)))
 
   pub no_desk : NoDesk ways holds may_fail reads writes tells words input input' output output' errors errors' → NoDesk ways' holds may_fail reads writes tells words input input' output output' errors errors'
-  no_desk = has_none (RefusesNamed ways words) (RefusesNamed ways' words) (ways.OpensNone ⊎ ways.Runs None StaysSame) (ways'.OpensNone ⊎ ways'.Runs None StaysSame) (TellsLine tells errors errors') refused_named
-      (elim [ inl none ↦ inl (to.none none) | inr stays ↦ inr (to.runs None StaysSame stays) ])
+  no_desk (untouched, why) = (untouched, has_none (RefusesNamed ways words) (RefusesNamed ways' words) (ways.OpensNone ⊎ ways.Runs None StaysSame) (ways'.OpensNone ⊎ ways'.Runs None StaysSame) (TellsLine tells errors errors') refused_named
+      (elim [ inl none ↦ inl (to.none none) | inr stays ↦ inr (to.runs None StaysSame stays) ]) why)
 
   pub unread : ImportUnread ways words may_fail → ImportUnread ways' words may_fail
   unread (file, import, from, asks, may, stays) = (file, import, from, asks, may, to.runs None StaysSame stays)
@@ -144,9 +144,9 @@ module _ {R W E : Type 0} (ways : Ways) (holds : List ℕ → Option (List ℕ))
   bad_few (inr bad) = one_more (failures_of errors) (failures_of errors') bad.2
 
   none_few : NoDesk ways holds may_fail reads writes tells words input input' output output' errors errors' → failures_of errors' ≤ failures_of errors + 1
-  none_few (inl (fault, is, inl told)) = one_more (failures_of errors) (failures_of errors') told
-  none_few (inl (fault, is, inr told)) = one_more (failures_of errors) (failures_of errors') told
-  none_few (inr left) = one_more (failures_of errors) (failures_of errors') left.1
+  none_few (untouched, inl (fault, is, inl told)) = one_more (failures_of errors) (failures_of errors') told
+  none_few (untouched, inl (fault, is, inr told)) = one_more (failures_of errors) (failures_of errors') told
+  none_few (untouched, inr left) = one_more (failures_of errors) (failures_of errors') left.1
 
   end_few : TellsEnd tells output output' errors errors' → failures_of errors' ≤ failures_of errors + 1
   end_few (inl read) = one_more (failures_of errors) (failures_of errors') read.1

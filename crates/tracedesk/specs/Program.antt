@@ -127,9 +127,9 @@ module _ {R W E : Type 0} (ways : Ways) (holds : List ℕ → Option (List ℕ))
   Bad = (AsksForNothing words × (text : List ℕ) × told.Tells tells errors errors' text)
       ⊎ ((option : BadOption) × HasBadOption words option × ToldLine (option_line option))
 
-  -- status 3: the file that the words name was refused, and its fault was told, or Unavailable in its place; or memory was refused, with no file open or with a desk whose list stays
+  -- status 3, nothing was read or sent: the file that the words name was refused, and its fault was told, or Unavailable in its place; or memory was refused, with no file open or with a desk whose list stays
   abbrev pub NoDesk : Type 0
-  NoDesk = HasNoDesk (RefusesNamed ways words) (ways.OpensNone ⊎ ways.Runs None StaysSame) ToldLine
+  NoDesk = ((input' ≡ input) × (output' ≡ output)) × HasNoDesk (RefusesNamed ways words) (ways.OpensNone ⊎ ways.Runs None StaysSame) ToldLine
 
   -- status 4: a fault of the wires was told, and what went out before it is the beginning of what was to go out; or the file of an import could not be read, which may fail; or no further connection was served
   abbrev pub Failed : Type 0

@@ -159,8 +159,8 @@ returns-in-None-clause-unread g c = λ no_feed.
 pub returns-in-Some-clause-no_desk : goal.returns-in-Some-clause-no_desk
 returns-in-Some-clause-no_desk g c = λ status.
     let asks : AsksForFeed (map string_bytes c.args.words.now) (Some (string_bytes c.in-Some.file)) c.in-Ok-Feed.greatest = search rules in
-    has_none (Refuses g.T.Start (Some c.in-Ok-Feed.greatest) c.feed_in_file.result.1) (RefusesNamed (opened g.T.Start c.feed_in_file.result.1) (map string_bytes c.args.words.now)) ⊥ ((c.feed_in_file.result.1 ≡ Nothing) ⊎ RunsOn g.T.Start None c.feed_in_file.result.1 StaysSame) (TellsLine g.E.Write.contents c.args.errors.now c.feed_in_file.new.errors)
-    (λ fault is. inl ((string_bytes c.in-Some.file, c.in-Ok-Feed.greatest, asks, is))) (λ none. absurd none) (c.feed_in_file.ensures.no_desk status)
+    (c.feed_in_file.ensures.untouched status, has_none (Refuses g.T.Start (Some c.in-Ok-Feed.greatest) c.feed_in_file.result.1) (RefusesNamed (opened g.T.Start c.feed_in_file.result.1) (map string_bytes c.args.words.now)) ⊥ ((c.feed_in_file.result.1 ≡ Nothing) ⊎ RunsOn g.T.Start None c.feed_in_file.result.1 StaysSame) (TellsLine g.E.Write.contents c.args.errors.now c.feed_in_file.new.errors)
+    (λ fault is. inl ((string_bytes c.in-Some.file, c.in-Ok-Feed.greatest, asks, is))) (λ none. absurd none) (c.feed_in_file.ensures.no_desk status))
 
 pub returns-in-Some-clause-named : goal.returns-in-Some-clause-named
 returns-in-Some-clause-named g c =
@@ -170,8 +170,8 @@ returns-in-Some-clause-named g c =
 pub returns-in-Ok-Serve-clause-no_desk : goal.returns-in-Ok-Serve-clause-no_desk
 returns-in-Ok-Serve-clause-no_desk g c = λ status.
     let asks : AsksForServing (map string_bytes c.args.words.now) (string_bytes c.in-Ok-Serve.file) c.in-Ok-Serve.port c.in-Ok-Serve.connections c.in-Ok-Serve.greatest = search rules in
-    has_none (Refuses g.T.Start (Some c.in-Ok-Serve.greatest) c.serve_in_file.result.1) (RefusesNamed (opened g.T.Start c.serve_in_file.result.1) (map string_bytes c.args.words.now)) (c.serve_in_file.result.1 ≡ Nothing) ((c.serve_in_file.result.1 ≡ Nothing) ⊎ RunsOn g.T.Start None c.serve_in_file.result.1 StaysSame) (TellsLine g.E.Write.contents c.args.errors.now c.serve_in_file.new.errors)
-    (λ fault is. inr (inl ((string_bytes c.in-Ok-Serve.file, c.in-Ok-Serve.port, c.in-Ok-Serve.connections, c.in-Ok-Serve.greatest, asks, is)))) (λ none. inl none) (c.serve_in_file.ensures.no_desk status)
+    ((refl, c.serve_in_file.ensures.untouched status), has_none (Refuses g.T.Start (Some c.in-Ok-Serve.greatest) c.serve_in_file.result.1) (RefusesNamed (opened g.T.Start c.serve_in_file.result.1) (map string_bytes c.args.words.now)) (c.serve_in_file.result.1 ≡ Nothing) ((c.serve_in_file.result.1 ≡ Nothing) ⊎ RunsOn g.T.Start None c.serve_in_file.result.1 StaysSame) (TellsLine g.E.Write.contents c.args.errors.now c.serve_in_file.new.errors)
+    (λ fault is. inr (inl ((string_bytes c.in-Ok-Serve.file, c.in-Ok-Serve.port, c.in-Ok-Serve.connections, c.in-Ok-Serve.greatest, asks, is)))) (λ none. inl none) (c.serve_in_file.ensures.no_desk status))
 
 pub returns-in-Ok-Serve-clause-named : goal.returns-in-Ok-Serve-clause-named
 returns-in-Ok-Serve-clause-named g c =
@@ -181,8 +181,8 @@ returns-in-Ok-Serve-clause-named g c =
 pub returns-in-Ok-Import-clause-no_desk : goal.returns-in-Ok-Import-clause-no_desk
 returns-in-Ok-Import-clause-no_desk g c = λ status.
     let asks : AsksForImport (map string_bytes c.args.words.now) (string_bytes c.in-Ok-Import.file) c.in-Ok-Import.import (string_bytes c.in-Ok-Import.from) = search rules in
-    has_none (Refuses g.T.Start None c.import_in_file.result.1) (RefusesNamed (opened g.T.Start c.import_in_file.result.1) (map string_bytes c.args.words.now)) (RunsOn g.T.Start None c.import_in_file.result.1 StaysSame) ((c.import_in_file.result.1 ≡ Nothing) ⊎ RunsOn g.T.Start None c.import_in_file.result.1 StaysSame) (TellsLine g.E.Write.contents c.args.errors.now c.import_in_file.new.errors)
-    (λ fault is. inr (inr (inl ((string_bytes c.in-Ok-Import.file, c.in-Ok-Import.import, string_bytes c.in-Ok-Import.from, asks, is))))) (λ stays. inr stays) (c.import_in_file.ensures.no_desk status)
+    ((refl, c.import_in_file.ensures.untouched status), has_none (Refuses g.T.Start None c.import_in_file.result.1) (RefusesNamed (opened g.T.Start c.import_in_file.result.1) (map string_bytes c.args.words.now)) (RunsOn g.T.Start None c.import_in_file.result.1 StaysSame) ((c.import_in_file.result.1 ≡ Nothing) ⊎ RunsOn g.T.Start None c.import_in_file.result.1 StaysSame) (TellsLine g.E.Write.contents c.args.errors.now c.import_in_file.new.errors)
+    (λ fault is. inr (inr (inl ((string_bytes c.in-Ok-Import.file, c.in-Ok-Import.import, string_bytes c.in-Ok-Import.from, asks, is))))) (λ stays. inr stays) (c.import_in_file.ensures.no_desk status))
 
 pub returns-in-Ok-Import-clause-named : goal.returns-in-Ok-Import-clause-named
 returns-in-Ok-Import-clause-named g c =
@@ -192,8 +192,8 @@ returns-in-Ok-Import-clause-named g c =
 pub returns-in-Ok-Report-clause-no_desk : goal.returns-in-Ok-Report-clause-no_desk
 returns-in-Ok-Report-clause-no_desk g c = λ status.
     let asks : AsksForReport (map string_bytes c.args.words.now) (string_bytes c.in-Ok-Report.file) (string_bytes c.in-Ok-Report.target) = search rules in
-    has_none (Refuses g.T.Start None c.report_in_file.result.1) (RefusesNamed (opened g.T.Start c.report_in_file.result.1) (map string_bytes c.args.words.now)) (c.report_in_file.result.1 ≡ Nothing) ((c.report_in_file.result.1 ≡ Nothing) ⊎ RunsOn g.T.Start None c.report_in_file.result.1 StaysSame) (TellsLine g.E.Write.contents c.args.errors.now c.report_in_file.new.errors)
-    (λ fault is. inr (inr (inr (inl ((string_bytes c.in-Ok-Report.file, string_bytes c.in-Ok-Report.target, asks, is)))))) (λ none. inl none) (c.report_in_file.ensures.no_desk status)
+    ((refl, c.report_in_file.ensures.untouched status), has_none (Refuses g.T.Start None c.report_in_file.result.1) (RefusesNamed (opened g.T.Start c.report_in_file.result.1) (map string_bytes c.args.words.now)) (c.report_in_file.result.1 ≡ Nothing) ((c.report_in_file.result.1 ≡ Nothing) ⊎ RunsOn g.T.Start None c.report_in_file.result.1 StaysSame) (TellsLine g.E.Write.contents c.args.errors.now c.report_in_file.new.errors)
+    (λ fault is. inr (inr (inr (inl ((string_bytes c.in-Ok-Report.file, string_bytes c.in-Ok-Report.target, asks, is)))))) (λ none. inl none) (c.report_in_file.ensures.no_desk status))
 
 pub returns-in-Ok-Report-clause-named : goal.returns-in-Ok-Report-clause-named
 returns-in-Ok-Report-clause-named g c =
@@ -203,8 +203,8 @@ returns-in-Ok-Report-clause-named g c =
 pub returns-in-Ok-Audit-clause-no_desk : goal.returns-in-Ok-Audit-clause-no_desk
 returns-in-Ok-Audit-clause-no_desk g c = λ status.
     let asks : AsksForAudit (map string_bytes c.args.words.now) (string_bytes c.in-Ok-Audit.file) = search rules in
-    has_none (Refuses g.T.Start None c.audit_file.result.1) (RefusesNamed (opened g.T.Start c.audit_file.result.1) (map string_bytes c.args.words.now)) (RunsOn g.T.Start None c.audit_file.result.1 StaysSame) ((c.audit_file.result.1 ≡ Nothing) ⊎ RunsOn g.T.Start None c.audit_file.result.1 StaysSame) (TellsLine g.E.Write.contents c.args.errors.now c.audit_file.new.errors)
-    (λ fault is. inr (inr (inr (inr (inl ((string_bytes c.in-Ok-Audit.file, asks, is))))))) (λ stays. inr stays) (c.audit_file.ensures.no_desk status)
+    ((refl, c.audit_file.ensures.untouched status), has_none (Refuses g.T.Start None c.audit_file.result.1) (RefusesNamed (opened g.T.Start c.audit_file.result.1) (map string_bytes c.args.words.now)) (RunsOn g.T.Start None c.audit_file.result.1 StaysSame) ((c.audit_file.result.1 ≡ Nothing) ⊎ RunsOn g.T.Start None c.audit_file.result.1 StaysSame) (TellsLine g.E.Write.contents c.args.errors.now c.audit_file.new.errors)
+    (λ fault is. inr (inr (inr (inr (inl ((string_bytes c.in-Ok-Audit.file, asks, is))))))) (λ stays. inr stays) (c.audit_file.ensures.no_desk status))
 
 pub returns-in-Ok-Audit-clause-named : goal.returns-in-Ok-Audit-clause-named
 returns-in-Ok-Audit-clause-named g c =
@@ -214,8 +214,8 @@ returns-in-Ok-Audit-clause-named g c =
 pub returns-in-Ok-Migrate-clause-no_desk : goal.returns-in-Ok-Migrate-clause-no_desk
 returns-in-Ok-Migrate-clause-no_desk g c = λ status.
     let asks : AsksForMigration (map string_bytes c.args.words.now) (string_bytes c.in-Ok-Migrate.file) = search rules in
-    has_none (RefusesToMigrate g.T.Start c.migrate_file.result.1) (RefusesNamed (opened g.T.Start c.migrate_file.result.1) (map string_bytes c.args.words.now)) ⊥ ((c.migrate_file.result.1 ≡ Nothing) ⊎ RunsOn g.T.Start None c.migrate_file.result.1 StaysSame) (TellsLine g.E.Write.contents c.args.errors.now c.migrate_file.new.errors)
-    (λ fault is. inr (inr (inr (inr (inr ((string_bytes c.in-Ok-Migrate.file, asks, is))))))) (λ none. absurd none) (c.migrate_file.ensures.no_desk status)
+    ((refl, c.migrate_file.ensures.untouched status), has_none (RefusesToMigrate g.T.Start c.migrate_file.result.1) (RefusesNamed (opened g.T.Start c.migrate_file.result.1) (map string_bytes c.args.words.now)) ⊥ ((c.migrate_file.result.1 ≡ Nothing) ⊎ RunsOn g.T.Start None c.migrate_file.result.1 StaysSame) (TellsLine g.E.Write.contents c.args.errors.now c.migrate_file.new.errors)
+    (λ fault is. inr (inr (inr (inr (inr ((string_bytes c.in-Ok-Migrate.file, asks, is))))))) (λ none. absurd none) (c.migrate_file.ensures.no_desk status))
 
 pub returns-in-Ok-Migrate-clause-named : goal.returns-in-Ok-Migrate-clause-named
 returns-in-Ok-Migrate-clause-named g c =
