@@ -15,7 +15,7 @@ use Rattle.cfx_profile.specs.Bodies.{command_in, sheet_row_in, count_row_in}
 use Rattle.cfx_profile.specs.Fault.{◌>>=◌}
 use Rattle.cfx_profile.specs.Forms.{text_at, id_in, designator_in, number_in, quantity_in, counted_in, level_in, label_in}
 use Rattle.cfx_profile.specs.Lists.{items_list, some_items, items_in, each, list_in, row_in}
-use Rattle.cfx_profile.specs.Message.{envelope_text, envelope_id, envelope_object, stamped_in, said_under, said}
+use Rattle.cfx_profile.specs.Message.{envelope_text, envelope_id, envelope_object, stamped_in, said_under, said_in}
 use Rattle.cfx_profile.specs.Word.{word_of}
 use Rattle.cfx_profile.specs.Skipped.{SameOf, AgreeOn, RowsAgree, AllRowsAgree, ListsAgree, LabelsAgree, BodiesAgree, BodiesAgreeIn, EnvelopesAgree, OthersAreSkipped}
 
@@ -161,6 +161,6 @@ named_skips None a b h = refl
 named_skips (Some name) a b h = under_skips name (word_of name) a b (h name refl)
 
 pub others_skipped : OthersAreSkipped
-unfolding said envelope_text
+unfolding said_in envelope_text
 others_skipped bytes others a b is other same h =
     rw (is, other, ← same) (named_skips (text_at MessageName (object a)) (object a) (object b) h)

@@ -26,8 +26,8 @@ faulty_at fault key =
     (member (codes "Member") (string key) no_members)))
 
 -- a message of another name
-abbrev pub ignored : List ℕ → Data
-ignored name =
+abbrev pub ignored_object : List ℕ → Data
+ignored_object name =
     object (member (codes "Answer") (string (codes "Ignored"))
     (member (codes "MessageName") (string name) no_members))
 
@@ -47,7 +47,7 @@ fault_text fault = compact_text (fault_answer fault)
 
 -- the text of the answer to a message of another name
 unfoldable pub ignored_text : List ℕ → List ℕ
-ignored_text name = compact_text (ignored name)
+ignored_text name = compact_text (ignored_object name)
 
 -- the text of the answer where memory was refused
 abbrev pub unavailable_text : List ℕ

@@ -67,8 +67,8 @@ said_under name (Some word) envelope = do
   Ok (Asked stamped)
 
 -- what the bytes of a message say, or the first fault
-unfoldable pub said : List ℕ → Result Said MessageFault
-said bytes = do
+unfoldable pub said_in : List ℕ → Result Said MessageFault
+said_in bytes = do
   value ← ok_or (value_of bytes) NotJson
   envelope ← ok_or (object_of value) NotObject
   name ← envelope_text MessageName envelope

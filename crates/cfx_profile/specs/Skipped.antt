@@ -10,7 +10,7 @@ use Rattle.cfx_profile.specs.declared.word.Word.TheVariants as word
 use Rattle.cfx_profile.specs.Forms.{text_at, level_in}
 use Rattle.cfx_profile.specs.Lists.{items_list}
 use Rattle.cfx_profile.specs.Member.{member_text}
-use Rattle.cfx_profile.specs.Message.{value_of, said}
+use Rattle.cfx_profile.specs.Message.{value_of, said_in}
 use Rattle.cfx_profile.specs.Word.{word_of}
 
 -- ---- members
@@ -89,4 +89,4 @@ OthersAreSkipped =
     (bytes others : List ℕ) (a b : Members) → value_of bytes ≡ Some (object a) → value_of others ≡ Some (object b)
     → SameOf MessageName (object a) (object b)
     → ((name : List ℕ) → text_at MessageName (object a) ≡ Some name → EnvelopesAgree (word_of name) (object a) (object b))
-    → said bytes ≡ said others
+    → said_in bytes ≡ said_in others

@@ -4,7 +4,7 @@ ghost use Rattle.std.specs.Prelude.{◌≡◌, IsUtf8, IfOk, codes, false};
 ghost use Rattle.std.specs.Str.Lossy.{utf8_lossy};
 ghost use Rattle.serde_json.specs.View.{view};
 ghost use Rattle.serde_json.specs.Written.{compact_text, has_float};
-ghost use Rattle.cfx_profile.specs.Answer.{faulty, faulty_at, ignored, fault_answer, fault_text, ignored_text, unavailable_text};
+ghost use Rattle.cfx_profile.specs.Answer.{faulty, faulty_at, ignored_object, fault_answer, fault_text, ignored_text, unavailable_text};
 ghost use Rattle.cfx_profile.specs.Member.{member_text};
 
 use crate::fault::MessageFault;
@@ -49,7 +49,7 @@ pub fn ignored_text(alloc: Global, name: &Text) -> Result<Text, AllocError>
     ensures lossy { IfOk result (λ text. text ≡ ignored_text (utf8_lossy name.now)) }
 {
     let name = String::from_utf8_lossy(alloc, name.as_slice())?;
-    let answer = ignored(alloc, name.as_str())?;
+    let answer = ignored_object(alloc, name.as_str())?;
     compact(alloc, &answer)
 }
 
@@ -66,8 +66,8 @@ fn compact(alloc: Global, answer: &Value) -> Result<Text, AllocError>
     Ok(Listing::new(answer.to_string(alloc)?.into_bytes()))
 }
 
-fn ignored(alloc: Global, name: &str) -> Result<Value, AllocError>
-    ensures { IfOk result (λ answer. view answer ≡ ignored name.now) }
+fn ignored_object(alloc: Global, name: &str) -> Result<Value, AllocError>
+    ensures { IfOk result (λ answer. view answer ≡ ignored_object name.now) }
 {
     json!(in alloc; {"Answer": "Ignored", "MessageName": name})
 }

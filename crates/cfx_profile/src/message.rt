@@ -4,7 +4,7 @@ ghost use Rattle.std.specs.Prelude.{◌≡◌, ◌≢◌, Some, None, Ok, Err, I
 ghost use Rattle.serde_json.specs.View.{view};
 ghost use Rattle.cfx_profile.specs.Answer.{IsNamedByText};
 ghost use Rattle.cfx_profile.specs.Fault.{IsSaid};
-ghost use Rattle.cfx_profile.specs.Message.{value_of, envelope_text, envelope_id, envelope_object, minute_in, stamped_in, said};
+ghost use Rattle.cfx_profile.specs.Message.{value_of, envelope_text, envelope_id, envelope_object, minute_in, stamped_in, said_in};
 
 use crate::bodies::command_in;
 use crate::fault::MessageFault;
@@ -32,9 +32,9 @@ pub enum Said {
 /// order `MessageName`, `UniqueID`, `Source`, `TimeStamp`, `MessageBody`, then the time is read, and
 /// then the members of the body in their order; the first that is bad decides. Of a key that comes
 /// twice the last value counts. Every other member is skipped, whatever its value.
-#[tactic(auto, unfolding(crate::specs::Message::said))]
+#[tactic(auto, unfolding(crate::specs::Message::said_in))]
 pub fn read_message(alloc: Global, bytes: &[u8]) -> Result<Said, MessageFault>
-    ensures said { IsSaid (said bytes.now) result }
+    ensures said { IsSaid (said_in bytes.now) result }
     ensures text { IfOk result IsNamedByText }
 {
     let value = value_of(alloc, bytes)?;

@@ -54,7 +54,7 @@ impl Word {
     pub fn read(name: &str) -> Option<Word>
         ensures { result ≡ word_of name.now }
     {
-        named(&WORDS, name).copied()
+        first_named(&WORDS, name).copied()
     }
 
     /// The name of its messages.
@@ -90,7 +90,7 @@ pub fn words_are_read()
 {}
 
 /// The first of some words with messages of this name.
-fn named<'a>(words: &'a [Word], name: &str) -> Option<&'a Word>
+fn first_named<'a>(words: &'a [Word], name: &str) -> Option<&'a Word>
     ensures { option_map (λ word. word.now) result ≡ find (λ word. same (message_name word) name.now) words.now }
 {
     words.iter().find(|word| word.message_name() == name)

@@ -6,7 +6,7 @@ use Rattle.desk_types.proofs.BothRules.{judged-by-two}
 use Rattle.desk_laws.proofs.Balance.{balance}
 use Rattle.desk_laws.proofs.NameSets.{traces-converse}
 use Rattle.desk_laws.proofs.Places.{one-slot}
-use Rattle.desk_laws.proofs.Placing.{rightly-placed}
+use Rattle.desk_laws.proofs.InstalledPieces.{rightly-placed}
 use Rattle.desk_laws.proofs.Tapes.{live-distinct}
 use Rattle.consistency.specs.Consistent.{IsConsistent}
 

@@ -3,7 +3,7 @@ use Rattle.std.proofs.Common.{◌≡◌, ℕ, ◌+◌, ◌<◌, List, [], ◌∷
 use Rattle.std.specs.List.{flat_map}
 use Rattle.std.proofs.lemmas.List.{map-append}
 use Rattle.std.proofs.lemmas.List.Concat.{flat_map-append}
-use Rattle.desk_types.proofs.Steps.{take-next}
+use Rattle.desk_types.proofs.LoopSteps.{take-next}
 use Rattle.csv_texts.specs.Texts.{record_text, csv_text}
 
 -- the report of the rows so far and the next one has one record more

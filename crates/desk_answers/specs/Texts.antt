@@ -17,22 +17,22 @@ minutes None = null
 minutes (Some n) = number (unsigned n)
 
 -- the command with this UniqueID has this number; what more is told depends on the command
-abbrev pub accepted : ℕ → Name → Detail → Data
-accepted n uid Plain =
+abbrev pub accepted_object : ℕ → Name → Detail → Data
+accepted_object n uid Plain =
     object (member (codes "Answer") (string (codes "Accepted"))
     (member (codes "Number") (number (unsigned n))
     (member (codes "UniqueID") (string uid) no_members)))
-accepted n uid (MinutesLeft left) =
+accepted_object n uid (MinutesLeft left) =
     object (member (codes "Answer") (string (codes "Accepted"))
     (member (codes "MinutesLeft") (minutes left)
     (member (codes "Number") (number (unsigned n))
     (member (codes "UniqueID") (string uid) no_members))))
-accepted n uid (Reels reels) =
+accepted_object n uid (Reels reels) =
     object (member (codes "Answer") (string (codes "Accepted"))
     (member (codes "Number") (number (unsigned n))
     (member (codes "Reels") (array (items_of (map string reels)))
     (member (codes "UniqueID") (string uid) no_members))))
-accepted n uid (Taken pieces) =
+accepted_object n uid (Taken pieces) =
     object (member (codes "Answer") (string (codes "Accepted"))
     (member (codes "Number") (number (unsigned n))
     (member (codes "Taken") (number (unsigned pieces))
@@ -40,7 +40,7 @@ accepted n uid (Taken pieces) =
 
 -- the text of the answer to an accepted command
 unfoldable pub accepted_text : ℕ → Name → Detail → List ℕ
-accepted_text n uid detail = compact_text (accepted n uid detail)
+accepted_text n uid detail = compact_text (accepted_object n uid detail)
 
 -- ---- refused commands
 
@@ -103,35 +103,35 @@ place_of (ReelTwice reel) = Some reel
 place_of (CountAbove reel) = Some reel
 
 -- the command is refused by this word, at this place
-abbrev pub refused : List ℕ → Option Name → Name → Data
-refused word None uid =
+abbrev pub refused_object : List ℕ → Option Name → Name → Data
+refused_object word None uid =
     object (member (codes "Answer") (string (codes "Refused"))
     (member (codes "Refusal") (string word)
     (member (codes "UniqueID") (string uid) no_members)))
-refused word (Some place) uid =
+refused_object word (Some place) uid =
     object (member (codes "Answer") (string (codes "Refused"))
     (member (codes "At") (string place)
     (member (codes "Refusal") (string word)
     (member (codes "UniqueID") (string uid) no_members))))
 
 -- the UniqueID was used by another message, whose command has this number
-abbrev pub id_reused : ℕ → Name → Data
-id_reused n uid =
+abbrev pub id_reused_object : ℕ → Name → Data
+id_reused_object n uid =
     object (member (codes "Answer") (string (codes "Refused"))
     (member (codes "Number") (number (unsigned n))
     (member (codes "Refusal") (string (codes "IdReused"))
     (member (codes "UniqueID") (string uid) no_members))))
 
 -- as many commands are accepted as the desk may number
-abbrev pub desk_full : Name → Data
-desk_full uid = refused (codes "DeskFull") None uid
+abbrev pub desk_full_object : Name → Data
+desk_full_object uid = refused_object (codes "DeskFull") None uid
 
 -- the texts of the answers to refused commands
 unfoldable pub refused_text : Refusal → Name → List ℕ
-refused_text refusal uid = compact_text (refused (refusal_word refusal) (place_of refusal) uid)
+refused_text refusal uid = compact_text (refused_object (refusal_word refusal) (place_of refusal) uid)
 
 unfoldable pub id_reused_text : ℕ → Name → List ℕ
-id_reused_text n uid = compact_text (id_reused n uid)
+id_reused_text n uid = compact_text (id_reused_object n uid)
 
 unfoldable pub desk_full_text : Name → List ℕ
-desk_full_text uid = compact_text (desk_full uid)
+desk_full_text uid = compact_text (desk_full_object uid)

@@ -6,7 +6,7 @@ ghost use Rattle.serde_json.specs.View.{view, items_of};
 ghost use Rattle.serde_json.specs.Written.{compact_text, has_float};
 ghost use Rattle.desk_answers.specs.declared.answer.Answer.TheVariants as Answer;
 ghost use Rattle.desk_answers.specs.Commands.{answer_text, is_refused};
-ghost use Rattle.desk_answers.specs.Texts.{minutes, accepted, accepted_text, refusal_word, place_of, refused, refused_text, id_reused, id_reused_text, desk_full, desk_full_text};
+ghost use Rattle.desk_answers.specs.Texts.{minutes, accepted_object, accepted_text, refusal_word, place_of, refused_object, refused_text, id_reused_object, id_reused_text, desk_full_object, desk_full_text};
 
 use cfx_profile::unavailable_text;
 use desk_types::{Detail, Id, Listing, Refusal, Text};
@@ -64,12 +64,17 @@ pub fn accepted_text(
 ) -> Result<Text, AllocError>
     ensures { IfOk result (λ text. text ≡ accepted_text number uid.now detail.now) }
 {
-    let answer = accepted(alloc, number, uid.as_str(), detail)?;
+    let answer = accepted_object(alloc, number, uid.as_str(), detail)?;
     compact(alloc, &answer)
 }
 
-fn accepted(alloc: Global, number: u64, uid: &str, detail: &Detail) -> Result<Value, AllocError>
-    ensures value { IfOk result (λ answer. view answer ≡ accepted number uid.now detail.now) }
+fn accepted_object(
+    alloc: Global,
+    number: u64,
+    uid: &str,
+    detail: &Detail,
+) -> Result<Value, AllocError>
+    ensures value { IfOk result (λ answer. view answer ≡ accepted_object number uid.now detail.now) }
     ensures whole { IfOk result (λ answer. has_float (view answer) ≡ false) }
 {
     match detail {
@@ -112,7 +117,7 @@ fn strings(alloc: Global, names: &[Id]) -> Result<Value, AllocError>
 fn refused_text(alloc: Global, refusal: &Refusal, uid: &Id) -> Result<Text, AllocError>
     ensures { IfOk result (λ text. text ≡ refused_text refusal.now uid.now) }
 {
-    let answer = refused(alloc, word(refusal), place(refusal), uid.as_str())?;
+    let answer = refused_object(alloc, word(refusal), place(refusal), uid.as_str())?;
     compact(alloc, &answer)
 }
 
@@ -120,7 +125,7 @@ fn refused_text(alloc: Global, refusal: &Refusal, uid: &Id) -> Result<Text, Allo
 fn id_reused_text(alloc: Global, number: u64, uid: &Id) -> Result<Text, AllocError>
     ensures { IfOk result (λ text. text ≡ id_reused_text number uid.now) }
 {
-    let answer = id_reused(alloc, number, uid.as_str())?;
+    let answer = id_reused_object(alloc, number, uid.as_str())?;
     compact(alloc, &answer)
 }
 
@@ -128,7 +133,7 @@ fn id_reused_text(alloc: Global, number: u64, uid: &Id) -> Result<Text, AllocErr
 fn desk_full_text(alloc: Global, uid: &Id) -> Result<Text, AllocError>
     ensures { IfOk result (λ text. text ≡ desk_full_text uid.now) }
 {
-    let answer = refused(alloc, "DeskFull", None, uid.as_str())?;
+    let answer = refused_object(alloc, "DeskFull", None, uid.as_str())?;
     compact(alloc, &answer)
 }
 
@@ -138,8 +143,13 @@ fn compact(alloc: Global, answer: &Value) -> Result<Text, AllocError>
     Ok(Listing::new(answer.to_string(alloc)?.into_bytes()))
 }
 
-fn refused(alloc: Global, word: &str, place: Option<Id>, uid: &str) -> Result<Value, AllocError>
-    ensures value { IfOk result (λ answer. view answer ≡ refused word.now place uid.now) }
+fn refused_object(
+    alloc: Global,
+    word: &str,
+    place: Option<Id>,
+    uid: &str,
+) -> Result<Value, AllocError>
+    ensures value { IfOk result (λ answer. view answer ≡ refused_object word.now place uid.now) }
     ensures whole { IfOk result (λ answer. has_float (view answer) ≡ false) }
 {
     match place {
@@ -151,8 +161,8 @@ fn refused(alloc: Global, word: &str, place: Option<Id>, uid: &str) -> Result<Va
     }
 }
 
-fn id_reused(alloc: Global, number: u64, uid: &str) -> Result<Value, AllocError>
-    ensures { IfOk result (λ answer. view answer ≡ id_reused number uid.now) }
+fn id_reused_object(alloc: Global, number: u64, uid: &str) -> Result<Value, AllocError>
+    ensures { IfOk result (λ answer. view answer ≡ id_reused_object number uid.now) }
 {
     json!(in alloc; {"Answer": "Refused", "Number": number, "Refusal": "IdReused", "UniqueID": uid})
 }

@@ -3,7 +3,7 @@
 #![tactic(auto)]
 
 mod answer;
-mod line;
+mod owner;
 
 pub use answer::{Answer, accepted_text};
-pub use line::Line;
+pub use owner::Owner;

@@ -1,2 +1,2 @@
-pub mod Closing
-pub mod Running
+pub mod ClosedFiles
+pub mod RunsOnFiles

@@ -19,7 +19,7 @@ use Rattle.desk_answers.specs.Ledger.{Ledger}
 use Rattle.feeder_state.specs.declared.desk.StateDesk.{StateDesk}
 use Rattle.feeder_state.specs.contracts.desk.StateDeskDesk.TheImpl.{ghosts as state}
 use Rattle.line_tables.specs.Rows.{Tables}
-use Rattle.line_rows.specs.Rows.{tables_of}
+use Rattle.line_rows.specs.Rows.{ledger_tables}
 use Rattle.line_opening.specs.declared.fault.OpenFault.{OpenFault}
 use Rattle.line_opening.specs.declared.fault.OpenFault.TheVariants.{NotADesk, NotBlank, Unavailable}
 use Rattle.line_schema.specs.declared.store.LineStore.{LineStore}
@@ -75,7 +75,7 @@ HoldsFound failed g files first = ⊤
 abbrev pub RunsTo : {T D : Type 0} → Close → start.Ghosts T → disk.Ghosts D → Option (Files D) → Option ℕ → (Ledger → History → Type 0) → Type 0
 RunsTo how first g files make Fact = IsSomeAnd files (λ f. AreClean g f.log f.db → HasLineAlone (image_at first)
     → (greatest : ℕ) × (H : History) × Begins (image_at first) make greatest H × IsLawful Two greatest H
-    × (H' : History) × IsLawful Two greatest H' × IsConsistent H' × HoldsTables how g f (tables_of greatest H')
+    × (H' : History) × IsLawful Two greatest H' × IsConsistent H' × HoldsTables how g f (ledger_tables greatest H')
     × Fact (record { rules = Two; greatest = greatest; history = H }) H')
 
 -- an audit found so many commands
@@ -85,7 +85,7 @@ AuditsTo how first g files count = RunsTo how first g files None (λ G H. (H ≡
 -- files that held the tables of a list by version 1 hold them by version 2
 abbrev pub MigratesTo : {T D : Type 0} → Close → start.Ghosts T → disk.Ghosts D → Option (Files D) → Type 0
 MigratesTo how first g files = IsSomeAnd files (λ f. AreClean g f.log f.db → HasLineAlone (image_at first)
-    → (greatest : ℕ) × (H : History) × IsOfOne (image_at first) greatest H × HoldsTables how g f (tables_of greatest H))
+    → (greatest : ℕ) × (H : History) × IsOfOne (image_at first) greatest H × HoldsTables how g f (ledger_tables greatest H))
 
 -- The files were refused for this fault. Where they told the truth to the end, it stands in what they held, and they hold that still. Where none was opened it is Unavailable, or there is no file or one of no bytes, and none may be made.
 abbrev pub IsRefusedTo : {T D : Type 0} → Close → start.Ghosts T → disk.Ghosts D → Option (Files D) → (OpenFault → Type 0) → Type 0 → OpenFault → Type 0

@@ -19,7 +19,7 @@ ghost use Rattle.desk_runs.specs.Told.{fault_line, TellsLine};
 ghost use Rattle.desk_commands.specs.Runs.{HasNoDesk, LeavesDesk, Refuses, RunsOn, fresh, refusal_line};
 
 use crate::left::Left;
-use crate::refusal::refused;
+use crate::refusal::tell_refusal;
 use desk_file::open_desk;
 use desk_import::{Folder, Import};
 use desk_runs::{feed_lines, import_rows, unavailable};
@@ -104,7 +104,7 @@ pub fn feed_in_file<T: Start, R: Read, W: Write, E: Write>(
             (status, Left::Desk(store))
         }
         Err(refusal) => (
-            refused(rt.alloc(), &refusal.fault, errors),
+            tell_refusal(rt.alloc(), &refusal.fault, errors),
             Left::Refused(refusal),
         ),
     }
@@ -144,7 +144,7 @@ pub fn import_in_file<T: Start, F: Folder, W: Write, E: Write>(
             (status, Left::Desk(store))
         }
         Err(refusal) => (
-            refused(rt.alloc(), &refusal.fault, errors),
+            tell_refusal(rt.alloc(), &refusal.fault, errors),
             Left::Refused(refusal),
         ),
     }

@@ -7,16 +7,16 @@ ghost use Rattle.desk_types.specs.Wire.{inner_of, failures_of};
 ghost use Rattle.served.specs.declared.serving.ServeFault.TheVariants.{Write as WriteFault};
 ghost use Rattle.served.specs.Counts.{none_served};
 ghost use Rattle.served.specs.Sent.{SendsFront};
-ghost use Rattle.http_listener.specs.Connections.{Ended, Tells};
+ghost use Rattle.http_listener.specs.Connections.{Ended, TellsConnections};
 ghost use Rattle.http_stream.specs.Answers.{Told, code_of};
 ghost use Rattle.gateway_http.specs.Reports.{report_of};
-ghost use Rattle.desk_runs.specs.Runs.{TellsReport};
-ghost use Rattle.desk_runs.specs.Told.{fault_line, printed, TellsEnd, TellsLine};
+ghost use Rattle.desk_runs.specs.Runs.{AnswersReport};
+ghost use Rattle.desk_runs.specs.Told.{fault_line, report_output, TellsEnd, TellsLine};
 ghost use Rattle.desk_commands.specs.declared.left.Left.TheVariants.{Nothing};
 ghost use Rattle.desk_commands.specs.Runs.{HasNoDesk, LeavesDesk, Refuses, RunsOn, ServesEach};
 
 use crate::left::Left;
-use crate::refusal::refused;
+use crate::refusal::tell_refusal;
 use desk_file::open_desk;
 use desk_runs::{serve_port, tell_report, unavailable};
 use desk_types::Wire;
@@ -45,7 +45,7 @@ pub fn serve_in_file<T: Start, W: Write, E: Write>(
     requires write_failures { failures_of output.old < 2 ^ 63 }
     requires error_failures { failures_of errors.old < 2 ^ 63 }
     ensures status { (result.0 ≡ 0) ⊎ (result.0 ≡ 1) ⊎ (result.0 ≡ 3) ⊎ (result.0 ≡ 4) }
-    ensures served { (result.0 ≡ 0) ⊎ (result.0 ≡ 1) ⊎ (result.0 ≡ 4) → (ends : List Ended) × Tells connections ends result.0 (W.contents (inner_of output.old)) (W.contents (inner_of output.new)) (failures_of output.old) (failures_of output.new)
+    ensures served { (result.0 ≡ 0) ⊎ (result.0 ≡ 1) ⊎ (result.0 ≡ 4) → (ends : List Ended) × TellsConnections connections ends result.0 (W.contents (inner_of output.old)) (W.contents (inner_of output.new)) (failures_of output.old) (failures_of output.new)
         × RunsOn T.Start (Some greatest) result.1 (ServesEach ends) }
     ensures no_desk { result.0 ≡ 3 → HasNoDesk (Refuses T.Start (Some greatest) result.1) (result.1 ≡ Nothing) (TellsLine E.contents errors.old errors.new) }
     ensures left { LeavesDesk result.1 }
@@ -61,10 +61,10 @@ pub fn serve_in_file<T: Start, W: Write, E: Write>(
         Ok(store) => {
             let mut gateway = Gateway::new(ReportedStore::new(store), routes);
             let status = serve_port(rt, port, connections, output, errors, &mut gateway);
-            (status, Left::Desk(gateway.into_line().into_store()))
+            (status, Left::Desk(gateway.into_owner().into_store()))
         }
         Err(refusal) => (
-            refused(rt.alloc(), &refusal.fault, errors),
+            tell_refusal(rt.alloc(), &refusal.fault, errors),
             Left::Refused(refusal),
         ),
     }
@@ -83,16 +83,16 @@ pub fn report_in_file<T: Start, W: Write, E: Write>(
     requires write_failures { failures_of output.old < 2 ^ 63 }
     requires error_failures { failures_of errors.old < 2 ^ 63 }
     ensures status { (result.0 ≡ 0) ⊎ (result.0 ≡ 1) ⊎ (result.0 ≡ 3) ⊎ (result.0 ≡ 4) }
-    ensures done { result.0 ≡ 0 → (answer : Told) × (code_of answer.status ≡ 200) × Appends (W.contents (inner_of output.old)) (W.contents (inner_of output.new)) (printed answer)
-        × RunsOn T.Start None result.1 (TellsReport report_of target.now answer) }
-    ensures refused { result.0 ≡ 1 → (answer : Told) × (code_of answer.status ≢ 200) × Appends (W.contents (inner_of output.old)) (W.contents (inner_of output.new)) (printed answer)
-        × RunsOn T.Start None result.1 (TellsReport report_of target.now answer) }
+    ensures done { result.0 ≡ 0 → (answer : Told) × (code_of answer.status ≡ 200) × Appends (W.contents (inner_of output.old)) (W.contents (inner_of output.new)) (report_output answer)
+        × RunsOn T.Start None result.1 (AnswersReport report_of target.now answer) }
+    ensures refused { result.0 ≡ 1 → (answer : Told) × (code_of answer.status ≢ 200) × Appends (W.contents (inner_of output.old)) (W.contents (inner_of output.new)) (report_output answer)
+        × RunsOn T.Start None result.1 (AnswersReport report_of target.now answer) }
     ensures no_desk { result.0 ≡ 3 → HasNoDesk (Refuses T.Start None result.1) (result.1 ≡ Nothing) (TellsLine E.contents errors.old errors.new) }
     ensures left { LeavesDesk result.1 }
     ensures untouched { result.0 ≡ 3 → output.new ≡ output.old }
     ensures failed { result.0 ≡ 4 → (failures_of output.new ≡ failures_of output.old + 1) × TellsLine E.contents errors.old errors.new (fault_line (WriteFault none_served))
-        × (answer : Told) × SendsFront (W.contents (inner_of output.old)) (W.contents (inner_of output.new)) (printed answer)
-        × RunsOn T.Start None result.1 (TellsReport report_of target.now answer) }
+        × (answer : Told) × SendsFront (W.contents (inner_of output.old)) (W.contents (inner_of output.new)) (report_output answer)
+        × RunsOn T.Start None result.1 (AnswersReport report_of target.now answer) }
     ensures kept { (result.0 ≡ 0) ⊎ (result.0 ≡ 1) → failures_of output.new ≡ failures_of output.old }
     ensures quiet { (result.0 ≡ 0) ⊎ (result.0 ≡ 1) → errors.new ≡ errors.old }
 {
@@ -103,10 +103,10 @@ pub fn report_in_file<T: Start, W: Write, E: Write>(
         Ok(store) => {
             let mut gateway = Gateway::new(ReportedStore::new(store), routes);
             let status = tell_report(rt.alloc(), target, output, errors, &mut gateway);
-            (status, Left::Desk(gateway.into_line().into_store()))
+            (status, Left::Desk(gateway.into_owner().into_store()))
         }
         Err(refusal) => (
-            refused(rt.alloc(), &refusal.fault, errors),
+            tell_refusal(rt.alloc(), &refusal.fault, errors),
             Left::Refused(refusal),
         ),
     }

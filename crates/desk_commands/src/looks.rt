@@ -11,7 +11,7 @@ ghost use Rattle.desk_runs.specs.Told.{fault_line, lawful_line, version_line, Te
 ghost use Rattle.desk_commands.specs.Runs.{Audits, HasNoDesk, LeavesDesk, LeavesFile, Migrates, Refuses, RefusesToMigrate, RunsOn};
 
 use crate::left::Left;
-use crate::refusal::refused;
+use crate::refusal::tell_refusal;
 use desk_file::{migrate_desk, open_desk};
 use desk_runs::{send_text, tell_lawful};
 use desk_types::Wire;
@@ -47,7 +47,7 @@ pub fn audit_file<T: Start, W: Write, E: Write>(
             (status, Left::Desk(store))
         }
         Err(refusal) => (
-            refused(rt.alloc(), &refusal.fault, errors),
+            tell_refusal(rt.alloc(), &refusal.fault, errors),
             Left::Refused(refusal),
         ),
     }
@@ -80,7 +80,7 @@ pub fn migrate_file<T: Start, W: Write, E: Write>(
             (status, Left::Migrated(conn))
         }
         Err(refusal) => (
-            refused(rt.alloc(), &refusal.fault, errors),
+            tell_refusal(rt.alloc(), &refusal.fault, errors),
             Left::Refused(refusal),
         ),
     }

@@ -12,7 +12,7 @@ use std::alloc::Global;
 use std::io::Write;
 
 /// Tells why the desk's file was refused, or Unavailable where memory is.
-pub fn refused<E: Write>(alloc: Global, fault: &OpenFault, errors: &mut Wire<E>) -> u8
+pub fn tell_refusal<E: Write>(alloc: Global, fault: &OpenFault, errors: &mut Wire<E>) -> u8
     requires error_failures { failures_of errors.old < 2 ^ 63 }
     ensures status { result ≡ 3 }
     ensures told { TellsLine E.contents errors.old errors.new (refusal_line fault.now) ⊎ TellsLine E.contents errors.old errors.new unavailable_line }

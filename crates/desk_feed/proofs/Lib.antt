@@ -1,6 +1,6 @@
-pub mod Answering
+pub mod AnsweredLines
 pub mod ConstantRows
-pub mod Going
-pub mod Lining
-pub mod Sources
+pub mod InboxSources
+pub mod LinesOfInputs
+pub mod OwnersOfLines
 pub mod WithoutRepeats

@@ -3,7 +3,7 @@ use Rattle.std.proofs.Common.{◌≡◌, ◌∙◌, ◌||◌, ℕ, List, [], ◌
 use Rattle.cfx_profile.specs.declared.fault.MessageFault.{MessageFault}
 use Rattle.cfx_profile.specs.declared.message.Said.{Said}
 use Rattle.cfx_profile.specs.declared.message.Said.TheVariants.{Asked, Ignored}
-use Rattle.cfx_profile.specs.Message.{said}
+use Rattle.cfx_profile.specs.Message.{said_in}
 use Rattle.desk_types.specs.declared.rules.Rules.{Rules}
 use Rattle.desk_types.specs.History.{History}
 use Rattle.desk_types.specs.Outcome.{after_command}
@@ -31,7 +31,7 @@ short_leaves false again H after is leaves = leaves is
 -- a repeat leaves the list
 pub repeat_leaves : (rules : Rules) (greatest : ℕ) (H : History) (line : List ℕ) → is_repeat H line ≡ true → line_after rules greatest false H line ≡ H
 repeat_leaves rules greatest H line again =
-    short_leaves (nat_lt LONGEST_LINE (length line)) (repeats H (said line)) H (list_after rules greatest H line) again (heard_leaves rules greatest H (said line))
+    short_leaves (nat_lt LONGEST_LINE (length line)) (repeats H (said_in line)) H (list_after rules greatest H line) again (heard_leaves rules greatest H (said_in line))
 
 line_more : (rules : Rules) (greatest : ℕ) (H after : History) (line : List ℕ) (lines fewer more : List (List ℕ)) (again : Bool) → line_after rules greatest false H line ≡ after
     → (again ≡ true → after ≡ H) → after_all rules greatest H lines ≡ after_all rules greatest H fewer → after_all rules greatest after lines ≡ after_all rules greatest after more

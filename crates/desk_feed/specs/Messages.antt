@@ -7,7 +7,7 @@ use Rattle.cfx_profile.specs.declared.fault.MessageFault.{MessageFault}
 use Rattle.cfx_profile.specs.declared.message.Said.{Said}
 use Rattle.cfx_profile.specs.declared.message.Said.TheVariants.{Ignored, Asked}
 use Rattle.cfx_profile.specs.Answer.{fault_text, ignored_text}
-use Rattle.cfx_profile.specs.Message.{said}
+use Rattle.cfx_profile.specs.Message.{said_in}
 use Rattle.desk_feed.specs.declared.message.Told.{Told}
 use Rattle.desk_answers.specs.Commands.{command_answer, command_after, answer_text, is_refused}
 
@@ -29,8 +29,8 @@ after_heard rules greatest H (Err fault) = H
 
 -- the answer to the bytes of a message after H, by the rules, where the desk numbers its commands up to the greatest
 abbrev pub answer_to : Rules → ℕ → History → List ℕ → Told
-answer_to rules greatest H bytes = answer_heard rules greatest H (said bytes)
+answer_to rules greatest H bytes = answer_heard rules greatest H (said_in bytes)
 
 -- the list after them
 abbrev pub list_after : Rules → ℕ → History → List ℕ → History
-list_after rules greatest H bytes = after_heard rules greatest H (said bytes)
+list_after rules greatest H bytes = after_heard rules greatest H (said_in bytes)

@@ -3,7 +3,7 @@ use Rattle.std.specs.Prelude.{ℕ, List, [], ◌∷◌, length, Bool, true, fals
 use Rattle.cfx_profile.specs.declared.fault.MessageFault.{MessageFault}
 use Rattle.cfx_profile.specs.declared.message.Said.{Said}
 use Rattle.cfx_profile.specs.declared.message.Said.TheVariants.{Asked}
-use Rattle.cfx_profile.specs.Message.{said}
+use Rattle.cfx_profile.specs.Message.{said_in}
 use Rattle.desk_types.specs.declared.rules.Rules.{Rules}
 use Rattle.desk_types.specs.History.{History}
 use Rattle.desk_answers.specs.declared.answer.Answer.{Answer}
@@ -24,7 +24,7 @@ repeats H _ = false
 
 -- the line is such a message
 abbrev pub is_repeat : History → List ℕ → Bool
-is_repeat H line = if nat_lt LONGEST_LINE (length line) then false else repeats H (said line)
+is_repeat H line = if nat_lt LONGEST_LINE (length line) then false else repeats H (said_in line)
 
 -- the lines without those that were accepted before, by a line before them or in the list to begin with
 abbrev pub without_repeats : Rules → ℕ → History → List (List ℕ) → List (List ℕ)
@@ -34,10 +34,10 @@ without_repeats rules greatest H (line ∷ lines) =
     else line ∷ without_repeats rules greatest (line_after rules greatest false H line) lines
 
 -- no line is answered Unavailable
-abbrev pub unmarked : List (List ℕ) → List Bool
-unmarked [] = []
-unmarked (line ∷ lines) = false ∷ unmarked lines
+abbrev pub no_marks : List (List ℕ) → List Bool
+no_marks [] = []
+no_marks (line ∷ lines) = false ∷ no_marks lines
 
 -- the list after lines of which none is answered Unavailable
 abbrev pub after_all : Rules → ℕ → History → List (List ℕ) → History
-after_all rules greatest H lines = after_lines rules greatest (unmarked lines) H lines
+after_all rules greatest H lines = after_lines rules greatest (no_marks lines) H lines

@@ -49,15 +49,15 @@ after_lines rules greatest (m ∷ ms) H [] = H
 after_lines rules greatest (m ∷ ms) H (line ∷ lines) = after_lines rules greatest ms (line_after rules greatest m H line) lines
 
 -- an answer as it goes out: its text and a line feed
-abbrev pub sent : Told → List ℕ
-sent told = told.text ++ 10 ∷ []
+abbrev pub sent_line : Told → List ℕ
+sent_line told = told.text ++ 10 ∷ []
 
 -- ---- a run
 
 -- the lines were answered, each as its mark says: so many bytes went out, so the list went on, and so many were counted
 pub record Answered (rules : Rules) (greatest : ℕ) (lines : List (List ℕ)) (marks : List Bool) (H : History) (out : Option (List ℕ)) (before : Served) (H' : History) (out' : Option (List ℕ)) (after : Served) : Type 0 where
   pub each : length marks ≡ length lines
-  pub bytes : Appends out out' (flat_map sent (answers_to rules greatest marks H lines))
+  pub bytes : Appends out out' (flat_map sent_line (answers_to rules greatest marks H lines))
   pub history : H' ≡ after_lines rules greatest marks H lines
   pub answered : after.answered ≡ before.answered + length lines
   pub refused : after.refused ≡ before.refused + count_by (λ (told : Told). told.refused) (answers_to rules greatest marks H lines)
@@ -80,7 +80,7 @@ AnsweredFront rules greatest input H out H' out' served = (lines : List (List �
 abbrev pub AnsweredInto : Rules → ℕ → Option (List ℕ) → History → Option (List ℕ) → History → Option (List ℕ) → Served → Type 0
 AnsweredInto rules greatest input H out H' out' served = (lines : List (List ℕ)) × (marks : List Bool) × (line : List ℕ) × (mark : Bool) × (H₁ : History) × (out₁ : Option (List ℕ))
     × IfSome input (λ bytes. IsFront (lines ++ line ∷ []) (lines_of bytes)) × Answered rules greatest lines marks H out none_served H₁ out₁ served
-    × (H' ≡ line_after rules greatest mark H₁ line) × SendsFront out₁ out' (sent (line_answer rules greatest mark H₁ line))
+    × (H' ≡ line_after rules greatest mark H₁ line) × SendsFront out₁ out' (sent_line (line_answer rules greatest mark H₁ line))
 
 -- what was answered before a fault: after a failed read, or as many reads as may be, the first lines alone; after a failed write one more in part
 abbrev pub AnsweredUpTo : Rules → ℕ → Option (List ℕ) → History → Option (List ℕ) → History → Option (List ℕ) → ServeFault → Type 0

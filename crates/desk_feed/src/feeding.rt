@@ -13,7 +13,7 @@ ghost use Rattle.desk_feed.specs.Stream.{AnsweredAll, AnsweredFront, AnsweredInt
 
 use crate::inbox::{Inbox, InboxFault, RawLine, Taken};
 use crate::line::answer_line;
-use desk_answers::Line;
+use desk_answers::Owner;
 use desk_types::Wire;
 use served::{MOST_READS, ServeFault, Served, WriteFailed, send_line};
 use std::alloc::Global;
@@ -24,34 +24,34 @@ use std::io::{Read, Write};
 /// A line ends at a line feed or at the end of input, and one carriage return before that is
 /// dropped. An empty line is skipped. A line of more than 1,048,576 bytes is answered LineTooLong
 /// and skipped to its end; one in whose reading memory is refused is skipped and answered
-/// Unavailable. Each other line is a message, answered as the list says for which `line` stands, so
+/// Unavailable. Each other line is a message, answered as the list says for which `owner` stands, so
 /// long as what it keeps that list in told the truth.
-pub fn feed<R: Read, W: Write, L: Line>(
+pub fn feed<R: Read, W: Write, L: Owner>(
     alloc: Global,
     input: &mut Wire<R>,
     output: &mut Wire<W>,
-    line: &mut L,
+    owner: &mut L,
 ) -> Result<Served, ServeFault>
     requires read_failures { failures_of input.old < 2 ^ 63 }
     requires reads { reads_of input.old < 2 ^ 63 }
     requires write_failures { failures_of output.old < 2 ^ 63 }
-    requires ready { L.Ready line.old }
-    ensures ready { L.Ready line.new }
-    ensures trusts { L.Trusts line.new → L.Trusts line.old }
-    ensures ok { (G : Ledger) → L.Stands line.old G → L.Trusts line.new → IfOk result (λ served. (H : History) × L.Stands line.new (record G { history = H }) × AnsweredAll G.rules G.greatest (R.remaining (inner_of input.old))
+    requires ready { L.Ready owner.old }
+    ensures ready { L.Ready owner.new }
+    ensures trusts { L.Trusts owner.new → L.Trusts owner.old }
+    ensures ok { (G : Ledger) → L.Stands owner.old G → L.Trusts owner.new → IfOk result (λ served. (H : History) × L.Stands owner.new (record G { history = H }) × AnsweredAll G.rules G.greatest (R.remaining (inner_of input.old))
         G.history (W.contents (inner_of output.old)) H (W.contents (inner_of output.new)) served) }
     ensures end { OnOk result (IsAtEnd (R.remaining (inner_of input.new))) }
     ensures kept { OnOk result (FailsNever input.old input.new output.old output.new) }
     ensures few_reads { reads_of input.new ≤ reads_of input.old + MOST_READS }
     ensures read { (served : Served) → result ≡ Err (ServeFault.Read served) → IsShown (ServeFault.Read served) input.old input.new output.old output.new
-        × ((G : Ledger) → L.Stands line.old G → L.Trusts line.new → (H : History) × L.Stands line.new (record G { history = H }) × AnsweredFront G.rules G.greatest (R.remaining (inner_of input.old))
+        × ((G : Ledger) → L.Stands owner.old G → L.Trusts owner.new → (H : History) × L.Stands owner.new (record G { history = H }) × AnsweredFront G.rules G.greatest (R.remaining (inner_of input.old))
         G.history (W.contents (inner_of output.old)) H (W.contents (inner_of output.new)) served) }
     ensures too_many { (served : Served) → result ≡ Err (ServeFault.TooManyReads served) → IsShown (ServeFault.TooManyReads served) input.old input.new output.old output.new
-        × ((G : Ledger) → L.Stands line.old G → L.Trusts line.new → (H : History) × L.Stands line.new (record G { history = H }) × AnsweredFront G.rules G.greatest (R.remaining (inner_of input.old))
+        × ((G : Ledger) → L.Stands owner.old G → L.Trusts owner.new → (H : History) × L.Stands owner.new (record G { history = H }) × AnsweredFront G.rules G.greatest (R.remaining (inner_of input.old))
         G.history (W.contents (inner_of output.old)) H (W.contents (inner_of output.new)) served) }
     ensures unread { IfErr result (λ fault. LeavesNone (R.remaining (inner_of input.old)) (R.remaining (inner_of input.new)) fault) }
     ensures write { (served : Served) → result ≡ Err (ServeFault.Write served) → IsShown (ServeFault.Write served) input.old input.new output.old output.new
-        × ((G : Ledger) → L.Stands line.old G → L.Trusts line.new → (H : History) × L.Stands line.new (record G { history = H }) × AnsweredInto G.rules G.greatest (R.remaining (inner_of input.old))
+        × ((G : Ledger) → L.Stands owner.old G → L.Trusts owner.new → (H : History) × L.Stands owner.new (record G { history = H }) × AnsweredInto G.rules G.greatest (R.remaining (inner_of input.old))
         G.history (W.contents (inner_of output.old)) H (W.contents (inner_of output.new)) served) }
 {
     let most_reads = input.reads() + MOST_READS;
@@ -63,7 +63,7 @@ pub fn feed<R: Read, W: Write, L: Line>(
     'lines: loop {
         match inbox.next_line(alloc, input, most_reads) {
             Ok(Taken { line: raw, last }) => {
-                match serve_line(alloc, output, line, raw, &mut served) {
+                match serve_line(alloc, output, owner, raw, &mut served) {
                     Ok(()) if last => return Ok(served),
                     Ok(()) => {}
                     Err(WriteFailed) => return Err(ServeFault::Write(served)),
@@ -76,22 +76,22 @@ pub fn feed<R: Read, W: Write, L: Line>(
 }
 
 /// Answers what is kept of one line, and writes the answer.
-fn serve_line<W: Write, L: Line>(
+fn serve_line<W: Write, L: Owner>(
     alloc: Global,
     output: &mut Wire<W>,
-    line: &mut L,
+    owner: &mut L,
     raw: RawLine,
     served: &mut Served,
 ) -> Result<(), WriteFailed>
     requires few_failures { failures_of output.old < 2 ^ 63 }
     requires few_answers { served.old.answered < 2 ^ 63 }
     requires refused { served.old.refused ≤ served.old.answered }
-    requires ready { L.Ready line.old }
-    ensures ready { L.Ready line.new }
-    ensures trusts { L.Trusts line.new → L.Trusts line.old }
-    ensures ok { (G : Ledger) → L.Stands line.old G → L.Trusts line.new → (bytes : List ℕ) → HoldsLine raw bytes → OnOk result ((H : History) × L.Stands line.new (record G { history = H }) × Serves G.rules G.greatest (lines_in bytes)
+    requires ready { L.Ready owner.old }
+    ensures ready { L.Ready owner.new }
+    ensures trusts { L.Trusts owner.new → L.Trusts owner.old }
+    ensures ok { (G : Ledger) → L.Stands owner.old G → L.Trusts owner.new → (bytes : List ℕ) → HoldsLine raw bytes → OnOk result ((H : History) × L.Stands owner.new (record G { history = H }) × Serves G.rules G.greatest (lines_in bytes)
         G.history (W.contents (inner_of output.old)) served.old H (W.contents (inner_of output.new)) served.new) }
-    ensures err { (G : Ledger) → L.Stands line.old G → L.Trusts line.new → (bytes : List ℕ) → HoldsLine raw bytes → OnErr result ((H : History) × L.Stands line.new (record G { history = H }) × Breaks G.rules G.greatest (lines_in bytes)
+    ensures err { (G : Ledger) → L.Stands owner.old G → L.Trusts owner.new → (bytes : List ℕ) → HoldsLine raw bytes → OnErr result ((H : History) × L.Stands owner.new (record G { history = H }) × Breaks G.rules G.greatest (lines_in bytes)
         G.history (W.contents (inner_of output.old)) served.old H (W.contents (inner_of output.new)) served.new) }
     ensures few_answers { OnOk result (served.new.answered ≤ served.old.answered + 1) }
     ensures counted { (bytes : List ℕ) → HoldsLine raw bytes → OnOk result (served.new.answered ≡ served.old.answered + length (lines_in bytes)) }
@@ -99,7 +99,7 @@ fn serve_line<W: Write, L: Line>(
     ensures kept { OnOk result (failures_of output.new ≡ failures_of output.old) }
     ensures failed { OnErr result (failures_of output.new ≡ failures_of output.old + 1) }
 {
-    if let Some(answer) = answer_line(alloc, line, raw) {
+    if let Some(answer) = answer_line(alloc, owner, raw) {
         send_line(output, answer.text())?;
         served.count(answer.is_refused());
     }

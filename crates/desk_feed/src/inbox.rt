@@ -95,12 +95,12 @@ impl Inbox {
             let pending = &self.block[self.at..self.end];
             match first_feed(pending) {
                 Some(count) => {
-                    let line = grown(line, &pending[..count]);
+                    let line = extend_line(line, &pending[..count]);
                     self.at += count + 1;
                     return Ok(Taken { line, last: false });
                 }
                 None => {
-                    line = grown(line, pending);
+                    line = extend_line(line, pending);
                     self.at = self.end;
                 }
             }
@@ -150,7 +150,7 @@ fn first_feed(block: &[u8]) -> Option<usize>
 }
 
 /// The line with more bytes at its end.
-fn grown(line: RawLine, piece: &[u8]) -> RawLine
+fn extend_line(line: RawLine, piece: &[u8]) -> RawLine
     ensures { (raw : List ℕ) → HoldsLine line raw → HoldsLine result (raw ++ piece.now) }
 {
     if piece.is_empty() {

@@ -4,14 +4,14 @@ ghost use Rattle.std.specs.Prelude.{◌≡◌, ◌∷◌, [], ℕ, List, MatchOp
 ghost use Rattle.desk_types.specs.History.{History};
 ghost use Rattle.desk_answers.specs.Ledger.{Ledger};
 ghost use Rattle.desk_feed.specs.Inbox.{HoldsLine};
-ghost use Rattle.desk_feed.specs.LineAnswers.{told_by, AnswersRaw};
+ghost use Rattle.desk_feed.specs.LineAnswers.{line_told, AnswersRaw};
 ghost use Rattle.desk_feed.specs.Lines.{lines_in, without_return};
 ghost use Rattle.desk_feed.specs.Stream.{too_long_text};
 
 use crate::inbox::{LONGEST_LINE, RawLine, without_return};
 use crate::message::{Told, answer_message};
 use cfx_profile::unavailable_text;
-use desk_answers::Line;
+use desk_answers::Owner;
 use std::alloc::Global;
 
 /// What one line is answered.
@@ -28,7 +28,7 @@ pub enum LineAnswer {
 impl LineAnswer {
     /// The text of the answer. Takes no memory.
     pub fn text(&self) -> &[u8]
-        ensures { result.now ≡ (told_by self.now).text }
+        ensures { result.now ≡ (line_told self.now).text }
     {
         match self {
             LineAnswer::Made(told) => told.text.as_slice(),
@@ -39,7 +39,7 @@ impl LineAnswer {
 
     /// Whether it counts as refused.
     pub fn is_refused(&self) -> bool
-        ensures { result ≡ (told_by self.now).refused }
+        ensures { result ≡ (line_told self.now).refused }
     {
         match self {
             LineAnswer::Made(told) => told.refused,
@@ -56,12 +56,12 @@ fn too_long_text() -> &'static str
 }
 
 /// Answers what is kept of a line; an empty line has no answer.
-pub fn answer_line<L: Line>(alloc: Global, line: &mut L, raw: RawLine) -> Option<LineAnswer>
-    requires ready { L.Ready line.old }
-    ensures ready { L.Ready line.new }
-    ensures trusts { L.Trusts line.new → L.Trusts line.old }
-    ensures answer { (G : Ledger) → L.Stands line.old G → L.Trusts line.new → (bytes : List ℕ) → HoldsLine raw bytes
-        → (H : History) × L.Stands line.new (record G { history = H }) × AnswersRaw G.rules G.greatest G.history bytes result H }
+pub fn answer_line<L: Owner>(alloc: Global, owner: &mut L, raw: RawLine) -> Option<LineAnswer>
+    requires ready { L.Ready owner.old }
+    ensures ready { L.Ready owner.new }
+    ensures trusts { L.Trusts owner.new → L.Trusts owner.old }
+    ensures answer { (G : Ledger) → L.Stands owner.old G → L.Trusts owner.new → (bytes : List ℕ) → HoldsLine raw bytes
+        → (H : History) × L.Stands owner.new (record G { history = H }) × AnswersRaw G.rules G.greatest G.history bytes result H }
     ensures empty { (bytes : List ℕ) → HoldsLine raw bytes → MatchOption result (lines_in bytes ≡ []) (λ answer. lines_in bytes ≡ without_return bytes ∷ []) }
 {
     match raw {
@@ -76,7 +76,7 @@ pub fn answer_line<L: Line>(alloc: Global, line: &mut L, raw: RawLine) -> Option
             } else if too_long {
                 Some(LineAnswer::TooLong)
             } else {
-                match answer_message(alloc, line, bytes) {
+                match answer_message(alloc, owner, bytes) {
                     Ok(told) => Some(LineAnswer::Made(told)),
                     Err(_) => Some(LineAnswer::Unavailable),
                 }

@@ -6,7 +6,7 @@ ghost use Rattle.desk_answers.specs.Ledger.{Ledger};
 ghost use Rattle.desk_feed.specs.Messages.{answer_asked, answer_to, list_after};
 
 use cfx_profile::{MessageFault, Said, ignored_text, read_message};
-use desk_answers::{Answer, Line};
+use desk_answers::{Answer, Owner};
 use desk_types::{Stamped, Text};
 use std::alloc::{AllocError, Global};
 
@@ -18,24 +18,24 @@ pub struct Told {
 }
 
 /// Answers the bytes of one message. Where memory is refused, the list is as before.
-pub fn answer_message<L: Line>(
+pub fn answer_message<L: Owner>(
     alloc: Global,
-    line: &mut L,
+    owner: &mut L,
     bytes: &[u8],
 ) -> Result<Told, AllocError>
-    requires ready { L.Ready line.old }
-    ensures ready { L.Ready line.new }
-    ensures trusts { L.Trusts line.new → L.Trusts line.old }
-    ensures told { (G : Ledger) → L.Stands line.old G → L.Trusts line.new → IfOk result (λ told. told ≡ answer_to G.rules G.greatest G.history bytes.now) }
-    ensures after { (G : Ledger) → L.Stands line.old G → L.Trusts line.new → OnOk result (L.Stands line.new (record G { history = list_after G.rules G.greatest G.history bytes.now })) }
-    ensures err { (G : Ledger) → L.Stands line.old G → L.Trusts line.new → OnErr result (L.Stands line.new G) }
+    requires ready { L.Ready owner.old }
+    ensures ready { L.Ready owner.new }
+    ensures trusts { L.Trusts owner.new → L.Trusts owner.old }
+    ensures told { (G : Ledger) → L.Stands owner.old G → L.Trusts owner.new → IfOk result (λ told. told ≡ answer_to G.rules G.greatest G.history bytes.now) }
+    ensures after { (G : Ledger) → L.Stands owner.old G → L.Trusts owner.new → OnOk result (L.Stands owner.new (record G { history = list_after G.rules G.greatest G.history bytes.now })) }
+    ensures err { (G : Ledger) → L.Stands owner.old G → L.Trusts owner.new → OnErr result (L.Stands owner.new G) }
 {
     match read_message(alloc, bytes) {
         Ok(Said::Ignored(name)) => Ok(Told {
             text: ignored_text(alloc, &name)?,
             refused: false,
         }),
-        Ok(Said::Asked(stamped)) => answer_command(alloc, line, &stamped),
+        Ok(Said::Asked(stamped)) => answer_command(alloc, owner, &stamped),
         Err(MessageFault::NoMemory) => Err(AllocError),
         Err(fault) => Ok(Told {
             text: fault.write_text(alloc)?,
@@ -46,19 +46,19 @@ pub fn answer_message<L: Line>(
 
 /// Answers a command. Where memory is refused, the list is as before.
 #[tactic(auto, using(desk_answers::proofs::Refusing::refused_leaves))]
-pub fn answer_command<L: Line>(
+pub fn answer_command<L: Owner>(
     alloc: Global,
-    line: &mut L,
+    owner: &mut L,
     stamped: &Stamped,
 ) -> Result<Told, AllocError>
-    requires ready { L.Ready line.old }
-    ensures ready { L.Ready line.new }
-    ensures trusts { L.Trusts line.new → L.Trusts line.old }
-    ensures told { (G : Ledger) → L.Stands line.old G → L.Trusts line.new → IfOk result (λ told. told ≡ answer_asked G.rules G.greatest G.history stamped.now) }
-    ensures after { (G : Ledger) → L.Stands line.old G → L.Trusts line.new → OnOk result (L.Stands line.new (record G { history = command_after G.rules G.greatest G.history stamped.now })) }
-    ensures err { (G : Ledger) → L.Stands line.old G → L.Trusts line.new → OnErr result (L.Stands line.new G) }
+    requires ready { L.Ready owner.old }
+    ensures ready { L.Ready owner.new }
+    ensures trusts { L.Trusts owner.new → L.Trusts owner.old }
+    ensures told { (G : Ledger) → L.Stands owner.old G → L.Trusts owner.new → IfOk result (λ told. told ≡ answer_asked G.rules G.greatest G.history stamped.now) }
+    ensures after { (G : Ledger) → L.Stands owner.old G → L.Trusts owner.new → OnOk result (L.Stands owner.new (record G { history = command_after G.rules G.greatest G.history stamped.now })) }
+    ensures err { (G : Ledger) → L.Stands owner.old G → L.Trusts owner.new → OnErr result (L.Stands owner.new G) }
 {
-    match line.command(stamped) {
+    match owner.command(stamped) {
         Answer::Accepted(_, text) => Ok(Told {
             text,
             refused: false,

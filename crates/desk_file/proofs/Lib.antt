@@ -1,3 +1,3 @@
-pub mod Beginning
-pub mod Closing
-pub mod Refusing
+pub mod ClosedFiles
+pub mod FirstLists
+pub mod RefusedFiles

@@ -19,7 +19,7 @@ use Rattle.desk_types.specs.History.{History}
 use Rattle.desk_types.specs.Judged.{IsLawful}
 use Rattle.line_tables.specs.Line.{IsOurs, no_schema}
 use Rattle.line_tables.specs.Rows.{Tables, Holds, HoldsAt, HoldsBy}
-use Rattle.line_rows.specs.Rows.{tables_of}
+use Rattle.line_rows.specs.Rows.{ledger_tables}
 use Rattle.line_schema.specs.declared.store.LineStore.{LineStore}
 use Rattle.line_schema.specs.Stands.{Kept, Stands}
 
@@ -47,18 +47,18 @@ FindsNoTable image = (db : Database) → IsFoundIn image db → db.schema ≡ no
 
 -- A run on the files begins with the greatest number and the list whose tables they hold by version 2. Where they hold no table, and a desk may be made, it begins with an empty list and the greatest number that is asked for.
 abbrev pub Begins : Image → Option ℕ → ℕ → History → Type 0
-Begins image make greatest H = HasTables image (tables_of greatest H) ⊎ (HasNoTable image × (make ≡ Some greatest) × (H ≡ []))
+Begins image make greatest H = HasTables image (ledger_tables greatest H) ⊎ (HasNoTable image × (make ≡ Some greatest) × (H ≡ []))
 
 -- the files hold the tables of this list by version 1, and it is lawful by the rules of both versions
 pub record IsOfOne (image : Image) (greatest : ℕ) (H : History) : Type 0 where
-  pub tables : (db : Database) × IsFoundIn image db × HoldsBy One db (tables_of greatest H)
+  pub tables : (db : Database) × IsFoundIn image db × HoldsBy One db (ledger_tables greatest H)
   pub by_one : IsLawful One greatest H
   pub by_two : IsLawful Two greatest H
 
 -- The files held the tables of a list by version 1, which is lawful by the rules of both versions. The connection holds its tables by version 2, and a crash leaves these alone.
 abbrev pub MigratedFrom : {D : Type 0} {g : disk.Ghosts D} → Image → Held (FileStore D g) → Type 0
-MigratedFrom image conn = (greatest : ℕ) × (H : History) × IsOfOne image greatest H × Holds (file_state conn).committed (tables_of greatest H)
-    × ((trees : Trees) → (file_state conn).may_leave trees → HoldsAt (tables_of greatest H) trees)
+MigratedFrom image conn = (greatest : ℕ) × (H : History) × IsOfOne image greatest H × Holds (file_state conn).committed (ledger_tables greatest H)
+    × ((trees : Trees) → (file_state conn).may_leave trees → HoldsAt (ledger_tables greatest H) trees)
 
 -- the two files hold these tables, and so does the database file with no log
 abbrev pub IsWhole : Tables → Image → Type 0
@@ -80,4 +80,4 @@ KeepsTables {g = g} conn files = (tables : Tables) → (HasCleanDisk (file_state
 -- The files of a desk that stood for a list, its tables being its own, hold the tables of that list: as they read now and, whatever a crash leaves of them, then too. That is, where the disk told the truth to the end.
 abbrev pub Closes : {D E : Type 0} {g : disk.Ghosts D} → (E → History → Type 0) → (E → Rules) → LineStore (FileStore D g) E → Files D → Type 0
 Closes {g = g} StandsFor kept_rules desk files = (L : Kept) → Stands over_files StandsFor kept_rules desk L → IsTrue L.own → AreClean g files.log files.db
-    → (image : Image) → (image ≡ image_of g files) ⊎ outcomes g files.log files.db image → IsWhole (tables_of L.greatest L.history) image
+    → (image : Image) → (image ≡ image_of g files) ⊎ outcomes g files.log files.db image → IsWhole (ledger_tables L.greatest L.history) image

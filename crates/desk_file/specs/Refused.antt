@@ -23,8 +23,8 @@ use Rattle.desk_file.specs.Files.{IsFoundIn}
 -- ---- the fault
 
 -- an open connection over this database, outside of a transaction
-abbrev pub resting : Database → State
-resting db = record {
+abbrev pub idle_state : Database → State
+idle_state db = record {
   now = db;
   committed = db;
   in_transaction = false;
@@ -42,7 +42,7 @@ resting db = record {
 
 -- the fault stands in a database that an open of the files finds, where they were to keep a desk of the version that goes with the rules
 abbrev pub IsFaultIn : Image → Rules → OpenFault → Type 0
-IsFaultIn image rules fault = (db : Database) × IsFoundIn image db × IsFaultBy rules (resting db) fault × IsToldBy rules (resting db) fault
+IsFaultIn image rules fault = (db : Database) × IsFoundIn image db × IsFaultBy rules (idle_state db) fault × IsToldBy rules (idle_state db) fault
 
 -- the files hold a table of one of our names
 abbrev pub HasOurName : Image → Type 0

@@ -47,12 +47,12 @@ pub fn open_desk<T: Start, D: Desk + Drop>(
 {
     let is_blank = is_blank::<T>(rt, path)?;
     match make {
-        Some(greatest) if is_blank => made(rt, path, start, greatest),
+        Some(greatest) if is_blank => new_desk(rt, path, start, greatest),
         None if is_blank => Err(Refusal {
             fault: OpenFault::NotADesk,
             file: None,
         }),
-        _ => opened(rt, path, start),
+        _ => kept_desk(rt, path, start),
     }
 }
 
@@ -121,12 +121,12 @@ fn is_blank<T: Start>(rt: &HostRuntime, path: &str) -> Result<bool, Refusal<File
     match fs::metadata(rt, path) {
         Ok(found) if found.is_file() => Ok(found.len() == 0),
         Err(error) if error.kind() == ErrorKind::NotFound => Ok(true),
-        _ => Err(unconnected()),
+        _ => Err(no_connection()),
     }
 }
 
 /// A file to which no connection could be made.
-fn unconnected<T: Start>() -> Refusal<FileFrom<T>>
+fn no_connection<T: Start>() -> Refusal<FileFrom<T>>
     ensures { result ≡ record { fault = Fault.Unavailable; file = None } }
 {
     Refusal {
@@ -136,7 +136,7 @@ fn unconnected<T: Start>() -> Refusal<FileFrom<T>>
 }
 
 /// A desk of an empty list in the file, which is made where it is missing.
-fn made<T: Start, D: Desk + Drop>(
+fn new_desk<T: Start, D: Desk + Drop>(
     rt: &HostRuntime,
     path: &str,
     start: T,
@@ -161,7 +161,7 @@ fn made<T: Start, D: Desk + Drop>(
 }
 
 /// The desk that the file keeps.
-fn opened<T: Start, D: Desk + Drop>(
+fn kept_desk<T: Start, D: Desk + Drop>(
     rt: &HostRuntime,
     path: &str,
     start: T,
@@ -195,6 +195,6 @@ fn connect<T: Start>(
 {
     match small_pages::open(rt, path, start) {
         Ok(conn) => Ok(conn),
-        Err(_) => Err(unconnected()),
+        Err(_) => Err(no_connection()),
     }
 }

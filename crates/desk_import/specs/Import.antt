@@ -14,7 +14,7 @@ use Rattle.imports.specs.File.{setup_said, counts_said}
 use Rattle.served.specs.Sent.{SendsFront}
 use Rattle.desk_feed.specs.declared.message.Told.{Told}
 use Rattle.desk_feed.specs.Messages.{answer_asked}
-use Rattle.desk_feed.specs.Stream.{sent}
+use Rattle.desk_feed.specs.Stream.{sent_line}
 use Rattle.desk_import.specs.declared.options.Content.{Content}
 use Rattle.desk_import.specs.declared.options.Content.TheVariants.{Sheet, Counts}
 use Rattle.desk_import.specs.declared.options.Import.{Import}
@@ -65,8 +65,8 @@ import_after false G said = after_said G said
 -- what is said was answered: the answer's line went out whole, the list went on, and the answer counts as refused or doesn't
 abbrev pub IsAnswered : Result Stamped ImportFault → Option (List ℕ) → Option (List ℕ) → Bool → Ledger → History → Type 0
 IsAnswered said out out' refused G H = (mark : Bool) × (H ≡ import_after mark G said)
-    × Appends out out' (sent (import_answer mark G said)) × (refused ≡ (import_answer mark G said).refused)
+    × Appends out out' (sent_line (import_answer mark G said)) × (refused ≡ (import_answer mark G said).refused)
 
 -- it was answered, and only the first bytes of the line went out
 abbrev pub IsCutOff : Result Stamped ImportFault → Option (List ℕ) → Option (List ℕ) → Ledger → History → Type 0
-IsCutOff said out out' G H = (mark : Bool) × (H ≡ import_after mark G said) × SendsFront out out' (sent (import_answer mark G said))
+IsCutOff said out out' G H = (mark : Bool) × (H ≡ import_after mark G said) × SendsFront out out' (sent_line (import_answer mark G said))

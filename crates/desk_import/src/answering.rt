@@ -7,7 +7,7 @@ ghost use Rattle.desk_feed.specs.Owners.{ForLists};
 ghost use Rattle.desk_import.specs.Import.{after_said, answer_said, command_said, IsAnswered, IsCutOff};
 
 use crate::options::Import;
-use desk_answers::Line;
+use desk_answers::Owner;
 use desk_feed::{LineAnswer, Told, answer_command};
 use desk_types::Wire;
 use imports::ImportFault;
@@ -17,21 +17,21 @@ use std::io::Write;
 
 /// Answers the command of an import and the bytes of its file. Where memory is refused, the list is
 /// as before.
-pub fn answer_import<L: Line>(
+pub fn answer_import<L: Owner>(
     alloc: Global,
-    line: &mut L,
+    owner: &mut L,
     import: &Import,
     bytes: &[u8],
 ) -> Result<Told, AllocError>
-    requires ready { L.Ready line.old }
-    ensures ready { L.Ready line.new }
-    ensures trusts { L.Trusts line.new → L.Trusts line.old }
-    ensures told { (G : Ledger) → L.Stands line.old G → L.Trusts line.new → IfOk result (λ told. told ≡ answer_said G (command_said import.now bytes.now)) }
-    ensures after { (G : Ledger) → L.Stands line.old G → L.Trusts line.new → OnOk result (L.Stands line.new (record G { history = after_said G (command_said import.now bytes.now) })) }
-    ensures err { (G : Ledger) → L.Stands line.old G → L.Trusts line.new → OnErr result (L.Stands line.new G) }
+    requires ready { L.Ready owner.old }
+    ensures ready { L.Ready owner.new }
+    ensures trusts { L.Trusts owner.new → L.Trusts owner.old }
+    ensures told { (G : Ledger) → L.Stands owner.old G → L.Trusts owner.new → IfOk result (λ told. told ≡ answer_said G (command_said import.now bytes.now)) }
+    ensures after { (G : Ledger) → L.Stands owner.old G → L.Trusts owner.new → OnOk result (L.Stands owner.new (record G { history = after_said G (command_said import.now bytes.now) })) }
+    ensures err { (G : Ledger) → L.Stands owner.old G → L.Trusts owner.new → OnErr result (L.Stands owner.new G) }
 {
     match import.command(alloc, bytes) {
-        Ok(stamped) => answer_command(alloc, line, &stamped),
+        Ok(stamped) => answer_command(alloc, owner, &stamped),
         Err(ImportFault::NoMemory) => Err(AllocError),
         Err(fault) => Ok(Told {
             text: fault.write_text(alloc)?,
@@ -41,25 +41,25 @@ pub fn answer_import<L: Line>(
 }
 
 /// Answers an import, and writes the answer's line: whether it counts as refused.
-pub fn serve_import<W: Write, L: Line>(
+pub fn serve_import<W: Write, L: Owner>(
     alloc: Global,
     output: &mut Wire<W>,
-    line: &mut L,
+    owner: &mut L,
     import: &Import,
     bytes: &[u8],
 ) -> Result<bool, WriteFailed>
     requires few_failures { failures_of output.old < 2 ^ 63 }
-    requires ready { L.Ready line.old }
-    ensures ready { L.Ready line.new }
-    ensures trusts { L.Trusts line.new → L.Trusts line.old }
-    ensures ok { IfOk result (λ refused. ForLists L.Stands L.Trusts line.old line.new
+    requires ready { L.Ready owner.old }
+    ensures ready { L.Ready owner.new }
+    ensures trusts { L.Trusts owner.new → L.Trusts owner.old }
+    ensures ok { IfOk result (λ refused. ForLists L.Stands L.Trusts owner.old owner.new
         (IsAnswered (command_said import.now bytes.now) (W.contents (inner_of output.old)) (W.contents (inner_of output.new)) refused)) }
-    ensures err { OnErr result (ForLists L.Stands L.Trusts line.old line.new
+    ensures err { OnErr result (ForLists L.Stands L.Trusts owner.old owner.new
         (IsCutOff (command_said import.now bytes.now) (W.contents (inner_of output.old)) (W.contents (inner_of output.new)))) }
     ensures kept { OnOk result (failures_of output.new ≡ failures_of output.old) }
     ensures failed { OnErr result (failures_of output.new ≡ failures_of output.old + 1) }
 {
-    let answer = match answer_import(alloc, line, import, bytes) {
+    let answer = match answer_import(alloc, owner, import, bytes) {
         Ok(told) => LineAnswer::Made(told),
         Err(AllocError) => LineAnswer::Unavailable,
     };

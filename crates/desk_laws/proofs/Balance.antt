@@ -13,23 +13,23 @@ use Rattle.desk_types.specs.Id.{Name, same}
 use Rattle.desk_types.specs.History.{History}
 use Rattle.desk_types.specs.Setup.{slot_on, receipt_by, receipt_of}
 use Rattle.desk_types.specs.Tape.{tape_of}
-use Rattle.desk_types.specs.Pieces.{picked, picks_of, told_by, left_of, all_picks, found_by, found_of, received_of, placed_of, scrapped_of}
+use Rattle.desk_types.specs.Pieces.{pieces_picked, picks_of, pieces_by, left_of, all_picks, found_by, found_of, received_of, placed_of, scrapped_of}
 use Rattle.desk_types.specs.Refusals.{command_refusal}
 use Rattle.desk_types.specs.Judged.{IsJudged}
 use Rattle.desk_laws.proofs.Accepted.{next-accepted, received-once}
 use Rattle.desk_laws.proofs.Judgements.{or-none}
-use Rattle.desk_laws.proofs.Picks.{picked-append, install-within, scrap-within, and-nothing, counted}
+use Rattle.desk_laws.proofs.Picks.{pieces_picked-append, install-within, scrap-within, and-nothing, counted}
 use Rattle.desk_laws.proofs.Tapes.{tape-distinct}
-use Rattle.desk_laws.proofs.Totals.{picked-split}
+use Rattle.desk_laws.proofs.Totals.{pieces_picked-split}
 
 -- ---- one command
 
 -- what an accepted command does to one reel that it does not receive: it takes no more than the reel has, leaves the rest and what it
 -- finds, and finds nothing on a spent reel
 pub record IsTaken (H : History) (command : Command) (reel : Name) : Type 0 where
-  pub within : picked (picks_of H command) reel ≤ left_of H reel
-  pub rest : unwrap_or (told_by reel command) (left_of H reel - picked (picks_of H command) reel)
-      ≡ left_of H reel - picked (picks_of H command) reel + found_by (left_of H reel) reel command
+  pub within : pieces_picked (picks_of H command) reel ≤ left_of H reel
+  pub rest : unwrap_or (pieces_by reel command) (left_of H reel - pieces_picked (picks_of H command) reel)
+      ≡ left_of H reel - pieces_picked (picks_of H command) reel + found_by (left_of H reel) reel command
   pub spent : left_of H reel ≡ 0 → found_by (left_of H reel) reel command ≡ 0
 
 -- An accepted command does so.
@@ -54,12 +54,12 @@ taken-by H minute _ reel judged accepted other = record { within = omega arith; 
 
 -- The next entry takes of a reel, that it does not receive, no more than it has left.
 pub picks-within : (H : History) (e : Entry) (reel : Name) → IsJudged Two (e ∷ H) → receipt_by reel e.effective e.stamped.command ≡ None
-    → picked (picks_of H e.stamped.command) reel ≤ left_of H reel
+    → pieces_picked (picks_of H e.stamped.command) reel ≤ left_of H reel
 picks-within H e reel (next, judged) other = (taken-by H e.effective e.stamped.command reel judged (next-accepted H e next) other).within
 
 -- What the next entry leaves of a reel, that it does not receive, is what was left less what it takes, and what it finds.
 pub left-next : (H : History) (e : Entry) (reel : Name) → IsJudged Two (e ∷ H) → receipt_by reel e.effective e.stamped.command ≡ None
-    → left_of (e ∷ H) reel ≡ left_of H reel - picked (picks_of H e.stamped.command) reel + found_by (left_of H reel) reel e.stamped.command
+    → left_of (e ∷ H) reel ≡ left_of H reel - pieces_picked (picks_of H e.stamped.command) reel + found_by (left_of H reel) reel e.stamped.command
 unfolding left_of
 left-next H e reel (next, judged) other = (taken-by H e.effective e.stamped.command reel judged (next-accepted H e next) other).rest
 
@@ -88,7 +88,7 @@ some-next H e reel judged other some = by (nat_lt 0 (left_of H reel)) refl
 
 -- a command that receives a reel takes nothing and finds nothing, and tells the pieces of the receipt
 received-picks : (H : History) (minute : ℕ) (command : Command) (reel : Name) (receipt : Receipt) → receipt_by reel minute command ≡ Some receipt
-    → (picks_of H command ≡ []) × (told_by reel command ≡ Some receipt.quantity) × (found_by (left_of H reel) reel command ≡ 0)
+    → (picks_of H command ≡ []) × (pieces_by reel command ≡ Some receipt.quantity) × (found_by (left_of H reel) reel command ≡ 0)
 received-picks H minute (ReelReceived r part lot moisture quantity) reel receipt is = (refl, by (same r reel) is, refl)
   where
     by : (b : Bool) → (if b then Some (record { part = part; lot = lot; moisture = moisture; quantity = quantity; effective = minute }) else None) ≡ Some receipt
@@ -102,7 +102,7 @@ pub left-received : (H : History) (e : Entry) (reel : Name) (receipt : Receipt) 
     → left_of (e ∷ H) reel ≡ receipt.quantity
 unfolding left_of
 left-received H e reel receipt is =
-    ap (λ o. unwrap_or o (left_of H reel - picked (picks_of H e.stamped.command) reel)) (received-picks H e.effective e.stamped.command reel receipt is).1
+    ap (λ o. unwrap_or o (left_of H reel - pieces_picked (picks_of H e.stamped.command) reel)) (received-picks H e.effective e.stamped.command reel receipt is).1
 
 -- A reel that was not received has nothing left.
 pub unreceived-empty : (H : History) (reel : Name) → IsJudged Two H → receipt_of H reel ≡ None → left_of H reel ≡ 0
@@ -116,11 +116,11 @@ unreceived-empty (e ∷ H) reel (next, judged) none =
 
 -- all that a list took of a reel
 abbrev taken_of : History → Name → ℕ
-taken_of H reel = picked (all_picks H) reel
+taken_of H reel = pieces_picked (all_picks H) reel
 
-taken-next : (H : History) (e : Entry) (reel : Name) → taken_of (e ∷ H) reel ≡ taken_of H reel + picked (picks_of H e.stamped.command) reel
+taken-next : (H : History) (e : Entry) (reel : Name) → taken_of (e ∷ H) reel ≡ taken_of H reel + pieces_picked (picks_of H e.stamped.command) reel
 unfolding all_picks
-taken-next H e reel = picked-append (all_picks H) (picks_of H e.stamped.command) reel
+taken-next H e reel = pieces_picked-append (all_picks H) (picks_of H e.stamped.command) reel
 
 -- what was received of a reel is what was taken of it and what is left
 received-taken : (H : History) (reel : Name) → IsJudged Two H → received_of H reel ≡ taken_of H reel + left_of H reel
@@ -141,7 +141,7 @@ received-taken (e ∷ H) reel (next, judged) = by (receipt_by reel e.effective e
         let empty = unreceived-empty H reel judged fresh in
         let left = left-received H e reel receipt is in
         let says = received-picks H e.effective e.stamped.command reel receipt is in
-        let none = ap (λ ps. picked ps reel) says.0 in
+        let none = ap (λ ps. pieces_picked ps reel) says.0 in
         let found = says.2 in
         let taken = taken-next H e reel in
         omega (arith, before, nothing, empty, left, none, found, taken)
@@ -150,5 +150,5 @@ received-taken (e ∷ H) reel (next, judged) = by (receipt_by reel e.effective e
 pub balance : (H : History) (reel : Name) → IsJudged Two H → received_of H reel ≡ placed_of H reel + scrapped_of H reel + left_of H reel
 balance H reel judged =
     let all = received-taken H reel judged in
-    let parts = picked-split (all_picks H) reel in
+    let parts = pieces_picked-split (all_picks H) reel in
     omega (arith, all, parts)

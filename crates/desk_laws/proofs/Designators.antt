@@ -29,7 +29,7 @@ use Rattle.desk_types.proofs.Keys.{same-sym}
 use Rattle.desk_laws.proofs.Accepted.{next-accepted}
 use Rattle.desk_laws.proofs.Distinct.{distinct-join}
 use Rattle.desk_laws.proofs.Installs.{ArePlacedFor, each-placed, installable, designators-differ, designators-new}
-use Rattle.desk_laws.proofs.Placing.{AreUnplaced, unplaced-scrap, unplaced-count}
+use Rattle.desk_laws.proofs.InstalledPieces.{AreUnplaced, unplaced-scrap, unplaced-count}
 
 -- ---- spots: a board and a designator of it
 

@@ -20,7 +20,7 @@ use Rattle.desk_types.proofs.Exposure.{is_out-before, is_out-untouched}
 use Rattle.desk_types.proofs.Keys.{same-true}
 use Rattle.desk_types.proofs.Minutes.{count-split, count-agree, count-one}
 use Rattle.desk_laws.proofs.Judgements.{untouched, judged-prefix}
-use Rattle.desk_laws.proofs.Spent.{receipt-prefix}
+use Rattle.desk_laws.proofs.ReelsLater.{receipt-prefix}
 
 -- ---- one list
 

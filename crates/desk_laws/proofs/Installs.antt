@@ -15,7 +15,7 @@ use Rattle.desk_types.specs.Id.{Name, same}
 use Rattle.desk_types.specs.History.{History}
 use Rattle.desk_types.specs.Setup.{slot_on}
 use Rattle.desk_types.specs.Tape.{tape_of}
-use Rattle.desk_types.specs.Pieces.{picked, pick_for, install_picks, left_of, picks_of}
+use Rattle.desk_types.specs.Pieces.{pieces_picked, pick_for, install_picks, left_of, picks_of}
 use Rattle.desk_types.specs.Work.{is_placed_on, is_in_work_on}
 use Rattle.desk_types.specs.Refusals.{first_refusal, designators_refusal, install_refusal, command_refusal}
 use Rattle.desk_laws.proofs.Accepted.{none-holds}
@@ -101,11 +101,11 @@ module _ (slot_of : Name → Option Name) (tape : Name → List Name) (pieces : 
       found slot None some = cc
       found slot (Some reel) some = placed-push machine board seen before d slot (pick slot reel) all refl
 
-      by : (slot : Option Name) → is_none (option_and_then (λ s. option_map (pick s) (find (λ r. nat_lt (picked before r) (pieces r)) (tape s))) slot) ≡ false
+      by : (slot : Option Name) → is_none (option_and_then (λ s. option_map (pick s) (find (λ r. nat_lt (pieces_picked before r) (pieces r)) (tape s))) slot) ≡ false
           → ArePlacedFor machine board (seen ++ d ∷ [])
-          (before ++ option_to_list (option_and_then (λ s. option_map (pick s) (find (λ r. nat_lt (picked before r) (pieces r)) (tape s))) slot))
+          (before ++ option_to_list (option_and_then (λ s. option_map (pick s) (find (λ r. nat_lt (pieces_picked before r) (pieces r)) (tape s))) slot))
       by None some = cc
-      by (Some slot) some = found slot (find (λ r. nat_lt (picked before r) (pieces r)) (tape slot)) some
+      by (Some slot) some = found slot (find (λ r. nat_lt (pieces_picked before r) (pieces r)) (tape slot)) some
 
   pub install-placed : (before : List Pick) (seen ds : List Name) → designators_refusal slot_of tape pieces placed machine board before seen ds ≡ None
       → ArePlacedFor machine board seen before → ArePlacedFor machine board (seen ++ ds) (install_picks slot_of tape pieces machine board before ds)

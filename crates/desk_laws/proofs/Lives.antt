@@ -17,8 +17,8 @@ use Rattle.desk_types.specs.declared.take.Purpose.TheVariants.{Placed}
 use Rattle.desk_types.specs.Id.{Name, same}
 use Rattle.desk_types.specs.History.{History}
 use Rattle.desk_types.specs.Setup.{receipt_by}
-use Rattle.desk_types.specs.Tape.{spliced, tape_after, tape_of}
-use Rattle.desk_types.specs.Pieces.{picked, pieces_off, pick_for, install_picks, scrap_picks, left_of, live_on, first}
+use Rattle.desk_types.specs.Tape.{tape_with, tape_after, tape_of}
+use Rattle.desk_types.specs.Pieces.{pieces_picked, pieces_off, pick_for, install_picks, scrap_picks, left_of, live_on, first}
 use Rattle.desk_types.specs.Refusals.{designator_refusal, designators_refusal, command_refusal}
 use Rattle.desk_types.specs.Judged.{IsJudged}
 use Rattle.desk_types.proofs.Keys.{same-refl}
@@ -65,9 +65,9 @@ some-before H e machine slot reel (next, judged) there = some-next H e reel (nex
     by (Some receipt) is = let nowhere = unreceived-nowhere H machine slot reel judged (received-once H e reel receipt next is) in cc
 
 -- reels of which there are some, with one joined
-spliced-some : (reels : List Name) (reel : Name) → is_none (first reels) ≡ false → spliced reels reel ≡ reels ++ reel ∷ []
-spliced-some [] reel some = cc
-spliced-some (x ∷ xs) reel some = refl
+tape_with-some : (reels : List Name) (reel : Name) → is_none (first reels) ≡ false → tape_with reels reel ≡ reels ++ reel ∷ []
+tape_with-some [] reel some = cc
+tape_with-some (x ∷ xs) reel some = refl
 
 -- an accepted command does to the live reels what it does to the tape, where a test keeps the same of both
 live-step : (H : History) (minute : ℕ) (machine slot : Name) (command : Command) (keeps : Name → Bool) → command_refusal Two H minute command ≡ None
@@ -82,14 +82,14 @@ live-step H minute machine slot (MaterialsLoaded m s r) keeps accepted alike = b
 live-step H minute machine slot (MaterialsSpliced m s r) keeps accepted alike = by (same m machine && same s slot) refl
   where
     by : (b : Bool) → (same m machine && same s slot) ≡ b
-        → filter keeps (if b then spliced (tape_of H machine slot) r else tape_of H machine slot) ≡ filter keeps (if b then spliced (live_on H machine slot) r else live_on H machine slot)
+        → filter keeps (if b then tape_with (tape_of H machine slot) r else tape_of H machine slot) ≡ filter keeps (if b then tape_with (live_on H machine slot) r else live_on H machine slot)
     by true here =
         let some = sym (vacant-same H machine slot m s here) ∙ (mountable H minute m s r _ accepted).of_slot in
         ap (filter keeps) (joined H machine slot r some)
         ∙ filter-append keeps (tape_of H machine slot) (r ∷ [])
         ∙ ap (λ l. l ++ filter keeps (r ∷ [])) (sym alike)
         ∙ sym (filter-append keeps (live_on H machine slot) (r ∷ []))
-        ∙ ap (filter keeps) (sym (spliced-some (live_on H machine slot) r some))
+        ∙ ap (filter keeps) (sym (tape_with-some (live_on H machine slot) r some))
     by false here = sym alike
 live-step H minute machine slot (MaterialsUnloaded m s) keeps accepted alike = by (same m machine && same s slot)
   where
@@ -124,7 +124,7 @@ pub pick-live : (H : History) (slot_of : Name → Option Name) (machine board : 
 pick-live H slot_of machine board before d =
     ap (λ (pick_at : Name → Option Pick). option_and_then pick_at (slot_of d))
     (λ j slot. option_map (λ reel. record { reel = reel; quantity = 1; purpose = Placed board d machine slot })
-    (find-live H machine slot (λ r. nat_lt (picked before r) (left_of H r)) (λ r. more-some (picked before r) (left_of H r)) j))
+    (find-live H machine slot (λ r. nat_lt (pieces_picked before r) (left_of H r)) (λ r. more-some (pieces_picked before r) (left_of H r)) j))
 
 -- so are the picks of an install after some before,
 pub picks-live-after : (H : History) (slot_of : Name → Option Name) (machine board : Name) (before : List Pick) (ds : List Name)

@@ -13,7 +13,7 @@ use Rattle.desk_types.specs.Id.{Name, same}
 use Rattle.desk_types.specs.History.{History}
 use Rattle.desk_types.specs.Setup.{receipt_by}
 use Rattle.desk_types.specs.Tape.{tape_of}
-use Rattle.desk_types.specs.Pieces.{left_of, live_on, first, is_live_where_loaded, is_mounted, picked, told_by, picks_of}
+use Rattle.desk_types.specs.Pieces.{left_of, live_on, first, is_live_where_loaded, is_mounted, pieces_picked, pieces_by, picks_of}
 use Rattle.desk_types.specs.Refusals.{is_vacant, command_refusal}
 use Rattle.desk_types.specs.Judged.{IsJudged}
 use Rattle.desk_types.proofs.Keys.{same-refl}
@@ -32,7 +32,7 @@ some_left H reel = nat_lt 0 (left_of H reel)
 
 -- what is left of the reel after the command
 abbrev left_after : History → Command → Name → ℕ
-left_after H command reel = unwrap_or (told_by reel command) (left_of H reel - picked (picks_of H command) reel)
+left_after H command reel = unwrap_or (pieces_by reel command) (left_of H reel - pieces_picked (picks_of H command) reel)
 
 -- taking nothing leaves all
 less-none : (n : ℕ) → n - 0 ≡ n

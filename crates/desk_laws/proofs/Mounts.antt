@@ -12,7 +12,7 @@ use Rattle.desk_types.specs.declared.command.Receipt.{Receipt}
 use Rattle.desk_types.specs.declared.rules.Rules.TheVariants.{Two}
 use Rattle.desk_types.specs.Id.{Name, same}
 use Rattle.desk_types.specs.History.{History}
-use Rattle.desk_types.specs.Tape.{spliced, tape_after, tape_of}
+use Rattle.desk_types.specs.Tape.{tape_with, tape_after, tape_of}
 use Rattle.desk_types.specs.Setup.{receipt_of}
 use Rattle.desk_types.specs.Pieces.{left_of, live_on, first, front_of, is_live_where_loaded, is_mounted}
 use Rattle.desk_types.specs.FloorLife.{open_by, IsUntouched}
@@ -46,10 +46,10 @@ has-one r reel rest is = by (same reel r) (same-sym reel r) is
     by false eq is = cc
 
 -- a reel that stands on a tape after a splice stood there before or is the one that was joined
-has-spliced : (reels : List Name) (r reel : Name) (rest : Bool) → has (spliced reels r) reel ≡ true → (has reels reel ≡ true → rest ≡ true)
+has-tape_with : (reels : List Name) (r reel : Name) (rest : Bool) → has (tape_with reels r) reel ≡ true → (has reels reel ≡ true → rest ≡ true)
     → (same r reel || rest) ≡ true
-has-spliced [] r reel rest is there = cc
-has-spliced (x ∷ xs) r reel rest is there = by (has (x ∷ xs) reel) refl (sym (list_any-append (same reel) (x ∷ xs) (r ∷ [])) ∙ is)
+has-tape_with [] r reel rest is there = cc
+has-tape_with (x ∷ xs) r reel rest is there = by (has (x ∷ xs) reel) refl (sym (list_any-append (same reel) (x ∷ xs) (r ∷ [])) ∙ is)
   where
     by : (b : Bool) → has (x ∷ xs) reel ≡ b → (b || has (r ∷ []) reel) ≡ true → (same r reel || rest) ≡ true
     by true before is = or_right _ rest (there before)
@@ -65,8 +65,8 @@ mounted-step machine slot reel (MaterialsLoaded m s r) reels rest is there = by 
     by false is = there is
 mounted-step machine slot reel (MaterialsSpliced m s r) reels rest is there = by (same m machine && same s slot) is
   where
-    by : (b : Bool) → has (if b then spliced reels r else reels) reel ≡ true → ((b && same r reel) || rest) ≡ true
-    by true is = has-spliced reels r reel rest is there
+    by : (b : Bool) → has (if b then tape_with reels r else reels) reel ≡ true → ((b && same r reel) || rest) ≡ true
+    by true is = has-tape_with reels r reel rest is there
     by false is = there is
 mounted-step machine slot reel (MaterialsUnloaded m s) reels rest is there = by (same m machine && same s slot) is
   where
@@ -125,7 +125,7 @@ loaded-step machine slot test of_load (MaterialsLoaded m s r) reels rest some th
     by false here some = or_right _ rest (there some)
 loaded-step machine slot test of_load (MaterialsSpliced m s r) reels rest some there = or_right _ rest (there (by (same m machine && same s slot) reels some))
   where
-    by : (b : Bool) (reels : List Name) → is_none (first (if b then spliced reels r else reels)) ≡ false → is_none (first reels) ≡ false
+    by : (b : Bool) (reels : List Name) → is_none (first (if b then tape_with reels r else reels)) ≡ false → is_none (first reels) ≡ false
     by true [] some = some
     by true (x ∷ xs) some = refl
     by false reels some = some

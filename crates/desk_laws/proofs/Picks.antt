@@ -18,7 +18,7 @@ use Rattle.desk_types.specs.declared.take.Purpose.TheVariants.{Placed, Counted}
 use Rattle.desk_types.specs.Id.{Name, same}
 use Rattle.desk_types.specs.History.{History}
 use Rattle.desk_types.specs.Setup.{receipt_of}
-use Rattle.desk_types.specs.Pieces.{picked, pieces_off, pick_for, install_picks, scrap_picks, count_picks, found_by, left_of, is_mounted}
+use Rattle.desk_types.specs.Pieces.{pieces_picked, pieces_off, pick_for, install_picks, scrap_picks, count_picks, found_by, left_of, is_mounted}
 use Rattle.desk_types.specs.Refusals.{first_refusal, counts_refusal}
 use Rattle.desk_types.proofs.Keys.{same-refl, same-sym, same-true}
 use Rattle.desk_laws.proofs.Accepted.{none-holds}
@@ -27,19 +27,19 @@ use Rattle.desk_laws.proofs.Judgements.{or-none}
 -- ---- lists of picks
 
 -- the picks of two lists together
-pub picked-append : (before after : List Pick) (reel : Name) → picked (before ++ after) reel ≡ picked before reel + picked after reel
-picked-append before after reel = sum_by-append (λ (p : Pick). if same p.reel reel then p.quantity else 0) before after
+pub pieces_picked-append : (before after : List Pick) (reel : Name) → pieces_picked (before ++ after) reel ≡ pieces_picked before reel + pieces_picked after reel
+pieces_picked-append before after reel = sum_by-append (λ (p : Pick). if same p.reel reel then p.quantity else 0) before after
 
 -- a pick of n pieces is n pieces of its reel
-pub picked-off : (r : Name) (n : ℕ) (purpose : Purpose) (reel : Name) → picked (pieces_off r n purpose) reel ≡ if same r reel then n else 0
-picked-off r n purpose reel = by (nat_lt 0 n) refl
+pub pieces_picked-off : (r : Name) (n : ℕ) (purpose : Purpose) (reel : Name) → pieces_picked (pieces_off r n purpose) reel ≡ if same r reel then n else 0
+pieces_picked-off r n purpose reel = by (nat_lt 0 n) refl
   where
     empty : (here : Bool) → n ≡ 0 → 0 ≡ if here then n else 0
     empty true is = sym is
     empty false is = refl
 
     by : (some : Bool) → nat_lt 0 n ≡ some
-        → picked (if◌then◌else◌ {A = List Pick} some (record { reel = r; quantity = n; purpose = purpose } ∷ []) []) reel ≡ if same r reel then n else 0
+        → pieces_picked (if◌then◌else◌ {A = List Pick} some (record { reel = r; quantity = n; purpose = purpose } ∷ []) []) reel ≡ if same r reel then n else 0
     by true is = zero-add _
     by false is = let none = ltb-false 0 n is in empty (same r reel) (omega (arith, none))
 
@@ -64,33 +64,33 @@ find-passes p (y ∷ ys) x is = by (p y) refl is (find-passes p ys x)
 
 -- one more pick of a reel that has a piece left after those before
 one-within : (pieces : Name → ℕ) (purpose : Purpose) (before : List Pick) (reel : Name) (found : Option Name)
-    → ((r : Name) → found ≡ Some r → nat_lt (picked before r) (pieces r) ≡ true) → picked before reel ≤ pieces reel
-    → picked (before ++ option_to_list (option_map (λ r. record { reel = r; quantity = 1; purpose = purpose }) found)) reel ≤ pieces reel
-one-within pieces purpose before reel None has within = let all = picked-append before [] reel in omega (arith, all, within)
-one-within pieces purpose before reel (Some r) has within = by (same r reel) refl (picked-append before (record { reel = r; quantity = 1; purpose = purpose } ∷ []) reel)
+    → ((r : Name) → found ≡ Some r → nat_lt (pieces_picked before r) (pieces r) ≡ true) → pieces_picked before reel ≤ pieces reel
+    → pieces_picked (before ++ option_to_list (option_map (λ r. record { reel = r; quantity = 1; purpose = purpose }) found)) reel ≤ pieces reel
+one-within pieces purpose before reel None has within = let all = pieces_picked-append before [] reel in omega (arith, all, within)
+one-within pieces purpose before reel (Some r) has within = by (same r reel) refl (pieces_picked-append before (record { reel = r; quantity = 1; purpose = purpose } ∷ []) reel)
   where
     by : (b : Bool) → same r reel ≡ b
-        → picked (before ++ record { reel = r; quantity = 1; purpose = purpose } ∷ []) reel ≡ picked before reel + (0 + (if b then 1 else 0))
-        → picked (before ++ record { reel = r; quantity = 1; purpose = purpose } ∷ []) reel ≤ pieces reel
+        → pieces_picked (before ++ record { reel = r; quantity = 1; purpose = purpose } ∷ []) reel ≡ pieces_picked before reel + (0 + (if b then 1 else 0))
+        → pieces_picked (before ++ record { reel = r; quantity = 1; purpose = purpose } ∷ []) reel ≤ pieces reel
     by true here all =
-        let less = ltb-true _ _ (ap (λ x. nat_lt (picked before x) (pieces x)) (sym (same-true r reel here)) ∙ has r refl) in omega (arith, all, less)
+        let less = ltb-true _ _ (ap (λ x. nat_lt (pieces_picked before x) (pieces x)) (sym (same-true r reel here)) ∙ has r refl) in omega (arith, all, less)
     by false away all = omega (arith, all, within)
 
 picks-one : (slot_of : Name → Option Name) (tape : Name → List Name) (pieces : Name → ℕ) (machine board : Name) (before : List Pick) (d reel : Name)
-    → picked before reel ≤ pieces reel → picked (before ++ option_to_list (pick_for slot_of tape pieces machine board before d)) reel ≤ pieces reel
+    → pieces_picked before reel ≤ pieces reel → pieces_picked (before ++ option_to_list (pick_for slot_of tape pieces machine board before d)) reel ≤ pieces reel
 picks-one slot_of tape pieces machine board before d reel within = by (slot_of d)
   where
     by : (slot : Option Name)
-        → picked (before ++ option_to_list (option_and_then (λ s. option_map (λ r. record { reel = r; quantity = 1; purpose = Placed board d machine s })
-        (find (λ r. nat_lt (picked before r) (pieces r)) (tape s))) slot)) reel ≤ pieces reel
-    by None = let all = picked-append before [] reel in omega (arith, all, within)
+        → pieces_picked (before ++ option_to_list (option_and_then (λ s. option_map (λ r. record { reel = r; quantity = 1; purpose = Placed board d machine s })
+        (find (λ r. nat_lt (pieces_picked before r) (pieces r)) (tape s))) slot)) reel ≤ pieces reel
+    by None = let all = pieces_picked-append before [] reel in omega (arith, all, within)
     by (Some s) =
-        one-within pieces (Placed board d machine s) before reel (find (λ r. nat_lt (picked before r) (pieces r)) (tape s))
-        (λ r found. find-passes (λ x. nat_lt (picked before x) (pieces x)) (tape s) r found) within
+        one-within pieces (Placed board d machine s) before reel (find (λ r. nat_lt (pieces_picked before r) (pieces r)) (tape s))
+        (λ r found. find-passes (λ x. nat_lt (pieces_picked before x) (pieces x)) (tape s) r found) within
 
 -- The picks of an install are no more of a reel than it has, where those before are not.
 pub install-within : (slot_of : Name → Option Name) (tape : Name → List Name) (pieces : Name → ℕ) (machine board : Name) (before : List Pick) (ds : List Name) (reel : Name)
-    → picked before reel ≤ pieces reel → picked (install_picks slot_of tape pieces machine board before ds) reel ≤ pieces reel
+    → pieces_picked before reel ≤ pieces reel → pieces_picked (install_picks slot_of tape pieces machine board before ds) reel ≤ pieces reel
 unfolding install_picks
 install-within slot_of tape pieces machine board before [] reel within = within
 install-within slot_of tape pieces machine board before (d ∷ ds) reel within =
@@ -101,29 +101,29 @@ install-within slot_of tape pieces machine board before (d ∷ ds) reel within =
 
 -- a reel that does not stand on the tape
 scrap-absent : (pieces : Name → ℕ) (purpose : Purpose) (reels : List Name) (n : ℕ) (reel : Name) → AllByRecursion (λ y. same reel y ≡ false) reels
-    → picked (scrap_picks pieces purpose reels n) reel ≡ 0
+    → pieces_picked (scrap_picks pieces purpose reels n) reel ≡ 0
 scrap-absent pieces purpose [] n reel absent = refl
 scrap-absent pieces purpose (r ∷ rs) n reel (differs, absent) =
-    picked-append (pieces_off r (min n (pieces r)) purpose) (scrap_picks pieces purpose rs (n - pieces r)) reel
-    ∙ ap (λ k. k + picked (scrap_picks pieces purpose rs (n - pieces r)) reel) (picked-off r (min n (pieces r)) purpose reel)
-    ∙ ap (λ b. (if b then min n (pieces r) else 0) + picked (scrap_picks pieces purpose rs (n - pieces r)) reel) (same-sym r reel ∙ differs)
-    ∙ zero-add (picked (scrap_picks pieces purpose rs (n - pieces r)) reel)
+    pieces_picked-append (pieces_off r (min n (pieces r)) purpose) (scrap_picks pieces purpose rs (n - pieces r)) reel
+    ∙ ap (λ k. k + pieces_picked (scrap_picks pieces purpose rs (n - pieces r)) reel) (pieces_picked-off r (min n (pieces r)) purpose reel)
+    ∙ ap (λ b. (if b then min n (pieces r) else 0) + pieces_picked (scrap_picks pieces purpose rs (n - pieces r)) reel) (same-sym r reel ∙ differs)
+    ∙ zero-add (pieces_picked (scrap_picks pieces purpose rs (n - pieces r)) reel)
     ∙ scrap-absent pieces purpose rs (n - pieces r) reel absent
 
 -- The picks of a scrap are no more of a reel than it has, where it stands on the tape once at most.
 pub scrap-within : (pieces : Name → ℕ) (purpose : Purpose) (reels : List Name) (n : ℕ) (reel : Name) → IsDistinct same reels
-    → picked (scrap_picks pieces purpose reels n) reel ≤ pieces reel
+    → pieces_picked (scrap_picks pieces purpose reels n) reel ≤ pieces reel
 scrap-within pieces purpose [] n reel distinct = omega arith
-scrap-within pieces purpose (r ∷ rs) n reel distinct = by (same r reel) refl (both ∙ ap (λ k. k + rest) (picked-off r (min n (pieces r)) purpose reel)) (scrap-within pieces purpose rs (n - pieces r) reel (IsDistinct-tail same r rs distinct))
+scrap-within pieces purpose (r ∷ rs) n reel distinct = by (same r reel) refl (both ∙ ap (λ k. k + rest) (pieces_picked-off r (min n (pieces r)) purpose reel)) (scrap-within pieces purpose rs (n - pieces r) reel (IsDistinct-tail same r rs distinct))
   where
     rest : ℕ
-    rest = picked (scrap_picks pieces purpose rs (n - pieces r)) reel
+    rest = pieces_picked (scrap_picks pieces purpose rs (n - pieces r)) reel
 
-    both : picked (scrap_picks pieces purpose (r ∷ rs) n) reel ≡ picked (pieces_off r (min n (pieces r)) purpose) reel + rest
-    both = picked-append (pieces_off r (min n (pieces r)) purpose) (scrap_picks pieces purpose rs (n - pieces r)) reel
+    both : pieces_picked (scrap_picks pieces purpose (r ∷ rs) n) reel ≡ pieces_picked (pieces_off r (min n (pieces r)) purpose) reel + rest
+    both = pieces_picked-append (pieces_off r (min n (pieces r)) purpose) (scrap_picks pieces purpose rs (n - pieces r)) reel
 
-    by : (b : Bool) → same r reel ≡ b → picked (scrap_picks pieces purpose (r ∷ rs) n) reel ≡ (if b then min n (pieces r) else 0) + rest → rest ≤ pieces reel
-        → picked (scrap_picks pieces purpose (r ∷ rs) n) reel ≤ pieces reel
+    by : (b : Bool) → same r reel ≡ b → pieces_picked (scrap_picks pieces purpose (r ∷ rs) n) reel ≡ (if b then min n (pieces r) else 0) + rest → rest ≤ pieces reel
+        → pieces_picked (scrap_picks pieces purpose (r ∷ rs) n) reel ≤ pieces reel
     by true here all few_after =
         let one = same-true r reel here in
         let none : rest ≡ 0 = scrap-absent pieces purpose rs (n - pieces r) reel (subst (λ x. AllByRecursion (λ y. same x y ≡ false) rs) one (IsDistinct-head same r rs distinct)) in
@@ -158,13 +158,13 @@ countable H seen row rows none =
 
 -- a reel of a row before is in no further row
 pub count-absent : (H : History) (pieces : Name → ℕ) (seen : List Name) (rows : List CountRow) (reel : Name) → counts_refusal Two H seen rows ≡ None
-    → list_any (same reel) seen ≡ true → picked (count_picks pieces rows) reel ≡ 0
+    → list_any (same reel) seen ≡ true → pieces_picked (count_picks pieces rows) reel ≡ 0
 count-absent H pieces seen [] reel none before = refl
 count-absent H pieces seen (row ∷ rows) reel none before =
-    picked-append (pieces_off row.reel (pieces row.reel - row.quantity) Counted) (count_picks pieces rows) reel
-    ∙ ap (λ k. k + picked (count_picks pieces rows) reel) (picked-off row.reel (pieces row.reel - row.quantity) Counted reel)
-    ∙ ap (λ b. (if b then pieces row.reel - row.quantity else 0) + picked (count_picks pieces rows) reel) (away (same row.reel reel) refl)
-    ∙ zero-add (picked (count_picks pieces rows) reel)
+    pieces_picked-append (pieces_off row.reel (pieces row.reel - row.quantity) Counted) (count_picks pieces rows) reel
+    ∙ ap (λ k. k + pieces_picked (count_picks pieces rows) reel) (pieces_picked-off row.reel (pieces row.reel - row.quantity) Counted reel)
+    ∙ ap (λ b. (if b then pieces row.reel - row.quantity else 0) + pieces_picked (count_picks pieces rows) reel) (away (same row.reel reel) refl)
+    ∙ zero-add (pieces_picked (count_picks pieces rows) reel)
     ∙ count-absent H pieces (seen ++ row.reel ∷ []) rows reel (countable H seen row rows none).1
     (list_any-append (same reel) seen (row.reel ∷ []) ∙ ap (λ b. b || list_any (same reel) (row.reel ∷ [])) before)
   where
@@ -175,9 +175,9 @@ count-absent H pieces seen (row ∷ rows) reel none before =
 -- what an accepted count does with one reel: it takes no more than there is; where it tells the pieces, they are what it leaves and what it
 -- finds; and it finds nothing on a spent reel
 pub record IsCounted (H : History) (rows : List CountRow) (reel : Name) : Type 0 where
-  pub within : picked (count_picks (left_of H) rows) reel ≤ left_of H reel
-  pub told : unwrap_or (option_map (λ (row : CountRow). row.quantity) (find (λ row. same row.reel reel) rows)) (left_of H reel - picked (count_picks (left_of H) rows) reel)
-      ≡ left_of H reel - picked (count_picks (left_of H) rows) reel + found_by (left_of H reel) reel (CountsTaken rows)
+  pub within : pieces_picked (count_picks (left_of H) rows) reel ≤ left_of H reel
+  pub told : unwrap_or (option_map (λ (row : CountRow). row.quantity) (find (λ row. same row.reel reel) rows)) (left_of H reel - pieces_picked (count_picks (left_of H) rows) reel)
+      ≡ left_of H reel - pieces_picked (count_picks (left_of H) rows) reel + found_by (left_of H reel) reel (CountsTaken rows)
   pub spent : left_of H reel ≡ 0 → found_by (left_of H reel) reel (CountsTaken rows) ≡ 0
 
 -- what nothing is found on
@@ -191,14 +191,14 @@ spent-none left counted test none = let few = ltb-false 0 counted (sym (ap (λ n
 -- An accepted count does so.
 pub counted : (H : History) (seen : List Name) (rows : List CountRow) (reel : Name) → counts_refusal Two H seen rows ≡ None → IsCounted H rows reel
 counted H seen [] reel none = record { within = omega arith; told = and-nothing _; spent = λ empty. refl }
-counted H seen (row ∷ rows) reel none = by (same row.reel reel) refl (both ∙ ap (λ k. k + rest) (picked-off row.reel (left_of H row.reel - row.quantity) Counted reel))
+counted H seen (row ∷ rows) reel none = by (same row.reel reel) refl (both ∙ ap (λ k. k + rest) (pieces_picked-off row.reel (left_of H row.reel - row.quantity) Counted reel))
     (counted H (seen ++ row.reel ∷ []) rows reel (countable H seen row rows none).1)
   where
     rest : ℕ
-    rest = picked (count_picks (left_of H) rows) reel
+    rest = pieces_picked (count_picks (left_of H) rows) reel
 
     whole : ℕ
-    whole = picked (count_picks (left_of H) (row ∷ rows)) reel
+    whole = pieces_picked (count_picks (left_of H) (row ∷ rows)) reel
 
     -- the row of the reel among the others, and what a row finds
     later : Option CountRow
@@ -207,8 +207,8 @@ counted H seen (row ∷ rows) reel none = by (same row.reel reel) refl (both ∙
     found : Option CountRow → ℕ
     found said = option_map_or (λ (r : CountRow). r.quantity - left_of H reel) said 0
 
-    both : whole ≡ picked (pieces_off row.reel (left_of H row.reel - row.quantity) Counted) reel + rest
-    both = picked-append (pieces_off row.reel (left_of H row.reel - row.quantity) Counted) (count_picks (left_of H) rows) reel
+    both : whole ≡ pieces_picked (pieces_off row.reel (left_of H row.reel - row.quantity) Counted) reel + rest
+    both = pieces_picked-append (pieces_off row.reel (left_of H row.reel - row.quantity) Counted) (count_picks (left_of H) rows) reel
 
     by : (b : Bool) → same row.reel reel ≡ b → whole ≡ (if b then left_of H row.reel - row.quantity else 0) + rest → IsCounted H rows reel → IsCounted H (row ∷ rows) reel
     by true here all others =

@@ -11,7 +11,7 @@ use Rattle.desk_types.specs.declared.rules.Rules.TheVariants.{Two}
 use Rattle.desk_types.specs.Id.{Name, same}
 use Rattle.desk_types.specs.History.{History}
 use Rattle.desk_types.specs.Setup.{receipt_by}
-use Rattle.desk_types.specs.Tape.{spliced, tape_after, tape_of}
+use Rattle.desk_types.specs.Tape.{tape_with, tape_after, tape_of}
 use Rattle.desk_types.specs.Pieces.{left_of, live_on, first, is_mounted}
 use Rattle.desk_types.specs.FloorLife.{open_by, IsUntouched}
 use Rattle.desk_types.specs.Refusals.{is_vacant, command_refusal}
@@ -22,7 +22,7 @@ use Rattle.desk_laws.proofs.Accepted.{next-accepted, mountable, received-by}
 use Rattle.desk_laws.proofs.Balance.{some-next}
 use Rattle.desk_laws.proofs.Judgements.{untouched}
 use Rattle.desk_laws.proofs.Mounts.{has, has-live_on, unreceived-nowhere}
-use Rattle.desk_laws.proofs.Standing.{IsOn, on-load, on-splice, on-unload}
+use Rattle.desk_laws.proofs.SlotsLater.{IsOn, on-load, on-splice, on-unload}
 use Rattle.desk_laws.proofs.Tapes.{unmounted-nowhere}
 
 -- ---- splices
@@ -33,17 +33,17 @@ vacant-same H machine slot m s here =
     ap (λ x. is_vacant H x s) (same-true m machine (and_parts _ _ here).0) ∙ ap (λ x. is_vacant H machine x) (same-true s slot (and_parts _ _ here).1)
 
 -- a slot that is not vacant has a tape, to which a reel is joined
-pub joined : (H : History) (machine slot r : Name) → is_vacant H machine slot ≡ false → spliced (tape_of H machine slot) r ≡ tape_of H machine slot ++ r ∷ []
+pub joined : (H : History) (machine slot r : Name) → is_vacant H machine slot ≡ false → tape_with (tape_of H machine slot) r ≡ tape_of H machine slot ++ r ∷ []
 unfolding live_on
 joined H machine slot r some = by (tape_of H machine slot) some
   where
-    by : (tape : List Name) → is_none (first (filter (λ reel. nat_lt 0 (left_of H reel)) tape)) ≡ false → spliced tape r ≡ tape ++ r ∷ []
+    by : (tape : List Name) → is_none (first (filter (λ reel. nat_lt 0 (left_of H reel)) tape)) ≡ false → tape_with tape r ≡ tape ++ r ∷ []
     by [] some = cc
     by (x ∷ xs) some = refl
 
 -- the same where the slot is given by names that are the same
 pub joined-same : (H : History) (machine slot m s r : Name) → (same m machine && same s slot) ≡ true → is_vacant H m s ≡ false
-    → spliced (tape_of H machine slot) r ≡ tape_of H machine slot ++ r ∷ []
+    → tape_with (tape_of H machine slot) r ≡ tape_of H machine slot ++ r ∷ []
 joined-same H machine slot m s r here some = joined H machine slot r (sym (vacant-same H machine slot m s here) ∙ some)
 
 -- ---- reels that were not received

@@ -14,7 +14,7 @@ use Rattle.desk_types.specs.Command.{IsCommand, IsCountRow}
 use Rattle.desk_types.specs.Id.{Name, same}
 use Rattle.desk_types.specs.History.{History}
 use Rattle.desk_types.specs.Setup.{receipt_by, receipt_of}
-use Rattle.desk_types.specs.Pieces.{picked, picks_of, told_by, left_of, found_by, found_of, received_of}
+use Rattle.desk_types.specs.Pieces.{pieces_picked, picks_of, pieces_by, left_of, found_by, found_of, received_of}
 use Rattle.desk_types.specs.Judged.{IsJudged}
 
 -- ---- one command
@@ -33,7 +33,7 @@ counted-range reel (r ∷ rows) row ranges is = by (same r.reel reel) is (counte
     by false is rest = rest is
 
 -- A receipt or a count tells no more pieces than there may be.
-pub told-range : (reel : Name) (command : Command) (pieces : ℕ) → IsCommand command → told_by reel command ≡ Some pieces → pieces ≤ GREATEST_QUANTITY
+pub told-range : (reel : Name) (command : Command) (pieces : ℕ) → IsCommand command → pieces_by reel command ≡ Some pieces → pieces ≤ GREATEST_QUANTITY
 told-range reel (ReelReceived r part lot moisture quantity) pieces range is = by (same r reel) is
   where
     by : (b : Bool) → (if b then Some quantity else None) ≡ Some pieces → pieces ≤ GREATEST_QUANTITY
@@ -63,10 +63,10 @@ found_by-range left reel _ range = omega arith
 pub left-range : (H : History) (reel : Name) → IsJudged Two H → left_of H reel ≤ GREATEST_QUANTITY
 unfolding left_of
 left-range [] reel judged = omega arith
-left-range (e ∷ H) reel (next, judged) = by (told_by reel e.stamped.command) refl (left-range H reel judged)
+left-range (e ∷ H) reel (next, judged) = by (pieces_by reel e.stamped.command) refl (left-range H reel judged)
   where
-    by : (told : Option ℕ) → told_by reel e.stamped.command ≡ told → left_of H reel ≤ GREATEST_QUANTITY
-        → unwrap_or told (left_of H reel - picked (picks_of H e.stamped.command) reel) ≤ GREATEST_QUANTITY
+    by : (told : Option ℕ) → pieces_by reel e.stamped.command ≡ told → left_of H reel ≤ GREATEST_QUANTITY
+        → unwrap_or told (left_of H reel - pieces_picked (picks_of H e.stamped.command) reel) ≤ GREATEST_QUANTITY
     by (Some pieces) is before = told-range reel e.stamped.command pieces next.in_range.stamped.command is
     by None is before = omega (arith, before)
 

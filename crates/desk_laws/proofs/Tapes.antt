@@ -8,7 +8,7 @@ use Rattle.desk_types.specs.declared.command.Command.TheVariants.{MaterialsLoade
 use Rattle.desk_types.specs.declared.rules.Rules.TheVariants.{Two}
 use Rattle.desk_types.specs.Id.{Name, same}
 use Rattle.desk_types.specs.History.{History}
-use Rattle.desk_types.specs.Tape.{spliced, tape_after, tape_of}
+use Rattle.desk_types.specs.Tape.{tape_with, tape_after, tape_of}
 use Rattle.desk_types.specs.Pieces.{left_of, live_on, is_mounted}
 use Rattle.desk_types.specs.Refusals.{command_refusal}
 use Rattle.desk_types.specs.Judged.{IsJudged}
@@ -38,9 +38,9 @@ pub one-more : (names : List Name) (name : Name) → IsDistinct same names → h
 unfolding IsDistinct
 one-more names name distinct away = distinct-join same same-sym names (name ∷ []) distinct (tt, tt) (away, tt)
 
-spliced-distinct : (reels : List Name) (reel : Name) → IsDistinct same reels → has reels reel ≡ false → IsDistinct same (spliced reels reel)
-spliced-distinct [] reel distinct away = distinct
-spliced-distinct (x ∷ xs) reel distinct away = one-more (x ∷ xs) reel distinct away
+tape_with-distinct : (reels : List Name) (reel : Name) → IsDistinct same reels → has reels reel ≡ false → IsDistinct same (tape_with reels reel)
+tape_with-distinct [] reel distinct away = distinct
+tape_with-distinct (x ∷ xs) reel distinct away = one-more (x ∷ xs) reel distinct away
 
 -- after an accepted command
 distinct-step : (H : History) (minute : ℕ) (machine slot : Name) (command : Command) → command_refusal Two H minute command ≡ None
@@ -53,10 +53,10 @@ distinct-step H minute machine slot (MaterialsLoaded m s r) none distinct = by (
     by false = distinct
 distinct-step H minute machine slot (MaterialsSpliced m s r) none distinct = by (same m machine && same s slot)
   where
-    by : (b : Bool) → IsDistinct same (if b then spliced (tape_of H machine slot) r else tape_of H machine slot)
+    by : (b : Bool) → IsDistinct same (if b then tape_with (tape_of H machine slot) r else tape_of H machine slot)
     by true =
         let tests = mountable H minute m s r _ none in
-        spliced-distinct (tape_of H machine slot) r distinct (unmounted-nowhere H machine slot r tests.not_mounted (not-zero (left_of H r) tests.some))
+        tape_with-distinct (tape_of H machine slot) r distinct (unmounted-nowhere H machine slot r tests.not_mounted (not-zero (left_of H r) tests.some))
     by false = distinct
 distinct-step H minute machine slot (MaterialsUnloaded m s) none distinct = by (same m machine && same s slot)
   where

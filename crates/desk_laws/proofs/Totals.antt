@@ -8,29 +8,29 @@ use Rattle.desk_types.specs.declared.command.Entry.{Entry}
 use Rattle.desk_types.specs.declared.take.Pick.{Pick}
 use Rattle.desk_types.specs.Id.{Name, same}
 use Rattle.desk_types.specs.History.{History}
-use Rattle.desk_types.specs.Pieces.{picked, picks_of, all_picks, is_placed, placed_of, scrapped_of}
-use Rattle.desk_laws.proofs.Picks.{picked-append}
+use Rattle.desk_types.specs.Pieces.{pieces_picked, picks_of, all_picks, is_placed, placed_of, scrapped_of}
+use Rattle.desk_laws.proofs.Picks.{pieces_picked-append}
 
 -- The pieces of a reel that picks take are those that are placed and the others.
-pub picked-split : (picks : List Pick) (reel : Name)
-    → picked picks reel ≡ picked (filter (λ p. is_placed p.purpose) picks) reel + picked (filter (λ p. not (is_placed p.purpose)) picks) reel
-picked-split picks reel =
+pub pieces_picked-split : (picks : List Pick) (reel : Name)
+    → pieces_picked picks reel ≡ pieces_picked (filter (λ p. is_placed p.purpose) picks) reel + pieces_picked (filter (λ p. not (is_placed p.purpose)) picks) reel
+pieces_picked-split picks reel =
     sym (sum_by-filter_both (λ (p : Pick). is_placed p.purpose) (λ (p : Pick). not (is_placed p.purpose)) (λ p. refl) (λ (p : Pick). if same p.reel reel then p.quantity else 0) picks)
 
 -- The pieces that pass a test, of two lists of picks.
-pub picked-filter : (test : Pick → Bool) (before after : List Pick) (reel : Name)
-    → picked (filter test (before ++ after)) reel ≡ picked (filter test before) reel + picked (filter test after) reel
-picked-filter test before after reel =
-    ap (λ picks. picked picks reel) (filter-append test before after) ∙ picked-append (filter test before) (filter test after) reel
+pub pieces_picked-filter : (test : Pick → Bool) (before after : List Pick) (reel : Name)
+    → pieces_picked (filter test (before ++ after)) reel ≡ pieces_picked (filter test before) reel + pieces_picked (filter test after) reel
+pieces_picked-filter test before after reel =
+    ap (λ picks. pieces_picked picks reel) (filter-append test before after) ∙ pieces_picked-append (filter test before) (filter test after) reel
 
 -- The next entry's placed pieces are added to those that were placed,
 pub placed-next : (H : History) (e : Entry) (reel : Name)
-    → placed_of (e ∷ H) reel ≡ placed_of H reel + picked (filter (λ p. is_placed p.purpose) (picks_of H e.stamped.command)) reel
+    → placed_of (e ∷ H) reel ≡ placed_of H reel + pieces_picked (filter (λ p. is_placed p.purpose) (picks_of H e.stamped.command)) reel
 unfolding all_picks
-placed-next H e reel = picked-filter (λ p. is_placed p.purpose) (all_picks H) (picks_of H e.stamped.command) reel
+placed-next H e reel = pieces_picked-filter (λ p. is_placed p.purpose) (all_picks H) (picks_of H e.stamped.command) reel
 
 -- and its others to those that were thrown away or found missing.
 pub scrapped-next : (H : History) (e : Entry) (reel : Name)
-    → scrapped_of (e ∷ H) reel ≡ scrapped_of H reel + picked (filter (λ p. not (is_placed p.purpose)) (picks_of H e.stamped.command)) reel
+    → scrapped_of (e ∷ H) reel ≡ scrapped_of H reel + pieces_picked (filter (λ p. not (is_placed p.purpose)) (picks_of H e.stamped.command)) reel
 unfolding all_picks
-scrapped-next H e reel = picked-filter (λ p. not (is_placed p.purpose)) (all_picks H) (picks_of H e.stamped.command) reel
+scrapped-next H e reel = pieces_picked-filter (λ p. not (is_placed p.purpose)) (all_picks H) (picks_of H e.stamped.command) reel

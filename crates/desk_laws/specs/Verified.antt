@@ -11,7 +11,7 @@ use Rattle.desk_types.specs.Id.{Name, same}
 use Rattle.desk_types.specs.History.{History, IsPrefix}
 use Rattle.desk_types.specs.Setup.{is_allowed, row_on, slot_on, receipt_of}
 use Rattle.desk_types.specs.Tape.{tape_of}
-use Rattle.desk_types.specs.Pieces.{picked, left_of, picks_of}
+use Rattle.desk_types.specs.Pieces.{pieces_picked, left_of, picks_of}
 use Rattle.desk_types.specs.FloorLife.{is_unbaked, is_expired}
 use Rattle.desk_types.specs.Placements.{Placement}
 
@@ -43,7 +43,7 @@ pub record WasVerified (H : History) (machine slot reel : Name) : Type 0 where
 
 -- the first reel of a slot's tape that has a piece left after the picks before
 abbrev pub next_reel : History → Name → Name → List Pick → Option Name
-next_reel H machine slot before = find (λ reel. nat_lt (picked before reel) (left_of H reel)) (tape_of H machine slot)
+next_reel H machine slot before = find (λ reel. nat_lt (pieces_picked before reel) (left_of H reel)) (tape_of H machine slot)
 
 -- The piece was placed by the entry of its number, on the machine and the board that this names and on the designator that stands at the
 -- piece's place in its message, at the designator's slot, off the reel that was the slot's first with a piece left, whose receipt gives

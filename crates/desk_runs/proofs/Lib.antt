@@ -1,2 +1,2 @@
-pub mod Asking
-pub mod Saying
+pub mod ImportsOfFiles
+pub mod Questions

@@ -11,7 +11,7 @@ use Rattle.desk_feed.specs.Stream.{AnsweredAll, AnsweredUpTo}
 use Rattle.imports.specs.declared.fault.ImportFault.{ImportFault}
 use Rattle.desk_import.specs.declared.options.Import.{Import}
 use Rattle.desk_import.specs.Import.{IsAnswered, IsCutOff, IsSaidBy}
-use Rattle.http_answers.specs.Gateways.{TellsGet}
+use Rattle.http_answers.specs.Gateways.{AnswersGet}
 use Rattle.http_answers.specs.Requests.{Reports}
 use Rattle.http_stream.specs.Answers.{Told}
 
@@ -46,5 +46,5 @@ abbrev pub StaysSame : Ledger → History → Type 0
 StaysSame G H = H ≡ G.history
 
 -- the list is as it was, and a GET of this target is answered so by these reports of it, or Unavailable
-abbrev pub TellsReport : Reports → List ℕ → Told → Ledger → History → Type 0
-TellsReport reports target answer G H = StaysSame G H × TellsGet reports G target answer
+abbrev pub AnswersReport : Reports → List ℕ → Told → Ledger → History → Type 0
+AnswersReport reports target answer G H = StaysSame G H × AnswersGet reports G target answer

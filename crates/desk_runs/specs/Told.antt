@@ -29,8 +29,8 @@ with_end Csv text = text
 with_end Json text = text ++ 10 ∷ []
 
 -- the report that a request is answered, or why there is none
-abbrev pub printed : Told → List ℕ
-printed answer = with_end answer.kind answer.body
+abbrev pub report_output : Told → List ℕ
+report_output answer = with_end answer.kind answer.body
 
 -- ---- what failed
 

@@ -6,16 +6,16 @@ ghost use Rattle.desk_types.specs.Wire.{inner_of, failures_of};
 ghost use Rattle.served.specs.declared.serving.ServeFault.TheVariants.{Read as ReadFault, Write as WriteFault};
 ghost use Rattle.served.specs.Counts.{none_served};
 ghost use Rattle.served.specs.Sent.{SendsFront};
-ghost use Rattle.http_answers.specs.Gateways.{line_of};
-ghost use Rattle.http_listener.specs.Connections.{ConnectedEach, Ended, Tells};
-ghost use Rattle.http_stream.specs.Answers.{Told, code_of, told_by};
+ghost use Rattle.http_answers.specs.Gateways.{owner_of};
+ghost use Rattle.http_listener.specs.Connections.{ConnectedEach, Ended, TellsConnections};
+ghost use Rattle.http_stream.specs.Answers.{Told, code_of, response_told};
 ghost use Rattle.http_stream.specs.Stream.{ForLists};
-ghost use Rattle.desk_runs.specs.Runs.{TellsReport};
-ghost use Rattle.desk_runs.specs.Told.{fault_line, printed, TellsEnd, TellsLine};
+ghost use Rattle.desk_runs.specs.Runs.{AnswersReport};
+ghost use Rattle.desk_runs.specs.Told.{fault_line, report_output, TellsEnd, TellsLine};
 
 use crate::exit::{Exit, tell_line};
 use desk_types::Wire;
-use http_answers::{Gateway, ReportedLine};
+use http_answers::{Gateway, ReportedOwner};
 use http_listener::serve_listener;
 use http_stream::{Handler, Kind, Response};
 use served::{WriteFailed, send, send_line};
@@ -40,7 +40,7 @@ pub fn serve_port<A: Handler, W: Write, E: Write>(
     ensures ready { A.Ready handler.new }
     ensures trusts { A.Trusts handler.new → A.Trusts handler.old }
     ensures status { (result ≡ 0) ⊎ (result ≡ 1) ⊎ (result ≡ 4) }
-    ensures served { (ends : List Ended) × Tells connections ends result (W.contents (inner_of output.old)) (W.contents (inner_of output.new)) (failures_of output.old) (failures_of output.new)
+    ensures served { (ends : List Ended) × TellsConnections connections ends result (W.contents (inner_of output.old)) (W.contents (inner_of output.new)) (failures_of output.old) (failures_of output.new)
         × ForLists A.Stands A.Trusts handler.old handler.new (λ G H. ConnectedEach (A.rule G.rules G.greatest) G.history ends H) }
     ensures failed { result ≡ 4 → TellsEnd E.contents output.old output.new errors.old errors.new }
     ensures kept { (result ≡ 0) ⊎ (result ≡ 1) → failures_of output.new ≡ failures_of output.old }
@@ -72,7 +72,7 @@ fn tell_end<E: Write>(errors: &mut Wire<E>, unwritten: bool)
 }
 
 /// Tells what a GET of a target is answered: the exit status.
-pub fn tell_report<L: ReportedLine, W: Write, E: Write>(
+pub fn tell_report<L: ReportedOwner, W: Write, E: Write>(
     alloc: Global,
     target: &str,
     output: &mut Wire<W>,
@@ -81,17 +81,17 @@ pub fn tell_report<L: ReportedLine, W: Write, E: Write>(
 ) -> u8
     requires write_failures { failures_of output.old < 2 ^ 63 }
     requires error_failures { failures_of errors.old < 2 ^ 63 }
-    requires ready { L.Ready (line_of gateway.old) }
-    ensures ready { L.Ready (line_of gateway.new) }
-    ensures trusts { L.Trusts (line_of gateway.new) → L.Trusts (line_of gateway.old) }
+    requires ready { L.Ready (owner_of gateway.old) }
+    ensures ready { L.Ready (owner_of gateway.new) }
+    ensures trusts { L.Trusts (owner_of gateway.new) → L.Trusts (owner_of gateway.old) }
     ensures status { (result ≡ 0) ⊎ (result ≡ 1) ⊎ (result ≡ 4) }
-    ensures done { result ≡ 0 → (answer : Told) × (code_of answer.status ≡ 200) × Appends (W.contents (inner_of output.old)) (W.contents (inner_of output.new)) (printed answer)
-        × ForLists L.Stands L.Trusts (line_of gateway.old) (line_of gateway.new) (TellsReport L.reports target.now answer) }
-    ensures refused { result ≡ 1 → (answer : Told) × (code_of answer.status ≢ 200) × Appends (W.contents (inner_of output.old)) (W.contents (inner_of output.new)) (printed answer)
-        × ForLists L.Stands L.Trusts (line_of gateway.old) (line_of gateway.new) (TellsReport L.reports target.now answer) }
+    ensures done { result ≡ 0 → (answer : Told) × (code_of answer.status ≡ 200) × Appends (W.contents (inner_of output.old)) (W.contents (inner_of output.new)) (report_output answer)
+        × ForLists L.Stands L.Trusts (owner_of gateway.old) (owner_of gateway.new) (AnswersReport L.reports target.now answer) }
+    ensures refused { result ≡ 1 → (answer : Told) × (code_of answer.status ≢ 200) × Appends (W.contents (inner_of output.old)) (W.contents (inner_of output.new)) (report_output answer)
+        × ForLists L.Stands L.Trusts (owner_of gateway.old) (owner_of gateway.new) (AnswersReport L.reports target.now answer) }
     ensures failed { result ≡ 4 → (failures_of output.new ≡ failures_of output.old + 1) × TellsLine E.contents errors.old errors.new (fault_line (WriteFault none_served))
-        × (answer : Told) × SendsFront (W.contents (inner_of output.old)) (W.contents (inner_of output.new)) (printed answer)
-        × ForLists L.Stands L.Trusts (line_of gateway.old) (line_of gateway.new) (TellsReport L.reports target.now answer) }
+        × (answer : Told) × SendsFront (W.contents (inner_of output.old)) (W.contents (inner_of output.new)) (report_output answer)
+        × ForLists L.Stands L.Trusts (owner_of gateway.old) (owner_of gateway.new) (AnswersReport L.reports target.now answer) }
     ensures kept { (result ≡ 0) ⊎ (result ≡ 1) → failures_of output.new ≡ failures_of output.old }
     ensures quiet { (result ≡ 0) ⊎ (result ≡ 1) → errors.new ≡ errors.old }
 {
@@ -109,10 +109,10 @@ pub fn tell_report<L: ReportedLine, W: Write, E: Write>(
 /// Sends what an answer tells to standard output.
 fn send_report<W: Write>(output: &mut Wire<W>, response: &Response) -> Result<(), WriteFailed>
     requires few_failures { failures_of output.old < 2 ^ 63 }
-    ensures ok { OnOk result (Appends (W.contents (inner_of output.old)) (W.contents (inner_of output.new)) (printed (told_by response.now))) }
+    ensures ok { OnOk result (Appends (W.contents (inner_of output.old)) (W.contents (inner_of output.new)) (report_output (response_told response.now))) }
     ensures kept { OnOk result (failures_of output.new ≡ failures_of output.old) }
     ensures failed { OnErr result (failures_of output.new ≡ failures_of output.old + 1) }
-    ensures front { OnErr result (SendsFront (W.contents (inner_of output.old)) (W.contents (inner_of output.new)) (printed (told_by response.now))) }
+    ensures front { OnErr result (SendsFront (W.contents (inner_of output.old)) (W.contents (inner_of output.new)) (report_output (response_told response.now))) }
 {
     match response.kind {
         Kind::Csv => send(output, response.body.as_slice()),

@@ -9,16 +9,16 @@ ghost use Rattle.desk_runs.specs.Runs.{AnswersImport, CutsImport, StaysSame};
 ghost use Rattle.desk_runs.specs.Told.{fault_line, unavailable_line, TellsLine};
 
 use crate::exit::{Exit, tell_line, unavailable};
-use desk_answers::Line;
+use desk_answers::Owner;
 use desk_import::{Folder, Import, Unread, serve_import};
 use desk_types::Wire;
 use std::alloc::Global;
 use std::io::Write;
 
 /// Answers an import by an owner of a list: the exit status.
-pub fn import_rows<F: Folder, W: Write, E: Write, L: Line>(
+pub fn import_rows<F: Folder, W: Write, E: Write, L: Owner>(
     alloc: Global,
-    line: &mut L,
+    owner: &mut L,
     import: &Import,
     folder: &F,
     from: &str,
@@ -27,18 +27,18 @@ pub fn import_rows<F: Folder, W: Write, E: Write, L: Line>(
 ) -> u8
     requires write_failures { failures_of output.old < 2 ^ 63 }
     requires error_failures { failures_of errors.old < 2 ^ 63 }
-    requires ready { L.Ready line.old }
-    ensures ready { L.Ready line.new }
-    ensures trusts { L.Trusts line.new → L.Trusts line.old }
+    requires ready { L.Ready owner.old }
+    ensures ready { L.Ready owner.new }
+    ensures trusts { L.Trusts owner.new → L.Trusts owner.old }
     ensures status { (result ≡ 0) ⊎ (result ≡ 1) ⊎ (result ≡ 3) ⊎ (result ≡ 4) }
-    ensures done { result ≡ 0 → ForLists L.Stands L.Trusts line.old line.new (AnswersImport W.contents output.old output.new false import.now (F.holds folder.now from.now)) }
-    ensures refused { result ≡ 1 → ForLists L.Stands L.Trusts line.old line.new (AnswersImport W.contents output.old output.new true import.now (F.holds folder.now from.now)) }
+    ensures done { result ≡ 0 → ForLists L.Stands L.Trusts owner.old owner.new (AnswersImport W.contents output.old output.new false import.now (F.holds folder.now from.now)) }
+    ensures refused { result ≡ 1 → ForLists L.Stands L.Trusts owner.old owner.new (AnswersImport W.contents output.old output.new true import.now (F.holds folder.now from.now)) }
     ensures no_memory { result ≡ 3 → TellsLine E.contents errors.old errors.new unavailable_line }
-    ensures untouched { result ≡ 3 → (line.new ≡ line.old) × (output.new ≡ output.old) }
+    ensures untouched { result ≡ 3 → (owner.new ≡ owner.old) × (output.new ≡ output.old) }
     ensures failed { result ≡ 4
         → ((failures_of output.new ≡ failures_of output.old + 1) × TellsLine E.contents errors.old errors.new (fault_line (WriteFault none_served))
-        × ForLists L.Stands L.Trusts line.old line.new (CutsImport W.contents output.old output.new import.now (F.holds folder.now from.now)))
-        ⊎ (F.may_fail folder.now from.now × (output.new ≡ output.old) × TellsLine E.contents errors.old errors.new (fault_line (ReadFault none_served)) × ForLists L.Stands L.Trusts line.old line.new StaysSame) }
+        × ForLists L.Stands L.Trusts owner.old owner.new (CutsImport W.contents output.old output.new import.now (F.holds folder.now from.now)))
+        ⊎ (F.may_fail folder.now from.now × (output.new ≡ output.old) × TellsLine E.contents errors.old errors.new (fault_line (ReadFault none_served)) × ForLists L.Stands L.Trusts owner.old owner.new StaysSame) }
     ensures kept { (result ≡ 0) ⊎ (result ≡ 1) → failures_of output.new ≡ failures_of output.old }
     ensures quiet { (result ≡ 0) ⊎ (result ≡ 1) → errors.new ≡ errors.old }
 {
@@ -50,7 +50,7 @@ pub fn import_rows<F: Folder, W: Write, E: Write, L: Line>(
         }
         Err(Unread::NoMemory) => return unavailable(errors),
     };
-    match serve_import(alloc, output, line, import, &bytes) {
+    match serve_import(alloc, output, owner, import, &bytes) {
         Ok(false) => Exit::Done as u8,
         Ok(true) => Exit::Refused as u8,
         Err(_) => {

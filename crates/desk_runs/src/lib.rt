@@ -10,7 +10,7 @@ mod import;
 mod lines;
 mod texts;
 
-pub use exit::{Exit, bad_option, failed, tell, tell_line, unavailable};
+pub use exit::{Exit, bad_option, tell, tell_failure, tell_line, unavailable};
 pub use gateway::{serve_port, tell_report};
 pub use import::import_rows;
 pub use lines::feed_lines;

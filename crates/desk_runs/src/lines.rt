@@ -12,41 +12,41 @@ ghost use Rattle.desk_feed.specs.Owners.{ForLists};
 ghost use Rattle.desk_runs.specs.Runs.{AnswersAll, AnswersUpTo};
 ghost use Rattle.desk_runs.specs.Told.{fault_line, TellsLine};
 
-use crate::exit::{Exit, failed};
-use desk_answers::Line;
+use crate::exit::{Exit, tell_failure};
+use desk_answers::Owner;
 use desk_feed::feed;
 use desk_types::Wire;
 use std::alloc::Global;
 use std::io::{Read, Write};
 
 /// Answers the lines of the input by an owner of a list: the exit status.
-pub fn feed_lines<R: Read, W: Write, E: Write, L: Line>(
+pub fn feed_lines<R: Read, W: Write, E: Write, L: Owner>(
     alloc: Global,
     input: &mut Wire<R>,
     output: &mut Wire<W>,
     errors: &mut Wire<E>,
-    line: &mut L,
+    owner: &mut L,
 ) -> u8
     requires reads { reads_of input.old < 2 ^ 63 }
     requires read_failures { failures_of input.old < 2 ^ 63 }
     requires write_failures { failures_of output.old < 2 ^ 63 }
     requires error_failures { failures_of errors.old < 2 ^ 63 }
-    requires ready { L.Ready line.old }
-    ensures ready { L.Ready line.new }
+    requires ready { L.Ready owner.old }
+    ensures ready { L.Ready owner.new }
     ensures status { (result ≡ 0) ⊎ (result ≡ 1) ⊎ (result ≡ 4) }
-    ensures done { result ≡ 0 → (served : Served) × (served.refused ≡ 0) × ForLists L.Stands L.Trusts line.old line.new (AnswersAll R.remaining W.contents input.old output.old output.new served) }
-    ensures refused { result ≡ 1 → (served : Served) × (0 < served.refused) × ForLists L.Stands L.Trusts line.old line.new (AnswersAll R.remaining W.contents input.old output.old output.new served) }
+    ensures done { result ≡ 0 → (served : Served) × (served.refused ≡ 0) × ForLists L.Stands L.Trusts owner.old owner.new (AnswersAll R.remaining W.contents input.old output.old output.new served) }
+    ensures refused { result ≡ 1 → (served : Served) × (0 < served.refused) × ForLists L.Stands L.Trusts owner.old owner.new (AnswersAll R.remaining W.contents input.old output.old output.new served) }
     ensures failed { result ≡ 4 → (fault : ServeFault) × IsShown fault input.old input.new output.old output.new × LeavesNone (R.remaining (inner_of input.old)) (R.remaining (inner_of input.new)) fault × TellsLine E.contents errors.old errors.new (fault_line fault)
-        × ForLists L.Stands L.Trusts line.old line.new (AnswersUpTo R.remaining W.contents input.old output.old output.new fault) }
+        × ForLists L.Stands L.Trusts owner.old owner.new (AnswersUpTo R.remaining W.contents input.old output.old output.new fault) }
     ensures end { (result ≡ 0) ⊎ (result ≡ 1) → IsAtEnd (R.remaining (inner_of input.new)) }
     ensures kept { (result ≡ 0) ⊎ (result ≡ 1) → FailsNever input.old input.new output.old output.new }
     ensures quiet { (result ≡ 0) ⊎ (result ≡ 1) → errors.new ≡ errors.old }
     ensures few_reads { reads_of input.new ≤ reads_of input.old + MOST_READS }
-    ensures trusts { L.Trusts line.new → L.Trusts line.old }
+    ensures trusts { L.Trusts owner.new → L.Trusts owner.old }
 {
-    match feed(alloc, input, output, line) {
+    match feed(alloc, input, output, owner) {
         Ok(served) if served.refused == 0 => Exit::Done as u8,
         Ok(_) => Exit::Refused as u8,
-        Err(fault) => failed(&fault, errors),
+        Err(fault) => tell_failure(&fault, errors),
     }
 }

@@ -3,13 +3,13 @@ use Rattle.std.specs.Prelude.{◌≡◌, ℕ, ◌-◌, ◌≤◌, List, ◌++◌
 use Rattle.std.specs.Slice.Scan.{big_endian}
 
 -- the bytes, with zeros behind them up to the width
-abbrev pub padded : ℕ → List ℕ → List ℕ
-padded width bytes = bytes ++ replicate (width - length bytes) 0
+abbrev pub with_zeros : ℕ → List ℕ → List ℕ
+with_zeros width bytes = bytes ++ replicate (width - length bytes) 0
 
 -- the array holds a text of this length, and zeros behind it
 pub record IsPadded (width : ℕ) (bytes : List ℕ) (len : ℕ) : Type 0 where
   pub len_fits : len ≤ length bytes
-  pub padding : padded width (take len bytes) ≡ bytes
+  pub padding : with_zeros width (take len bytes) ≡ bytes
 
 -- the number that the eight bytes from this place on spell, the greatest first
 abbrev pub word_at : List ℕ → ℕ → ℕ

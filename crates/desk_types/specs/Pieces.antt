@@ -19,8 +19,8 @@ use Rattle.desk_types.specs.Tape.{tape_of}
 -- ---- what a command takes
 
 -- how many pieces of the reel the picks are
-abbrev pub picked : List Pick → Name → ℕ
-picked picks reel = sum_by (λ p. if same p.reel reel then p.quantity else 0) picks
+abbrev pub pieces_picked : List Pick → Name → ℕ
+pieces_picked picks reel = sum_by (λ p. if same p.reel reel then p.quantity else 0) picks
 
 -- a pick of n pieces, and none of 0
 abbrev pub pieces_off : Name → ℕ → Purpose → List Pick
@@ -31,7 +31,7 @@ pieces_off reel n purpose = if nat_lt 0 n then record { reel = reel; quantity = 
 abbrev pub pick_for : (Name → Option Name) → (Name → List Name) → (Name → ℕ) → Name → Name → List Pick → Name → Option Pick
 pick_for slot_of tape pieces machine board before designator =
     option_and_then (λ slot. option_map (λ reel. record { reel = reel; quantity = 1; purpose = Placed board designator machine slot })
-    (find (λ reel. nat_lt (picked before reel) (pieces reel)) (tape slot))) (slot_of designator)
+    (find (λ reel. nat_lt (pieces_picked before reel) (pieces reel)) (tape slot))) (slot_of designator)
 
 -- the picks before, and then one piece for each designator in order
 unfoldable pub install_picks : (Name → Option Name) → (Name → List Name) → (Name → ℕ) → Name → Name → List Pick → List Name → List Pick
@@ -60,15 +60,15 @@ picks_from pieces H _ = []
 -- ---- what is left
 
 -- the pieces that a receipt or a count says the reel has
-abbrev pub told_by : Name → Command → Option ℕ
-told_by reel (ReelReceived r part lot moisture quantity) = if same r reel then Some quantity else None
-told_by reel (CountsTaken counts) = option_map (λ (row : CountRow). row.quantity) (find (λ row. same row.reel reel) counts)
-told_by reel _ = None
+abbrev pub pieces_by : Name → Command → Option ℕ
+pieces_by reel (ReelReceived r part lot moisture quantity) = if same r reel then Some quantity else None
+pieces_by reel (CountsTaken counts) = option_map (λ (row : CountRow). row.quantity) (find (λ row. same row.reel reel) counts)
+pieces_by reel _ = None
 
 -- the pieces left on the reel: what its last receipt or count said, less what later entries took
 unfoldable pub left_of : History → Name → ℕ
 left_of [] reel = 0
-left_of (e ∷ H) reel = unwrap_or (told_by reel e.stamped.command) (left_of H reel - picked (picks_from (left_of H) H e.stamped.command) reel)
+left_of (e ∷ H) reel = unwrap_or (pieces_by reel e.stamped.command) (left_of H reel - pieces_picked (picks_from (left_of H) H e.stamped.command) reel)
 
 -- what a command takes after H
 abbrev pub picks_of : History → Command → List Pick
@@ -101,11 +101,11 @@ received_of H reel = option_map_or (λ (r : Receipt). r.quantity) (receipt_of H 
 
 -- the pieces that were placed on boards
 abbrev pub placed_of : History → Name → ℕ
-placed_of H reel = picked (filter (λ p. is_placed p.purpose) (all_picks H)) reel
+placed_of H reel = pieces_picked (filter (λ p. is_placed p.purpose) (all_picks H)) reel
 
 -- the pieces that were thrown away, or that a count showed missing
 abbrev pub scrapped_of : History → Name → ℕ
-scrapped_of H reel = picked (filter (λ p. not (is_placed p.purpose)) (all_picks H)) reel
+scrapped_of H reel = pieces_picked (filter (λ p. not (is_placed p.purpose)) (all_picks H)) reel
 
 -- ---- live reels
 

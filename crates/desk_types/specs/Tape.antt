@@ -6,14 +6,14 @@ use Rattle.desk_types.specs.Id.{Name, same}
 use Rattle.desk_types.specs.History.{History}
 
 -- the reel joined to the end of a tape, where there is one
-abbrev pub spliced : List Name → Name → List Name
-spliced [] reel = []
-spliced (r ∷ rs) reel = (r ∷ rs) ++ reel ∷ []
+abbrev pub tape_with : List Name → Name → List Name
+tape_with [] reel = []
+tape_with (r ∷ rs) reel = (r ∷ rs) ++ reel ∷ []
 
 -- the slot's tape after the command, which had these reels before it
 abbrev pub tape_after : Name → Name → Command → List Name → List Name
 tape_after machine slot (MaterialsLoaded m s reel) reels = if same m machine && same s slot then reel ∷ [] else reels
-tape_after machine slot (MaterialsSpliced m s reel) reels = if same m machine && same s slot then spliced reels reel else reels
+tape_after machine slot (MaterialsSpliced m s reel) reels = if same m machine && same s slot then tape_with reels reel else reels
 tape_after machine slot (MaterialsUnloaded m s) reels = if same m machine && same s slot then [] else reels
 tape_after machine slot _ reels = reels
 

@@ -3,7 +3,7 @@
 ghost use Rattle.std.specs.Prelude.{◌≡◌, ℕ, ◌≤◌, ◌<◌, ◌↔◌, List, length, SomeIff, IsTrue, Some, ⊤};
 ghost use Rattle.desk_types.specs.Designator.{IsDesignator, is_designator_byte};
 
-use crate::fixed::{order, padded};
+use crate::fixed::{order, with_zeros};
 use std::alloc::AllocError;
 use std::cmp::Ordering;
 use std::fmt;
@@ -23,7 +23,7 @@ pub struct Designator {
 
 impl Model for Designator {
     ghost use Rattle.std.specs.Prelude.{List, ℕ, take, length};
-    ghost use Rattle.desk_types.specs.Fixed.{padded, IsPadded};
+    ghost use Rattle.desk_types.specs.Fixed.{with_zeros, IsPadded};
     ghost use Rattle.desk_types.specs.Designator.{IsDesignatorInside};
     ghost use Rattle.desk_types.specs.declared.designator.TheConstants.{LONGEST_DESIGNATOR};
 
@@ -33,7 +33,7 @@ impl Model for Designator {
 
     ghost invariant = { λ a. IsDesignatorInside a.bytes a.len };
 
-    ghost inverse = { λ v. record { bytes = padded LONGEST_DESIGNATOR v; len = length v } };
+    ghost inverse = { λ v. record { bytes = with_zeros LONGEST_DESIGNATOR v; len = length v } };
 }
 
 impl Designator {
@@ -45,7 +45,7 @@ impl Designator {
             return None;
         }
         Some(Designator {
-            bytes: padded(bytes),
+            bytes: with_zeros(bytes),
             len: bytes.len() as u8,
         })
     }

@@ -3,14 +3,14 @@
 ghost use Rattle.std.specs.Prelude.{◌≡◌, ◌≤◌, ◌+◌, ◌%◌, length};
 ghost use Rattle.std.specs.Cmp.Lexicographic.{slice_cmp};
 ghost use Rattle.std.specs.Ordering.{nat_cmp};
-ghost use Rattle.desk_types.specs.Fixed.{padded, word_at};
+ghost use Rattle.desk_types.specs.Fixed.{with_zeros, word_at};
 
 use std::cmp::Ordering;
 
 /// The bytes, with zeros behind them up to the width.
-pub fn padded<const N: usize>(bytes: &[u8]) -> [u8; N]
+pub fn with_zeros<const N: usize>(bytes: &[u8]) -> [u8; N]
     requires { length bytes.now ≤ N }
-    ensures { result ≡ padded N bytes.now }
+    ensures { result ≡ with_zeros N bytes.now }
 {
     let mut own = [0u8; N];
     own[..bytes.len()].copy_from_slice(bytes);

@@ -4,7 +4,7 @@ ghost use Rattle.std.specs.Prelude.{◌≡◌, ℕ, ◌≤◌, ◌<◌, ◌↔�
 ghost use Rattle.desk_types.specs.Id.{IsId};
 
 use crate::designator::Designator;
-use crate::fixed::{order, padded};
+use crate::fixed::{order, with_zeros};
 use std::alloc::AllocError;
 use std::cmp::Ordering;
 use std::fmt;
@@ -24,7 +24,7 @@ pub struct Id {
 
 impl Model for Id {
     ghost use Rattle.std.specs.Prelude.{List, ℕ, take, length};
-    ghost use Rattle.desk_types.specs.Fixed.{padded, IsPadded};
+    ghost use Rattle.desk_types.specs.Fixed.{with_zeros, IsPadded};
     ghost use Rattle.desk_types.specs.Id.{IsIdInside};
     ghost use Rattle.desk_types.specs.declared.id.TheConstants.{LONGEST_ID};
 
@@ -34,7 +34,7 @@ impl Model for Id {
 
     ghost invariant = { λ a. IsIdInside a.bytes a.len };
 
-    ghost inverse = { λ v. record { bytes = padded LONGEST_ID v; len = length v } };
+    ghost inverse = { λ v. record { bytes = with_zeros LONGEST_ID v; len = length v } };
 }
 
 impl Id {
@@ -46,7 +46,7 @@ impl Id {
             return None;
         }
         Some(Id {
-            bytes: padded(bytes),
+            bytes: with_zeros(bytes),
             len: bytes.len() as u8,
         })
     }
@@ -89,7 +89,7 @@ impl From<Designator> for Id {
     fn from(designator: Designator) -> Id {
         let bytes = designator.as_bytes();
         Id {
-            bytes: padded(bytes),
+            bytes: with_zeros(bytes),
             len: bytes.len() as u8,
         }
     }

@@ -31,16 +31,16 @@ abbrev pub feed_shape : Shape
 feed_shape = record (new_shape (codes "feed")) { rules = file_rule ∷ greatest_rule ∷ [] }
 
 -- an option of this name with a value, which has to be there
-abbrev pub wanted : List ℕ → Rule
-wanted name = record (new_rule name) { long = Some name; value_names = 1; required = true }
+abbrev pub required_option : List ℕ → Rule
+required_option name = record (new_rule name) { long = Some name; value_names = 1; required = true }
 
 -- `serve` has a file, a port and a number of connections, and may have the greatest number of `feed`
 abbrev pub serve_shape : Shape
-serve_shape = record (new_shape (codes "serve")) { rules = wanted (codes "db") ∷ wanted (codes "port") ∷ wanted (codes "connections") ∷ greatest_rule ∷ [] }
+serve_shape = record (new_shape (codes "serve")) { rules = required_option (codes "db") ∷ required_option (codes "port") ∷ required_option (codes "connections") ∷ greatest_rule ∷ [] }
 
 -- `report` has a file, and the target of a request
 abbrev pub report_shape : Shape
-report_shape = record (new_shape (codes "report")) { rules = wanted (codes "db") ∷ wanted (codes "get") ∷ [] }
+report_shape = record (new_shape (codes "report")) { rules = required_option (codes "db") ∷ required_option (codes "get") ∷ [] }
 
 -- `audit` has a file
 abbrev pub audit_shape : Shape
@@ -52,21 +52,21 @@ migrate_shape = record (new_shape (codes "migrate")) { rules = record file_rule 
 
 -- a command with the options of both imports: a desk's file, the UniqueID of the command, its source and its time
 abbrev pub with_stamp : App → App
-with_stamp command = with_rule (with_rule (with_rule (with_rule command (wanted (codes "db"))) (wanted (codes "id"))) (wanted (codes "source"))) (wanted (codes "time"))
+with_stamp command = with_rule (with_rule (with_rule (with_rule command (required_option (codes "db"))) (required_option (codes "id"))) (required_option (codes "source"))) (required_option (codes "time"))
 
 -- `import-setup` has a desk's file, the UniqueID, the source and the time of its command, a product, a machine, and the file that is read
 abbrev pub import_setup_shape : Shape
 import_setup_shape =
     record (new_shape (codes "import-setup")) {
-      rules = wanted (codes "db") ∷ wanted (codes "id") ∷ wanted (codes "source") ∷ wanted (codes "time")
-          ∷ wanted (codes "product") ∷ wanted (codes "machine") ∷ wanted (codes "file") ∷ [];
+      rules = required_option (codes "db") ∷ required_option (codes "id") ∷ required_option (codes "source") ∷ required_option (codes "time")
+          ∷ required_option (codes "product") ∷ required_option (codes "machine") ∷ required_option (codes "file") ∷ [];
     }
 
 -- so has `import-counts`, without a product and a machine
 abbrev pub import_counts_shape : Shape
 import_counts_shape =
     record (new_shape (codes "import-counts")) {
-      rules = wanted (codes "db") ∷ wanted (codes "id") ∷ wanted (codes "source") ∷ wanted (codes "time") ∷ wanted (codes "file") ∷ [];
+      rules = required_option (codes "db") ∷ required_option (codes "id") ∷ required_option (codes "source") ∷ required_option (codes "time") ∷ required_option (codes "file") ∷ [];
     }
 
 -- the program has a version, and wants a command

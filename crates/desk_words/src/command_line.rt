@@ -7,7 +7,7 @@ ghost use Rattle.clap.specs.Simple.{app_of, shape_of, subcommand_rows_of, with_r
 ghost use Rattle.clap.specs.Walk.{first_of, rows_of};
 ghost use Rattle.clap.specs.Values.{IsUnsignedIn};
 ghost use Rattle.clap.specs.declared.builder.command.Command.TheViews.{out-Command};
-ghost use Rattle.desk_words.specs.CommandLine.{audit_shape, bare, commands, counts_in, feed_shape, greatest_rule, import_counts_shape, import_setup_shape, migrate_shape, named_by, number_of, report_shape, serve_shape, setup_in, text_of, told_of, wanted, with_answering, with_stamp, Asks, GoesUpTo, HasNoGreatest, IsInRange, Names, NamesImport, Shows, ShowsNone};
+ghost use Rattle.desk_words.specs.CommandLine.{audit_shape, bare, commands, counts_in, feed_shape, greatest_rule, import_counts_shape, import_setup_shape, migrate_shape, named_by, number_of, report_shape, serve_shape, setup_in, text_of, told_of, required_option, with_answering, with_stamp, Asks, GoesUpTo, HasNoGreatest, IsInRange, Names, NamesImport, Shows, ShowsNone};
 
 use clap::error::ErrorKind;
 use clap::{Arg, ArgMatches};
@@ -93,12 +93,12 @@ pub fn read_words(alloc: Global, words: &[String]) -> Result<Asked, AllocError>
     let command = commands(alloc)?;
     match command.try_get_matches_from(words) {
         Ok(matches) => command_of(alloc, &matches),
-        Err(error) => told(alloc, &error),
+        Err(error) => help_or_mistake(alloc, &error),
     }
 }
 
 /// What is told where no command is to be run.
-fn told(alloc: Global, error: &clap::Error) -> Result<Asked, AllocError>
+fn help_or_mistake(alloc: Global, error: &clap::Error) -> Result<Asked, AllocError>
     ensures asks { (words : List (List ℕ)) → HasKind (told_of words) error.now → IfOk result (Asks words) }
     ensures range { IfOk result IsInRange }
 {
@@ -516,7 +516,7 @@ fn with_wanted<'a>(
     help: &'a str,
 ) -> Result<clap::Command<'a>, AllocError>
     requires local { (out-Command command).has_globals ≡ false }
-    ensures shape { IfOk result (λ new. app_of new ≡ with_rule (app_of command.entry) (wanted name.now)) }
+    ensures shape { IfOk result (λ new. app_of new ≡ with_rule (app_of command.entry) (required_option name.now)) }
     ensures local { IfOk result (λ new. (out-Command new).has_globals ≡ false) }
 {
     let option = Arg::new(alloc, name)

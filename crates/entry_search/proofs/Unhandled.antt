@@ -11,7 +11,7 @@ use Rattle.desk_types.specs.Setup.{receipt_by, receipt_of}
 use Rattle.desk_types.specs.FloorLife.{open_by}
 use Rattle.desk_types.proofs.Keys.{same-refl, same-true}
 use Rattle.reels.specs.declared.reel.Reel.{Reel}
-use Rattle.reels.proofs.Standing.{StandsFor-untouched}
+use Rattle.reels.proofs.StandingReels.{StandsFor-untouched}
 use Rattle.entry_search.specs.Life.{IsReelOf}
 
 if-none : {X Y : Type 0} (b : Bool) (x : X) (y : Y) → cond b (Some x) None ≡ None → cond b (Some y) None ≡ None

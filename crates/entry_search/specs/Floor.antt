@@ -50,8 +50,8 @@ is_on tape reel None = false
 is_on tape reel (Some p) = list_any (same reel) (tape p.0 p.1)
 
 -- the pieces that counted rows say the reel has, or else so many
-abbrev pub told_or : List CountRow → Name → ℕ → ℕ
-told_or rows reel pieces = option_map_or (λ (row : CountRow). row.quantity) (find (λ row. same row.reel reel) rows) pieces
+abbrev pub count_or : List CountRow → Name → ℕ → ℕ
+count_or rows reel pieces = option_map_or (λ (row : CountRow). row.quantity) (find (λ row. same row.reel reel) rows) pieces
 
 -- the last command on each reel took effect by the minute
 abbrev pub AreReelsBy : BTreeMap Name Reel → ℕ → Type 0

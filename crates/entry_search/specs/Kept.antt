@@ -13,5 +13,5 @@ AreTakes (e ∷ H) (takes ∷ kept) = (takes ≡ takes_by H e.effective e.stampe
 AreTakes H kept = ⊥
 
 -- how many pieces of the reel the takes are
-abbrev pub taken : List Take → Name → ℕ
-taken takes reel = sum_by (λ t. if same t.reel reel then t.quantity else 0) takes
+abbrev pub pieces_taken : List Take → Name → ℕ
+pieces_taken takes reel = sum_by (λ t. if same t.reel reel then t.quantity else 0) takes

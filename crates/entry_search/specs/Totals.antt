@@ -5,19 +5,19 @@ use Rattle.desk_types.specs.declared.take.Purpose.{Purpose}
 use Rattle.desk_types.specs.declared.take.Take.{Take}
 use Rattle.desk_types.specs.Id.{Name, same}
 use Rattle.desk_types.specs.History.{History}
-use Rattle.desk_types.specs.Pieces.{picked, all_picks, is_placed}
+use Rattle.desk_types.specs.Pieces.{pieces_picked, all_picks, is_placed}
 use Rattle.reels.specs.declared.reel.Usage.{Usage}
 use Rattle.reels.specs.declared.reel.Usage.TheVariants.{Placed, Scrapped}
 
 -- whether pieces that were taken for this purpose went this way
-abbrev pub went : Usage → Purpose → Bool
-went Placed purpose = is_placed purpose
-went Scrapped purpose = not (is_placed purpose)
+abbrev pub is_usage_of : Usage → Purpose → Bool
+is_usage_of Placed purpose = is_placed purpose
+is_usage_of Scrapped purpose = not (is_placed purpose)
 
 -- how many pieces of the reel went this way
 abbrev pub total_of : Usage → History → Name → ℕ
-total_of usage H reel = picked (filter (λ p. went usage p.purpose) (all_picks H)) reel
+total_of usage H reel = pieces_picked (filter (λ p. is_usage_of usage p.purpose) (all_picks H)) reel
 
 -- how many pieces of the reel the takes are that went this way
 abbrev pub taken_for : Usage → List Take → Name → ℕ
-taken_for usage takes reel = sum_by (λ t. if same t.reel reel && went usage t.purpose then t.quantity else 0) takes
+taken_for usage takes reel = sum_by (λ t. if same t.reel reel && is_usage_of usage t.purpose then t.quantity else 0) takes

@@ -30,7 +30,7 @@ fn open_by(name: &Id, command: &Command) -> Option<bool>
 }
 
 /// The reel, where the entry receives it.
-fn begun(name: &Id, entry: &Entry) -> Option<Reel>
+fn received_reel(name: &Id, entry: &Entry) -> Option<Reel>
     ensures { (H : History) → IsJudged Two (entry.now ∷ H) → receipt_of H name.now ≡ None → IsReelOf (entry.now ∷ H) name.now result }
 {
     let at = entry.effective;
@@ -66,7 +66,7 @@ pub fn reel_after(reel: Option<Reel>, name: &Id, entry: &Entry) -> Option<Reel>
     ensures { (H : History) → IsJudged Two (entry.now ∷ H) → IsReelOf H name.now reel → IsReelOf (entry.now ∷ H) name.now result }
 {
     let Some(mut found) = reel else {
-        return begun(name, entry);
+        return received_reel(name, entry);
     };
     handle(&mut found, name, entry);
     Some(found)

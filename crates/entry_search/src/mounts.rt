@@ -7,7 +7,7 @@ ghost use Rattle.desk_types.specs.Judged.{IsJudged};
 ghost use Rattle.desk_laws.specs.Place.{is_at, place_after, place_of};
 ghost use Rattle.entry_search.specs.Kept.{AreTakes};
 
-use crate::pieces::left;
+use crate::pieces::left_of;
 use desk_types::{Command, Entry, Id, Takes};
 
 /// A place, unless it is this slot.
@@ -63,7 +63,7 @@ fn has_pieces(entries: &[Entry], takes: &[Takes], reel: &Id) -> bool
     requires { AreTakes (reverse entries.now) (reverse takes.now) }
     ensures { result ≡ nat_lt 0 (left_of (reverse entries.now) reel.now) }
 {
-    left(entries, takes, reel) > 0
+    left_of(entries, takes, reel) > 0
 }
 
 /// Whether the reel is live on some slot. Takes no memory.

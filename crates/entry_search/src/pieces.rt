@@ -5,12 +5,12 @@ ghost use Rattle.std.specs.Option.{option_map};
 ghost use Rattle.std.specs.List.{find};
 ghost use Rattle.desk_types.specs.declared.count.CountRow.{CountRow};
 ghost use Rattle.desk_types.specs.Id.{same};
-ghost use Rattle.desk_types.specs.Pieces.{told_by, left_of};
-ghost use Rattle.entry_search.specs.Kept.{AreTakes, taken};
+ghost use Rattle.desk_types.specs.Pieces.{pieces_by, left_of};
+ghost use Rattle.entry_search.specs.Kept.{AreTakes, pieces_taken};
 
 use desk_types::{Command, CountRow, Entry, GREATEST_QUANTITY, Id, Take, Takes};
 
-fn counted(reel: &Id, rows: &[CountRow]) -> Option<u64>
+fn count_in(reel: &Id, rows: &[CountRow]) -> Option<u64>
     ensures value { result ≡ option_map (λ (row : CountRow). row.quantity) (find (λ row. same row.reel reel.now) rows.now) }
     ensures range { IfSome result (λ pieces. pieces ≤ GREATEST_QUANTITY) }
 {
@@ -20,7 +20,7 @@ fn counted(reel: &Id, rows: &[CountRow]) -> Option<u64>
 
 /// What a receipt or a count says that the reel has.
 fn told_by(reel: &Id, command: &Command) -> Option<u64>
-    ensures value { result ≡ told_by reel.now command.now }
+    ensures value { result ≡ pieces_by reel.now command.now }
     ensures range { IfSome result (λ pieces. pieces ≤ GREATEST_QUANTITY) }
 {
     match command {
@@ -29,14 +29,14 @@ fn told_by(reel: &Id, command: &Command) -> Option<u64>
             quantity,
             ..
         } if *r == *reel => Some(quantity.get()),
-        Command::CountsTaken { counts } => counted(reel, counts.as_slice()),
+        Command::CountsTaken { counts } => count_in(reel, counts.as_slice()),
         _ => None,
     }
 }
 
 /// How many pieces of the reel the takes are, or the greatest `u64` where they are more.
-fn taken(takes: &[Take], reel: &Id) -> u64
-    ensures { result ≡ min (taken takes.now reel.now) (2 ^ 64 - 1) }
+fn pieces_taken(takes: &[Take], reel: &Id) -> u64
+    ensures { result ≡ min (pieces_taken takes.now reel.now) (2 ^ 64 - 1) }
 {
     let mut pieces = 0u64;
     for take in takes {
@@ -48,7 +48,7 @@ fn taken(takes: &[Take], reel: &Id) -> u64
 }
 
 /// The pieces left on the reel: what was told last, less what later entries took.
-pub fn left(entries: &[Entry], takes: &[Takes], reel: &Id) -> u64
+pub fn left_of(entries: &[Entry], takes: &[Takes], reel: &Id) -> u64
     requires { AreTakes (reverse entries.now) (reverse takes.now) }
     ensures { result ≡ left_of (reverse entries.now) reel.now }
 {
@@ -60,7 +60,7 @@ pub fn left(entries: &[Entry], takes: &[Takes], reel: &Id) -> u64
             return pieces.saturating_sub(gone);
         }
         if let Some((last, earlier)) = kept.split_last() {
-            gone = gone.saturating_add(taken(last.as_slice(), reel));
+            gone = gone.saturating_add(pieces_taken(last.as_slice(), reel));
             kept = earlier;
         }
         rest = before;

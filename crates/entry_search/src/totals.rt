@@ -7,9 +7,9 @@ ghost use Rattle.desk_types.specs.History.{History};
 ghost use Rattle.desk_types.specs.Judged.{IsJudged};
 ghost use Rattle.desk_types.specs.Pieces.{is_placed, received_of};
 ghost use Rattle.entry_search.specs.Kept.{AreTakes};
-ghost use Rattle.entry_search.specs.Totals.{went, total_of, taken_for};
+ghost use Rattle.entry_search.specs.Totals.{is_usage_of, total_of, taken_for};
 
-use crate::pieces::left;
+use crate::pieces::left_of;
 use desk_types::{Entry, Id, Purpose, Take, Takes};
 use reels::Usage;
 
@@ -21,8 +21,8 @@ pub fn is_placed(purpose: &Purpose) -> bool
 }
 
 /// Whether pieces that were taken for this purpose went this way.
-fn went(usage: Usage, purpose: &Purpose) -> bool
-    ensures { result ≡ went usage purpose.now }
+fn is_usage_of(usage: Usage, purpose: &Purpose) -> bool
+    ensures { result ≡ is_usage_of usage purpose.now }
 {
     let placed = is_placed(purpose);
     match usage {
@@ -38,7 +38,7 @@ fn taken_for(takes: &[Take], reel: &Id, usage: Usage) -> u64
 {
     let mut pieces = 0u64;
     for take in takes {
-        if take.reel == *reel && went(usage, &take.purpose) {
+        if take.reel == *reel && is_usage_of(usage, &take.purpose) {
             pieces = pieces.saturating_add(take.quantity);
         }
     }
@@ -59,7 +59,7 @@ pub fn total(takes: &[Takes], reel: &Id, usage: Usage) -> u64
 
 /// How many pieces of the reel were received, those of its receipt and the found ones: as many as were
 /// placed, scrapped and are left together.
-pub fn received(entries: &[Entry], takes: &[Takes], reel: &Id) -> u64
+pub fn received_of(entries: &[Entry], takes: &[Takes], reel: &Id) -> u64
     requires most { length entries.now ≤ MOST_ENTRIES }
     requires judged { IsJudged Two (reverse entries.now) }
     requires takes { AreTakes (reverse entries.now) (reverse takes.now) }
@@ -67,5 +67,5 @@ pub fn received(entries: &[Entry], takes: &[Takes], reel: &Id) -> u64
 {
     let placed = total(takes, reel, Usage::Placed);
     let scrapped = total(takes, reel, Usage::Scrapped);
-    placed + scrapped + left(entries, takes, reel)
+    placed + scrapped + left_of(entries, takes, reel)
 }

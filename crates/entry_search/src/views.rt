@@ -12,9 +12,9 @@ ghost use Rattle.entry_search.specs.Kept.{AreTakes};
 
 use crate::floor_life::reel_of;
 use crate::mounts::is_mounted;
-use crate::pieces::left;
+use crate::pieces::left_of;
 use crate::setup::{desk_minute, receipt};
-use crate::totals::{received, total};
+use crate::totals::{received_of, total};
 use desk_types::{Entry, Id, Left, Minute, ReelView, Takes};
 use reels::{Reel, Usage};
 
@@ -42,7 +42,7 @@ pub fn reel_view(entries: &[Entry], takes: &[Takes], name: &Id) -> Option<ReelVi
     let minute = desk_minute(entries)?;
     let told = receipt(entries, name)?;
     let reel = reel_of(entries, name)?;
-    let received = received(entries, takes, name);
+    let received = received_of(entries, takes, name);
     Some(ReelView {
         reel: *name,
         part: reel.part,
@@ -53,7 +53,7 @@ pub fn reel_view(entries: &[Entry], takes: &[Takes], name: &Id) -> Option<ReelVi
         found: received - told.quantity.get(),
         placed: total(takes, name, Usage::Placed),
         scrapped: total(takes, name, Usage::Scrapped),
-        remaining: left(entries, takes, name),
+        remaining: left_of(entries, takes, name),
         left: life_left(&reel, minute),
         mounted: is_mounted(entries, takes, name),
         is_open: reel.open_since.is_some(),

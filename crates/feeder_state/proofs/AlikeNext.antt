@@ -20,7 +20,7 @@ use Rattle.desk_types.specs.Id.{Name, same}
 use Rattle.desk_types.specs.History.{History, latest, desk_minute, now_of, effective_minute, entry_of, accept}
 use Rattle.desk_types.specs.Setup.{defines, allows, sheet_by, selection_by, receipt_by, receipt_of}
 use Rattle.desk_types.specs.Tape.{tape_after}
-use Rattle.desk_types.specs.Pieces.{picked, told_by, left_of, is_mounted}
+use Rattle.desk_types.specs.Pieces.{pieces_picked, pieces_by, left_of, is_mounted}
 use Rattle.desk_types.specs.FloorLife.{open_by, IsUntouched, last_bake, exposure_starts, exposure_of, baked_by, is_baked}
 use Rattle.desk_types.specs.Work.{work_by, start_by, places}
 use Rattle.desk_types.specs.Refusals.{refusal_of}
@@ -38,16 +38,16 @@ use Rattle.desk_laws.proofs.Lives.{live-next}
 use Rattle.desk_laws.proofs.Mounted.{mounted-next}
 use Rattle.desk_laws.proofs.Mounts.{has}
 use Rattle.desk_laws.proofs.Openings.{starts-by}
-use Rattle.desk_laws.proofs.Working.{work-next, in_work-next}
-use Rattle.reels.proofs.Standing.{last_bake-untouched}
+use Rattle.desk_laws.proofs.BoardsInWork.{work-next, in_work-next}
+use Rattle.reels.proofs.StandingReels.{last_bake-untouched}
 use Rattle.reels.specs.Reel.{StandsFor}
 use Rattle.feeder_state.specs.declared.desk.StateDesk.{StateDesk}
 use Rattle.feeder_state.specs.declared.held.Held.{Held}
 use Rattle.feeder_state.specs.Held.{IsHeldOf, held_at}
 use Rattle.feeder_state.specs.State.{IsState}
-use Rattle.feeder_state.proofs.Accepting.{state-two}
-use Rattle.feeder_state.proofs.Alike.{AreAlike, mark, marks_of, effective-alike, refusal-alike, picks-alike, detail-alike}
-use Rattle.feeder_state.proofs.Telling.{absent-left, absent-mounted}
+use Rattle.feeder_state.proofs.AcceptedChanges.{state-two}
+use Rattle.feeder_state.proofs.AlikeLists.{AreAlike, mark, marks_of, effective-alike, refusal-alike, picks-alike, detail-alike}
+use Rattle.feeder_state.proofs.FloorTells.{absent-left, absent-mounted}
 
 -- ---- floor life, one entry more
 
@@ -133,7 +133,7 @@ map-or (Some r) before = refl
 
 left-alike : (G H : History) (s : Stamped) → AreAlike G H → left_of (accept G s) ≡ left_of (accept H s)
 unfolding left_of
-left-alike G H s a = λ j reel. unwrap_or (told_by reel s.command) (a.left j reel - picked (picks-alike G H s.command a j) reel)
+left-alike G H s a = λ j reel. unwrap_or (pieces_by reel s.command) (a.left j reel - pieces_picked (picks-alike G H s.command a j) reel)
 
 alike-next : (G H : History) (s : Stamped) → AreAlike G H → IsJudged Two (accept G s) → IsJudged Two (accept H s) → AreAlike (accept G s) (accept H s)
 alike-next G H s a of_G of_H = record {

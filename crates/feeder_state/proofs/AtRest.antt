@@ -19,7 +19,7 @@ use Rattle.desk_types.specs.Setup.{receipt_of, receipt_by}
 use Rattle.desk_types.specs.Pieces.{left_of, live_on, is_mounted}
 use Rattle.desk_types.specs.Judged.{IsJudged}
 use Rattle.desk_types.proofs.Keys.{is_at-by_name, same-sym, same-true}
-use Rattle.desk_types.proofs.Steps.{take-next}
+use Rattle.desk_types.proofs.LoopSteps.{take-next}
 use Rattle.desk_laws.specs.Place.{mounted_after}
 use Rattle.desk_laws.proofs.Balance.{some-next, unreceived-empty}
 use Rattle.desk_laws.proofs.Mounted.{mounted-next}
@@ -29,7 +29,7 @@ use Rattle.feeder_state.specs.declared.held.Held.{Held}
 use Rattle.feeder_state.specs.Held.{is_live, IsHeldOf}
 use Rattle.feeder_state.specs.Noted.{may_take}
 use Rattle.feeder_state.specs.Resting.{rests, held_rests, resting_after}
-use Rattle.feeder_state.proofs.Working.{has_such}
+use Rattle.feeder_state.proofs.RestoredWork.{has_such}
 
 -- ---- one entry more
 

@@ -16,7 +16,7 @@ use Rattle.desk_types.specs.declared.take.Take.{Take}
 use Rattle.desk_types.specs.Id.{Name}
 use Rattle.desk_types.specs.History.{History, now_of}
 use Rattle.desk_types.specs.Setup.{receipt_of, receipt_by}
-use Rattle.desk_types.specs.Pieces.{left_of, live_on, picks_of, found_by, found_of, picked, is_placed, is_mounted, count_picks, received_of}
+use Rattle.desk_types.specs.Pieces.{left_of, live_on, picks_of, found_by, found_of, pieces_picked, is_placed, is_mounted, count_picks, received_of}
 use Rattle.desk_types.specs.FloorLife.{open_by, IsUntouched}
 use Rattle.desk_types.specs.Level.{LevelWithLabel}
 use Rattle.desk_types.specs.Judged.{IsJudged}
@@ -29,21 +29,21 @@ use Rattle.desk_laws.proofs.Balance.{balance, left-next, left-received, some-nex
 use Rattle.desk_laws.proofs.Judgements.{or-none, untouched}
 use Rattle.desk_laws.proofs.Mounted.{mounted-next}
 use Rattle.desk_laws.proofs.Mounts.{has}
-use Rattle.desk_laws.proofs.Totals.{placed-next, scrapped-next, picked-split}
+use Rattle.desk_laws.proofs.Totals.{placed-next, scrapped-next, pieces_picked-split}
 use Rattle.reels.specs.declared.reel.Usage.TheVariants.{Placed, Scrapped}
 use Rattle.reels.specs.Reel.{StandsFor, IsReceived}
-use Rattle.reels.proofs.Standing.{StandsFor-untouched}
-use Rattle.entry_search.specs.Kept.{taken}
+use Rattle.reels.proofs.StandingReels.{StandsFor-untouched}
+use Rattle.entry_search.specs.Kept.{pieces_taken}
 use Rattle.entry_search.specs.Totals.{taken_for}
-use Rattle.entry_search.proofs.Leaving.{taken-map}
+use Rattle.entry_search.proofs.ReelsLater.{pieces_taken-map}
 use Rattle.desk_laws.proofs.Ranges.{received-range}
-use Rattle.entry_search.proofs.Summing.{taken_for-map}
+use Rattle.entry_search.proofs.SumsOfTakes.{taken_for-map}
 use Rattle.feeder_state.specs.declared.held.Held.{Held}
 use Rattle.feeder_state.specs.Held.{left_in, is_live, IsHeld, IsHeldOf}
 use Rattle.feeder_state.specs.Noted.{IsNoted, may_take}
 use Rattle.feeder_state.specs.Taking.{IsMoved, AreMoved, CanRise, off_slot}
-use Rattle.feeder_state.proofs.Moving.{left-taken, taken-split}
-use Rattle.feeder_state.proofs.Holding.{IsQuiet, held-quiet, same-pieces}
+use Rattle.feeder_state.proofs.PiecesOffReels.{left-pieces_taken, pieces_taken-split}
+use Rattle.feeder_state.proofs.HeldReels.{IsQuiet, held-quiet, same-pieces}
 
 -- ---- reels that were not received
 
@@ -73,8 +73,8 @@ held-received H e name part lot moisture quantity new judged is stands received 
     let empty = unreceived-empty H name judged.1 none in
     let before = balance H name judged.1 in
     let left = left-received H e name receipt says in
-    let no_more : (test : Bool → Bool) → picked (filter (λ p. test (is_placed p.purpose)) (picks_of H e.stamped.command)) name ≡ 0 =
-    λ test. ap (λ c. picked (filter (λ p. test (is_placed p.purpose)) (picks_of H c)) name) is in
+    let no_more : (test : Bool → Bool) → pieces_picked (filter (λ p. test (is_placed p.purpose)) (picks_of H e.stamped.command)) name ≡ 0 =
+    λ test. ap (λ c. pieces_picked (filter (λ p. test (is_placed p.purpose)) (picks_of H c)) name) is in
     let finds = ap (found_by (left_of H name) name) is in
     record {
       stands = stands;
@@ -140,7 +140,7 @@ live-before false some before had = refl
 
 -- A reel off which the entry takes its picks, and on which it finds what it finds.
 held-moved : (H : History) (e : Entry) (name : Name) (old new : Held) → IsJudged Two (e ∷ H) → may_take e.stamped.command ≡ true → IsHeld H name old
-    → IsMoved (picked (filter (λ p. is_placed p.purpose) (picks_of H e.stamped.command)) name) (picked (filter (λ p. not (is_placed p.purpose)) (picks_of H e.stamped.command)) name)
+    → IsMoved (pieces_picked (filter (λ p. is_placed p.purpose) (picks_of H e.stamped.command)) name) (pieces_picked (filter (λ p. not (is_placed p.purpose)) (picks_of H e.stamped.command)) name)
     (found_by (left_of H name) name e.stamped.command) old new
     → IsHeld (e ∷ H) name new
 unfolding found_of
@@ -148,7 +148,7 @@ held-moved H e name old new judged takes held moved =
     let taking = taking-by name e.stamped.command takes in
     let other = taking.receives e.effective in
     let left = left-next H e name judged other in
-    let split = picked-split (picks_of H e.stamped.command) name in
+    let split = pieces_picked-split (picks_of H e.stamped.command) name in
     let remaining : new.reel.remaining ≡ left_of (e ∷ H) name = omega (arith, moved.remaining, held.remaining, left, split) in
     let had : nat_lt 0 new.reel.remaining ≡ true → nat_lt 0 old.reel.remaining ≡ true =
     λ some. ap (nat_lt 0) held.remaining ∙ some-next H e name judged other (sym (ap (nat_lt 0) remaining) ∙ some) in
@@ -168,14 +168,14 @@ held-moved H e name old new judged takes held moved =
     }
 
 -- The same of a reel that may not have been received.
-pub held-taken : (H : History) (e : Entry) (name : Name) (old new : Option Held) → IsJudged Two (e ∷ H) → may_take e.stamped.command ≡ true → IsHeldOf H name old
-    → AreMoved (picked (filter (λ p. is_placed p.purpose) (picks_of H e.stamped.command)) name) (picked (filter (λ p. not (is_placed p.purpose)) (picks_of H e.stamped.command)) name)
+pub held-pieces_taken : (H : History) (e : Entry) (name : Name) (old new : Option Held) → IsJudged Two (e ∷ H) → may_take e.stamped.command ≡ true → IsHeldOf H name old
+    → AreMoved (pieces_picked (filter (λ p. is_placed p.purpose) (picks_of H e.stamped.command)) name) (pieces_picked (filter (λ p. not (is_placed p.purpose)) (picks_of H e.stamped.command)) name)
     (found_by (left_of H name) name e.stamped.command) old new
     → IsHeldOf (e ∷ H) name new
-held-taken H e name None None judged takes none moved = let receives = (taking-by name e.stamped.command takes).receives e.effective in rw receives none
-held-taken H e name (Some old) (Some new) judged takes held moved = held-moved H e name old new judged takes held moved
-held-taken H e name None (Some new) judged takes none moved = absurd moved
-held-taken H e name (Some old) None judged takes held moved = absurd moved
+held-pieces_taken H e name None None judged takes none moved = let receives = (taking-by name e.stamped.command takes).receives e.effective in rw receives none
+held-pieces_taken H e name (Some old) (Some new) judged takes held moved = held-moved H e name old new judged takes held moved
+held-pieces_taken H e name None (Some new) judged takes none moved = absurd moved
+held-pieces_taken H e name (Some old) None judged takes held moved = absurd moved
 
 -- the reel has as many pieces as the list left it
 pub left-held : (H : History) (name : Name) (held : Option Held) → IsJudged Two H → IsHeldOf H name held → left_in held ≡ left_of H name
@@ -184,10 +184,10 @@ left-held H name (Some held) judged is = is.remaining
 
 -- The takes of an entry are no more of a reel than it has.
 pub takes-within : (H : History) (e : Entry) (minute : ℕ) (name : Name) (held : Option Held) → IsJudged Two (e ∷ H) → may_take e.stamped.command ≡ true → IsHeldOf H name held
-    → taken (takes_by H minute e.stamped.command) name ≤ left_in held
+    → pieces_taken (takes_by H minute e.stamped.command) name ≤ left_in held
 takes-within H e minute name held judged takes is =
     let within = picks-within H e name judged ((taking-by name e.stamped.command takes).receives e.effective) in
-    let all = taken-map H minute (picks_of H e.stamped.command) name in
+    let all = pieces_taken-map H minute (picks_of H e.stamped.command) name in
     let left = left-held H name held judged.1 is in
     omega (arith, within, all, left)
 
@@ -195,10 +195,10 @@ takes-within H e minute name held judged takes is =
 
 -- the takes of an entry are no more of a reel than it has
 pub noted-within : (H : History) (e : Entry) (command : Command) (at : ℕ) (takes : List Take) (name : Name) (held : Option Held) → IsNoted H e command at takes
-    → may_take command ≡ true → IsHeldOf H name held → taken takes name ≤ left_in held
+    → may_take command ≡ true → IsHeldOf H name held → pieces_taken takes name ≤ left_in held
 noted-within H e command at takes name held noted may is =
     let within = takes-within H e at name held noted.judged (ap may_take noted.command_is ∙ may) is in
-    let same_takes = ap (λ ts. taken ts name) (noted.takes_are ∙ ap (takes_by H at) (sym noted.command_is)) in
+    let same_takes = ap (λ ts. pieces_taken ts name) (noted.takes_are ∙ ap (takes_by H at) (sym noted.command_is)) in
     omega (arith, within, same_takes)
 
 -- a reel off which the takes go, and on which the command finds what it finds
@@ -211,17 +211,17 @@ noted-moved H e command at takes name old new noted may is moved =
     let on_boards = ap (λ ts. taken_for Placed ts name) same_takes ∙ taken_for-map Placed H at picks name in
     let away = ap (λ ts. taken_for Scrapped ts name) same_takes ∙ taken_for-map Scrapped H at picks name in
     let finds = ap (found_by (left_of H name) name) (sym noted.command_is) in
-    held-taken H e name old new noted.judged (ap may_take noted.command_is ∙ may) is
+    held-pieces_taken H e name old new noted.judged (ap may_take noted.command_is ∙ may) is
     (subst (λ (n : ℕ × ℕ × ℕ). AreMoved n.0 n.1 n.2 old new) (λ j. (on_boards j, away j, finds j)) moved)
 
 -- what is left once the takes of a count are off
 pub counted-left : (H : History) (e : Entry) (rows : List CountRow) (at : ℕ) (takes : List Take) (name : Name) (old mid : Option Held) → IsNoted H e (CountsTaken rows) at takes
     → IsHeldOf H name old → AreMoved (taken_for Placed takes name) (taken_for Scrapped takes name) 0 old mid
-    → left_in mid ≡ left_of H name - picked (count_picks (left_of H) rows) name
+    → left_in mid ≡ left_of H name - pieces_picked (count_picks (left_of H) rows) name
 counted-left H e rows at takes name old mid noted is moved =
-    let left = left-taken (taken_for Placed takes name) (taken_for Scrapped takes name) old mid moved in
-    let split = taken-split takes name in
-    let all = ap (λ ts. taken ts name) noted.takes_are ∙ taken-map H at (count_picks (left_of H) rows) name in
+    let left = left-pieces_taken (taken_for Placed takes name) (taken_for Scrapped takes name) old mid moved in
+    let split = pieces_taken-split takes name in
+    let all = ap (λ ts. pieces_taken ts name) noted.takes_are ∙ pieces_taken-map H at (count_picks (left_of H) rows) name in
     let before = left-held H name old noted.judged.1 is in
     omega (arith, left, split, all, before)
 
@@ -236,9 +236,9 @@ unfound left name (CountsTaken rows) may other = absurd (other rows refl)
 unfound left name _ may other = refl
 
 -- The sums of a reel of which pieces were taken fit.
-pub taken-fits : (H : History) (name : Name) (p a : ℕ) (old mid : Option Held) → IsJudged Two H → length H ≤ MOST_ENTRIES → IsHeldOf H name old → AreMoved p a 0 old mid → ForSome mid CanRise
-taken-fits H name p a None None judged few is moved held some = cc
-taken-fits H name p a (Some x) (Some y) judged few is moved held some = subst CanRise (by some) (
+pub pieces_taken-fits : (H : History) (name : Name) (p a : ℕ) (old mid : Option Held) → IsJudged Two H → length H ≤ MOST_ENTRIES → IsHeldOf H name old → AreMoved p a 0 old mid → ForSome mid CanRise
+pieces_taken-fits H name p a None None judged few is moved held some = cc
+pieces_taken-fits H name p a (Some x) (Some y) judged few is moved held some = subst CanRise (by some) (
     let range = received-range H name judged in
     let all : received_of H name ≡ x.reel.received =
     ap (λ (o : Option Receipt). option_map_or (λ (r : Receipt). r.quantity) o 0 + found_of H name) is.stands.receipt.is
@@ -248,8 +248,8 @@ taken-fits H name p a (Some x) (Some y) judged few is moved held some = subst Ca
   where
     by : Some y ≡ Some held → y ≡ held
     by some = cc
-taken-fits H name p a None (Some y) judged few is moved held some = absurd moved
-taken-fits H name p a (Some x) None judged few is moved held some = cc
+pieces_taken-fits H name p a None (Some y) judged few is moved held some = absurd moved
+pieces_taken-fits H name p a (Some x) None judged few is moved held some = cc
 
 -- No command was on a reel that the entry receives.
 pub received-fresh : (H : History) (e : Entry) (name part lot : Name) (moisture : LevelWithLabel) (quantity : ℕ) → IsJudged Two (e ∷ H)

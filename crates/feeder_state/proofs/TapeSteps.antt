@@ -16,15 +16,15 @@ use Rattle.desk_types.specs.declared.take.Take.{Take}
 use Rattle.desk_types.specs.Id.{Name, same}
 use Rattle.desk_types.specs.History.{History}
 use Rattle.desk_types.specs.Setup.{receipt_by}
-use Rattle.desk_types.specs.Tape.{spliced, tape_after}
-use Rattle.desk_types.specs.Pieces.{left_of, live_on, picks_of, found_by, picked}
+use Rattle.desk_types.specs.Tape.{tape_with, tape_after}
+use Rattle.desk_types.specs.Pieces.{left_of, live_on, picks_of, found_by, pieces_picked}
 use Rattle.desk_types.specs.Judged.{IsJudged}
 use Rattle.desk_types.specs.Refusals.{command_refusal}
 use Rattle.desk_types.specs.Outcome.{takes_by, take_of}
 use Rattle.desk_types.proofs.Keys.{same-refl, same-true}
 use Rattle.desk_laws.specs.Slots.{comes_off, IsOnItsSlot}
 use Rattle.desk_laws.proofs.Accepted.{next-accepted, mountable, received-once}
-use Rattle.desk_laws.proofs.Alone.{picks-alone, live-pieces}
+use Rattle.desk_laws.proofs.PicksOfOneSlot.{picks-alone, live-pieces}
 use Rattle.desk_laws.proofs.Balance.{left-next, unreceived-empty}
 use Rattle.desk_laws.proofs.Lives.{live-next}
 use Rattle.desk_laws.proofs.Mounts.{has}
@@ -56,14 +56,14 @@ all-kept p reels passes = filter-on p (λ r. true) reels passes ∙ all reels
 -- ---- entries that take pieces
 
 -- of the picks off a live reel, one comes off its slot
-picked-there : (H : History) (machine slot reel : Name) (picks : List Pick) → AllByRecursion (IsOnItsSlot (live_on H)) picks → has (live_on H machine slot) reel ≡ true
-    → 0 < picked picks reel → list_any (λ (p : Pick). comes_off p.purpose machine slot && same p.reel reel) picks ≡ true
-picked-there H machine slot reel [] alone live some = absurd (omega (arith, some))
-picked-there H machine slot reel (p ∷ ps) alone live some =
-    by (same p.reel reel) refl (sum_by-cons (λ (q : Pick). cond (same q.reel reel) q.quantity 0) p ps) (picked-there H machine slot reel ps alone.1 live)
+pieces_picked-there : (H : History) (machine slot reel : Name) (picks : List Pick) → AllByRecursion (IsOnItsSlot (live_on H)) picks → has (live_on H machine slot) reel ≡ true
+    → 0 < pieces_picked picks reel → list_any (λ (p : Pick). comes_off p.purpose machine slot && same p.reel reel) picks ≡ true
+pieces_picked-there H machine slot reel [] alone live some = absurd (omega (arith, some))
+pieces_picked-there H machine slot reel (p ∷ ps) alone live some =
+    by (same p.reel reel) refl (sum_by-cons (λ (q : Pick). cond (same q.reel reel) q.quantity 0) p ps) (pieces_picked-there H machine slot reel ps alone.1 live)
   where
-    by : (b : Bool) → same p.reel reel ≡ b → picked (p ∷ ps) reel ≡ cond b p.quantity 0 + picked ps reel
-        → (0 < picked ps reel → list_any (λ (q : Pick). comes_off q.purpose machine slot && same q.reel reel) ps ≡ true)
+    by : (b : Bool) → same p.reel reel ≡ b → pieces_picked (p ∷ ps) reel ≡ cond b p.quantity 0 + pieces_picked ps reel
+        → (0 < pieces_picked ps reel → list_any (λ (q : Pick). comes_off q.purpose machine slot && same q.reel reel) ps ≡ true)
         → ((comes_off p.purpose machine slot && b) || list_any (λ (q : Pick). comes_off q.purpose machine slot && same q.reel reel) ps) ≡ true
     by true one all rest =
         let off = alone.0 machine slot (ap (has (live_on H machine slot)) (same-true p.reel reel one) ∙ live) in
@@ -133,7 +133,7 @@ lives-taken H e command at takes left machine slot noted may is =
         let none = ltb-false 0 (left_of (e ∷ H) r) few in
         let before = ltb-true 0 (left_of H r) (live-pieces H machine slot r live) in
         let next = left-next H e r noted.judged (receives-none r e.effective e.stamped.command takes_some) in
-        ap (λ b. not (b && true)) (picked-there H machine slot r (picks_of H e.stamped.command) (picks-alone H e noted.judged) live (omega (arith, none, before, next)))
+        ap (λ b. not (b && true)) (pieces_picked-there H machine slot r (picks_of H e.stamped.command) (picks-alone H e noted.judged) live (omega (arith, none, before, next)))
 
     kept : (r : Name) → has (live_on H machine slot) r ≡ true → not (list_any (is_spent_by left machine slot r) takes) ≡ nat_lt 0 (left_of (e ∷ H) r)
     kept r live =
@@ -143,7 +143,7 @@ lives-taken H e command at takes left machine slot noted may is =
 
 -- ---- other entries
 
-takes-none : (H : History) (name : Name) (command : Command) → may_take command ≡ false → (picked (picks_of H command) name ≡ 0) × (found_by (left_of H name) name command ≡ 0)
+takes-none : (H : History) (name : Name) (command : Command) → may_take command ≡ false → (pieces_picked (picks_of H command) name ≡ 0) × (found_by (left_of H name) name command ≡ 0)
 takes-none H name (MaterialsInstalled machine board designators) is = cc
 takes-none H name (MaterialsScrapped machine slot quantity) is = cc
 takes-none H name (CountsTaken counts) is = cc
@@ -190,11 +190,11 @@ had-pieces H minute machine slot (MaterialsSpliced m s x) accepted r = by (same 
     one false true is there live = ap (λ n. nat_lt 0 (left_of H n)) (same-true r x is) ∙ some
     one false false is there live = cc
 
-    joined : (reels : List Name) → has (spliced reels x) r ≡ true → (has reels r ≡ true → nat_lt 0 (left_of H r) ≡ true) → nat_lt 0 (left_of H r) ≡ true
+    joined : (reels : List Name) → has (tape_with reels x) r ≡ true → (has reels r ≡ true → nat_lt 0 (left_of H r) ≡ true) → nat_lt 0 (left_of H r) ≡ true
     joined [] there live = live there
     joined (y ∷ ys) there live = one (has (y ∷ ys) r) (same r x) refl (sym (list_any-append (same r) (y ∷ ys) (x ∷ [])) ∙ there) live
 
-    by : (b : Bool) → has (if b then spliced (live_on H machine slot) x else live_on H machine slot) r ≡ true → nat_lt 0 (left_of H r) ≡ true
+    by : (b : Bool) → has (if b then tape_with (live_on H machine slot) x else live_on H machine slot) r ≡ true → nat_lt 0 (left_of H r) ≡ true
     by true there = joined (live_on H machine slot) there (live-pieces H machine slot r)
     by false there = live-pieces H machine slot r there
 had-pieces H minute machine slot (MaterialsUnloaded m s) accepted r = by (same m machine && same s slot)

@@ -20,7 +20,7 @@ use desk_types::{
     Rules, SheetRow, SheetRows, Stamped,
 };
 use judging::fronts::fronts;
-use judging::{Facts, judged};
+use judging::{Facts, judge};
 use reels::Reel;
 use setup_sheets::{Alternates, Parts, Sheet};
 use state_rows::RowSet;
@@ -119,7 +119,7 @@ impl StateDesk {
     }
 }
 
-#[tactic(auto, using(crate::proofs::Accepting::of_state))]
+#[tactic(auto, using(crate::proofs::AcceptedChanges::of_state))]
 impl Facts for StateDesk {
     ghost use Rattle.entry_search.specs.Floor.{tape_at};
     ghost use Rattle.feeder_state.specs.State.{IsState};
@@ -172,8 +172,8 @@ impl Facts for StateDesk {
         self.floor.reel(reel)
     }
 
-    fn left(&self, reel: &Id) -> u64 {
-        self.floor.left(reel)
+    fn left_of(&self, reel: &Id) -> u64 {
+        self.floor.left_of(reel)
     }
 
     fn is_mounted(&self, reel: &Id) -> bool {
@@ -209,7 +209,7 @@ impl Facts for StateDesk {
     }
 }
 
-#[tactic(auto, using(crate::proofs::Accepting::of_state))]
+#[tactic(auto, using(crate::proofs::AcceptedChanges::of_state))]
 impl Desk for StateDesk {
     ghost use Rattle.feeder_state.specs.State.{IsState};
 
@@ -230,7 +230,7 @@ impl Desk for StateDesk {
     }
 
     fn judge(&self, stamped: &Stamped) -> Result<Change, JudgeFault> {
-        judged(self.alloc, self.rules, self, stamped)
+        judge(self.alloc, self.rules, self, stamped)
     }
 
     fn settle(&mut self, change: Change) -> Result<(), AllocError> {

@@ -24,7 +24,7 @@ impl Floor {
     }
 
     /// The pieces left of the reel, 0 where it was not received.
-    pub fn left(&self, name: &Id) -> u64
+    pub fn left_of(&self, name: &Id) -> u64
         ensures { (H : History) → IsJudged Two H → IsFloor H self.now → result ≡ left_of H name.now }
     {
         match self.reels.get(name) {

@@ -12,8 +12,8 @@ ghost use Rattle.desk_types.specs.History.{History};
 ghost use Rattle.desk_types.specs.Judged.{IsJudged};
 ghost use Rattle.reels.specs.declared.reel.Usage.TheVariants.{Placed, Scrapped};
 ghost use Rattle.reels.specs.Reel.{StandsFor, SamePieces};
-ghost use Rattle.entry_search.specs.Kept.{taken};
-ghost use Rattle.entry_search.specs.Totals.{went, taken_for};
+ghost use Rattle.entry_search.specs.Kept.{pieces_taken};
+ghost use Rattle.entry_search.specs.Totals.{is_usage_of, taken_for};
 ghost use Rattle.feeder_state.specs.Held.{held_at, left_at, AreHeld};
 ghost use Rattle.feeder_state.specs.Handling.{handles, puts_on_slot};
 ghost use Rattle.feeder_state.specs.Taking.{AreMoved, CanRise, off_slot, highest};
@@ -72,7 +72,7 @@ pub fn handle(reels: &mut BTreeMap<Id, Held>, name: &Id, command: &Command, at: 
 
 /// Where the pieces go.
 fn usage(purpose: &Purpose) -> Usage
-    ensures { went result purpose.now ≡ true }
+    ensures { is_usage_of result purpose.now ≡ true }
 {
     match purpose {
         Purpose::Placed { .. } => Usage::Placed,
@@ -85,8 +85,8 @@ fn usage(purpose: &Purpose) -> Usage
 fn lower(reels: &mut BTreeMap<Id, Held>, take: &Take) -> bool
     requires { take.now.quantity ≤ left_at reels.old take.now.reel }
     ensures spent { result ≡ (left_at reels.new take.now.reel == 0) }
-    ensures moved { (r : Name) → AreMoved (if same take.now.reel r && went Placed take.now.purpose then take.now.quantity else 0)
-        (if same take.now.reel r && went Scrapped take.now.purpose then take.now.quantity else 0) 0 (held_at reels.old r) (held_at reels.new r) }
+    ensures moved { (r : Name) → AreMoved (if same take.now.reel r && is_usage_of Placed take.now.purpose then take.now.quantity else 0)
+        (if same take.now.reel r && is_usage_of Scrapped take.now.purpose then take.now.quantity else 0) 0 (held_at reels.old r) (held_at reels.new r) }
 {
     match reels.get_mut(&take.reel) {
         Some(held) => {
@@ -99,7 +99,7 @@ fn lower(reels: &mut BTreeMap<Id, Held>, take: &Take) -> bool
 
 /// Takes the pieces of takes off their reels, and tells whether one of the reels may have none left.
 pub fn lower_all(reels: &mut BTreeMap<Id, Held>, takes: &[Take]) -> bool
-    requires { (r : Name) → taken takes.now r ≤ left_at reels.old r }
+    requires { (r : Name) → pieces_taken takes.now r ≤ left_at reels.old r }
     ensures unspent { result ≡ false → list_any (λ (take : Taking). left_at reels.new take.reel == 0) takes.now ≡ false }
     ensures moved { (r : Name) → AreMoved (taken_for Placed takes.now r) (taken_for Scrapped takes.now r) 0 (held_at reels.old r) (held_at reels.new r) }
 {

@@ -1,5 +1,5 @@
 -- A store behind the gateway.
-use Rattle.http_answers.specs.Gateways.{line_of}
+use Rattle.http_answers.specs.Gateways.{owner_of}
 use Rattle.http_answers.specs.declared.gateway.Gateway.{Gateway}
 use Rattle.line_schema.specs.declared.store.LineStore.{LineStore}
 use Rattle.gateway_http.specs.declared.store.ReportedStore.{ReportedStore}
@@ -10,4 +10,4 @@ store_of reported = reported.store
 
 -- the store behind a gateway
 abbrev pub store_in : {S D : Type 0} → Gateway (ReportedStore S D) → LineStore S D
-store_in gateway = store_of (line_of gateway)
+store_in gateway = store_of (owner_of gateway)

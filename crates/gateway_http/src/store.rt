@@ -5,9 +5,9 @@ ghost use Rattle.trace_reports.specs.declared.fault.Kind.{Kind};
 ghost use Rattle.trace_reports.specs.Reports.{Answers};
 ghost use Rattle.gateway_http.specs.Stores.{store_of};
 
-use desk_answers::{Answer, Line};
+use desk_answers::{Answer, Owner};
 use desk_types::{Desk, Stamped, Text};
-use http_answers::{ReportedLine, Unavailable};
+use http_answers::{ReportedOwner, Unavailable};
 use http_routes::Report;
 use line_schema::LineStore;
 use sqlite::Alter;
@@ -39,7 +39,7 @@ impl<S: Alter, D: Desk + Drop> ReportedStore<S, D> {
 }
 
 /// As the store itself.
-impl<S: Alter, D: Desk + Drop> Line for ReportedStore<S, D> {
+impl<S: Alter, D: Desk + Drop> Owner for ReportedStore<S, D> {
     ghost use Rattle.std.specs.Prelude.{◌≡◌, true};
     ghost use Rattle.sqlite.specs.State.{HasCleanDisk};
     ghost use Rattle.desk_types.specs.declared.rules.Rules.TheVariants.{Two};
@@ -52,7 +52,7 @@ impl<S: Alter, D: Desk + Drop> Line for ReportedStore<S, D> {
     ghost Trusts = { λ reported. HasCleanDisk (state_of S.Store reported.store) };
 
     fn command(&mut self, stamped: &Stamped) -> Answer {
-        Line::command(&mut self.store, stamped)
+        Owner::command(&mut self.store, stamped)
     }
 
     fn is_lawful(&self) {
@@ -61,7 +61,7 @@ impl<S: Alter, D: Desk + Drop> Line for ReportedStore<S, D> {
 }
 
 /// The reports of the list for which the store stands.
-impl<S: Alter, D: Desk + Drop> ReportedLine for ReportedStore<S, D> {
+impl<S: Alter, D: Desk + Drop> ReportedOwner for ReportedStore<S, D> {
     ghost use Rattle.gateway_http.specs.Reports.{report_of};
 
     ghost reports = { report_of };
@@ -70,16 +70,16 @@ impl<S: Alter, D: Desk + Drop> ReportedLine for ReportedStore<S, D> {
         let store = &mut self.store;
         match asked {
             Report::BoardTrace { board, detail } => {
-                found(board_trace(alloc, store, &board, detail))
+                if_found(board_trace(alloc, store, &board, detail))
             }
-            Report::LotTrace { lot, detail } => found(lot_trace(alloc, store, &lot, detail)),
-            Report::ReelCard { reel } => found(reel_card(alloc, store, &reel)),
-            Report::SlotList { machine } => found(slot_list(alloc, store, &machine)),
+            Report::LotTrace { lot, detail } => if_found(lot_trace(alloc, store, &lot, detail)),
+            Report::ReelCard { reel } => if_found(reel_card(alloc, store, &reel)),
+            Report::SlotList { machine } => if_found(slot_list(alloc, store, &machine)),
             Report::KitList {
                 product,
                 machine,
                 boards,
-            } => found(kit_list(alloc, store, &product, &machine, boards)),
+            } => if_found(kit_list(alloc, store, &product, &machine, boards)),
             Report::OverdueList => match overdue_list(alloc, store) {
                 Ok(text) => Ok(Some(text)),
                 Err(_) => Err(Unavailable),
@@ -89,7 +89,7 @@ impl<S: Alter, D: Desk + Drop> ReportedLine for ReportedStore<S, D> {
 }
 
 /// The report, or none where it is not found.
-fn found(told: Result<Text, ReportFault>) -> Result<Option<Text>, Unavailable>
+fn if_found(told: Result<Text, ReportFault>) -> Result<Option<Text>, Unavailable>
     ensures { (kind : Kind) (text : Option (List ℕ)) → Answers kind text told → IfOk result (λ found. found ≡ text) }
 {
     match told {

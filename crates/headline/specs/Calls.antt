@@ -12,7 +12,7 @@ use Rattle.desk_feed.specs.Stream as lines
 use Rattle.http_stream.specs.Answers.{Told}
 use Rattle.http_stream.specs.Stream as requests
 use Rattle.http_stream.specs.Stream.{Rule}
-use Rattle.http_answers.specs.Gateways.{TellsGet}
+use Rattle.http_answers.specs.Gateways.{AnswersGet}
 use Rattle.http_answers.specs.Requests.{Reports, request_rule}
 
 -- how a feed or a connection ended: how much was answered, and the fault where there was one
@@ -43,7 +43,7 @@ abbrev pub IsAnswered : Reports → Ledger → Call → History → Type 0
 IsAnswered reports G (fed input out out' ended) H = Feeds G input out out' ended H
 IsAnswered reports G (connected input left out out' ended) H = Serves (request_rule reports G.rules G.greatest) G.history input left out out' ended H
 IsAnswered reports G (commanded s answer) H = IsAnswer G s answer × (H ≡ (ledger_after G s answer).history)
-IsAnswered reports G (asked target told) H = TellsGet reports G target told × (H ≡ G.history)
+IsAnswered reports G (asked target told) H = AnswersGet reports G target told × (H ≡ G.history)
 
 -- each call was answered by the list that the one before it left
 abbrev pub AnswersByTheList : Reports → Ledger → List Call → History → Type 0

@@ -16,13 +16,13 @@ ghost use Rattle.consistency.specs.Consistent.{IsConsistent};
 ghost use Rattle.headline.specs.Calls.{AnswersByTheList, Call, Calls};
 
 pub use calls::{ask, command, feed, serve};
-use http_answers::ReportedLine;
+use http_answers::ReportedOwner;
 
 /// A law: for every stream of requests, in whatever pieces and with repeats and refusals, every answer
 /// is that of the list of accepted commands alone. That list is lawful and consistent, and what was
 /// called stands for it; a store stands for a list by its tables. It is for proofs, and does nothing
 /// when it runs.
-pub fn headline<L: ReportedLine>(first: &L, last: &L)
+pub fn headline<L: ReportedOwner>(first: &L, last: &L)
     ensures { (calls : List Call) → Calls L.reports L.Stands L.Trusts first.now calls last.now → (G : Ledger) → L.Stands first.now G → L.Trusts last.now
         → (H : History) × L.Stands last.now (record G { history = H }) × AnswersByTheList L.reports G calls H × IsLawful G.rules G.greatest H × IsConsistent H }
 {

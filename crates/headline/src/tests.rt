@@ -1,9 +1,9 @@
 //! Each call once, on an owner that stands for no list.
 
 use crate::{ask, command, feed, headline, serve};
-use desk_answers::{Answer, Line};
+use desk_answers::{Answer, Owner};
 use desk_types::{Command, Id, Minute, Stamped, Text, Wire};
-use http_answers::{Gateway, ReportedLine, Unavailable};
+use http_answers::{Gateway, ReportedOwner, Unavailable};
 use http_routes::{Report, RouteTable};
 use std::alloc::Global;
 use std::test::Fail;
@@ -15,7 +15,7 @@ const PART: &str =
 #[derive(Drop)]
 struct Full;
 
-impl Line for Full {
+impl Owner for Full {
     ghost use Rattle.std.specs.Prelude.{⊤};
 
     ghost Stands = { λ _ _. ⊥ };
@@ -31,7 +31,7 @@ impl Line for Full {
     fn is_lawful(&self) {}
 }
 
-impl ReportedLine for Full {
+impl ReportedOwner for Full {
     ghost use Rattle.std.specs.Prelude.{None};
 
     ghost reports = { λ _ _. None };
@@ -80,7 +80,7 @@ fn reports(rt: HostRuntime) -> Result<(), Fail> {
         &mut gateway,
     );
     let told = ask(rt.alloc(), &mut gateway, b"/overdue");
-    let _line = gateway.into_line();
+    let _line = gateway.into_owner();
     let served = served?;
     assert_eq!(rt; (served.answered, served.refused), (1, 1));
     assert_eq!(rt; told.status.code(), 404);

@@ -1,2 +1,2 @@
-pub mod Getting
-pub mod Repeating
+pub mod GetsLeaveLists
+pub mod RepeatsLeaveLists

@@ -1,7 +1,7 @@
 -- Requests whose command was accepted before, and requests that are questions.
 use Rattle.std.specs.Prelude.{Bool, false, not, ℕ, List, [], Option, Some, None, Result, Ok, Err, codes}
 use Rattle.std.specs.Option.{option_map_or}
-use Rattle.cfx_profile.specs.Message.{said}
+use Rattle.cfx_profile.specs.Message.{said_in}
 use Rattle.cfx_profile.specs.declared.fault.MessageFault.{MessageFault}
 use Rattle.cfx_profile.specs.declared.message.Said.{Said}
 use Rattle.cfx_profile.specs.declared.message.Said.TheVariants as says
@@ -9,7 +9,7 @@ use Rattle.desk_answers.specs.Commands.{earlier_answer, is_refused}
 use Rattle.desk_types.specs.History.{History}
 use Rattle.desk_types.specs.declared.command.Command.{Command}
 use Rattle.desk_types.specs.declared.command.Stamped.{Stamped}
-use Rattle.http_routes.specs.Asked.{asked}
+use Rattle.http_routes.specs.Asked.{asked_of}
 use Rattle.http_routes.specs.declared.asked.Asked.{Asked}
 use Rattle.http_routes.specs.declared.asked.Asked.TheVariants as asks
 use Rattle.http_routes.specs.declared.asked.Stamp.{Stamp}
@@ -35,7 +35,7 @@ file_command stamp (Err fault) = None
 
 -- the command that a request with this body asks, where it asks one
 abbrev pub command_asked : List ℕ → Result Asked AskFault → Option Stamped
-command_asked body (Ok asks.Message) = message_command (said body)
+command_asked body (Ok asks.Message) = message_command (said_in body)
 command_asked body (Ok (asks.ImportSetup stamp product machine)) = file_command stamp (setup_said product machine body)
 command_asked body (Ok (asks.ImportCounts stamp)) = file_command stamp (counts_said body)
 command_asked body (Ok (asks.Report report)) = None
@@ -47,7 +47,7 @@ is_known H s = option_map_or (λ answer. not (is_refused answer)) (earlier_answe
 
 -- the request is a repeat: it asks a command that was accepted before, in the same message or file
 abbrev pub is_repeat : Repeats
-is_repeat H r = option_map_or (is_known H) (command_asked r.body (asked r.method r.target)) false
+is_repeat H r = option_map_or (is_known H) (command_asked r.body (asked_of r.method r.target)) false
 
 -- ---- questions
 

@@ -3,7 +3,7 @@ use Rattle.std.specs.Prelude.{ℕ, List, Option, Some, None, Result, Ok, Err, co
 use Rattle.serde_json.specs.Written.{compact_text}
 use Rattle.cfx_profile.specs.Answer.{ignored_text}
 use Rattle.cfx_profile.specs.Answer as message
-use Rattle.cfx_profile.specs.Message.{said}
+use Rattle.cfx_profile.specs.Message.{said_in}
 use Rattle.cfx_profile.specs.declared.fault.MessageFault.{MessageFault}
 use Rattle.cfx_profile.specs.declared.message.Said.{Said}
 use Rattle.cfx_profile.specs.declared.message.Said.TheVariants as says
@@ -15,7 +15,7 @@ use Rattle.desk_types.specs.declared.command.Stamped.{Stamped}
 use Rattle.desk_types.specs.declared.rules.Rules.{Rules}
 use Rattle.http_routes.specs.Answer.{not_found}
 use Rattle.http_routes.specs.Answer as request
-use Rattle.http_routes.specs.Asked.{asked}
+use Rattle.http_routes.specs.Asked.{asked_of}
 use Rattle.http_routes.specs.declared.asked.Asked.{Asked}
 use Rattle.http_routes.specs.declared.asked.Asked.TheVariants as asks
 use Rattle.http_routes.specs.declared.asked.Report.{Report}
@@ -50,7 +50,7 @@ kind_word report.OverdueList = codes "Line"
 
 -- the text of the answer where it isn't found
 unfoldable pub not_found_text : Report → List ℕ
-not_found_text asked = compact_text (not_found (kind_word asked))
+not_found_text asked_of = compact_text (not_found (kind_word asked_of))
 
 -- ---- answers
 
@@ -60,12 +60,12 @@ json s text = record { status = s; kind = Json; body = text }
 
 -- a report, or that it isn't found
 abbrev pub report_told : Report → Option (List ℕ) → Told
-report_told asked (Some text) = record { status = status.Ok; kind = Csv; body = text }
-report_told asked None = json status.NotFound (not_found_text asked)
+report_told asked_of (Some text) = record { status = status.Ok; kind = Csv; body = text }
+report_told asked_of None = json status.NotFound (not_found_text asked_of)
 
 -- an answer that leaves the list
-abbrev pub leaving : Ledger → Told → Outcome
-leaving L told = record { told = told; after = L.history }
+abbrev pub outcome_leaving : Ledger → Told → Outcome
+outcome_leaving L told = record { told = told; after = L.history }
 
 -- a command
 abbrev pub command_outcome : Ledger → Stamped → Outcome
@@ -76,9 +76,9 @@ command_outcome L s = record {
 
 -- what a message says
 abbrev pub message_outcome : Ledger → Result Said MessageFault → Outcome
-message_outcome L (Ok (says.Ignored name)) = leaving L (json status.Accepted (ignored_text name))
+message_outcome L (Ok (says.Ignored name)) = outcome_leaving L (json status.Accepted (ignored_text name))
 message_outcome L (Ok (says.Asked s)) = command_outcome L s
-message_outcome L (Err fault) = leaving L (json (message_fault_status fault) (message.fault_text fault))
+message_outcome L (Err fault) = outcome_leaving L (json (message_fault_status fault) (message.fault_text fault))
 
 -- the command that a file says, with the stamp of its request
 abbrev pub stamped_by : Stamp → Command → Stamped
@@ -87,19 +87,19 @@ stamped_by stamp command = record { uid = stamp.uid; source = stamp.source; minu
 -- what a file says
 abbrev pub file_outcome : Ledger → Stamp → Result Command ImportFault → Outcome
 file_outcome L stamp (Ok command) = command_outcome L (stamped_by stamp command)
-file_outcome L stamp (Err fault) = leaving L (json (import_fault_status fault) (file.fault_text fault))
+file_outcome L stamp (Err fault) = outcome_leaving L (json (import_fault_status fault) (file.fault_text fault))
 
 -- what a request with this body asks
 abbrev pub asked_outcome : Reports → Ledger → List ℕ → Result Asked AskFault → Outcome
-asked_outcome reports L body (Ok asks.Message) = message_outcome L (said body)
+asked_outcome reports L body (Ok asks.Message) = message_outcome L (said_in body)
 asked_outcome reports L body (Ok (asks.ImportSetup stamp product machine)) = file_outcome L stamp (setup_said product machine body)
 asked_outcome reports L body (Ok (asks.ImportCounts stamp)) = file_outcome L stamp (counts_said body)
-asked_outcome reports L body (Ok (asks.Report asked)) = leaving L (report_told asked (reports asked L.history))
-asked_outcome reports L body (Err fault) = leaving L (json (request_fault_status fault) (request.fault_text fault))
+asked_outcome reports L body (Ok (asks.Report asked_of)) = outcome_leaving L (report_told asked_of (reports asked_of L.history))
+asked_outcome reports L body (Err fault) = outcome_leaving L (json (request_fault_status fault) (request.fault_text fault))
 
 -- a request
 abbrev pub outcome_of : Reports → Ledger → Request → Outcome
-outcome_of reports L r = asked_outcome reports L r.body (asked r.method r.target)
+outcome_of reports L r = asked_outcome reports L r.body (asked_of r.method r.target)
 
 -- the rule of the gateway: what a request is answered after each list, by these reports and rules, where commands are numbered up to the greatest
 abbrev pub request_rule : Reports → Rules → ℕ → Rule

@@ -3,19 +3,19 @@
 ghost use Rattle.std.specs.Prelude.{◌≡◌, false, IfOk};
 ghost use Rattle.serde_json.specs.View.{view};
 ghost use Rattle.serde_json.specs.Written.{has_float};
-ghost use Rattle.cfx_profile.specs.Message.{said};
+ghost use Rattle.cfx_profile.specs.Message.{said_in};
 ghost use Rattle.http_routes.specs.Answer.{not_found, fault_text};
-ghost use Rattle.http_routes.specs.Asked.{asked};
-ghost use Rattle.http_stream.specs.Answers.{told_by};
+ghost use Rattle.http_routes.specs.Asked.{asked_of};
+ghost use Rattle.http_stream.specs.Answers.{response_told};
 ghost use Rattle.imports.specs.File.{setup_said, counts_said};
 ghost use Rattle.http_answers.specs.Gateways.{Meets};
-ghost use Rattle.http_answers.specs.Requests.{kind_word, not_found_text, json, report_told, leaving, command_outcome, message_outcome, stamped_by, file_outcome, asked_outcome};
+ghost use Rattle.http_answers.specs.Requests.{kind_word, not_found_text, json, report_told, outcome_leaving, command_outcome, message_outcome, stamped_by, file_outcome, asked_outcome};
 ghost use Rattle.http_answers.specs.Statuses.{request_fault_status};
 
-use crate::line::{ReportedLine, Unavailable};
+use crate::reported::{ReportedOwner, Unavailable};
 use crate::statuses::{import_fault_status, message_fault_status, request_fault_status};
 use cfx_profile::{MessageFault, Said, ignored_text, read_message};
-use desk_answers::{Answer, Line};
+use desk_answers::{Answer, Owner};
 use desk_types::{Command, Id, Listing, Stamped, Text};
 use http_routes::{AskFault, Asked, Report, RouteTable, Stamp};
 use http_stream::{Body, Kind, Response, Status};
@@ -25,7 +25,7 @@ use std::alloc::{AllocError, Global};
 
 /// An answer in JSON.
 fn json(status: Status, text: Text) -> Response
-    ensures { told_by result ≡ json status text }
+    ensures { response_told result ≡ json status text }
 {
     Response {
         status,
@@ -35,30 +35,30 @@ fn json(status: Status, text: Text) -> Response
 }
 
 /// The answer to a request.
-pub fn answer_request<L: ReportedLine>(
+pub fn answer_request<L: ReportedOwner>(
     alloc: Global,
-    line: &mut L,
+    owner: &mut L,
     routes: &RouteTable,
     method: &[u8],
     target: &[u8],
     body: &[u8],
 ) -> Result<Response, Unavailable>
-    requires ready { L.Ready line.old }
-    ensures ready { L.Ready line.new }
-    ensures trusts { L.Trusts line.new → L.Trusts line.old }
-    ensures told { Meets L.Stands L.Trusts line.old line.new result (λ G. asked_outcome L.reports G body.now (asked method.now target.now)) }
+    requires ready { L.Ready owner.old }
+    ensures ready { L.Ready owner.new }
+    ensures trusts { L.Trusts owner.new → L.Trusts owner.old }
+    ensures told { Meets L.Stands L.Trusts owner.old owner.new result (λ G. asked_outcome L.reports G body.now (asked_of method.now target.now)) }
 {
     match routes.read_request(alloc, method, target) {
-        Ok(Asked::Message) => answer_message(alloc, line, body),
+        Ok(Asked::Message) => answer_message(alloc, owner, body),
         Ok(
             Asked::ImportSetup {
                 stamp,
                 product,
                 machine,
             },
-        ) => answer_setup(alloc, line, stamp, product, machine, body),
-        Ok(Asked::ImportCounts { stamp }) => answer_counts(alloc, line, stamp, body),
-        Ok(Asked::Report(report)) => answer_report(alloc, line, report),
+        ) => answer_setup(alloc, owner, stamp, product, machine, body),
+        Ok(Asked::ImportCounts { stamp }) => answer_counts(alloc, owner, stamp, body),
+        Ok(Asked::Report(report)) => answer_report(alloc, owner, report),
         Err(AskFault::NoMemory) => Err(Unavailable),
         Err(fault) => answer_fault(alloc, fault),
     }
@@ -66,65 +66,65 @@ pub fn answer_request<L: ReportedLine>(
 
 /// The answer to a request that asks nothing.
 fn answer_fault(alloc: Global, fault: AskFault) -> Result<Response, Unavailable>
-    ensures { IfOk result (λ response. told_by response ≡ json (request_fault_status fault) (fault_text fault)) }
+    ensures { IfOk result (λ response. response_told response ≡ json (request_fault_status fault) (fault_text fault)) }
 {
     Ok(json(request_fault_status(fault), fault.write_text(alloc)?))
 }
 
 /// The answer to a message.
-fn answer_message<L: Line>(
+fn answer_message<L: Owner>(
     alloc: Global,
-    line: &mut L,
+    owner: &mut L,
     body: &[u8],
 ) -> Result<Response, Unavailable>
-    requires ready { L.Ready line.old }
-    ensures ready { L.Ready line.new }
-    ensures trusts { L.Trusts line.new → L.Trusts line.old }
-    ensures told { Meets L.Stands L.Trusts line.old line.new result (λ G. message_outcome G (said body.now)) }
+    requires ready { L.Ready owner.old }
+    ensures ready { L.Ready owner.new }
+    ensures trusts { L.Trusts owner.new → L.Trusts owner.old }
+    ensures told { Meets L.Stands L.Trusts owner.old owner.new result (λ G. message_outcome G (said_in body.now)) }
 {
     match read_message(alloc, body) {
         Ok(Said::Ignored(name)) => Ok(json(Status::Accepted, ignored_text(alloc, &name)?)),
-        Ok(Said::Asked(stamped)) => answer_command(alloc, line, &stamped),
+        Ok(Said::Asked(stamped)) => answer_command(alloc, owner, &stamped),
         Err(MessageFault::NoMemory) => Err(Unavailable),
         Err(fault) => Ok(json(message_fault_status(&fault), fault.write_text(alloc)?)),
     }
 }
 
 /// The answer to a setup file.
-fn answer_setup<L: Line>(
+fn answer_setup<L: Owner>(
     alloc: Global,
-    line: &mut L,
+    owner: &mut L,
     stamp: Stamp,
     product: Id,
     machine: Id,
     body: &[u8],
 ) -> Result<Response, Unavailable>
-    requires ready { L.Ready line.old }
-    ensures ready { L.Ready line.new }
-    ensures trusts { L.Trusts line.new → L.Trusts line.old }
-    ensures told { Meets L.Stands L.Trusts line.old line.new result (λ G. file_outcome G stamp (setup_said product machine body.now)) }
+    requires ready { L.Ready owner.old }
+    ensures ready { L.Ready owner.new }
+    ensures trusts { L.Trusts owner.new → L.Trusts owner.old }
+    ensures told { Meets L.Stands L.Trusts owner.old owner.new result (λ G. file_outcome G stamp (setup_said product machine body.now)) }
 {
     match read_setup(alloc, body, product, machine) {
-        Ok(command) => answer_command(alloc, line, &stamped_by(stamp, command)),
+        Ok(command) => answer_command(alloc, owner, &stamped_by(stamp, command)),
         Err(ImportFault::NoMemory) => Err(Unavailable),
         Err(fault) => Ok(json(import_fault_status(&fault), fault.write_text(alloc)?)),
     }
 }
 
 /// The answer to a count file.
-fn answer_counts<L: Line>(
+fn answer_counts<L: Owner>(
     alloc: Global,
-    line: &mut L,
+    owner: &mut L,
     stamp: Stamp,
     body: &[u8],
 ) -> Result<Response, Unavailable>
-    requires ready { L.Ready line.old }
-    ensures ready { L.Ready line.new }
-    ensures trusts { L.Trusts line.new → L.Trusts line.old }
-    ensures told { Meets L.Stands L.Trusts line.old line.new result (λ G. file_outcome G stamp (counts_said body.now)) }
+    requires ready { L.Ready owner.old }
+    ensures ready { L.Ready owner.new }
+    ensures trusts { L.Trusts owner.new → L.Trusts owner.old }
+    ensures told { Meets L.Stands L.Trusts owner.old owner.new result (λ G. file_outcome G stamp (counts_said body.now)) }
 {
     match read_counts(alloc, body) {
-        Ok(command) => answer_command(alloc, line, &stamped_by(stamp, command)),
+        Ok(command) => answer_command(alloc, owner, &stamped_by(stamp, command)),
         Err(ImportFault::NoMemory) => Err(Unavailable),
         Err(fault) => Ok(json(import_fault_status(&fault), fault.write_text(alloc)?)),
     }
@@ -143,17 +143,17 @@ fn stamped_by(stamp: Stamp, command: Command) -> Stamped
 
 /// The answer to a command. Of an accepted one it takes no memory beyond that of its judgement.
 #[tactic(auto, using(desk_answers::proofs::Refusing::refused_leaves))]
-fn answer_command<L: Line>(
+fn answer_command<L: Owner>(
     alloc: Global,
-    line: &mut L,
+    owner: &mut L,
     stamped: &Stamped,
 ) -> Result<Response, Unavailable>
-    requires ready { L.Ready line.old }
-    ensures ready { L.Ready line.new }
-    ensures trusts { L.Trusts line.new → L.Trusts line.old }
-    ensures told { Meets L.Stands L.Trusts line.old line.new result (λ G. command_outcome G stamped.now) }
+    requires ready { L.Ready owner.old }
+    ensures ready { L.Ready owner.new }
+    ensures trusts { L.Trusts owner.new → L.Trusts owner.old }
+    ensures told { Meets L.Stands L.Trusts owner.old owner.new result (λ G. command_outcome G stamped.now) }
 {
-    match line.command(stamped) {
+    match owner.command(stamped) {
         Answer::Accepted(_, text) => Ok(json(Status::Ok, text)),
         Answer::Unavailable => Err(Unavailable),
         answer => Ok(json(Status::Conflict, answer.into_text(alloc, &stamped.uid)?)),
@@ -161,17 +161,17 @@ fn answer_command<L: Line>(
 }
 
 /// A report, or that it is not found.
-fn answer_report<L: ReportedLine>(
+fn answer_report<L: ReportedOwner>(
     alloc: Global,
-    line: &mut L,
+    owner: &mut L,
     report: Report,
 ) -> Result<Response, Unavailable>
-    requires ready { L.Ready line.old }
-    ensures ready { L.Ready line.new }
-    ensures trusts { L.Trusts line.new → L.Trusts line.old }
-    ensures told { Meets L.Stands L.Trusts line.old line.new result (λ G. leaving G (report_told report (L.reports report G.history))) }
+    requires ready { L.Ready owner.old }
+    ensures ready { L.Ready owner.new }
+    ensures trusts { L.Trusts owner.new → L.Trusts owner.old }
+    ensures told { Meets L.Stands L.Trusts owner.old owner.new result (λ G. outcome_leaving G (report_told report (L.reports report G.history))) }
 {
-    match line.report(alloc, report)? {
+    match owner.report(alloc, report)? {
         Some(text) => Ok(Response {
             status: Status::Ok,
             kind: Kind::Csv,

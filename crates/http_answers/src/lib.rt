@@ -7,9 +7,9 @@
 mod answers;
 mod gateway;
 mod law;
-mod line;
+mod reported;
 mod statuses;
 
 pub use gateway::Gateway;
 pub use law::{questions_leave_the_list, repeats_leave_the_list};
-pub use line::{ReportedLine, Unavailable};
+pub use reported::{ReportedOwner, Unavailable};

@@ -1,7 +1,7 @@
 -- The lines of connections, of which one more ends.
 use Rattle.std.proofs.Common.{◌≡◌, ◌∙◌, ◌+◌, ◌++◌, ◌∷◌, [], ℕ, List, Option, length, ap, sym, subst, append_assoc, append-nil, length-append, arith}
 use Rattle.std.proofs.lemmas.List.{take-append-le}
-use Rattle.served.proofs.Fronts.{front_after}
+use Rattle.served.proofs.SentFronts.{front_after}
 use Rattle.std.specs.Io.KnownBytes.{Appends}
 use Rattle.std.proofs.KnownBytes.{Appends-trans}
 use Rattle.served.specs.Sent.{SendsFront}

@@ -75,6 +75,6 @@ TellsFront connections ends status out out' failures failures' = (length ends �
     × Appends out mid (lines_from 1 before) × SendsFront mid out' (connection_line (length before + 1) last)
 
 -- the lines and the exit status of connections that ended so
-abbrev pub Tells : ℕ → List Ended → ℕ → Option (List ℕ) → Option (List ℕ) → ℕ → ℕ → Type 0
-Tells connections ends status out out' failures failures' = TellsAll connections ends status out out' failures failures'
+abbrev pub TellsConnections : ℕ → List Ended → ℕ → Option (List ℕ) → Option (List ℕ) → ℕ → ℕ → Type 0
+TellsConnections connections ends status out out' failures failures' = TellsAll connections ends status out out' failures failures'
     ⊎ TellsSome connections ends status out out' failures failures' ⊎ TellsFront connections ends status out out' failures failures'

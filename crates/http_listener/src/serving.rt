@@ -5,7 +5,7 @@ ghost use Rattle.std.specs.Io.KnownBytes.{Appends};
 ghost use Rattle.desk_types.specs.Wire.{inner_of, failures_of};
 ghost use Rattle.served.specs.Sent.{SendsFront};
 ghost use Rattle.http_stream.specs.Stream.{ForLists};
-ghost use Rattle.http_listener.specs.Connections.{Connected, ConnectedEach, Ended, Tells, connection_line, fault_word, is_faulty, served_of};
+ghost use Rattle.http_listener.specs.Connections.{Connected, ConnectedEach, Ended, TellsConnections, connection_line, fault_word, is_faulty, served_of};
 
 use desk_types::Wire;
 use http_stream::{Handler, serve};
@@ -33,7 +33,7 @@ pub fn serve_listener<A: Handler, W: Write>(
     requires ready { A.Ready handler.old }
     ensures ready { A.Ready handler.new }
     ensures trusts { A.Trusts handler.new → A.Trusts handler.old }
-    ensures told { (ends : List Ended) × Tells connections ends result (W.contents (inner_of output.old)) (W.contents (inner_of output.new)) (failures_of output.old) (failures_of output.new)
+    ensures told { (ends : List Ended) × TellsConnections connections ends result (W.contents (inner_of output.old)) (W.contents (inner_of output.new)) (failures_of output.old) (failures_of output.new)
         × ForLists A.Stands A.Trusts handler.old handler.new (λ G H. ConnectedEach (A.rule G.rules G.greatest) G.history ends H) }
 {
     let mut faulty = false;

@@ -38,31 +38,31 @@ query_of target = drop (position_or_len is_mark target + 1) target
 -- ---- one parameter
 
 -- its value, where it stands just once
-unfoldable pub given : Parameter → List ℕ → Result (List ℕ) AskFault
-given p query = ok_or (value_of (parameter_text p) query) (BadQuery p)
+unfoldable pub parameter_value : Parameter → List ℕ → Result (List ℕ) AskFault
+parameter_value p query = ok_or (value_of (parameter_text p) query) (BadQuery p)
 
 -- an id
 unfoldable pub id_in : Parameter → List ℕ → Result Name AskFault
 id_in p query = do
-  text ← given p query
+  text ← parameter_value p query
   ok_or (id_of text) (BadQuery p)
 
 -- the minute of a time text
 unfoldable pub minute_in : List ℕ → Result ℕ AskFault
 minute_in query = do
-  text ← given parameter.Time query
+  text ← parameter_value parameter.Time query
   ok_or (minute_of text) (BadQuery parameter.Time)
 
 -- one digit, 1 to 4
 unfoldable pub detail_in : List ℕ → Result TraceDetail AskFault
 detail_in query = do
-  text ← given parameter.Detail query
+  text ← parameter_value parameter.Detail query
   ok_or (detail_of text) (BadQuery parameter.Detail)
 
 -- 1 to 6 digits, 1 to 100,000
 unfoldable pub boards_in : List ℕ → Result ℕ AskFault
 boards_in query = do
-  text ← given parameter.Boards query
+  text ← parameter_value parameter.Boards query
   ok_or (boards_of text) (BadQuery parameter.Boards)
 
 -- ---- the parameters of each route, in their order
@@ -114,8 +114,8 @@ abbrev pub by_method : List ℕ → Route → Result Route AskFault
 by_method method route = if same method (method_text (route_method route)) then Ok route else Err (BadMethod (route_method route))
 
 -- what a request asks, or the first fault: of its path, of its method, of a parameter
-unfoldable pub asked : List ℕ → List ℕ → Result Asked AskFault
-asked method target = do
+unfoldable pub asked_of : List ℕ → List ℕ → Result Asked AskFault
+asked_of method target = do
   found ← ok_or (route_of (path_of target)) NoPath
   allowed ← by_method method found
   asked_at allowed (query_of target)

@@ -4,7 +4,7 @@ ghost use Rattle.std.specs.Prelude.{◌≡◌, ◌≢◌, Ok, Err, IfOk, IfErr};
 ghost use Rattle.std.specs.Cow.{cow_str_bytes};
 ghost use Rattle.std.specs.List.{position};
 ghost use Rattle.cfx_profile.specs.Forms.{id_of};
-ghost use Rattle.http_routes.specs.Asked.{is_mark, path_of, query_of, given, id_in, minute_in, detail_in, boards_in, stamp_in, asked_at, by_method, asked};
+ghost use Rattle.http_routes.specs.Asked.{is_mark, path_of, query_of, parameter_value, id_in, minute_in, detail_in, boards_in, stamp_in, asked_at, by_method, asked_of};
 ghost use Rattle.http_routes.specs.Fault.{IsAsked};
 
 use crate::fault::AskFault;
@@ -84,16 +84,16 @@ impl RouteTable {
     ///
     /// The path is looked at before the method, and the method before the parameters; they are read
     /// in the order of the route, and others are skipped.
-    #[tactic(auto, unfolding(crate::specs::Asked::asked))]
+    #[tactic(auto, unfolding(crate::specs::Asked::asked_of))]
     pub fn read_request(
         &self,
         alloc: Global,
         method: &[u8],
         target: &[u8],
     ) -> Result<Asked, AskFault>
-        ensures { IsAsked (asked method.now target.now) result }
+        ensures { IsAsked (asked_of method.now target.now) result }
     {
-        let (path, query) = cut(target);
+        let (path, query) = cut_target(target);
         let route = self.route_of(path).ok_or(AskFault::NoPath)?;
         let route = by_method(route, method)?;
         read_parameters(alloc, route, query)
@@ -101,7 +101,7 @@ impl RouteTable {
 }
 
 /// The path and the query.
-fn cut(target: &[u8]) -> (&[u8], &[u8])
+fn cut_target(target: &[u8]) -> (&[u8], &[u8])
     ensures path { result.0.now ≡ path_of target.now }
     ensures query { result.1.now ≡ query_of target.now }
 {
@@ -201,7 +201,7 @@ fn stamp_in(alloc: Global, query: &[u8]) -> Result<Stamp, AskFault>
 fn id_in(alloc: Global, query: &[u8], parameter: Parameter) -> Result<Id, AskFault>
     ensures { IsAsked (id_in parameter query.now) result }
 {
-    let text = given(alloc, query, parameter)?;
+    let text = parameter_value(alloc, query, parameter)?;
     id_of(text.as_str()).ok_or(AskFault::BadQuery(parameter))
 }
 
@@ -215,7 +215,7 @@ fn id_of(text: &str) -> Option<Id>
 fn minute_in(alloc: Global, query: &[u8]) -> Result<Minute, AskFault>
     ensures { IsAsked (minute_in query.now) result }
 {
-    let text = given(alloc, query, Parameter::Time)?;
+    let text = parameter_value(alloc, query, Parameter::Time)?;
     read_minute(text.as_str()).map_err(|_| AskFault::BadQuery(Parameter::Time))
 }
 
@@ -223,7 +223,7 @@ fn minute_in(alloc: Global, query: &[u8]) -> Result<Minute, AskFault>
 fn detail_in(alloc: Global, query: &[u8]) -> Result<TraceDetail, AskFault>
     ensures { IsAsked (detail_in query.now) result }
 {
-    let text = given(alloc, query, Parameter::Detail)?;
+    let text = parameter_value(alloc, query, Parameter::Detail)?;
     detail_of(text.as_str()).ok_or(AskFault::BadQuery(Parameter::Detail))
 }
 
@@ -231,15 +231,19 @@ fn detail_in(alloc: Global, query: &[u8]) -> Result<TraceDetail, AskFault>
 fn boards_in(alloc: Global, query: &[u8]) -> Result<Boards, AskFault>
     ensures { IsAsked (boards_in query.now) result }
 {
-    let text = given(alloc, query, Parameter::Boards)?;
+    let text = parameter_value(alloc, query, Parameter::Boards)?;
     boards_of(text.as_str()).ok_or(AskFault::BadQuery(Parameter::Boards))
 }
 
 /// The value of a parameter, where it stands just once.
-#[tactic(auto, unfolding(crate::specs::Asked::given))]
-fn given<'a>(alloc: Global, query: &'a [u8], parameter: Parameter) -> Result<CowStr<'a>, AskFault>
-    ensures ok { IfOk result (λ text. given parameter query.now ≡ Ok (cow_str_bytes text)) }
-    ensures err { IfErr result (λ fault. fault ≢ AskFault.NoMemory → given parameter query.now ≡ Err fault) }
+#[tactic(auto, unfolding(crate::specs::Asked::parameter_value))]
+fn parameter_value<'a>(
+    alloc: Global,
+    query: &'a [u8],
+    parameter: Parameter,
+) -> Result<CowStr<'a>, AskFault>
+    ensures ok { IfOk result (λ text. parameter_value parameter query.now ≡ Ok (cow_str_bytes text)) }
+    ensures err { IfErr result (λ fault. fault ≢ AskFault.NoMemory → parameter_value parameter query.now ≡ Err fault) }
 {
     value_of(alloc, query, parameter.as_str())?.ok_or(AskFault::BadQuery(parameter))
 }

@@ -66,7 +66,7 @@ pub struct RouteTable {
 impl RouteTable {
     /// All nine routes.
     pub fn new(alloc: Global) -> Result<RouteTable, AllocError> {
-        match routed(alloc) {
+        match make_router(alloc) {
             Ok(router) => Ok(RouteTable { router }),
             Err(_) => Err(AllocError),
         }
@@ -83,7 +83,7 @@ impl RouteTable {
     }
 }
 
-fn routed(alloc: Global) -> Result<Router<Route>, InsertError>
+fn make_router(alloc: Global) -> Result<Router<Route>, InsertError>
     ensures { IfOk result (λ router. router ≡ table) }
 {
     let mut router = Router::new(alloc);

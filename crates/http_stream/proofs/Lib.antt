@@ -1,7 +1,7 @@
-pub mod Answering
+pub mod AnsweredPortions
 pub mod ConstantRows
+pub mod HandlersOfPortions
 pub mod Headers
-pub mod Going
 pub mod Letters
 pub mod Portions
 pub mod Sources

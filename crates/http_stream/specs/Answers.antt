@@ -50,12 +50,12 @@ body_of (Made text) = text
 body_of Fixed = unavailable.body
 
 -- what a response tells
-abbrev pub told_by : Response → Told
-told_by response = record { status = response.status; kind = response.kind; body = body_of response.body }
+abbrev pub response_told : Response → Told
+response_told response = record { status = response.status; kind = response.kind; body = body_of response.body }
 
 -- what the answer to a portion tells
 abbrev pub reply_told : Reply → Told
-reply_told (reply.Response response) = told_by response
+reply_told (reply.Response response) = response_told response
 reply_told reply.BadHead = told_bad_head
 reply_told reply.HeadTooLarge = told_head_too_large
 reply_told (reply.Length fault) = told_length fault
@@ -115,5 +115,5 @@ unfoldable pub head_bytes : Bool → Told → List ℕ
 head_bytes closes told = status_line told.status ++ type_line told.kind ++ length_line told.body ++ allow_line told.status ++ close_line closes ++ line_end
 
 -- the answer, with its body where one is sent
-unfoldable pub written : Bool → Bool → Told → List ℕ
-written closes has_body told = head_bytes closes told ++ (if has_body then told.body else [])
+unfoldable pub answer_bytes : Bool → Bool → Told → List ℕ
+answer_bytes closes has_body told = head_bytes closes told ++ (if has_body then told.body else [])

@@ -19,12 +19,12 @@ abbrev pub IsInbox : Inbox → Type 0
 IsInbox inbox = (inbox.at ≤ inbox.end) × (inbox.end ≤ BLOCK) × (length inbox.block ≡ BLOCK)
 
 -- the bytes that were read and not given
-abbrev pub pending : Inbox → List ℕ
-pending inbox = drop inbox.at (take inbox.end inbox.block)
+abbrev pub pending_bytes : Inbox → List ℕ
+pending_bytes inbox = drop inbox.at (take inbox.end inbox.block)
 
 -- what is still to be given: those, and then the bytes that the reader has left, where they are known
 abbrev pub source : Inbox → Option (List ℕ) → Option (List ℕ)
-source inbox known = prepend_known (pending inbox) known
+source inbox known = prepend_known (pending_bytes inbox) known
 
 -- how far a reading can go on: the bytes of the reads that may still be made, and those that were read
 abbrev pub fuel : ℕ → ℕ → Inbox → ℕ
@@ -38,9 +38,9 @@ seen_bytes block seen = slice_range block seen.from seen.to
 abbrev pub IsFront : Inbox → Option (List ℕ) → Front → Type 0
 IsFront inbox known (front.Head seen) = (h : RequestHead) × IsHeadOf (seen_bytes inbox.block seen) seen.head h
     × (seen.from ≡ inbox.at) × (seen.from ≤ seen.to) × (seen.to ≤ inbox.end) × (seen.to - seen.from ≤ HEAD_LIMIT)
-IsFront inbox known front.Bad = IsBadHead (window (pending inbox))
-IsFront inbox known front.TooLarge = (HEAD_LIMIT ≤ length (pending inbox)) × IsUnfinished (window (pending inbox))
-IsFront inbox known front.End = (length (pending inbox) < HEAD_LIMIT) × IsUnfinished (pending inbox) × IsAtEnd known
+IsFront inbox known front.Bad = IsBadHead (window (pending_bytes inbox))
+IsFront inbox known front.TooLarge = (HEAD_LIMIT ≤ length (pending_bytes inbox)) × IsUnfinished (window (pending_bytes inbox))
+IsFront inbox known front.End = (length (pending_bytes inbox) < HEAD_LIMIT) × IsUnfinished (pending_bytes inbox) × IsAtEnd known
 
 -- fewer bytes than so many were read
 abbrev pub ReadsFewer : Option (List ℕ) → Option (List ℕ) → ℕ → Type 0

@@ -32,13 +32,13 @@ without_repeats rule again H (p ∷ ps) =
     else p ∷ without_repeats rule again (after_portion rule H p) ps
 
 -- no portion is marked
-abbrev pub unmarked : List Portion → List Bool
-unmarked [] = []
-unmarked (p ∷ ps) = false ∷ unmarked ps
+abbrev pub no_marks : List Portion → List Bool
+no_marks [] = []
+no_marks (p ∷ ps) = false ∷ no_marks ps
 
 -- the list after portions of which none is marked
 abbrev pub after_all : Rule → History → List Portion → History
-after_all rule H ps = list_after rule (unmarked ps) H ps
+after_all rule H ps = list_after rule (no_marks ps) H ps
 
 -- no repeat ends its connection
 abbrev pub NoRepeatEnds : Rule → Repeats → History → List Portion → Type 0

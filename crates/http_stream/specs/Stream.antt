@@ -8,7 +8,7 @@ use Rattle.desk_types.specs.declared.rules.Rules.{Rules}
 use Rattle.served.specs.Counts.{none_served}
 use Rattle.served.specs.Sent.{SendsFront}
 use Rattle.served.specs.declared.serving.Served.{Served}
-use Rattle.http_stream.specs.Answers.{Told, unavailable, told_bad_head, told_head_too_large, told_length, is_refused, written}
+use Rattle.http_stream.specs.Answers.{Told, unavailable, told_bad_head, told_head_too_large, told_length, is_refused, answer_bytes}
 use Rattle.http_stream.specs.Cut.{Request, Portion, whole, bad_head, head_too_large, unread, starved, is_last, is_head, IsPortion, Leads, ReadsInside, IsCut}
 
 -- ---- one portion
@@ -51,7 +51,7 @@ pub record Answer : Type 0 where
 
 abbrev pub answer : Rule → Bool → History → Portion → Answer
 answer rule mark H p = record {
-  bytes = written (is_last p) (has_body p) (outcome rule mark H p).told;
+  bytes = answer_bytes (is_last p) (has_body p) (outcome rule mark H p).told;
   refused = is_refused (outcome rule mark H p).told.status;
   after = (outcome rule mark H p).after;
 }
@@ -109,12 +109,12 @@ abbrev pub ForLists : {S : Type 0} → (S → Ledger → Type 0) → (S → Type
 ForLists Stands Trusts old new Fact = (G : Ledger) → Stands old G → Trusts new → (H : History) × Stands new (record G { history = H }) × Fact G H
 
 -- the request is answered so, as some mark says
-abbrev pub TellsRequest : Rule → Request → History → Told → History → Type 0
-TellsRequest rule r H told H' = (mark : Bool) × (told ≡ (request_outcome rule mark H r).told) × (H' ≡ (request_outcome rule mark H r).after)
+abbrev pub AnswersRequest : Rule → Request → History → Told → History → Type 0
+AnswersRequest rule r H told H' = (mark : Bool) × (told ≡ (request_outcome rule mark H r).told) × (H' ≡ (request_outcome rule mark H r).after)
 
 -- the portion is answered so, as some mark says
-abbrev pub TellsPortion : Rule → Portion → History → Told → History → Type 0
-TellsPortion rule p H told H' = (mark : Bool) × (told ≡ (outcome rule mark H p).told) × (H' ≡ (outcome rule mark H p).after)
+abbrev pub AnswersPortion : Rule → Portion → History → Told → History → Type 0
+AnswersPortion rule p H told H' = (mark : Bool) × (told ≡ (outcome rule mark H p).told) × (H' ≡ (outcome rule mark H p).after)
 
 -- the portions were answered
 abbrev pub Serves : Rule → List Portion → History → Option (List ℕ) → Served → History → Option (List ℕ) → Served → Type 0

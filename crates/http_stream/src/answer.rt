@@ -4,7 +4,7 @@ ghost use Rattle.std.specs.Prelude.{◌≡◌, ◌<◌, ◌≤◌, ◌+◌, ◌^
 ghost use Rattle.std.specs.Io.KnownBytes.{Appends};
 ghost use Rattle.desk_types.specs.Wire.{inner_of, failures_of};
 ghost use Rattle.served.specs.Sent.{SendsFront};
-ghost use Rattle.http_stream.specs.Answers.{type_line, allow_line, close_line, head_bytes, reply_told, written};
+ghost use Rattle.http_stream.specs.Answers.{type_line, allow_line, close_line, head_bytes, reply_told, answer_bytes};
 
 use crate::reply::Reply;
 use crate::response::{Allow, Kind, Status};
@@ -25,7 +25,7 @@ struct Letter {
 
 /// Writes an answer: all of it but a body that isn't sent, whose length is told all the same. Takes
 /// no memory.
-#[tactic(auto, unfolding(crate::specs::Answers::written))]
+#[tactic(auto, unfolding(crate::specs::Answers::answer_bytes))]
 pub fn send_answer<W: Write>(
     wire: &mut Wire<W>,
     reply: &Reply,
@@ -33,10 +33,10 @@ pub fn send_answer<W: Write>(
     has_body: bool,
 ) -> Result<(), WriteFailed>
     requires few_failures { failures_of wire.old < 2 ^ 63 }
-    ensures ok { OnOk result (Appends (W.contents (inner_of wire.old)) (W.contents (inner_of wire.new)) (written closes has_body (reply_told reply.now))) }
+    ensures ok { OnOk result (Appends (W.contents (inner_of wire.old)) (W.contents (inner_of wire.new)) (answer_bytes closes has_body (reply_told reply.now))) }
     ensures kept { OnOk result (failures_of wire.new ≡ failures_of wire.old) }
     ensures failed { OnErr result (failures_of wire.new ≡ failures_of wire.old + 1) }
-    ensures front { OnErr result (SendsFront (W.contents (inner_of wire.old)) (W.contents (inner_of wire.new)) (written closes has_body (reply_told reply.now))) }
+    ensures front { OnErr result (SendsFront (W.contents (inner_of wire.old)) (W.contents (inner_of wire.new)) (answer_bytes closes has_body (reply_told reply.now))) }
 {
     let mut letter = Letter::new();
     letter.put_head(reply, closes);

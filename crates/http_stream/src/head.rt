@@ -209,11 +209,11 @@ fn has_close(value: &[u8]) -> bool
 {
     value
         .split(|b| *b == b',')
-        .any(|part| is_name(trimmed(part), b"close"))
+        .any(|part| is_name(trim_ows(part), b"close"))
 }
 
 /// Without the spaces and tabs at both ends.
-fn trimmed(part: &[u8]) -> &[u8]
+fn trim_ows(part: &[u8]) -> &[u8]
     ensures { result.now ≡ trim_ows part.now }
 {
     trim(part, 0, part.len()).of(part)

@@ -4,7 +4,7 @@ ghost use Rattle.std.specs.Prelude.{◌≡◌, ◌+◌, ◌-◌, ◌^◌, ◌<�
 ghost use Rattle.std.specs.Io.KnownBytes.{Keeps, Consumes, IsAtEnd};
 ghost use Rattle.desk_types.specs.Wire.{inner_of, reads_of, failures_of};
 ghost use Rattle.http_stream.specs.Cut.{ReadsInside};
-ghost use Rattle.http_stream.specs.Inbox.{IsInbox, pending, source, fuel, IsFront, ReadsFewer, TakesBody};
+ghost use Rattle.http_stream.specs.Inbox.{IsInbox, pending_bytes, source, fuel, IsFront, ReadsFewer, TakesBody};
 
 use crate::head::{Glance, HEAD_LIMIT, Head, look};
 use desk_types::Wire;
@@ -121,7 +121,7 @@ impl Inbox {
         requires few_reads { reads_of wire.old ≤ most_reads }
         ensures valid { IsInbox self.new }
         ensures source { OnOk result (Keeps (source self.old (R.remaining (inner_of wire.old))) (source self.new (R.remaining (inner_of wire.new)))) }
-        ensures end { result ≡ Ok false → IsAtEnd (R.remaining (inner_of wire.new)) × (pending self.new ≡ pending self.old) }
+        ensures end { result ≡ Ok false → IsAtEnd (R.remaining (inner_of wire.new)) × (pending_bytes self.new ≡ pending_bytes self.old) }
         ensures unread { OnErr result (Keeps (R.remaining (inner_of wire.old)) (R.remaining (inner_of wire.new))) }
         ensures falls { OnOk result (fuel most_reads (reads_of wire.new) self.new < fuel most_reads (reads_of wire.old) self.old) }
         ensures few_reads { reads_of wire.new ≤ most_reads }
@@ -148,7 +148,7 @@ impl Inbox {
         ensures len { length self.new.block ≡ BLOCK }
         ensures at { self.new.at ≡ 0 }
         ensures end { self.new.end ≡ self.old.end - self.old.at }
-        ensures pending { pending self.new ≡ pending self.old }
+        ensures pending { pending_bytes self.new ≡ pending_bytes self.old }
     {
         if self.at > 0 {
             self.block.copy_within(self.at..self.end, 0);

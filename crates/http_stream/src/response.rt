@@ -1,7 +1,7 @@
 //! What a request is answered.
 
 ghost use Rattle.std.specs.Prelude.{◌≡◌, ◌≤◌, length};
-ghost use Rattle.http_stream.specs.Answers.{code_of, is_refused, status_line, body_of, told_by, unavailable};
+ghost use Rattle.http_stream.specs.Answers.{code_of, is_refused, status_line, body_of, response_told, unavailable};
 
 use desk_types::Text;
 
@@ -56,7 +56,7 @@ pub struct Response {
 impl Response {
     /// The answer for want of memory, or where a store failed. Takes no memory.
     pub fn unavailable() -> Response
-        ensures { told_by result ≡ unavailable }
+        ensures { response_told result ≡ unavailable }
     {
         Response {
             status: Status::ServiceUnavailable,

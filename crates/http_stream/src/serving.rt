@@ -6,7 +6,7 @@ ghost use Rattle.served.specs.Shown.{FailsNever, IsShown};
 ghost use Rattle.http_stream.specs.Answers.{reply_told};
 ghost use Rattle.http_stream.specs.Cut.{is_head, is_last};
 ghost use Rattle.http_stream.specs.Portions.{IsTaken, portion_of};
-ghost use Rattle.http_stream.specs.Stream.{AnsweredAll, AnsweredFront, AnsweredInto, Breaks, ForLists, Serves, TellsPortion, has_body};
+ghost use Rattle.http_stream.specs.Stream.{AnsweredAll, AnsweredFront, AnsweredInto, Breaks, ForLists, Serves, AnswersPortion, has_body};
 
 use crate::answer::send_answer;
 use crate::inbox::{Inbox, InboxFault};
@@ -22,8 +22,8 @@ use std::io::{Read, Write};
 pub trait Handler {
     ghost use Rattle.std.specs.Prelude.{◌≡◌};
     ghost use Rattle.desk_answers.specs.Ledger.{Ledger};
-    ghost use Rattle.http_stream.specs.Answers.{told_by};
-    ghost use Rattle.http_stream.specs.Stream.{ForLists, RuleBy, TellsRequest};
+    ghost use Rattle.http_stream.specs.Answers.{response_told};
+    ghost use Rattle.http_stream.specs.Stream.{ForLists, RuleBy, AnswersRequest};
 
     /// The rule by which it answers after each list, by the rules and the greatest number.
     ghost rule: { RuleBy };
@@ -42,7 +42,7 @@ pub trait Handler {
         requires ready { Ready self.old }
         ensures ready { Ready self.new }
         ensures trusts { Trusts self.new → Trusts self.old }
-        ensures told { ForLists Stands Trusts self.old self.new (λ G H. TellsRequest (rule G.rules G.greatest) (record { method = method.now; target = target.now; body = body.now }) G.history (told_by result) H) };
+        ensures told { ForLists Stands Trusts self.old self.new (λ G H. AnswersRequest (rule G.rules G.greatest) (record { method = method.now; target = target.now; body = body.now }) G.history (response_told result) H) };
 }
 
 /// What a portion is answered, and how the answer is written.
@@ -145,7 +145,7 @@ fn answer_portion<A: Handler>(alloc: Global, handler: &mut A, block: &[u8], take
     requires ready { A.Ready handler.old }
     ensures ready { A.Ready handler.new }
     ensures trusts { A.Trusts handler.new → A.Trusts handler.old }
-    ensures told { ForLists A.Stands A.Trusts handler.old handler.new (λ G H. TellsPortion (A.rule G.rules G.greatest) (portion_of block.now taken) G.history (reply_told result.reply) H) }
+    ensures told { ForLists A.Stands A.Trusts handler.old handler.new (λ G H. AnswersPortion (A.rule G.rules G.greatest) (portion_of block.now taken) G.history (reply_told result.reply) H) }
     ensures closes { result.closes ≡ is_last (portion_of block.now taken) }
     ensures has_body { result.has_body ≡ has_body (portion_of block.now taken) }
 {

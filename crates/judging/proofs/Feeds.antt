@@ -12,48 +12,48 @@ use Rattle.desk_types.specs.declared.rules.Rules.TheVariants.{Two}
 use Rattle.desk_types.specs.declared.take.Pick.{Pick}
 use Rattle.desk_types.specs.Id.{Name, same}
 use Rattle.desk_types.specs.History.{History}
-use Rattle.desk_types.specs.Pieces.{picked, left_of, live_on}
+use Rattle.desk_types.specs.Pieces.{pieces_picked, left_of, live_on}
 use Rattle.desk_types.specs.Judged.{IsJudged}
 use Rattle.desk_types.proofs.Keys.{same-refl, same-true, name-changed}
 use Rattle.desk_laws.proofs.Distinct.{all-append}
 use Rattle.desk_laws.proofs.Mounts.{has}
-use Rattle.desk_laws.proofs.Picks.{picked-append}
+use Rattle.desk_laws.proofs.Picks.{pieces_picked-append}
 use Rattle.desk_laws.proofs.Places.{one-slot}
 use Rattle.judging.specs.declared.placing.Feed.{Feed}
 use Rattle.judging.specs.declared.placing.Given.TheVariants.{Reel, Nothing}
-use Rattle.judging.specs.Placing.{IsFed, IsFeeding, feed_at, one_less, given, live_behind, live_next, reel_in_hand}
+use Rattle.judging.specs.Placing.{IsFed, IsFeeding, feed_at, one_less, given_by, live_past, live_next, reel_in_hand}
 
 -- ---- one pick more
 
-picked-one : (p : Pick) (reel : Name) → picked (p ∷ []) reel ≡ cond (same p.reel reel) p.quantity 0
-picked-one p reel = by (same p.reel reel)
+pieces_picked-one : (p : Pick) (reel : Name) → pieces_picked (p ∷ []) reel ≡ cond (same p.reel reel) p.quantity 0
+pieces_picked-one p reel = by (same p.reel reel)
   where
     by : (b : Bool) → 0 + cond b p.quantity 0 ≡ cond b p.quantity 0
     by true = omega arith
     by false = refl
 
 module _ (picks : List Pick) (p : Pick) where
-  picked-grows : (reel : Name) → picked picks reel ≤ picked (picks ++ p ∷ []) reel
-  picked-grows reel = omega (arith, picked-append picks (p ∷ []) reel)
+  picked-grows : (reel : Name) → pieces_picked picks reel ≤ pieces_picked (picks ++ p ∷ []) reel
+  picked-grows reel = omega (arith, pieces_picked-append picks (p ∷ []) reel)
 
-  picked-same : (reel : Name) → same p.reel reel ≡ false → picked (picks ++ p ∷ []) reel ≡ picked picks reel
+  picked-same : (reel : Name) → same p.reel reel ≡ false → pieces_picked (picks ++ p ∷ []) reel ≡ pieces_picked picks reel
   picked-same reel away =
-      let none : picked (p ∷ []) reel ≡ 0 = picked-one p reel ∙ ap (λ b. cond b p.quantity 0) away in
-      omega (arith, picked-append picks (p ∷ []) reel, none)
+      let none : pieces_picked (p ∷ []) reel ≡ 0 = pieces_picked-one p reel ∙ ap (λ b. cond b p.quantity 0) away in
+      omega (arith, pieces_picked-append picks (p ∷ []) reel, none)
 
-  picked-own : (reel : Name) → p.reel ≡ reel → picked (picks ++ p ∷ []) reel ≡ picked picks reel + p.quantity
+  picked-own : (reel : Name) → p.reel ≡ reel → pieces_picked (picks ++ p ∷ []) reel ≡ pieces_picked picks reel + p.quantity
   picked-own reel own =
-      let one : picked (p ∷ []) reel ≡ p.quantity = picked-one p reel ∙ ap (λ b. cond b p.quantity 0) (ap (λ x. same x reel) own ∙ same-refl reel) in
-      omega (arith, picked-append picks (p ∷ []) reel, one)
+      let one : pieces_picked (p ∷ []) reel ≡ p.quantity = pieces_picked-one p reel ∙ ap (λ b. cond b p.quantity 0) (ap (λ x. same x reel) own ∙ same-refl reel) in
+      omega (arith, pieces_picked-append picks (p ∷ []) reel, one)
 
   -- spent reels stay spent
-  spent-still : (pieces : Name → ℕ) (reels : List Name) → AllByRecursion (λ r. pieces r ≤ picked picks r) reels → AllByRecursion (λ r. pieces r ≤ picked (picks ++ p ∷ []) r) reels
+  spent-still : (pieces : Name → ℕ) (reels : List Name) → AllByRecursion (λ r. pieces r ≤ pieces_picked picks r) reels → AllByRecursion (λ r. pieces r ≤ pieces_picked (picks ++ p ∷ []) r) reels
   spent-still pieces [] all = tt
   spent-still pieces (r ∷ rs) (none, all) = let more = picked-grows r in (omega (arith, none, more), spent-still pieces rs all)
 
   -- reels that are not the pick's stay untouched
-  untouched-still : (reels : List Name) → AllByRecursion (λ r. same p.reel r ≡ false) reels → AllByRecursion (λ r. picked picks r ≡ 0) reels
-      → AllByRecursion (λ r. picked (picks ++ p ∷ []) r ≡ 0) reels
+  untouched-still : (reels : List Name) → AllByRecursion (λ r. same p.reel r ≡ false) reels → AllByRecursion (λ r. pieces_picked picks r ≡ 0) reels
+      → AllByRecursion (λ r. pieces_picked (picks ++ p ∷ []) r ≡ 0) reels
   untouched-still [] away all = tt
   untouched-still (r ∷ rs) (other, away) (none, all) = (picked-same r other ∙ none, untouched-still rs away all)
 
@@ -63,10 +63,10 @@ all-other x [] absent = tt
 all-other x (r ∷ rs) absent = let both = or_parts (same x r) (has rs x) absent in (both.0, all-other x rs both.1)
 
 -- a reel that stands once is none of those behind it
-behind-others : (before : List Name) (x : Name) (after : List Name) → IsDistinct same (before ++ x ∷ after) → AllByRecursion (λ r. same x r ≡ false) after
+passed-others : (before : List Name) (x : Name) (after : List Name) → IsDistinct same (before ++ x ∷ after) → AllByRecursion (λ r. same x r ≡ false) after
 unfolding IsDistinct
-behind-others [] x after distinct = distinct.0
-behind-others (b ∷ bs) x after distinct = behind-others bs x after distinct.1
+passed-others [] x after distinct = distinct.0
+passed-others (b ∷ bs) x after distinct = passed-others bs x after distinct.1
 
 -- ---- a slot
 
@@ -90,8 +90,8 @@ module _ (pieces : Name → ℕ) (live reels : List Name) (picks : List Pick) wh
         untouched = untouched-still picks p next (all-other p.reel next others.1) is.untouched;
       }
     where
-      hand : (o : Option Feed) → AllByRecursion (λ r. same p.reel r ≡ false) (reel_in_hand o) → IfSome o (λ f. f.pieces ≡ pieces f.reel - picked picks f.reel)
-          → IfSome o (λ f. f.pieces ≡ pieces f.reel - picked (picks ++ p ∷ []) f.reel)
+      hand : (o : Option Feed) → AllByRecursion (λ r. same p.reel r ≡ false) (reel_in_hand o) → IfSome o (λ f. f.pieces ≡ pieces f.reel - pieces_picked picks f.reel)
+          → IfSome o (λ f. f.pieces ≡ pieces f.reel - pieces_picked (picks ++ p ∷ []) f.reel)
       hand None away was = tt
       hand (Some f) away was = was ∙ ap (λ n. pieces f.reel - n) (sym (picked-same picks p f.reel away.0))
 
@@ -99,8 +99,8 @@ module _ (pieces : Name → ℕ) (live reels : List Name) (picks : List Pick) wh
   fed-here : (f : Feed) (p : Pick) → p.reel ≡ f.reel → p.quantity ≡ 1 → IsDistinct same live → IsFed pieces live reels picks (Some f)
       → IsFed pieces live reels (picks ++ p ∷ []) (Some (one_less f))
   fed-here f p own one distinct is =
-      let next = live_behind pieces reels f.behind in
-      let away = subst (λ x. AllByRecursion (λ r. same x r ≡ false) next) (sym own) (behind-others is.spent f.reel next (subst (IsDistinct same) is.reels_are distinct)) in
+      let next = live_past pieces reels f.passed in
+      let away = subst (λ x. AllByRecursion (λ r. same x r ≡ false) next) (sym own) (passed-others is.spent f.reel next (subst (IsDistinct same) is.reels_are distinct)) in
       record {
         spent = is.spent;
         reels_are = is.reels_are;
@@ -110,38 +110,38 @@ module _ (pieces : Name → ℕ) (live reels : List Name) (picks : List Pick) wh
       }
 
   -- nothing is found among spent reels
-  search-past : (spent rest : List Name) → AllByRecursion (λ r. pieces r ≤ picked picks r) spent
-      → find (λ r. nat_lt (picked picks r) (pieces r)) (spent ++ rest) ≡ find (λ r. nat_lt (picked picks r) (pieces r)) rest
+  search-past : (spent rest : List Name) → AllByRecursion (λ r. pieces r ≤ pieces_picked picks r) spent
+      → find (λ r. nat_lt (pieces_picked picks r) (pieces r)) (spent ++ rest) ≡ find (λ r. nat_lt (pieces_picked picks r) (pieces r)) rest
   search-past [] rest all = refl
   search-past (r ∷ rs) rest (none, all) =
-      ap (λ b. cond b (Some r) (find (λ x. nat_lt (picked picks x) (pieces x)) (rs ++ rest))) (le-ltb (picked picks r) (pieces r) none) ∙ search-past rs rest all
+      ap (λ b. cond b (Some r) (find (λ x. nat_lt (pieces_picked picks x) (pieces x)) (rs ++ rest))) (le-ltb (pieces_picked picks r) (pieces r) none) ∙ search-past rs rest all
 
   -- the reel in hand is the first with a piece left, where it has one
-  pub fed-front : (f : Feed) → 0 < f.pieces → IsFed pieces live reels picks (Some f) → find (λ r. nat_lt (picked picks r) (pieces r)) live ≡ Some f.reel
+  pub fed-front : (f : Feed) → 0 < f.pieces → IsFed pieces live reels picks (Some f) → find (λ r. nat_lt (pieces_picked picks r) (pieces r)) live ≡ Some f.reel
   fed-front f some is =
-      let next = live_behind pieces reels f.behind in
-      let left : picked picks f.reel < pieces f.reel = omega (arith, is.in_hand, some) in
-      ap (find (λ r. nat_lt (picked picks r) (pieces r))) is.reels_are
+      let next = live_past pieces reels f.passed in
+      let left : pieces_picked picks f.reel < pieces f.reel = omega (arith, is.in_hand, some) in
+      ap (find (λ r. nat_lt (pieces_picked picks r) (pieces r))) is.reels_are
       ∙ search-past is.spent (f.reel ∷ next) is.none_left
-      ∙ ap (λ b. cond b (Some f.reel) (find (λ r. nat_lt (picked picks r) (pieces r)) next)) (lt-ltb (picked picks f.reel) (pieces f.reel) left)
+      ∙ ap (λ b. cond b (Some f.reel) (find (λ r. nat_lt (pieces_picked picks r) (pieces r)) next)) (lt-ltb (pieces_picked picks f.reel) (pieces f.reel) left)
 
   -- it is spent, where it has nothing left
-  hand-spent : (feed : Option Feed) → IsEmptyHanded feed → IfSome feed (λ f. f.pieces ≡ pieces f.reel - picked picks f.reel)
-      → AllByRecursion (λ r. pieces r ≤ picked picks r) (reel_in_hand feed)
+  hand-spent : (feed : Option Feed) → IsEmptyHanded feed → IfSome feed (λ f. f.pieces ≡ pieces f.reel - pieces_picked picks f.reel)
+      → AllByRecursion (λ r. pieces r ≤ pieces_picked picks r) (reel_in_hand feed)
   hand-spent None none was = tt
   hand-spent (Some f) none was = (omega (arith, none, was), tt)
 
-  all-spent : (feed : Option Feed) → IsEmptyHanded feed → (is : IsFed pieces live reels picks feed) → AllByRecursion (λ r. pieces r ≤ picked picks r) (is.spent ++ reel_in_hand feed)
-  all-spent feed none is = all-append (λ r. pieces r ≤ picked picks r) is.spent (reel_in_hand feed) is.none_left (hand-spent feed none is.in_hand)
+  all-spent : (feed : Option Feed) → IsEmptyHanded feed → (is : IsFed pieces live reels picks feed) → AllByRecursion (λ r. pieces r ≤ pieces_picked picks r) (is.spent ++ reel_in_hand feed)
+  all-spent feed none is = all-append (λ r. pieces r ≤ pieces_picked picks r) is.spent (reel_in_hand feed) is.none_left (hand-spent feed none is.in_hand)
 
   reels-past : (feed : Option Feed) (is : IsFed pieces live reels picks feed) → live ≡ (is.spent ++ reel_in_hand feed) ++ live_next pieces reels feed
   reels-past feed is = is.reels_are ∙ sym (append_assoc is.spent (reel_in_hand feed) (live_next pieces reels feed))
 
   -- then the first live reel behind it comes in hand
-  pub fed-next : (feed : Option Feed) (f : Feed) → IsEmptyHanded feed → f.pieces ≡ pieces f.reel → live_next pieces reels feed ≡ f.reel ∷ live_behind pieces reels f.behind
+  pub fed-next : (feed : Option Feed) (f : Feed) → IsEmptyHanded feed → f.pieces ≡ pieces f.reel → live_next pieces reels feed ≡ f.reel ∷ live_past pieces reels f.passed
       → IsFed pieces live reels picks feed → IsFed pieces live reels picks (Some f)
   fed-next feed f none told next is =
-      let untouched = subst (AllByRecursion (λ r. picked picks r ≡ 0)) next is.untouched in
+      let untouched = subst (AllByRecursion (λ r. pieces_picked picks r ≡ 0)) next is.untouched in
       record {
         spent = is.spent ++ reel_in_hand feed;
         reels_are = reels-past feed is ∙ ap (λ rs. (is.spent ++ reel_in_hand feed) ++ rs) next;
@@ -152,11 +152,11 @@ module _ (pieces : Name → ℕ) (live reels : List Name) (picks : List Pick) wh
 
   -- and there is no piece left where there is no live reel behind it
   pub fed-none : (feed : Option Feed) → IsEmptyHanded feed → live_next pieces reels feed ≡ [] → IsFed pieces live reels picks feed
-      → find (λ r. nat_lt (picked picks r) (pieces r)) live ≡ None
+      → find (λ r. nat_lt (pieces_picked picks r) (pieces r)) live ≡ None
   fed-none feed none next is =
-      ap (find (λ r. nat_lt (picked picks r) (pieces r))) (reels-past feed is)
+      ap (find (λ r. nat_lt (pieces_picked picks r) (pieces r))) (reels-past feed is)
       ∙ search-past (is.spent ++ reel_in_hand feed) (live_next pieces reels feed) (all-spent feed none is)
-      ∙ ap (find (λ r. nat_lt (picked picks r) (pieces r))) next
+      ∙ ap (find (λ r. nat_lt (pieces_picked picks r) (pieces r))) next
 
 -- ---- all slots of a machine
 
@@ -180,10 +180,10 @@ feeds-first live pieces reels feeds are empty = λ slot. subst (λ o. IsFed piec
   reels_are = sym (are slot);
   none_left = tt;
   in_hand = tt;
-  untouched = nothing (live_behind pieces (reels slot) 0);
+  untouched = nothing (live_past pieces (reels slot) 0);
 })
   where
-    nothing : (rs : List Name) → AllByRecursion (λ r. picked [] r ≡ 0) rs
+    nothing : (rs : List Name) → AllByRecursion (λ r. pieces_picked [] r ≡ 0) rs
     nothing [] = tt
     nothing (r ∷ rs) = (refl, nothing rs)
 
@@ -197,7 +197,7 @@ feeds-next H machine reels picks old new slot f p judged distinct own one is her
     subst (λ o. IsFed (left_of H) (live_on H machine s) (reels s) (picks ++ p ∷ []) o) (sym (written s)) (by s (same slot s) refl)
   where
     there : has (live_on H machine slot) p.reel ≡ true
-    there = ap (has (live_on H machine slot)) own ∙ ap (λ rs. has rs f.reel) here.reels_are ∙ hand-there here.spent (live_behind (left_of H) (reels slot) f.behind) f.reel
+    there = ap (has (live_on H machine slot)) own ∙ ap (λ rs. has rs f.reel) here.reels_are ∙ hand-there here.spent (live_past (left_of H) (reels slot) f.passed) f.reel
 
     absent : (s : Name) (b : Bool) → has (live_on H machine s) p.reel ≡ b → same slot s ≡ false → has (live_on H machine s) p.reel ≡ false
     absent s true also other = let again = one-place H machine slot s p.reel judged there also in cc
@@ -213,20 +213,20 @@ feeds-next H machine reels picks old new slot f p judged distinct own one is her
 -- ---- what the reel in hand gives
 
 -- it gives itself where it has pieces left
-pub given-reel : (o : Option Feed) (reel : Name) → given o ≡ Reel reel → (f : Feed) × (o ≡ Some f) × (reel ≡ f.reel) × (0 < f.pieces)
-given-reel None reel is = cc
-given-reel (Some f) reel is = by (f.pieces == 0) refl is
+pub given_by-reel : (o : Option Feed) (reel : Name) → given_by o ≡ Reel reel → (f : Feed) × (o ≡ Some f) × (reel ≡ f.reel) × (0 < f.pieces)
+given_by-reel None reel is = cc
+given_by-reel (Some f) reel is = by (f.pieces == 0) refl is
   where
-    by : (b : Bool) → (f.pieces == 0) ≡ b → cond b (Nothing f.behind) (Reel f.reel) ≡ Reel reel → (g : Feed) × (Some f ≡ Some g) × (reel ≡ g.reel) × (0 < g.pieces)
+    by : (b : Bool) → (f.pieces == 0) ≡ b → cond b (Nothing f.passed) (Reel f.reel) ≡ Reel reel → (g : Feed) × (Some f ≡ Some g) × (reel ≡ g.reel) × (0 < g.pieces)
     by true none is = cc
     by false some is = let more = eqb-false f.pieces 0 some in (f, refl, cc, omega (arith, more))
 
 -- and nothing where it has none
-pub given-nothing : (o : Option Feed) (past : ℕ) → given o ≡ Nothing past → IsEmptyHanded o × (past ≡ option_map_or (λ (f : Feed). f.behind) o 0)
-given-nothing None past is = (tt, cc)
-given-nothing (Some f) past is = by (f.pieces == 0) refl is
+pub given_by-nothing : (o : Option Feed) (past : ℕ) → given_by o ≡ Nothing past → IsEmptyHanded o × (past ≡ option_map_or (λ (f : Feed). f.passed) o 0)
+given_by-nothing None past is = (tt, cc)
+given_by-nothing (Some f) past is = by (f.pieces == 0) refl is
   where
-    by : (b : Bool) → (f.pieces == 0) ≡ b → cond b (Nothing f.behind) (Reel f.reel) ≡ Nothing past → (f.pieces ≡ 0) × (past ≡ f.behind)
+    by : (b : Bool) → (f.pieces == 0) ≡ b → cond b (Nothing f.passed) (Reel f.reel) ≡ Nothing past → (f.pieces ≡ 0) × (past ≡ f.passed)
     by true none is = (eqb-true f.pieces 0 none, cc)
     by false some is = cc
 
@@ -239,7 +239,7 @@ less-written old slot f less was is s = name-changed (Some f) (Some less) (feed_
 
 -- no pieces are none less
 pub none-less : (f : Feed) → f.pieces ≡ 0 → f ≡ one_less f
-none-less f none = ap (λ n. record { reel = f.reel; pieces = n; behind = f.behind }) (let same_pieces : f.pieces ≡ f.pieces - 1 = omega (arith, none) in same_pieces)
+none-less f none = ap (λ n. record { reel = f.reel; pieces = n; passed = f.passed }) (let same_pieces : f.pieces ≡ f.pieces - 1 = omega (arith, none) in same_pieces)
 
 -- another reel comes in hand
 pub other-written : (old left : BTreeMap Name Feed) (slot : Name) (f : Feed) (s : Name)

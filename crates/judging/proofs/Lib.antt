@@ -1,6 +1,6 @@
 pub mod Feeds
-pub mod Halves
+pub mod PicksOfCommands
+pub mod PlacedInTurn
 pub mod Reels
-pub mod Rejecting
-pub mod Spending
-pub mod Taking
+pub mod ScrapPicks
+pub mod SortedSearch

@@ -11,8 +11,8 @@ use Rattle.desk_types.specs.declared.take.Purpose.{Purpose}
 use Rattle.desk_types.specs.Id.{Name}
 use Rattle.desk_types.specs.History.{History}
 use Rattle.desk_types.specs.Tape.{tape_of}
-use Rattle.desk_types.specs.Pieces.{left_of, live_on, picked, pieces_off, scrap_picks, first, front_of}
-use Rattle.desk_types.proofs.Steps.{drop-next}
+use Rattle.desk_types.specs.Pieces.{left_of, live_on, pieces_picked, pieces_off, scrap_picks, first, front_of}
+use Rattle.desk_types.proofs.LoopSteps.{drop-next}
 
 -- ---- one place further
 
@@ -135,11 +135,11 @@ sum-kept pieces (r ∷ rs) = by (nat_lt 0 (pieces r)) refl (sum-kept pieces rs)
 
 -- a search for a reel with a piece left after picks finds among the live reels what it finds on the tape
 pub find-tape : (H : History) (machine slot : Name) (picks : List Pick)
-    → find (λ r. nat_lt (picked picks r) (left_of H r)) (live_on H machine slot) ≡ find (λ r. nat_lt (picked picks r) (left_of H r)) (tape_of H machine slot)
+    → find (λ r. nat_lt (pieces_picked picks r) (left_of H r)) (live_on H machine slot) ≡ find (λ r. nat_lt (pieces_picked picks r) (left_of H r)) (tape_of H machine slot)
 unfolding live_on
 find-tape H machine slot picks =
-    find-kept (λ r. nat_lt 0 (left_of H r)) (λ r. nat_lt (picked picks r) (left_of H r)) (tape_of H machine slot)
-    (λ r left. let less = ltb-true (picked picks r) (left_of H r) left in lt-ltb 0 (left_of H r) (omega (arith, less)))
+    find-kept (λ r. nat_lt 0 (left_of H r)) (λ r. nat_lt (pieces_picked picks r) (left_of H r)) (tape_of H machine slot)
+    (λ r left. let less = ltb-true (pieces_picked picks r) (left_of H r) left in lt-ltb 0 (left_of H r) (omega (arith, less)))
 
 module _ (H : History) (machine slot : Name) (reels : List Name) (live : filter (λ reel. nat_lt 0 (left_of H reel)) reels ≡ live_on H machine slot) where
   -- the first of the reels with pieces left is the front

@@ -26,7 +26,7 @@ fn is_above(rules: Rules, left: u64, counted: u64) -> bool
 }
 
 /// How many pieces a counted reel has above its count, or what is wrong with the row.
-fn missing<F: Facts>(
+fn pieces_above<F: Facts>(
     rules: Rules,
     facts: &F,
     seen: &mut BTreeSet<Id>,
@@ -45,7 +45,7 @@ fn missing<F: Facts>(
     if facts.is_mounted(&reel) {
         return Ok(Err(Refusal::ReelMounted(reel)));
     }
-    let left = facts.left(&reel);
+    let left = facts.left_of(&reel);
     let counted = row.quantity.get();
     if is_above(rules, left, counted) {
         return Ok(Err(Refusal::CountAbove(reel)));
@@ -55,7 +55,7 @@ fn missing<F: Facts>(
 
 /// What each counted reel has above its count, or what is wrong with the first faulty row. Pieces that a
 /// count finds are no picks: what is left is what was counted.
-pub fn counted<F: Facts>(
+pub fn picks_of_counts<F: Facts>(
     alloc: Global,
     rules: Rules,
     facts: &F,
@@ -67,7 +67,7 @@ pub fn counted<F: Facts>(
     let mut seen = BTreeSet::new(alloc);
     let mut picks = Vec::new(alloc);
     for row in rows {
-        match missing(rules, facts, &mut seen, row)? {
+        match pieces_above(rules, facts, &mut seen, row)? {
             Ok(pieces) => put_off(&mut picks, row.reel, pieces, Purpose::Counted)?,
             Err(refusal) => return Ok(Err(refusal)),
         }

@@ -78,12 +78,12 @@ pub trait Facts {
         ensures { (H : History) → Stands self.now H → result ≡ slot_on H machine.now designator.now };
 
     /// The reel of this name, or none where it was not received. What it says of its pieces counts for
-    /// nothing here: `left` tells them.
+    /// nothing here: `left_of` tells them.
     fn reel(&self, reel: &Id) -> Option<Reel>
         ensures { (H : History) → Stands self.now H → IsReelOf H reel.now result };
 
     /// The pieces left of the reel; none of one that was not received.
-    fn left(&self, reel: &Id) -> u64
+    fn left_of(&self, reel: &Id) -> u64
         ensures { (H : History) → Stands self.now H → result ≡ left_of H reel.now };
 
     /// Whether the reel is live on some slot.

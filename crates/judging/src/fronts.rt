@@ -19,7 +19,7 @@ pub fn front<F: Facts>(facts: &F, machine: &Id, slot: &Id) -> Option<Id>
     facts.tells_live();
     for index in 0..facts.reel_count(machine, slot) {
         if let Some(reel) = facts.reel_at(machine, slot, index) {
-            if facts.left(&reel) > 0 {
+            if facts.left_of(&reel) > 0 {
                 return Some(reel);
             }
         }

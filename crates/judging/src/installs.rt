@@ -15,7 +15,7 @@ use std::alloc::{AllocError, Global};
 
 /// The pieces that an install takes, or why it is refused.
 #[tactic(auto, unfolding(desk_types::specs::Refusals::install_refusal))]
-pub fn installed<F: Facts>(
+pub fn picks_of_install<F: Facts>(
     alloc: Global,
     facts: &F,
     machine: &Id,

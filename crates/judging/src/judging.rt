@@ -12,15 +12,15 @@ ghost use Rattle.judging.specs.Facts.{IsBy};
 ghost use Rattle.judging.specs.Placing.{IsPicked};
 ghost use Rattle.judging.specs.Words.{TakesNone};
 
-use crate::counts::counted;
+use crate::counts::picks_of_counts;
 use crate::facts::Facts;
-use crate::installs::installed;
+use crate::installs::picks_of_install;
 use crate::loads::{load_refusal, splice_refusal};
 use crate::refusals::{
     alternate_refusal, closing_refusal, completion_refusal, opening_refusal, part_refusal,
     receipt_refusal, selection_refusal, unload_refusal,
 };
-use crate::scraps::scrapped;
+use crate::scraps::picks_of_scrap;
 use crate::sheets::definition_refusal;
 use crate::starts::start_refusal;
 use crate::takes::{pieces_of, reels_of, takes_for};
@@ -76,7 +76,7 @@ fn command_refusal<F: Facts>(
 
 /// The pieces that a command takes, or why it is refused by the rules.
 #[tactic(auto, unfolding(desk_types::specs::Refusals::command_refusal))]
-fn picked<F: Facts>(
+fn command_picks<F: Facts>(
     alloc: Global,
     rules: Rules,
     facts: &F,
@@ -91,13 +91,18 @@ fn picked<F: Facts>(
             machine,
             board,
             designators,
-        } => Ok(installed(alloc, facts, machine, board, designators)?),
+        } => Ok(picks_of_install(alloc, facts, machine, board, designators)?),
         Command::MaterialsScrapped {
             machine,
             slot,
             quantity,
-        } => Ok(scrapped(alloc, facts, machine, slot, *quantity)?),
-        Command::CountsTaken { counts } => Ok(counted(alloc, rules, facts, counts.as_slice())?),
+        } => Ok(picks_of_scrap(alloc, facts, machine, slot, *quantity)?),
+        Command::CountsTaken { counts } => Ok(picks_of_counts(
+            alloc,
+            rules,
+            facts,
+            counts.as_slice(),
+        )?),
         _ => match command_refusal(alloc, facts, minute, command)? {
             Some(refusal) => Ok(Err(refusal)),
             None => Ok(Ok(Listing::new(Vec::new(alloc)))),
@@ -134,7 +139,7 @@ fn detail<F: Facts>(
 }
 
 /// The takes of the pieces of a command.
-fn taken<F: Facts>(
+fn takes_by<F: Facts>(
     alloc: Global,
     facts: &F,
     minute: Minute,
@@ -182,7 +187,7 @@ fn effective_minute<F: Facts>(facts: &F, own: Minute) -> Minute
 
 /// What a command would do by the rules, were it sent now.
 #[tactic(auto, unfolding(desk_types::specs::Refusals::refusal_of))]
-pub fn judged<F: Facts>(
+pub fn judge<F: Facts>(
     alloc: Global,
     rules: Rules,
     facts: &F,
@@ -196,7 +201,7 @@ pub fn judged<F: Facts>(
     }
     let minute = effective_minute(facts, stamped.minute);
     let command = &stamped.command;
-    let picks = match picked(alloc, rules, facts, minute, command)? {
+    let picks = match command_picks(alloc, rules, facts, minute, command)? {
         Ok(picks) => picks,
         Err(refusal) => return Err(JudgeFault::Refused(refusal)),
     };
@@ -205,6 +210,6 @@ pub fn judged<F: Facts>(
         stamped: stamped.clone()?,
         minute,
         detail: detail(alloc, facts, minute, command, picks)?,
-        takes: taken(alloc, facts, minute, command, picks)?,
+        takes: takes_by(alloc, facts, minute, command, picks)?,
     })
 }

@@ -17,4 +17,4 @@ mod starts;
 mod takes;
 
 pub use facts::Facts;
-pub use judging::judged;
+pub use judging::judge;

@@ -25,7 +25,7 @@ fn reel_refusal<F: Facts>(facts: &F, minute: Minute, row: &SheetRow, reel: &Id) 
     if facts.is_mounted(reel) {
         return Some(Refusal::ReelMounted(*reel));
     }
-    if facts.left(reel) == 0 {
+    if facts.left_of(reel) == 0 {
         return Some(Refusal::ReelEmpty(*reel));
     }
     if !allowed(facts.alternates(), &row.part, &found.part) {

@@ -8,13 +8,13 @@ ghost use Rattle.desk_types.specs.Id.{Name, same};
 ghost use Rattle.desk_types.specs.History.{History};
 ghost use Rattle.desk_types.specs.Setup.{sheet_on, slot_on};
 ghost use Rattle.desk_types.specs.Tape.{tape_of};
-ghost use Rattle.desk_types.specs.Pieces.{left_of, live_on, picked, install_picks};
+ghost use Rattle.desk_types.specs.Pieces.{left_of, live_on, pieces_picked, install_picks};
 ghost use Rattle.desk_types.specs.Refusals.{designators_refusal};
 ghost use Rattle.desk_types.specs.Work.{is_placed_on};
 ghost use Rattle.setup_sheets.specs.Names.{HasSeen};
 ghost use Rattle.judging.specs.declared.placing.Feed.{Feed as Feeding};
 ghost use Rattle.judging.specs.Facts.{ArePlacedOn};
-ghost use Rattle.judging.specs.Placing.{IsPicked, IsPlacing, IsFeeding, IsOnePiece, feed_at, one_less, given, live_behind};
+ghost use Rattle.judging.specs.Placing.{IsPicked, IsPlacing, IsFeeding, IsOnePiece, feed_at, one_less, given_by, live_past};
 
 use crate::facts::Facts;
 use desk_types::{Designator, Id, Listing, Pick, Purpose, Refusal};
@@ -28,7 +28,7 @@ use std::collections::{BTreeMap, BTreeSet};
 struct Feed {
     reel: Id,
     pieces: u64,
-    behind: usize,
+    passed: usize,
 }
 
 /// What the reel in hand gives: a piece off it, or, where it has none left or there is none, how many of
@@ -41,14 +41,14 @@ enum Given {
 
 /// One piece off the reel in hand of the slot.
 fn take_in_hand(feeds: &mut BTreeMap<Id, Feed>, slot: &Id) -> Given
-    ensures given { result ≡ given (feed_at feeds.old slot.now) }
+    ensures given { result ≡ given_by (feed_at feeds.old slot.now) }
     ensures lowered { (s : Name) → feed_at feeds.new s ≡ (if same slot.now s then option_map one_less (feed_at feeds.old s) else feed_at feeds.old s) }
 {
     let Some(feed) = feeds.get_mut(slot) else {
         return Given::Nothing(0);
     };
     if feed.pieces == 0 {
-        return Given::Nothing(feed.behind);
+        return Given::Nothing(feed.passed);
     }
     feed.pieces -= 1;
     Given::Reel(feed.reel)
@@ -56,20 +56,20 @@ fn take_in_hand(feeds: &mut BTreeMap<Id, Feed>, slot: &Id) -> Given
 
 /// The first reel of the slot with pieces left, past so many of its reels: each of the others is asked.
 fn later_reel<F: Facts>(facts: &F, machine: &Id, slot: &Id, past: usize) -> Option<Feed>
-    ensures live { (H : History) → F.Stands facts.now H → live_behind (left_of H) (F.reels_on facts.now machine.now slot.now) past
-        ≡ option_map_or (λ (feed : Feeding). feed.reel ∷ live_behind (left_of H) (F.reels_on facts.now machine.now slot.now) feed.behind) result [] }
+    ensures live { (H : History) → F.Stands facts.now H → live_past (left_of H) (F.reels_on facts.now machine.now slot.now) past
+        ≡ option_map_or (λ (feed : Feeding). feed.reel ∷ live_past (left_of H) (F.reels_on facts.now machine.now slot.now) feed.passed) result [] }
     ensures pieces { (H : History) → F.Stands facts.now H → IfSome result (λ feed. feed.pieces ≡ left_of H feed.reel) }
     ensures some { IfSome result (λ feed. 0 < feed.pieces) }
 {
     for place in past..facts.reel_count(machine, slot) {
         if let Some(reel) = facts.reel_at(machine, slot, place) {
-            let pieces = facts.left(&reel);
+            let pieces = facts.left_of(&reel);
             if pieces > 0 {
-                let behind = place + 1;
+                let passed = place + 1;
                 return Some(Feed {
                     reel,
                     pieces,
-                    behind,
+                    passed,
                 });
             }
         }
@@ -80,8 +80,8 @@ fn later_reel<F: Facts>(facts: &F, machine: &Id, slot: &Id, past: usize) -> Opti
 /// The first reel of the slot with pieces left, past so many of its reels. Mostly that is the next one, so
 /// the reels are counted only where this one is spent.
 fn next_reel<F: Facts>(facts: &F, machine: &Id, slot: &Id, past: usize) -> Option<Feed>
-    ensures live { (H : History) → F.Stands facts.now H → live_behind (left_of H) (F.reels_on facts.now machine.now slot.now) past
-        ≡ option_map_or (λ (feed : Feeding). feed.reel ∷ live_behind (left_of H) (F.reels_on facts.now machine.now slot.now) feed.behind) result [] }
+    ensures live { (H : History) → F.Stands facts.now H → live_past (left_of H) (F.reels_on facts.now machine.now slot.now) past
+        ≡ option_map_or (λ (feed : Feeding). feed.reel ∷ live_past (left_of H) (F.reels_on facts.now machine.now slot.now) feed.passed) result [] }
     ensures pieces { (H : History) → F.Stands facts.now H → IfSome result (λ feed. feed.pieces ≡ left_of H feed.reel) }
     ensures some { IfSome result (λ feed. 0 < feed.pieces) }
 {
@@ -89,15 +89,15 @@ fn next_reel<F: Facts>(facts: &F, machine: &Id, slot: &Id, past: usize) -> Optio
         return later_reel(facts, machine, slot, past);
     }
     let reel = facts.reel_at(machine, slot, past)?;
-    let pieces = facts.left(&reel);
+    let pieces = facts.left_of(&reel);
     if pieces == 0 {
         return later_reel(facts, machine, slot, past);
     }
-    let behind = past + 1;
+    let passed = past + 1;
     Some(Feed {
         reel,
         pieces,
-        behind,
+        passed,
     })
 }
 
@@ -110,7 +110,7 @@ fn take_piece<F: Facts>(
 ) -> Result<Option<Id>, AllocError>
     ensures front { (H : History) (picks : List Picking) → F.Stands facts.now H
         → IsFeeding (live_on H machine.now) (left_of H) (F.reels_on facts.now machine.now) picks feeds.old
-        → IfOk result (λ reel. reel ≡ find (λ r. nat_lt (picked picks r) (left_of H r)) (tape_of H machine.now slot.now)) }
+        → IfOk result (λ reel. reel ≡ find (λ r. nat_lt (pieces_picked picks r) (left_of H r)) (tape_of H machine.now slot.now)) }
     ensures feeds { (H : History) (picks : List Picking) (p : Picking) → F.Stands facts.now H
         → IsFeeding (live_on H machine.now) (left_of H) (F.reels_on facts.now machine.now) picks feeds.old
         → IfOk result (λ reel. IsOnePiece reel p → IsFeeding (live_on H machine.now) (left_of H) (F.reels_on facts.now machine.now) (picks ++ p ∷ []) feeds.new) }
@@ -130,7 +130,7 @@ fn take_piece<F: Facts>(
         Feed {
             reel: next.reel,
             pieces,
-            behind: next.behind,
+            passed: next.passed,
         },
     )?;
     Ok(Some(next.reel))
@@ -170,7 +170,7 @@ fn has_placed<F: Facts>(
 
 /// A piece off a reel on a slot.
 #[derive(Clone, Copy, Debug, PartialEq, Eq)]
-struct Piece {
+struct Feeder {
     slot: Id,
     reel: Id,
 }
@@ -185,7 +185,7 @@ fn place<F: Facts>(
     machine: &Id,
     board: &Id,
     designator: &Designator,
-) -> Result<Result<Piece, Refusal>, AllocError>
+) -> Result<Result<Feeder, Refusal>, AllocError>
     requires look_ups { (H : History) → F.Stands facts.now H → IsSome sheet → option_copied sheet ≡ sheet_on H machine.now }
     requires names { (H : History) → F.Stands facts.now H → IfSome placed (λ names. ArePlacedOn H board.now names.now) }
     ensures { (H : History) (picks : List Picking) (before : List Name) → F.Stands facts.now H
@@ -206,7 +206,7 @@ fn place<F: Facts>(
     let Some(reel) = take_piece(facts, feeds, machine, &slot)? else {
         return Ok(Err(Refusal::ReelShort(name)));
     };
-    Ok(Ok(Piece { slot, reel }))
+    Ok(Ok(Feeder { slot, reel }))
 }
 
 /// One piece for each designator in order. What is wrong with the first faulty one is told.

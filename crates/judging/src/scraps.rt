@@ -58,7 +58,7 @@ fn scrap<F: Facts>(
             return Ok(Scrapping { picks, wanting });
         }
         if let Some(reel) = facts.reel_at(machine, slot, index) {
-            let left = facts.left(&reel);
+            let left = facts.left_of(&reel);
             let purpose = Purpose::Rejected {
                 machine: *machine,
                 slot: *slot,
@@ -71,7 +71,7 @@ fn scrap<F: Facts>(
 }
 
 /// The pieces that a scrap takes, or why it is refused.
-pub fn scrapped<F: Facts>(
+pub fn picks_of_scrap<F: Facts>(
     alloc: Global,
     facts: &F,
     machine: &Id,

@@ -26,7 +26,7 @@ use Rattle.line_audit.specs.Placed.{has_placement}
 use Rattle.line_audit.specs.TableNames.{name_of, table_of}
 use Rattle.line_audit.specs.declared.table.StateTable.{StateTable}
 use Rattle.line_audit.specs.declared.table.StateTable.TheVariants.{Part, Alternate, SheetRow, Selected, Reel, Mount, Board, Placement, Found}
-use Rattle.line_audit.proofs.Finding.{finds_alone}
+use Rattle.line_audit.proofs.LookUpsByKey.{finds_alone}
 use Rattle.desk_types.specs.declared.rules.Rules.TheVariants.{One, Two}
 
 -- the column is the parameter

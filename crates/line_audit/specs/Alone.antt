@@ -33,12 +33,12 @@ abbrev pub AreAlone : {K R : Type 0} → (K → Row → Bool) → (K → R → R
 AreAlone has columns rows es = AllByRecursion (λ e. filter (has e.0) rows ≡ columns e.0 e.1 ∷ []) es
 
 -- the row of each entry is the one with its key, and so many rows are left beside them
-abbrev pub Matched : {K R : Type 0} → Table → (K → Row → Bool) → (K → R → Row) → State → ℕ → List (K × R) → Type 0
-Matched table has columns old left es = Reads old (λ db. (left + length es ≡ length (rows_in table db)) × AreAlone has columns (rows_in table db) es)
+abbrev pub AreMatched : {K R : Type 0} → Table → (K → Row → Bool) → (K → R → Row) → State → ℕ → List (K × R) → Type 0
+AreMatched table has columns old left es = Reads old (λ db. (left + length es ≡ length (rows_in table db)) × AreAlone has columns (rows_in table db) es)
 
 -- whether what is committed is so
-abbrev pub Tells : (Database → Type 0) → State → Bool → Type 0
-Tells Is old b = Reads old (λ db. IsTrue b ↔ Is db)
+abbrev pub Decides : (Database → Type 0) → State → Bool → Type 0
+Decides Is old b = Reads old (λ db. IsTrue b ↔ Is db)
 
 -- the key differs from those of the entries
 abbrev pub IsNew : {K R : Type 0} → K → List (K × R) → Type 0

@@ -5,7 +5,7 @@ ghost use Rattle.std.specs.Iterator.{AlwaysYields, IsFinite};
 ghost use Rattle.sqlite.specs.State.{HasCleanDisk, Survives, KeepsCommit};
 ghost use Rattle.sqlite.specs.Held.{state};
 ghost use Rattle.line_tables.specs.StateRows.{AreRows, rows_in};
-ghost use Rattle.line_audit.specs.Alone.{HasOneKey, Listed, Tells};
+ghost use Rattle.line_audit.specs.Alone.{HasOneKey, Listed, Decides};
 ghost use Rattle.line_audit.specs.TableNames.{table_of};
 
 use crate::entry::Entry;
@@ -24,7 +24,7 @@ pub fn are_rows<E: Entry, I: Iterator<Item = E>, S: Alter>(
     requires theirs { table ≡ E.table }
     requires can { I.can_next entries }
     requires ends { IsFinite (I.remaining entries) }
-    ensures same { HasCleanDisk (state S.Store conn.new) → IfOk result (λ b. (es : List (E.Key × E.Kept)) → AlwaysYields I.next_gives E.entry entries es → (f : E.Key → Option E.Kept) → Listed es f → HasOneKey E.has → Tells (λ db. AreRows E.has E.columns (rows_in (table_of table) db) f) (state S.Store conn.old) b) }
+    ensures same { HasCleanDisk (state S.Store conn.new) → IfOk result (λ b. (es : List (E.Key × E.Kept)) → AlwaysYields I.next_gives E.entry entries es → (f : E.Key → Option E.Kept) → Listed es f → HasOneKey E.has → Decides (λ db. AreRows E.has E.columns (rows_in (table_of table) db) f) (state S.Store conn.old) b) }
     ensures kept { HasCleanDisk (state S.Store conn.new) → KeepsCommit (state S.Store conn.old) (state S.Store conn.new) }
     ensures mode { conn.old.in_transaction ≡ false → conn.new.in_transaction ≡ false }
     ensures survives { Survives (state S.Store conn.old) (state S.Store conn.new) (λ _. ⊥) }

@@ -30,7 +30,7 @@ impl<'a> Entry for (&'a (Id, Id, u64), &'a SheetRow) {
 
     fn is_alone<S: Alter>(self, alloc: Global, conn: &mut Connection<S>) -> Result<bool, Error> {
         let (at, row) = self;
-        let designators = spaced(alloc, row.designators.as_slice())?;
+        let designators = designators_text(alloc, row.designators.as_slice())?;
         shows_only(
             conn,
             "SELECT product, machine, place, slot, part, designators FROM sheet_row WHERE product = ?1 AND machine = ?2 AND place = ?3",
@@ -48,7 +48,7 @@ impl<'a> Entry for (&'a (Id, Id, u64), &'a SheetRow) {
 }
 
 /// The designators with one space between each two.
-fn spaced(alloc: Global, designators: &[Designator]) -> Result<Vec<u8>, AllocError>
+fn designators_text(alloc: Global, designators: &[Designator]) -> Result<Vec<u8>, AllocError>
     ensures { IfOk result (λ bytes. bytes.items ≡ join_with_byte 0x20 designators.now) }
 {
     let mut bytes = Vec::new(alloc);

@@ -11,11 +11,11 @@ use Rattle.desk_types.proofs.BothRules.{judged-by-two}
 use Rattle.line_tables.specs.Line.{IsOurs}
 use Rattle.line_tables.specs.Rows.{HoldsBy, accepted_columns, accepted_in}
 use Rattle.line_tables.specs.Calls.{Reads, Migrated, LeavesMigrated}
-use Rattle.line_rows.specs.Rows.{tables_of}
+use Rattle.line_rows.specs.Rows.{ledger_tables}
 use Rattle.line_opening.specs.declared.opening.Opened.{Opened}
 use Rattle.line_opening.specs.Opening.{IsOpened, IsNamedBy}
 use Rattle.line_opening.specs.Versions.{IsMigrated}
-use Rattle.line_opening.proofs.Reading.{opened_holds}
+use Rattle.line_opening.proofs.ReadOfCommitted.{opened_holds}
 
 -- what may be left, told of what was committed before calls that kept it
 left_before : (old mid : State) (trees : Trees) → KeepsCommit old mid → LeavesMigrated mid trees → LeavesMigrated old trees
@@ -43,17 +43,17 @@ migrated_on F K Clean old mid new opened H o clean named settled kept done is_op
       record { judged = judged-by-two One H lawful.judged; uids = lawful.uids; numbers = lawful.numbers };
   before = before;
   same = λ ours. ap (map accepted_columns) (done.same (held ours).indexed (held ours).schema).0 ∙ ap accepted_in same;
-  after = λ ours. done.holds (tables_of opened.greatest H) (held ours);
+  after = λ ours. done.holds (ledger_tables opened.greatest H) (held ours);
   layout = λ indexed has. done.layout indexed (ap (λ (db : Database). db.schema) same ∙ has);
   stays_open = is_open.1;
-  alone = λ trees may ours. ((left trees may).holds (tables_of opened.greatest H) (held ours)).0;
+  alone = λ trees may ours. ((left trees may).holds (ledger_tables opened.greatest H) (held ours)).0;
 }
   where
-    before : Reads old (λ db. HoldsBy One db (tables_of opened.greatest H))
+    before : Reads old (λ db. HoldsBy One db (ledger_tables opened.greatest H))
     before = opened_holds F K Clean old One opened H o named settled clean
 
     same : mid.committed ≡ old.committed
     same = kept.committed is_open.0
 
-    held : IsOurs old.committed.schema → HoldsBy One mid.committed (tables_of opened.greatest H)
-    held ours = subst (λ (db : Database). HoldsBy One db (tables_of opened.greatest H)) (sym same) (before.are ours)
+    held : IsOurs old.committed.schema → HoldsBy One mid.committed (ledger_tables opened.greatest H)
+    held ours = subst (λ (db : Database). HoldsBy One db (ledger_tables opened.greatest H)) (sym same) (before.are ours)

@@ -28,9 +28,9 @@ use Rattle.line_audit.specs.declared.table.StateTable.{StateTable}
 use Rattle.trace_lists.specs.Lists.{IsListed}
 
 -- a fault of reading the list again, as a fault of opening
-abbrev pub told_as : ReplayFault → OpenFault
-told_as (replay.NotLawful n) = NotLawful n
-told_as replay.Unavailable = Unavailable
+abbrev pub opening_fault : ReplayFault → OpenFault
+opening_fault (replay.NotLawful n) = NotLawful n
+opening_fault replay.Unavailable = Unavailable
 
 -- the whole number is a greatest number: from 1 to the most entries
 pub record IsGreatest (z : ℤ) (greatest : ℕ) : Type 0 where

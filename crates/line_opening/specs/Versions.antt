@@ -8,16 +8,16 @@ use Rattle.desk_types.specs.Judged.{IsLawful}
 use Rattle.line_tables.specs.Calls.{Reads}
 use Rattle.line_tables.specs.Line.{IsOurs, schema_of}
 use Rattle.line_tables.specs.Rows.{Holds, HoldsBy, HoldsAt, accepted_in}
-use Rattle.line_rows.specs.Rows.{tables_of}
+use Rattle.line_rows.specs.Rows.{ledger_tables}
 
 -- The list is lawful by rules One, and by rules Two with the same answers: the rows of `accepted`, which have its answers, stay as they were. Its tables were those of version 1, and are those of version 2 in the same layout, which a crash leaves alone. This is of a file that has our tables and no others.
 pub record IsMigrated (old new : State) (greatest : ℕ) (H : History) (count : ℕ) : Type 0 where
   pub counted : count ≡ length H
   pub by_one : IsOurs old.committed.schema → IsLawful One greatest H
   pub by_two : IsOurs old.committed.schema → IsLawful Two greatest H
-  pub before : Reads old (λ db. HoldsBy One db (tables_of greatest H))
+  pub before : Reads old (λ db. HoldsBy One db (ledger_tables greatest H))
   pub same : IsOurs old.committed.schema → accepted_in new.committed ≡ accepted_in old.committed
-  pub after : IsOurs old.committed.schema → Holds new.committed (tables_of greatest H)
+  pub after : IsOurs old.committed.schema → Holds new.committed (ledger_tables greatest H)
   pub layout : (indexed : Bool) → old.committed.schema ≡ schema_of One indexed → new.committed.schema ≡ schema_of Two indexed
   pub stays_open : IsTrue new.is_open
-  pub alone : (trees : Trees) → new.may_leave trees → IsOurs old.committed.schema → HoldsAt (tables_of greatest H) trees
+  pub alone : (trees : Trees) → new.may_leave trees → IsOurs old.committed.schema → HoldsAt (ledger_tables greatest H) trees

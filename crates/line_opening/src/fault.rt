@@ -47,9 +47,9 @@ impl fmt::Display for OpenFault {
 
 impl From<ReplayFault> for OpenFault {
     ghost use Rattle.std.specs.Prelude.{◌≡◌};
-    ghost use Rattle.line_opening.specs.Opening.{told_as};
+    ghost use Rattle.line_opening.specs.Opening.{opening_fault};
 
-    ghost from_gives = { λ fault told. told ≡ told_as fault };
+    ghost from_gives = { λ fault told. told ≡ opening_fault fault };
 
     fn from(fault: ReplayFault) -> OpenFault {
         match fault {

@@ -13,15 +13,15 @@ use Rattle.line_tables.specs.Rows.{Holds, accepted_in}
 use Rattle.line_tables.specs.Calls.{Reads, has_number}
 use Rattle.line_tables.proofs.Keeps.{keeps_then}
 use Rattle.line_audit.specs.Audit.{ArePlaced}
-use Rattle.line_rows.specs.Rows.{rows_of, tables_of}
+use Rattle.line_rows.specs.Rows.{rows_of, ledger_tables}
 use Rattle.line_replay.specs.declared.fault.ReplayFault.{ReplayFault}
 use Rattle.line_replay.specs.declared.fault.ReplayFault.TheVariants.{NotLawful, Unavailable}
 use Rattle.line_replay.specs.declared.beside.Beside.{Beside}
 use Rattle.line_replay.specs.Listed.{AreAt, StopsAt}
 use Rattle.line_replay.specs.Replay.{IsReplayed, IsFaultOf, IsNumbered, IsStuck, IsTaken, IsEnd, IsStop}
-use Rattle.line_replay.proofs.Reading.{reads_two, reads_back}
-use Rattle.line_replay.proofs.Listing.{are_rows}
-use Rattle.line_replay.proofs.Stopping.{stops_stuck, stops_short}
+use Rattle.line_replay.proofs.ReadOfCommitted.{reads_two, reads_back}
+use Rattle.line_replay.proofs.RowsOfLists.{are_rows}
+use Rattle.line_replay.proofs.StopsOfRows.{stops_stuck, stops_short}
 use Rattle.desk_types.specs.declared.rules.Rules.TheVariants.{Two}
 
 -- a place where the rows stop, told of the rows at first
@@ -95,7 +95,7 @@ module _ {D : Type 0} (F : D → History → Type 0) (rules : Rules) (greatest :
 -- the list that was read again is the one whose tables these are
 pub same_list : {D : Type 0} (F : D → History → Type 0) (rules : Rules) (greatest : ℕ) (Clean : Type 0) (old : State) (desk : D) (beside : Beside) (count : ℕ) (H G : History)
     → ((A B : History) → IsJudged rules A → IsJudged rules B → IsPermutation (rows_of A) (rows_of B) → A ≡ B) → IsReplayed F rules greatest Clean old desk beside count H → IsJudged rules G
-    → (IsTrue old.is_open → Holds old.committed (tables_of greatest G)) → Clean → H ≡ G
+    → (IsTrue old.is_open → Holds old.committed (ledger_tables greatest G)) → Clean → H ≡ G
 same_list F rules greatest Clean old desk beside count H G tell all judged holds clean =
     let r = all.rows clean in
     let tables = holds r.was_open in

@@ -1,7 +1,7 @@
-pub mod Tests
-pub mod Reading
-pub mod Listing
-pub mod Stopping
-pub mod Adding
-pub mod Taken
 pub mod Committed
+pub mod OneRowMore
+pub mod ReadOfCommitted
+pub mod RowsBeside
+pub mod RowsOfLists
+pub mod StopsOfRows
+pub mod Tests

@@ -37,8 +37,8 @@ pub record IsBeside (Clean : Type 0) (db : Database) (beside : Beside) (H : Hist
 -- ---- on the way
 
 -- it holds of any database, or it was read of what is committed
-abbrev pub Tells : State → (Database → Type 0) → Type 0
-Tells old Is = ((db : Database) → Is db) ⊎ Reads old Is
+abbrev pub HoldsAsRead : State → (Database → Type 0) → Type 0
+HoldsAsRead old Is = ((db : Database) → Is db) ⊎ Reads old Is
 
 -- all were found before, and these too; or one before was not, or one of these
 pub record ArePlacedToo (db : Database) (before after : Bool) (rows : List PlacementRow) : Type 0 where
@@ -49,4 +49,4 @@ pub record ArePlacedToo (db : Database) (before after : Bool) (rows : List Place
 pub record Adds (Clean : Type 0) (old : State) (edits : List RowEdit) (before after : Beside) : Type 0 where
   pub rows : tables_in after.rows ≡ but_placements (with_edits edits (tables_in before.rows)) (tables_in before.rows)
   pub count : after.placed.count ≡ before.placed.count + length (placements_by edits)
-  pub told : Clean → Tells old (λ db. ArePlacedToo db before.placed.all after.placed.all (placements_by edits))
+  pub told : Clean → HoldsAsRead old (λ db. ArePlacedToo db before.placed.all after.placed.all (placements_by edits))

@@ -5,7 +5,7 @@ ghost use Rattle.sqlite.specs.State.{HasCleanDisk, Survives, KeepsCommit};
 ghost use Rattle.sqlite.specs.Effect.{Database};
 ghost use Rattle.sqlite.specs.Held.{state};
 ghost use Rattle.line_replay.specs.declared.fault.ReplayFault.TheVariants.{Unavailable};
-ghost use Rattle.line_replay.specs.Beside.{IsBeside, Adds, Tells, ArePlacedToo, placement_by, placements_by};
+ghost use Rattle.line_replay.specs.Beside.{IsBeside, Adds, HoldsAsRead, ArePlacedToo, placement_by, placements_by};
 
 use crate::fault::ReplayFault;
 use line_audit::{Placed, has_placements};
@@ -102,7 +102,7 @@ fn are_found<S: Alter>(
     number: u64,
     rows: &[PlacementRow],
 ) -> Result<bool, ReplayFault>
-    ensures told { HasCleanDisk (state S.Store conn.new) → IfOk result (λ now. Tells (state S.Store conn.old) (λ db. ArePlacedToo db found now rows.now)) }
+    ensures told { HasCleanDisk (state S.Store conn.new) → IfOk result (λ now. HoldsAsRead (state S.Store conn.old) (λ db. ArePlacedToo db found now rows.now)) }
     ensures err { IfErr result (λ f. f ≡ Unavailable) }
     ensures kept { HasCleanDisk (state S.Store conn.new) → KeepsCommit (state S.Store conn.old) (state S.Store conn.new) }
     ensures mode { conn.old.in_transaction ≡ false → conn.new.in_transaction ≡ false }

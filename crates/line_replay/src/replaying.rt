@@ -7,7 +7,7 @@ ghost use Rattle.desk_types.specs.declared.desk.TheConstants.{MOST_ENTRIES};
 ghost use Rattle.desk_types.specs.History.{History};
 ghost use Rattle.desk_types.specs.Judged.{IsJudged};
 ghost use Rattle.line_tables.specs.Rows.{Holds};
-ghost use Rattle.line_rows.specs.Rows.{tables_of};
+ghost use Rattle.line_rows.specs.Rows.{ledger_tables};
 ghost use Rattle.line_replay.specs.Replay.{IsReplayed, IsFaultOf};
 ghost use Rattle.trace_lists.specs.Lists.{IsListed};
 
@@ -73,7 +73,7 @@ pub fn rebuild<S: Alter, D: Desk + Drop>(
 ) -> Option<Replayed<D>>
     requires bound { greatest ≤ MOST_ENTRIES }
     ensures list { IfSome result (λ r. (H : History) × IsReplayed D.Stands rules greatest (HasCleanDisk (state S.Store conn.new)) (state S.Store conn.old) r.desk r.beside r.count H × IsListed r.lists H) }
-    ensures same { (G : History) → IsJudged rules G → (IsTrue (state S.Store conn.old).is_open → Holds (state S.Store conn.old).committed (tables_of greatest G)) → HasCleanDisk (state S.Store conn.new) → IfSome result (λ r. D.Stands r.desk G × (r.count ≡ length G) × IsListed r.lists G) }
+    ensures same { (G : History) → IsJudged rules G → (IsTrue (state S.Store conn.old).is_open → Holds (state S.Store conn.old).committed (ledger_tables greatest G)) → HasCleanDisk (state S.Store conn.new) → IfSome result (λ r. D.Stands r.desk G × (r.count ≡ length G) × IsListed r.lists G) }
     ensures rules { IfSome result (λ r. D.kept_rules r.desk ≡ rules) }
     ensures kept { HasCleanDisk (state S.Store conn.new) → KeepsCommit (state S.Store conn.old) (state S.Store conn.new) }
     ensures mode { conn.old.in_transaction ≡ false → conn.new.in_transaction ≡ false }

@@ -20,7 +20,7 @@ use Rattle.desk_answers.specs.Texts.{accepted_text}
 use Rattle.line_tables.proofs.Finds.{seven}
 use Rattle.line_rows.specs.Rows.{columns, entry_row}
 use Rattle.line_rows.specs.Judging.{IsMessageOf, GoesOn}
-use Rattle.line_rows.proofs.Telling.{TextsTell, stamped_same, next_entry}
+use Rattle.line_rows.proofs.RowsTellLists.{TextsTell, stamped_same, next_entry}
 
 -- the minute of a change is the one at which its command takes effect
 minute_is : (rules : Rules) (H : History) (s : Stamped) (change : Change) → IsChange rules H s change → change.minute ≡ effective_minute H s.minute

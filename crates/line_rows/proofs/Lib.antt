@@ -1,4 +1,4 @@
-pub mod Telling
-pub mod Repeats
+pub mod EditsOfChanges
 pub mod Judgements
-pub mod Putting
+pub mod Repeats
+pub mod RowsTellLists

@@ -13,7 +13,7 @@ use Rattle.desk_answers.proofs.Sameness.{same_messages, equal_messages}
 use Rattle.line_tables.specs.declared.edit.Accepted.{Accepted as Row}
 use Rattle.line_tables.specs.Rows.{columns_of}
 use Rattle.line_rows.specs.Rows.{entry_row}
-use Rattle.line_rows.proofs.Telling.{TextsTell, stamped_same}
+use Rattle.line_rows.proofs.RowsTellLists.{TextsTell, stamped_same}
 
 module _ (tells : TextsTell) (a : Row) (G : History) (e : Entry) (s : Stamped) (text : List ℕ) (is_entry : IsEntry e) (is_command : IsCommand s.command) (is_text : text ≡ stored_text s.command)
     (uid : e.stamped.uid ≡ s.uid) (row : columns_of a ≡ entry_row G e) where

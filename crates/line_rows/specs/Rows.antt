@@ -24,5 +24,5 @@ rows_of [] = []
 rows_of (e ∷ G) = entry_row G e ∷ rows_of G
 
 -- the tables of a list whose numbers go up to the greatest
-abbrev pub tables_of : ℕ → History → Tables
-tables_of greatest H = record { greatest = greatest; accepted = rows_of H; state = state_of H }
+abbrev pub ledger_tables : ℕ → History → Tables
+ledger_tables greatest H = record { greatest = greatest; accepted = rows_of H; state = state_of H }

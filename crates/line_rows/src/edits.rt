@@ -6,8 +6,8 @@ ghost use Rattle.desk_types.specs.Desk.{HasRoom, IsChange};
 ghost use Rattle.desk_types.specs.History.{History, accept};
 ghost use Rattle.desk_answers.specs.Texts.{accepted_text};
 ghost use Rattle.line_tables.specs.declared.edit.Edit.TheVariants.{PutAccepted, EditRow};
-ghost use Rattle.line_tables.specs.Rows.{edited, AreNew};
-ghost use Rattle.line_rows.specs.Rows.{tables_of};
+ghost use Rattle.line_tables.specs.Rows.{after_edits, AreNew};
+ghost use Rattle.line_rows.specs.Rows.{ledger_tables};
 
 use crate::fault::NoRow;
 use crate::kept::row_of;
@@ -36,8 +36,8 @@ pub fn prepare<D: Desk>(
     requires judged { (H : History) → D.Stands desk.now H → IsChange (D.kept_rules desk.now) H change.now.stamped change.now }
     ensures text { IfOk result (λ it. it.text ≡ accepted_text number change.now.stamped.uid change.now.detail) }
     ensures some { IfOk result (λ it. 0 < length it.edits.items) }
-    ensures edits { (greatest : ℕ) (H : History) → D.Stands desk.now H → IsChange Two H change.now.stamped change.now → number ≡ length H + 1 → IfOk result (λ it. edited it.edits.items (tables_of greatest H) ≡ tables_of greatest (accept H change.now.stamped)) }
-    ensures new { (greatest : ℕ) (H : History) → D.Stands desk.now H → number ≡ length H + 1 → IfOk result (λ it. AreNew it.edits.items (tables_of greatest H)) }
+    ensures edits { (greatest : ℕ) (H : History) → D.Stands desk.now H → IsChange Two H change.now.stamped change.now → number ≡ length H + 1 → IfOk result (λ it. after_edits it.edits.items (ledger_tables greatest H) ≡ ledger_tables greatest (accept H change.now.stamped)) }
+    ensures new { (greatest : ℕ) (H : History) → D.Stands desk.now H → number ≡ length H + 1 → IfOk result (λ it. AreNew it.edits.items (ledger_tables greatest H)) }
 {
     let text = accepted_text(
         alloc,

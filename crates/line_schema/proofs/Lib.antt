@@ -1,4 +1,4 @@
+pub mod ListsAfter
 pub mod Lookup
-pub mod Standing
-pub mod Leaving
-pub mod Telling
+pub mod StandsAfter
+pub mod TracesOfLists

@@ -16,7 +16,7 @@ use Rattle.line_tables.specs.declared.edit.Accepted.{Accepted}
 use Rattle.line_tables.specs.Rows.{Holds, accepted_in}
 use Rattle.line_tables.specs.Calls.{Reads, has_uid, row_of}
 use Rattle.line_tables.proofs.Holding.{row_held}
-use Rattle.line_rows.specs.Rows.{entry_row, rows_of, tables_of}
+use Rattle.line_rows.specs.Rows.{entry_row, rows_of, ledger_tables}
 use Rattle.line_replay.proofs.Tests.{uid_test}
 
 -- where an entry with the UniqueID stands
@@ -55,6 +55,6 @@ one_stood rules (e ∷ G) s row judged h = elim (cases_Bool (same e.stamped.uid 
 ]
 
 -- the row that is found, where the tables are those of the list
-pub looked_up : (old : State) (greatest : _) (H : History) (s : Stamped) (o : Option Accepted) → (IsTrue old.is_open → Holds old.committed (tables_of greatest H))
+pub looked_up : (old : State) (greatest : _) (H : History) (s : Stamped) (o : Option Accepted) → (IsTrue old.is_open → Holds old.committed (ledger_tables greatest H))
     → Reads old (λ db. filter (has_uid s.uid) (accepted_in db) ≡ row_of o) → filter (has_uid s.uid) (rows_of H) ≡ row_of o
-looked_up old greatest H s o holds found = row_held old (tables_of greatest H) (holds found.was_open) (has_uid s.uid) o found
+looked_up old greatest H s o holds found = row_held old (ledger_tables greatest H) (holds found.was_open) (has_uid s.uid) o found

@@ -17,7 +17,7 @@ use Rattle.desk_answers.specs.declared.answer.Answer.TheVariants.{Accepted, Unav
 use Rattle.desk_answers.specs.Commands.{earlier_answer}
 use Rattle.desk_answers.specs.Ledger.{Ledger, ledger_after}
 use Rattle.line_tables.specs.Rows.{Holds, HoldsAt}
-use Rattle.line_rows.specs.Rows.{tables_of}
+use Rattle.line_rows.specs.Rows.{ledger_tables}
 use Rattle.line_schema.specs.declared.store.LineStore.{LineStore}
 use Rattle.line_schema.specs.declared.unavailable.Unavailable.{Unavailable as Fault}
 use Rattle.trace_lists.specs.Lists.{IsListed}
@@ -50,11 +50,11 @@ pub record Stands {S D : Type 0} (g : Ghosts S) (StandsFor : D → History → T
   pub mode : store.conn.in_transaction ≡ false
   pub stays_open : StaysOpen (state g store.conn)
   pub lawful : HasCleanDisk (state g store.conn) → IsTrue L.own → IsLawful Two L.greatest L.history
-  pub tables : HasCleanDisk (state g store.conn) → IsTrue L.own → IsTrue (state g store.conn).is_open → Holds (state g store.conn).committed (tables_of L.greatest L.history)
+  pub tables : HasCleanDisk (state g store.conn) → IsTrue L.own → IsTrue (state g store.conn).is_open → Holds (state g store.conn).committed (ledger_tables L.greatest L.history)
 
 -- every table is that of the list, or the disk has failed or refused: where it is honest, and the tables are the store's own
 abbrev pub ShowsTables : {S D : Type 0} → Ghosts S → LineStore S D → Kept → Type 0
-ShowsTables g store L = HasCleanDisk (state g store.conn) → IsTrue L.own → Holds (state g store.conn).committed (tables_of L.greatest L.history) ⊎ HasFailed (state g store.conn)
+ShowsTables g store L = HasCleanDisk (state g store.conn) → IsTrue L.own → Holds (state g store.conn).committed (ledger_tables L.greatest L.history) ⊎ HasFailed (state g store.conn)
 
 -- the store's connection, and what it shows
 abbrev pub conn_of : {S D : Type 0} → LineStore S D → Held S
@@ -68,8 +68,8 @@ abbrev pub has_desk : {S D : Type 0} → LineStore S D → Bool
 has_desk store = is_some store.desk
 
 -- the list with the command accepted
-abbrev pub accepting : Kept → Stamped → Kept
-accepting L s = record L { history = accept L.history s }
+abbrev pub with_command : Kept → Stamped → Kept
+with_command L s = record L { history = accept L.history s }
 
 -- as an owner of a list, by rules Two
 abbrev pub ledger : Kept → Ledger
@@ -91,8 +91,8 @@ pub record IsAcceptable (L : Kept) (s : Stamped) : Type 0 where
 
 -- What a crash may leave after a command that did not come before: of an accepted one the tables with it alone; of one that was not answered what it could leave before or, where the command is one to be accepted, those tables; else what it could leave before.
 abbrev pub NewlyLeaves : Kept → Stamped → Answer → Type 0 → Trees → Type 0
-NewlyLeaves L s (Accepted n text) before trees = HoldsAt (tables_of L.greatest (accept L.history s)) trees
-NewlyLeaves L s Unavailable before trees = before ⊎ (IsAcceptable L s × HoldsAt (tables_of L.greatest (accept L.history s)) trees)
+NewlyLeaves L s (Accepted n text) before trees = HoldsAt (ledger_tables L.greatest (accept L.history s)) trees
+NewlyLeaves L s Unavailable before trees = before ⊎ (IsAcceptable L s × HoldsAt (ledger_tables L.greatest (accept L.history s)) trees)
 NewlyLeaves L s _ before trees = before
 
 -- after a command that came before it may leave what it could leave before

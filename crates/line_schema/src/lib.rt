@@ -1,9 +1,9 @@
 //! The desk of a line, whose accepted commands are kept in tables.
 #![tactic(auto)]
 
-mod line;
 mod memory;
-mod settled;
+mod owner;
+mod settling;
 mod store;
 mod unavailable;
 

@@ -17,15 +17,15 @@ ghost use Rattle.line_tables.specs.Calls.{Reads, LeavesBlank};
 ghost use Rattle.line_tables.specs.Line.{is_blank, is_ours};
 ghost use Rattle.line_tables.specs.Names.{has_name};
 ghost use Rattle.line_tables.specs.Rows.{Holds, HoldsAt, blank};
-ghost use Rattle.line_rows.specs.Rows.{tables_of};
+ghost use Rattle.line_rows.specs.Rows.{ledger_tables};
 ghost use Rattle.line_opening.specs.declared.fault.OpenFault.TheVariants as Fault;
 ghost use Rattle.line_opening.specs.Opening.{IsFaultOf, IsNamed, IsToldOf};
-ghost use Rattle.line_schema.specs.Stands.{Kept, Stands, ShowsTables, state_of, conn_of, has_desk, accepting, ledger, kept_after, answer_in, NewlyLeaves, Leaves};
+ghost use Rattle.line_schema.specs.Stands.{Kept, Stands, ShowsTables, state_of, conn_of, has_desk, with_command, ledger, kept_after, answer_in, NewlyLeaves, Leaves};
 
 mod migration;
 mod traces;
 
-use crate::settled::settled;
+use crate::settling::settle_both;
 use crate::unavailable::Unavailable;
 use desk_answers::Answer;
 use desk_types::{Change, Desk, JudgeFault, Rules, Stamped};
@@ -100,7 +100,7 @@ impl<S: Alter, D: Desk + Drop> LineStore<S, D> {
         alloc: Global,
         conn: Connection<S>,
     ) -> Result<LineStore<S, D>, (OpenFault, Connection<S>)>
-        ensures stands { IfOk result (λ store. (L : Kept) × (L.own ≡ is_ours (state S.Store conn).committed.schema) × Stands S.Store D.Stands D.kept_rules store L × (HasCleanDisk (state_of S.Store store) → Reads (state S.Store conn) (λ db. Holds db (tables_of L.greatest L.history)))) }
+        ensures stands { IfOk result (λ store. (L : Kept) × (L.own ≡ is_ours (state S.Store conn).committed.schema) × Stands S.Store D.Stands D.kept_rules store L × (HasCleanDisk (state_of S.Store store) → Reads (state S.Store conn) (λ db. Holds db (ledger_tables L.greatest L.history)))) }
         ensures named { IfOk result (λ _. IsNamed (state S.Store conn)) }
         ensures ready { IfOk result (λ store. IsTrue (has_desk store)) }
         ensures fault { IfErr result (λ e. HasCleanDisk (state S.Store e.1) → IsFaultOf (state S.Store conn) e.0) }
@@ -243,7 +243,7 @@ impl<S: Alter, D: Desk + Drop> LineStore<S, D> {
         if self.count >= self.greatest {
             return Ok(Answer::DeskFull);
         }
-        self.judged(stamped)
+        self.answer_new(stamped)
     }
 
     /// The answer by the row that has the UniqueID, where there is one.
@@ -261,7 +261,7 @@ impl<S: Alter, D: Desk + Drop> LineStore<S, D> {
 
     /// Judges the command, for which there is room and no row with its UniqueID, by the desk, which
     /// may have to be made first; and accepts it where it isn't refused.
-    fn judged(&mut self, stamped: &Stamped) -> Result<Answer, Unavailable>
+    fn answer_new(&mut self, stamped: &Stamped) -> Result<Answer, Unavailable>
         requires stands { (L : Kept) × Stands S.Store D.Stands D.kept_rules self.old L }
         ensures kept { (L : Kept) × Stands S.Store D.Stands D.kept_rules self.new L }
         ensures answer { (L : Kept) → Stands S.Store D.Stands D.kept_rules self.old L → HasCleanDisk (state_of S.Store self.new) → IsTrue L.own → IfOk result (λ answer. answer ≡ judged_answer L.history stamped.now (reply_to Two L.history stamped.now)) }
@@ -271,11 +271,11 @@ impl<S: Alter, D: Desk + Drop> LineStore<S, D> {
         ensures survives { Survives (state_of S.Store self.old) (state_of S.Store self.new) (λ _. ⊤) }
     {
         self.ready()?;
-        self.judge(stamped)
+        self.answer_at_hand(stamped)
     }
 
     /// Judges the command by the desk, and accepts it where it isn't refused.
-    fn judge(&mut self, stamped: &Stamped) -> Result<Answer, Unavailable>
+    fn answer_at_hand(&mut self, stamped: &Stamped) -> Result<Answer, Unavailable>
         requires stands { (L : Kept) × Stands S.Store D.Stands D.kept_rules self.old L }
         ensures kept { (L : Kept) × Stands S.Store D.Stands D.kept_rules self.new L }
         ensures answer { (L : Kept) → Stands S.Store D.Stands D.kept_rules self.old L → IfOk result (λ answer. answer ≡ judged_answer L.history stamped.now (reply_to Two L.history stamped.now)) }
@@ -291,7 +291,7 @@ impl<S: Alter, D: Desk + Drop> LineStore<S, D> {
             return Err(Unavailable);
         };
         match desk.judge(stamped) {
-            Ok(change) => self.accept(change),
+            Ok(change) => self.commit_change(change),
             Err(JudgeFault::Refused(refusal)) => Ok(Answer::Refused(refusal)),
             Err(JudgeFault::NoMemory) => Err(Unavailable),
         }
@@ -299,15 +299,15 @@ impl<S: Alter, D: Desk + Drop> LineStore<S, D> {
 
     /// Accepts what was judged: the answer and the edits are made, and memory is taken for the lists;
     /// then the edits are committed; and then the change is noted in the lists, and the desk settles.
-    fn accept(&mut self, change: Change) -> Result<Answer, Unavailable>
+    fn commit_change(&mut self, change: Change) -> Result<Answer, Unavailable>
         requires stands { (L : Kept) × Stands S.Store D.Stands D.kept_rules self.old L }
         requires room { self.old.count < self.old.greatest }
         requires judged { IsSomeAnd self.old.desk (λ d. (H : History) → D.Stands d H → IsChange (D.kept_rules d) H change.stamped change) }
         ensures answer { (L : Kept) → Stands S.Store D.Stands D.kept_rules self.old L → IfOk result (λ answer. answer ≡ judged_answer L.history change.stamped (Reply.Accepted change.detail)) }
-        ensures ok { (L : Kept) → Stands S.Store D.Stands D.kept_rules self.old L → (HasCleanDisk (state_of S.Store self.new) → IsTrue L.own → earlier_answer L.history change.stamped ≡ None) → OnOk result (Stands S.Store D.Stands D.kept_rules self.new (accepting L change.stamped)) }
+        ensures ok { (L : Kept) → Stands S.Store D.Stands D.kept_rules self.old L → (HasCleanDisk (state_of S.Store self.new) → IsTrue L.own → earlier_answer L.history change.stamped ≡ None) → OnOk result (Stands S.Store D.Stands D.kept_rules self.new (with_command L change.stamped)) }
         ensures err { (L : Kept) → Stands S.Store D.Stands D.kept_rules self.old L → OnErr result (Stands S.Store D.Stands D.kept_rules self.new L) }
-        ensures survives { (L : Kept) → Stands S.Store D.Stands D.kept_rules self.old L → IsTrue L.own → Survives (state_of S.Store self.old) (state_of S.Store self.new) (HoldsAt (tables_of L.greatest (accepting L change.stamped).history)) }
-        ensures alone { (L : Kept) → Stands S.Store D.Stands D.kept_rules self.old L → HasCleanDisk (state_of S.Store self.new) → IsTrue L.own → OnOk result ((trees : Trees) → (state_of S.Store self.new).may_leave trees → HoldsAt (tables_of L.greatest (accepting L change.stamped).history) trees) }
+        ensures survives { (L : Kept) → Stands S.Store D.Stands D.kept_rules self.old L → IsTrue L.own → Survives (state_of S.Store self.old) (state_of S.Store self.new) (HoldsAt (ledger_tables L.greatest (with_command L change.stamped).history)) }
+        ensures alone { (L : Kept) → Stands S.Store D.Stands D.kept_rules self.old L → HasCleanDisk (state_of S.Store self.new) → IsTrue L.own → OnOk result ((trees : Trees) → (state_of S.Store self.new).may_leave trees → HoldsAt (ledger_tables L.greatest (with_command L change.stamped).history) trees) }
         ensures faults { Survives (state_of S.Store self.old) (state_of S.Store self.new) (λ _. ⊤) }
     {
         change.stamped.ranges_hold();
@@ -323,7 +323,7 @@ impl<S: Alter, D: Desk + Drop> LineStore<S, D> {
         lists.reserve(&change)?;
         append(self.alloc, &mut self.conn, edits.as_slice())?;
         self.count = number;
-        let (desk, lists) = settled(self.desk.take(), self.lists.take(), number, change);
+        let (desk, lists) = settle_both(self.desk.take(), self.lists.take(), number, change);
         self.desk = desk;
         self.lists = lists;
         Ok(Answer::Accepted(u64::from(number), text))

@@ -17,7 +17,7 @@ use Rattle.desk_types.specs.declared.rules.Rules.TheVariants.{One, Two}
 use Rattle.state_tables.specs.declared.edit.RowEdit.{RowEdit}
 use Rattle.state_tables.specs.Tables.{Tables as StateTables}
 use Rattle.state_tables.specs.Edits.{with_edit as state_with, IsNew as IsNewRow}
-use Rattle.line_tables.specs.Line.{schema_of, tables_of, tree_in, version, accepted, part, alternate, sheet_row, selected, reel, mount, board, placement, found, found_by, found_tree}
+use Rattle.line_tables.specs.Line.{schema_of, schema_tables, tree_in, version, accepted, part, alternate, sheet_row, selected, reel, mount, board, placement, found, found_by, found_tree}
 use Rattle.line_tables.specs.StateRows.{AreRows, rows_in, kept_in, columns, HoldsState, HoldsParts, HoldsAlternates, HoldsSheets, HoldsSelected, HoldsReels, HoldsMounts, HoldsBoards, HoldsPlacements, HoldsFound}
 use Rattle.line_tables.specs.Rowids.{AreApart, AreAllApart, changed_tables}
 use Rattle.line_tables.specs.Rows.{Tables, Holds, blank, version_columns, accepted_columns, version_row}
@@ -61,7 +61,7 @@ pub record Steps (indexed : Bool) (table : Table) (old new : State) : Type 0 whe
   pub was_open : IsTrue old.is_open
   pub same : old.now.schema ≡ schema_of Two indexed → new.now.schema ≡ schema_of Two indexed
   pub sound : old.now.schema ≡ schema_of Two indexed → IsDatabase new.now
-  pub others : old.now.schema ≡ schema_of Two indexed → AllByRecursion (λ t. t.tree ≢ table.tree → new.now.trees t.tree ≡ old.now.trees t.tree) (tables_of Two indexed)
+  pub others : old.now.schema ≡ schema_of Two indexed → AllByRecursion (λ t. t.tree ≢ table.tree → new.now.trees t.tree ≡ old.now.trees t.tree) (schema_tables Two indexed)
 
 -- and the rows of this table were changed so
 pub record Alters (indexed : Bool) (table : Table) (change : List Row → List Row) (old new : State) : Type 0 where
@@ -80,7 +80,7 @@ alters_then indexed table f g a b c p q = record {
     was_open = p.steps.was_open;
     same = λ has. q.steps.same (p.steps.same has);
     sound = λ has. q.steps.sound (p.steps.same has);
-    others = λ has. others_then table.tree (tables_of Two indexed) a.now.trees b.now.trees c.now.trees (p.steps.others has) (q.steps.others (p.steps.same has));
+    others = λ has. others_then table.tree (schema_tables Two indexed) a.now.trees b.now.trees c.now.trees (p.steps.others has) (q.steps.others (p.steps.same has));
   };
   rows = λ has rows was. q.rows (p.steps.same has) (f rows) (p.rows has rows was);
 }
@@ -122,7 +122,7 @@ pub record OthersHold (tree : ℕ) (db : Database) (t : StateTables) : Type 0 wh
 pub record IsElsewhere (indexed : Bool) (tree : ℕ) (old new : Database) : Type 0 where
   pub was : old.schema ≡ schema_of Two indexed
   pub is : new.schema ≡ schema_of Two indexed
-  pub others : AllByRecursion (λ u. u.tree ≢ tree → new.trees u.tree ≡ old.trees u.tree) (tables_of Two indexed)
+  pub others : AllByRecursion (λ u. u.tree ≢ tree → new.trees u.tree ≡ old.trees u.tree) (schema_tables Two indexed)
 
 pub elsewhere : (indexed : Bool) (table : Table) (old new : State) → Steps indexed table old new → old.now.schema ≡ schema_of Two indexed → IsElsewhere indexed table.tree old.now new.now
 elsewhere indexed table old new step has = record { was = has; is = step.same has; others = step.others has }

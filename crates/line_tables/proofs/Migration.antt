@@ -15,7 +15,7 @@ use Rattle.sqlite_rules.specs.Edit.{without_all, put_all}
 use Rattle.sqlite_rules.specs.Calls.{ids_of}
 use Rattle.sqlite.specs.State.{State}
 use Rattle.desk_types.specs.declared.rules.Rules.TheVariants.{One, Two}
-use Rattle.line_tables.specs.Line.{schema_of, tables_of, version, part, alternate, sheet_row, selected, reel, mount, board, placement, found, found_by, found_tree}
+use Rattle.line_tables.specs.Line.{schema_of, schema_tables, version, part, alternate, sheet_row, selected, reel, mount, board, placement, found, found_by, found_tree}
 use Rattle.line_tables.specs.Rowids.{AreApart}
 use Rattle.line_tables.specs.Rows.{Tables, Holds, HoldsBy, version_columns, accepted_columns, version_row, version_in}
 use Rattle.line_tables.specs.Calls.{Runs, AddsFound, Grows, Migrates}
@@ -30,7 +30,7 @@ use Rattle.line_tables.proofs.CreateTexts.{update_version, version_renewed, upda
 
 -- the tables of version 1 but `version`
 abbrev rest : Bool → List Table
-rest indexed = drop 1 (tables_of One indexed)
+rest indexed = drop 1 (schema_tables One indexed)
 
 -- one row alone is apart
 apart_one : (r : Row) (n : ℤ) → column r 0 ≡ Int n → AreApart (r ∷ [])

@@ -16,9 +16,9 @@ use Rattle.desk_types.specs.declared.rules.Rules.TheVariants.{Two}
 use Rattle.line_tables.specs.Line.{schema_of, placement}
 use Rattle.line_tables.specs.Rowids.{placement_id}
 use Rattle.line_tables.specs.StateRows.{AreRows, columns, has_piece, placement_columns, flag}
-use Rattle.line_tables.specs.Placing.{placing, placement_kept, ArePlacing}
+use Rattle.line_tables.specs.Placing.{placement_edit, placement_kept, ArePlacing}
 use Rattle.line_tables.specs.declared.edit.Edit.{Edit}
-use Rattle.line_tables.specs.Rows.{Tables, Holds, AreNew, with_edit, edited, version_columns, accepted_columns}
+use Rattle.line_tables.specs.Rows.{Tables, Holds, AreNew, with_edit, after_edits, version_columns, accepted_columns}
 use Rattle.line_tables.specs.Calls.{Runs, Writes}
 use Rattle.line_tables.proofs.Inserts.{Inserted, insert_does}
 use Rattle.line_tables.proofs.Puts.{quiet, cast_int, put_permutes}
@@ -41,9 +41,9 @@ abbrev with_pieces : List PlacementRow → (ℕ → ℕ → Option PlacementRow)
 with_pieces [] f = f
 with_pieces (row ∷ rows) f = with_pieces rows (λ n k. if row.number == n && (row.place == k) then Some row else f n k)
 
-edits_of : (rows : List PlacementRow) (t : Tables) → edited (map placing rows) t ≡ record t { state = record t.state { placements = with_pieces rows t.state.placements } }
+edits_of : (rows : List PlacementRow) (t : Tables) → after_edits (map placement_edit rows) t ≡ record t { state = record t.state { placements = with_pieces rows t.state.placements } }
 edits_of [] t = refl
-edits_of (row ∷ rows) t = edits_of rows (with_edit t (placing row))
+edits_of (row ∷ rows) t = edits_of rows (with_edit t (placement_edit row))
 
 is_false : (b : Bool) → not b ≡ true → b ≡ false
 is_false false h = refl
@@ -53,17 +53,17 @@ abbrev HasPieces : List Row → (ℕ → ℕ → Option PlacementRow) → Type 0
 HasPieces db f = AreRows has_piece (λ _ row. placement_columns row) (map (columns placement) db) (λ piece. f piece.0 piece.1)
 
 -- rows with new keys come in, one after the other
-pieces_in : (rows : List PlacementRow) (db : List Row) (t : Tables) → HasPieces db t.state.placements → are_fresh db (map placement_kept rows) ≡ true → AreNew (map placing rows) t
+pieces_in : (rows : List PlacementRow) (db : List Row) (t : Tables) → HasPieces db t.state.placements → are_fresh db (map placement_kept rows) ≡ true → AreNew (map placement_edit rows) t
     → HasPieces (put_all db (map placement_kept rows)) (with_pieces rows t.state.placements)
 pieces_in [] db t was fresh new = was
 pieces_in (row ∷ rows) db t was fresh new =
     let free = and_parts _ _ fresh in
     let one = IsPermutation-map (columns placement) _ _ (put_permutes db (placement_kept row) (is_false _ free.0)) in
-    pieces_in rows (put_row (placement_kept row) db) (with_edit t (placing row))
+    pieces_in rows (put_row (placement_kept row) db) (with_edit t (placement_edit row))
     (added has_piece (λ _ row. placement_columns row) one_piece same_piece tells_piece (row.number, row.place) row _ _ (λ piece. t.state.placements piece.0 piece.1) _ new.0 (and_from _ _ (own_int row.number) (own_int row.place)) (λ l. refl) one was) free.1 new.1
 
 -- the rows that a statement puts in are those of as many edits
-puts_pieces : (rows : List PlacementRow) (a c : State) → IsTrue a.is_open → ((indexed : Bool) → a.now.schema ≡ schema_of Two indexed → Inserted (schema_of Two indexed) placement (map placement_kept rows) a c) → Writes (map placing rows) a c
+puts_pieces : (rows : List PlacementRow) (a c : State) → IsTrue a.is_open → ((indexed : Bool) → a.now.schema ≡ schema_of Two indexed → Inserted (schema_of Two indexed) placement (map placement_kept rows) a c) → Writes (map placement_edit rows) a c
 puts_pieces rows a c was_open did = record {
   was_open = was_open;
   done = λ t was new.
@@ -98,7 +98,7 @@ puts_pieces rows a c was_open did = record {
   sound = λ t was new. (did was.indexed was.schema).sound;
 }
 
-pub placement_put : (row : PlacementRow) (a c : State) → Runs insert_placement (placement_kept row) a c → Writes (placing row ∷ []) a c
+pub placement_put : (row : PlacementRow) (a c : State) → Runs insert_placement (placement_kept row) a c → Writes (placement_edit row ∷ []) a c
 placement_put row a c ran =
     puts_pieces (row ∷ []) a c ran.shown.was_open
     (λ i has. insert_does insert_placement (placement_kept row) a c (schema_of Two i) has 9 placement placement_terms 9 refl refl refl (insert_placement_is i).0 (insert_placement_is i).1 ran.count ran.executed (quiet i 17 []))
@@ -117,21 +117,21 @@ eight_in (p ∷ q ∷ r ∷ s ∷ t ∷ u ∷ []) a c eight ran i has = absurd (
 eight_in (p ∷ q ∷ r ∷ s ∷ t ∷ u ∷ v ∷ []) a c eight ran i has = absurd (omega (arith, eight))
 eight_in (p ∷ q ∷ r ∷ s ∷ t ∷ u ∷ v ∷ w ∷ x ∷ more) a c eight ran i has = absurd (omega (arith, eight))
 
-pub eight_put : (rows : List PlacementRow) (a c : State) → length rows ≡ 8 → Runs insert_placements (flat_map placement_kept rows) a c → Writes (map placing rows) a c
+pub eight_put : (rows : List PlacementRow) (a c : State) → length rows ≡ 8 → Runs insert_placements (flat_map placement_kept rows) a c → Writes (map placement_edit rows) a c
 eight_put rows a c eight ran = puts_pieces rows a c ran.shown.was_open (eight_in rows a c eight ran)
 
 -- ---- the values of edits
 
 -- one edit more puts a placement
-pub placing_more : (edits : List Edit) (i : ℕ) (edit : Edit) (row : PlacementRow) (values : Row) → i < length edits → edit ≡ get_or edits i edit → edit ≡ placing row → ArePlacing (take i edits) values → ArePlacing (take (i + 1) edits) (values ++ placement_kept row)
+pub placing_more : (edits : List Edit) (i : ℕ) (edit : Edit) (row : PlacementRow) (values : Row) → i < length edits → edit ≡ get_or edits i edit → edit ≡ placement_edit row → ArePlacing (take i edits) values → ArePlacing (take (i + 1) edits) (values ++ placement_kept row)
 placing_more edits i edit row values inside item is was = (
   was.0 ++ row ∷ [],
-  take_more edits i edit inside ∙ ap₂ (λ l e. l ++ e ∷ []) was.1 (sym item ∙ is) ∙ sym (map-append placing was.0 (row ∷ [])),
+  take_more edits i edit inside ∙ ap₂ (λ l e. l ++ e ∷ []) was.1 (sym item ∙ is) ∙ sym (map-append placement_edit was.0 (row ∷ [])),
   ap (λ v. v ++ placement_kept row) was.2 ∙ flat_map_more placement_kept [] was.0 row,
 )
 
 -- eight edits that put placements are made as their values are put in
-pub eight_first : (edits : List Edit) (values : Row) (a c : State) → 8 ≤ length edits → ArePlacing (take 8 edits) values → ((rows : List PlacementRow) → length rows ≡ 8 → values ≡ flat_map placement_kept rows → Writes (map placing rows) a c) → Writes (take 8 edits) a c
+pub eight_first : (edits : List Edit) (values : Row) (a c : State) → 8 ≤ length edits → ArePlacing (take 8 edits) values → ((rows : List PlacementRow) → length rows ≡ 8 → values ≡ flat_map placement_kept rows → Writes (map placement_edit rows) a c) → Writes (take 8 edits) a c
 eight_first edits values a c long are put =
-    let eight : length are.0 ≡ 8 = sym (length-map are.0 placing) ∙ ap length (sym are.1) ∙ length-take-le 8 edits long in
+    let eight : length are.0 ≡ 8 = sym (length-map are.0 placement_edit) ∙ ap length (sym are.1) ∙ length-take-le 8 edits long in
     subst (λ l. Writes l a c) (sym are.1) (put are.0 eight are.2)

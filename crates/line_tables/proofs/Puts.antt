@@ -26,8 +26,8 @@ use Rattle.line_tables.specs.declared.edit.Accepted.{Accepted}
 use Rattle.line_tables.specs.declared.edit.Edit.{Edit}
 use Rattle.line_tables.specs.declared.edit.Edit.TheVariants.{PutAccepted}
 use Rattle.desk_types.specs.declared.rules.Rules.TheVariants.{Two}
-use Rattle.line_tables.specs.Line.{schema_of, tables_of, accepted}
-use Rattle.line_tables.specs.Rows.{Tables, Holds, AreNew, columns_of, accepted_columns, with_edit, edited}
+use Rattle.line_tables.specs.Line.{schema_of, schema_tables, accepted}
+use Rattle.line_tables.specs.Rows.{Tables, Holds, AreNew, columns_of, accepted_columns, with_edit, after_edits}
 use Rattle.line_tables.specs.Calls.{Runs, Edits, Writes}
 use Rattle.line_tables.proofs.Inserts.{Inserted, insert_does}
 use Rattle.line_tables.proofs.Altering.{list_grows}
@@ -48,7 +48,7 @@ cast_null = either _ Null
 -- no foreign key acts
 pub quiet : (indexed : Bool) (tree : ℕ) (olds news : List Row) → works (schema_of Two indexed) Enforced 0 tree olds news ≡ []
 quiet indexed tree olds news =
-    elim (length news == 0) as (λ b. flat_map (λ child. filter_map (λ ref. work_by 0 tree (pairs olds news) child ref (deed_for Enforced b ref) (parent_key (tables_of Two indexed) ref)) child.references) (tables_of Two indexed) ≡ [])
+    elim (length news == 0) as (λ b. flat_map (λ child. filter_map (λ ref. work_by 0 tree (pairs olds news) child ref (deed_for Enforced b ref) (parent_key (schema_tables Two indexed) ref)) child.references) (schema_tables Two indexed) ≡ [])
     [ true ↦ refl | false ↦ refl ]
 
 pub not_taken : (b : Bool) → (not b && true) ≡ true → b ≡ false
@@ -102,12 +102,12 @@ module _ (a : Accepted) (old new : State) where
 
 -- what is left of the edits, where the first of them are made: it makes of the tables that the one database holds what all make of those of the other, whose layout it is
 abbrev pub Remain : List Edit → List Edit → Database → Database → Type 0
-Remain edits rest old now = (tables : Tables) → Holds old tables → AreNew edits tables → (mid : Tables) × Holds now mid × AreNew rest mid × (edited rest mid ≡ edited edits tables) × (now.schema ≡ old.schema)
+Remain edits rest old now = (tables : Tables) → Holds old tables → AreNew edits tables → (mid : Tables) × Holds now mid × AreNew rest mid × (after_edits rest mid ≡ after_edits edits tables) × (now.schema ≡ old.schema)
 
 pub remain_none : (edits : List Edit) (old now : Database) → Remain edits [] old now → Edits edits old now
 remain_none edits old now was tables h new = let m = was tables h new in (m.4, subst (Holds now) m.3 m.1)
 
-new_parts : (xs ys : List Edit) (tables : Tables) → AreNew (xs ++ ys) tables → AreNew xs tables × AreNew ys (edited xs tables)
+new_parts : (xs ys : List Edit) (tables : Tables) → AreNew (xs ++ ys) tables → AreNew xs tables × AreNew ys (after_edits xs tables)
 new_parts [] ys tables h = (tt, h)
 new_parts (x ∷ xs) ys tables h = let more = new_parts xs ys (with_edit tables x) h.1 in ((h.0, more.0), more.1)
 
@@ -121,7 +121,7 @@ module _ (edits rest : List Edit) (n : ℕ) (old mid : Database) (was : Remain e
       let m = was tables h fresh in
       let parts = new_parts (take n rest) (drop n rest) m.0 (subst (λ l. AreNew l m.0) (sym both) m.2) in
       let next = step m.0 m.1 parts.0 in
-      (edited (take n rest) m.0, next.1, parts.1, sym (fold-append with_edit m.0 (take n rest) (drop n rest)) ∙ ap (λ l. edited l m.0) both ∙ m.3, next.0 ∙ m.4)
+      (after_edits (take n rest) m.0, next.1, parts.1, sym (fold-append with_edit m.0 (take n rest) (drop n rest)) ∙ ap (λ l. after_edits l m.0) both ∙ m.3, next.0 ∙ m.4)
 
   -- and the trees list the schema
   pub sound_less : (sound : Type 0) → ((tables : Tables) → Holds mid tables → AreNew (take n rest) tables → sound) → (tables : Tables) → Holds old tables → AreNew edits tables → sound

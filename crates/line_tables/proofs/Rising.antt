@@ -31,7 +31,7 @@ use Rattle.desk_types.specs.declared.rules.Rules.TheVariants.{One, Two}
 use Rattle.line_tables.specs.Line.{IsOurs, tree_in, found, found_tables}
 use Rattle.line_tables.specs.StateRows.{kept_in}
 use Rattle.line_tables.specs.Rowids.{AreApart, AreAllApartBy, changed_tables, changed_of}
-use Rattle.line_tables.specs.Rising.{AreRising, IsBefore, IsPast, Shows, AreTold, IsFoundTold}
+use Rattle.line_tables.specs.Rising.{AreRising, IsBefore, IsPast, Shows, AreApartWhere, IsFoundApartWhere}
 use Rattle.line_tables.proofs.Finds.{answer_by, shown_of, overlay_none}
 use Rattle.line_tables.proofs.FindTexts.{IsSelectBy}
 use Rattle.line_tables.proofs.Keeps.{keeps_same, keeps_then}
@@ -162,7 +162,7 @@ module _ {S : Type 0} (g : Ghosts S) (old : Held S) where
   pub tells : (sql : List ℕ) (tree : ℕ) (name : List ℕ) → IsRowids sql tree name → (b : Bool) → Shows g sql old b → Reads (state g old) (λ db. IsTrue b → AreApart (db.trees tree))
   tells sql tree name is b h = tells_by sql (λ _. tree) name is b h
 
-  pub tells_found : (b : Bool) → Shows g (codes "SELECT rowid FROM found ORDER BY rowid") old b → IsFoundTold Two b (state g old)
+  pub tells_found : (b : Bool) → Shows g (codes "SELECT rowid FROM found ORDER BY rowid") old b → IsFoundApartWhere Two b (state g old)
   tells_found b h = let t = tells_by _ (tree_in found) _ found_is b h in record { was_open = t.was_open; are = λ ours told. (t.are ours told, tt) }
 
 -- what is committed is read after calls that keep it
@@ -172,30 +172,30 @@ reads_before old mid kept Is r =
     record { was_open = kept.was_open r.was_open; are = λ ours. subst Is same (r.are (subst (λ (db : Database). IsOurs db.schema) (sym same) ours)) }
 
 -- what is told of one table and then of others
-told_more : (old mid : State) → KeepsCommit old mid → (table : Table) (tables : List Table) (a b : Bool) → Reads old (λ db. IsTrue a → AreApart (kept_in table db)) → Reads mid (AreTold b tables) → Reads old (AreTold (a && b) (table ∷ tables))
+told_more : (old mid : State) → KeepsCommit old mid → (table : Table) (tables : List Table) (a b : Bool) → Reads old (λ db. IsTrue a → AreApart (kept_in table db)) → Reads mid (AreApartWhere b tables) → Reads old (AreApartWhere (a && b) (table ∷ tables))
 told_more old mid kept table tables a b first others = record {
   was_open = first.was_open;
-  are = λ schema told. let both = and_parts _ _ told in (first.are schema both.0, (reads_before old mid kept (AreTold b tables) others).are schema both.1);
+  are = λ schema told. let both = and_parts _ _ told in (first.are schema both.0, (reads_before old mid kept (AreApartWhere b tables) others).are schema both.1);
 }
 
-told_none : (s : State) → IsTrue s.is_open → Reads s (AreTold true [])
+told_none : (s : State) → IsTrue s.is_open → Reads s (AreApartWhere true [])
 told_none s was_open = record { was_open = was_open; are = λ schema told. tt }
 
 -- what is told of four tables, one after the other
 pub told_four : (s1 s2 s3 s4 : State) → KeepsCommit s1 s2 → KeepsCommit s2 s3 → KeepsCommit s3 s4 → (t1 t2 t3 t4 : Table) (a b c d : Bool) → Reads s1 (λ db. IsTrue a → AreApart (kept_in t1 db)) → Reads s2 (λ db. IsTrue b → AreApart (kept_in t2 db))
-    → Reads s3 (λ db. IsTrue c → AreApart (kept_in t3 db)) → Reads s4 (λ db. IsTrue d → AreApart (kept_in t4 db)) → (all : Bool) → all ≡ (a && (b && (c && (d && true)))) → Reads s1 (AreTold all (t1 ∷ t2 ∷ t3 ∷ t4 ∷ []))
+    → Reads s3 (λ db. IsTrue c → AreApart (kept_in t3 db)) → Reads s4 (λ db. IsTrue d → AreApart (kept_in t4 db)) → (all : Bool) → all ≡ (a && (b && (c && (d && true)))) → Reads s1 (AreApartWhere all (t1 ∷ t2 ∷ t3 ∷ t4 ∷ []))
 told_four s1 s2 s3 s4 k1 k2 k3 t1 t2 t3 t4 a b c d r1 r2 r3 r4 all is =
-    subst (λ x. Reads s1 (AreTold x (t1 ∷ t2 ∷ t3 ∷ t4 ∷ []))) (sym is)
+    subst (λ x. Reads s1 (AreApartWhere x (t1 ∷ t2 ∷ t3 ∷ t4 ∷ []))) (sym is)
     (told_more s1 s2 k1 t1 (t2 ∷ t3 ∷ t4 ∷ []) a _ r1 (told_more s2 s3 k2 t2 (t3 ∷ t4 ∷ []) b _ r2 (told_more s3 s4 k3 t3 (t4 ∷ []) c _ r3 (told_more s4 s4 (keeps_same s4) t4 [] d true r4 (told_none s4 r4.was_open)))))
 
 -- what is told of what counts found
-found_told : (old mid : State) → KeepsCommit old mid → (rules : Rules) (b : Bool) → IsFoundTold rules b mid → IsOurs old.committed.schema → AreTold b (found_tables rules true) old.committed
+found_told : (old mid : State) → KeepsCommit old mid → (rules : Rules) (b : Bool) → IsFoundApartWhere rules b mid → IsOurs old.committed.schema → AreApartWhere b (found_tables rules true) old.committed
 found_told old mid kept One b told ours = λ is. tt
-found_told old mid kept Two b told ours = (reads_before old mid kept (AreTold b (found ∷ [])) told).are ours
+found_told old mid kept Two b told ours = (reads_before old mid kept (AreApartWhere b (found ∷ [])) told).are ours
 
 -- what is told of three tables, and then of what counts found
 pub told_three : (s1 s2 s3 s4 : State) → KeepsCommit s1 s2 → KeepsCommit s2 s3 → KeepsCommit s3 s4 → (t1 t2 t3 : Table) (rules : Rules) (a b c d : Bool) → Reads s1 (λ db. IsTrue a → AreApart (kept_in t1 db)) → Reads s2 (λ db. IsTrue b → AreApart (kept_in t2 db))
-    → Reads s3 (λ db. IsTrue c → AreApart (kept_in t3 db)) → IsFoundTold rules d s4 → (all : Bool) → all ≡ (a && (b && (c && (d && true)))) → Reads s1 (AreTold all (t1 ∷ t2 ∷ t3 ∷ found_tables rules true))
+    → Reads s3 (λ db. IsTrue c → AreApart (kept_in t3 db)) → IsFoundApartWhere rules d s4 → (all : Bool) → all ≡ (a && (b && (c && (d && true)))) → Reads s1 (AreApartWhere all (t1 ∷ t2 ∷ t3 ∷ found_tables rules true))
 told_three s1 s2 s3 s4 k1 k2 k3 t1 t2 t3 rules a b c d r1 r2 r3 last all is =
     let k13 = keeps_then s1 s2 s3 k1 k2 in
     record {
@@ -209,10 +209,10 @@ told_three s1 s2 s3 s4 k1 k2 k3 t1 t2 t3 rules a b c d r1 r2 r3 last all is =
     }
 
 -- and of all of them
-pub told_all : (old mid : State) → KeepsCommit old mid → Reads old (AreTold true (take 4 changed_tables)) → (rules : Rules) (b : Bool) → Reads mid (AreTold b (drop 4 (changed_of rules))) → Reads old (λ db. IsTrue b → AreAllApartBy rules db)
+pub told_all : (old mid : State) → KeepsCommit old mid → Reads old (AreApartWhere true (take 4 changed_tables)) → (rules : Rules) (b : Bool) → Reads mid (AreApartWhere b (drop 4 (changed_of rules))) → Reads old (λ db. IsTrue b → AreAllApartBy rules db)
 told_all old mid kept first rules b others = record {
   was_open = first.was_open;
-  are = λ ours told. all-append (λ (table : Table). AreApart (kept_in table old.committed)) (take 4 changed_tables) (drop 4 (changed_of rules)) (first.are ours refl) ((reads_before old mid kept (AreTold b (drop 4 (changed_of rules))) others).are ours told);
+  are = λ ours told. all-append (λ (table : Table). AreApart (kept_in table old.committed)) (take 4 changed_tables) (drop 4 (changed_of rules)) (first.are ours refl) ((reads_before old mid kept (AreApartWhere b (drop 4 (changed_of rules))) others).are ours told);
 }
 
 pub told_false : (s : State) (Is : Database → Type 0) → IsTrue s.is_open → Reads s (λ db. IsTrue false → Is db)

@@ -33,7 +33,7 @@ use Rattle.state_tables.specs.declared.row.ReelRow.{ReelRow}
 use Rattle.state_tables.specs.declared.row.MountRow.{MountRow}
 use Rattle.state_tables.specs.declared.row.BoardRow.{BoardRow}
 use Rattle.desk_types.specs.declared.rules.Rules.TheVariants.{Two}
-use Rattle.line_tables.specs.Line.{schema_of, tables_of, part, alternate, sheet_row, selected, reel, mount, board, found, found_by, found_tree}
+use Rattle.line_tables.specs.Line.{schema_of, schema_tables, part, alternate, sheet_row, selected, reel, mount, board, found, found_by, found_tree}
 use Rattle.line_tables.specs.StateRows.{AreRows, columns, rows_in, has_text, has_pair, has_sheet_place, unit_if, part_columns, alternate_columns, sheet_columns, selected_columns, reel_columns, mount_columns, board_columns, found_columns, since_or_none, flag}
 use Rattle.line_tables.specs.Calls.{Runs, Changes, ChangesOrPuts, WritesRow}
 use Rattle.line_tables.proofs.Inserts.{Inserted, insert_does}
@@ -159,7 +159,7 @@ equal_text (Real x) k h = absurd (cc)
 equal_text (Blob b) k h = absurd (cc)
 equal_text (Text t) k h = ap Text (one_text 0 t k (Text t ∷ []) (own_text t) h)
 
-module _ (i : Bool) (table : Table) (at : ℕ) (key : Name) (rest : Row) (terms : List Term) (update insert : List ℕ) (listed : slice_get (tables_of Two i) at ≡ Some table)
+module _ (i : Bool) (table : Table) (at : ℕ) (key : Name) (rest : Row) (terms : List Term) (update insert : List ℕ) (listed : slice_get (schema_tables Two i) at ≡ Some table)
     (silent : (olds news : List Row) → works (schema_of Two i) Enforced 0 table.tree olds news ≡ []) (is : (command_of (understood (schema_of Two i) update) ≡ Update at (record { lets = []; body = rows_from table.tree key_tests terms })) × IsPlain (understood (schema_of Two i) update))
     (by_key : (r : Row) → passing key_tests (Text key ∷ rest) r ≡ has_text 0 key (columns table r))
     (shown : (r : Row) → shows_of table.tree key_tests terms (Text key ∷ rest) r ≡ column r 0 ∷ column r 0 ∷ column r 1 ∷ rest)

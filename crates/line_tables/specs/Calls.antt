@@ -25,12 +25,12 @@ use Rattle.state_tables.specs.declared.edit.RowEdit.{RowEdit}
 use Rattle.line_tables.specs.declared.version.Version.{Version}
 use Rattle.sqlite_catalog.specs.Change.{KeepsRows}
 use Rattle.desk_types.specs.declared.rules.Rules.TheVariants.{One, Two}
-use Rattle.line_tables.specs.Line.{no_schema, IsOurs, schema_of, tables_of, line_schema, found_tree}
-use Rattle.line_tables.specs.Rows.{Tables, Holds, HoldsBy, HoldsAt, columns_of, blank, edited, AreNew}
+use Rattle.line_tables.specs.Line.{no_schema, IsOurs, schema_of, schema_tables, line_schema, found_tree}
+use Rattle.line_tables.specs.Rows.{Tables, Holds, HoldsBy, HoldsAt, columns_of, blank, after_edits, AreNew}
 
 -- whatever tables the one database holds, the other holds them with the edits made, in the same layout
 abbrev pub Edits : List Edit → Database → Database → Type 0
-Edits edits before after = (tables : Tables) → Holds before tables → AreNew edits tables → (after.schema ≡ before.schema) × Holds after (edited edits tables)
+Edits edits before after = (tables : Tables) → Holds before tables → AreNew edits tables → (after.schema ≡ before.schema) × Holds after (after_edits edits tables)
 
 -- the connection was open, and the edits were made inside its transaction, whose trees list its schema
 pub record Writes (edits : List Edit) (old new : State) : Type 0 where
@@ -45,7 +45,7 @@ WritesRow edit old new = Writes (EditRow edit ∷ []) old new
 -- a crash may leave the tables of the last commit with the edits made, in the same layout
 pub record LeavesEdited (edits : List Edit) (old : State) (trees : Trees) : Type 0 where
   pub was_open : IsTrue old.is_open
-  pub holds : (tables : Tables) → Holds old.committed tables → AreNew edits tables → (left : HoldsAt (edited edits tables) trees) × (left.0.schema ≡ old.committed.schema)
+  pub holds : (tables : Tables) → Holds old.committed tables → AreNew edits tables → (left : HoldsAt (after_edits edits tables) trees) × (left.0.schema ≡ old.committed.schema)
 
 -- a crash may leave the tables of an empty list, in the layout of new files, where there was no table before
 pub record LeavesBlank (greatest : ℕ) (old : State) (trees : Trees) : Type 0 where
@@ -62,7 +62,7 @@ pub record Makes (greatest : ℕ) (old new : State) : Type 0 where
 pub record Migrated (before after : Database) : Type 0 where
   pub holds : (tables : Tables) → HoldsBy One before tables → Holds after tables
   pub layout : (indexed : Bool) → before.schema ≡ schema_of One indexed → after.schema ≡ schema_of Two indexed
-  pub same : (indexed : Bool) → before.schema ≡ schema_of One indexed → KeepsRows (drop 1 (tables_of One indexed)) before.trees after.trees
+  pub same : (indexed : Bool) → before.schema ≡ schema_of One indexed → KeepsRows (drop 1 (schema_tables One indexed)) before.trees after.trees
 
 -- the connection was open, and a database of version 1 became one of version 2 inside its transaction, whose trees list its schema
 pub record Migrates (old new : State) : Type 0 where

@@ -162,8 +162,8 @@ found_indexes One indexed = []
 found_indexes Two indexed = listing.automatic (found_by indexed) 0 (1 ∷ []) (if indexed then 22 else 20) ∷ []
 
 -- all tables of the line under rules in the order in which they are made: the trees count up over a table, its indexes and the next table
-abbrev pub tables_of : Rules → Bool → List Table
-tables_of rules indexed = version ∷ accepted ∷ part ∷ alternate ∷ sheet_row ∷ selected ∷ reel ∷ mount ∷ board ∷ placement ∷ found_tables rules indexed
+abbrev pub schema_tables : Rules → Bool → List Table
+schema_tables rules indexed = version ∷ accepted ∷ part ∷ alternate ∷ sheet_row ∷ selected ∷ reel ∷ mount ∷ board ∷ placement ∷ found_tables rules indexed
 
 -- the index of each PRIMARY KEY or UNIQUE, and those on the reels and the marks of placements, where the layout has them
 abbrev pub indexes_of : Rules → Bool → List Index
@@ -174,7 +174,7 @@ indexes_of rules indexed =
 
 -- the tables of the line under rules in a layout, and no other object: version 1 goes with rules One, version 2 with rules Two
 abbrev pub schema_of : Rules → Bool → Schema
-schema_of rules indexed = record { tables = tables_of rules indexed; indexes = indexes_of rules indexed; views = [] }
+schema_of rules indexed = record { tables = schema_tables rules indexed; indexes = indexes_of rules indexed; views = [] }
 
 -- the schema is that of a version of the tables, in one layout or the other
 abbrev pub IsOurs : Schema → Type 0

@@ -11,8 +11,8 @@ use Rattle.line_tables.specs.Rowids.{placement_id}
 use Rattle.line_tables.specs.StateRows.{placement_columns}
 
 -- the edit that puts the row
-abbrev pub placing : PlacementRow → Edit
-placing row = EditRow (PutPlacement row)
+abbrev pub placement_edit : PlacementRow → Edit
+placement_edit row = EditRow (PutPlacement row)
 
 -- the row as it is kept: its rowid goes by its number and its place
 abbrev pub placement_kept : PlacementRow → Row
@@ -20,4 +20,4 @@ placement_kept row = Int (pos (placement_id row.number row.place)) ∷ placement
 
 -- the edits put placements, and these are the values of their rows, one row after the other
 abbrev pub ArePlacing : List Edit → Row → Type 0
-ArePlacing edits values = (rows : List PlacementRow) × (edits ≡ map placing rows) × (values ≡ flat_map placement_kept rows)
+ArePlacing edits values = (rows : List PlacementRow) × (edits ≡ map placement_edit rows) × (values ≡ flat_map placement_kept rows)

@@ -37,10 +37,10 @@ abbrev pub Shows : {S : Type 0} → Ghosts S → List ℕ → Held S → Bool �
 Shows g sql old rising = (rows : List Row) × Selects g sql [] old rows × (IsTrue rising → AreRising rows)
 
 -- the rows of each of the tables are apart, where it is told so
-abbrev pub AreTold : Bool → List Table → Database → Type 0
-AreTold apart tables db = IsTrue apart → AllByRecursion (λ table. AreApart (kept_in table db)) tables
+abbrev pub AreApartWhere : Bool → List Table → Database → Type 0
+AreApartWhere apart tables db = IsTrue apart → AllByRecursion (λ table. AreApart (kept_in table db)) tables
 
 -- so it is of the table of what counts found, where the rules have one
-abbrev pub IsFoundTold : Rules → Bool → State → Type 0
-IsFoundTold One apart s = ⊤
-IsFoundTold Two apart s = Reads s (AreTold apart (found ∷ []))
+abbrev pub IsFoundApartWhere : Rules → Bool → State → Type 0
+IsFoundApartWhere One apart s = ⊤
+IsFoundApartWhere Two apart s = Reads s (AreApartWhere apart (found ∷ []))

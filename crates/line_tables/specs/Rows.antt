@@ -76,8 +76,8 @@ with_edit tables (PutAccepted a) = record tables { accepted = columns_of a ∷ t
 with_edit tables (EditRow edit) = record tables { state = state_with edit tables.state }
 
 -- the tables with the edits made, the first one first
-abbrev pub edited : List Edit → Tables → Tables
-edited edits tables = fold with_edit tables edits
+abbrev pub after_edits : List Edit → Tables → Tables
+after_edits edits tables = fold with_edit tables edits
 
 -- the edit puts nothing new where the tables have it
 abbrev pub IsNew : Edit → Tables → Type 0

@@ -7,7 +7,7 @@ ghost use Rattle.sqlite.specs.Held.{state};
 ghost use Rattle.state_tables.specs.declared.edit.RowEdit.TheVariants as RowEdit;
 ghost use Rattle.state_tables.specs.declared.row.PlacementRow.{PlacementRow};
 ghost use Rattle.sqlite.specs.Values.{bound};
-ghost use Rattle.line_tables.specs.Placing.{placing, placement_kept, ArePlacing};
+ghost use Rattle.line_tables.specs.Placing.{placement_edit, placement_kept, ArePlacing};
 ghost use Rattle.line_tables.specs.Calls.{Writes, WritesRow};
 
 use crate::edit::Edit;
@@ -46,7 +46,7 @@ pub fn put_eight<S: Alter>(
     values: &[ValueRef<'_>],
 ) -> Result<(), Error>
     ensures same_reference { tx.new.conn.ghost_name ≡ tx.old.conn.ghost_name }
-    ensures done { HasCleanDisk (state S.Store tx.new.conn.now) → OnOk result ((rows : List PlacementRow) → length rows ≡ 8 → bound values.now ≡ flat_map placement_kept rows → Writes (map placing rows) (state S.Store tx.old.conn.now) (state S.Store tx.new.conn.now)) }
+    ensures done { HasCleanDisk (state S.Store tx.new.conn.now) → OnOk result ((rows : List PlacementRow) → length rows ≡ 8 → bound values.now ≡ flat_map placement_kept rows → Writes (map placement_edit rows) (state S.Store tx.old.conn.now) (state S.Store tx.new.conn.now)) }
     ensures kept { HasCleanDisk (state S.Store tx.new.conn.now) → KeepsCommit (state S.Store tx.old.conn.now) (state S.Store tx.new.conn.now) }
     ensures survives { Survives (state S.Store tx.old.conn.now) (state S.Store tx.new.conn.now) (λ _. ⊥) }
 {

@@ -8,7 +8,7 @@ ghost use Rattle.sqlite.specs.State.{HasCleanDisk, Survives, KeepsCommit};
 ghost use Rattle.sqlite.specs.Held.{state};
 ghost use Rattle.line_tables.specs.Calls.{Reads};
 ghost use Rattle.line_tables.specs.Rowids.{AreAllApartBy, changed_tables, changed_of};
-ghost use Rattle.line_tables.specs.Rising.{AreTold, IsFoundTold, Shows, AreRising, IsPast};
+ghost use Rattle.line_tables.specs.Rising.{AreApartWhere, IsFoundApartWhere, Shows, AreRising, IsPast};
 
 use crate::reading::number_of;
 use crate::select::select;
@@ -32,7 +32,7 @@ pub fn are_apart<S: Alter>(conn: &mut Connection<S>, rules: Rules) -> Result<boo
 
 /// The tables of what is set up.
 fn is_setup_apart<S: Alter>(conn: &mut Connection<S>) -> Result<bool, Error>
-    ensures found { HasCleanDisk (state S.Store conn.new) → IfOk result (λ apart. Reads (state S.Store conn.old) (AreTold apart (take 4 changed_tables))) }
+    ensures found { HasCleanDisk (state S.Store conn.new) → IfOk result (λ apart. Reads (state S.Store conn.old) (AreApartWhere apart (take 4 changed_tables))) }
     ensures kept { HasCleanDisk (state S.Store conn.new) → KeepsCommit (state S.Store conn.old) (state S.Store conn.new) }
     ensures inside { IsTrue conn.old.in_transaction → (result ≡ Err (Error.SqliteFailure code.TransactionState)) × (conn.new ≡ conn.old) }
     ensures mode { conn.old.in_transaction ≡ false → conn.new.in_transaction ≡ false }
@@ -47,7 +47,7 @@ fn is_setup_apart<S: Alter>(conn: &mut Connection<S>) -> Result<bool, Error>
 
 /// The tables of what is on the line, and of what counts found.
 fn is_floor_apart<S: Alter>(conn: &mut Connection<S>, rules: Rules) -> Result<bool, Error>
-    ensures found { HasCleanDisk (state S.Store conn.new) → IfOk result (λ apart. Reads (state S.Store conn.old) (AreTold apart (drop 4 (changed_of rules)))) }
+    ensures found { HasCleanDisk (state S.Store conn.new) → IfOk result (λ apart. Reads (state S.Store conn.old) (AreApartWhere apart (drop 4 (changed_of rules)))) }
     ensures kept { HasCleanDisk (state S.Store conn.new) → KeepsCommit (state S.Store conn.old) (state S.Store conn.new) }
     ensures inside { IsTrue conn.old.in_transaction → (result ≡ Err (Error.SqliteFailure code.TransactionState)) × (conn.new ≡ conn.old) }
     ensures mode { conn.old.in_transaction ≡ false → conn.new.in_transaction ≡ false }
@@ -62,7 +62,7 @@ fn is_floor_apart<S: Alter>(conn: &mut Connection<S>, rules: Rules) -> Result<bo
 
 /// The table of what counts found, where there is one.
 fn is_found_apart<S: Alter>(conn: &mut Connection<S>, rules: Rules) -> Result<bool, Error>
-    ensures found { HasCleanDisk (state S.Store conn.new) → IfOk result (λ apart. IsFoundTold rules apart (state S.Store conn.old)) }
+    ensures found { HasCleanDisk (state S.Store conn.new) → IfOk result (λ apart. IsFoundApartWhere rules apart (state S.Store conn.old)) }
     ensures kept { HasCleanDisk (state S.Store conn.new) → KeepsCommit (state S.Store conn.old) (state S.Store conn.new) }
     ensures mode { conn.old.in_transaction ≡ false → conn.new.in_transaction ≡ false }
     ensures survives { Survives (state S.Store conn.old) (state S.Store conn.new) (λ _. ⊥) }

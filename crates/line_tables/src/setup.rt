@@ -7,7 +7,7 @@ ghost use Rattle.state_tables.specs.declared.edit.RowEdit.TheVariants as RowEdit
 ghost use Rattle.line_tables.specs.Calls.{WritesRow};
 
 use crate::statement::{change_or_put, run};
-use crate::values::{int, spaced};
+use crate::values::{designators_text, int};
 use desk_types::{Id, SheetRow};
 use sqlite::types::{ToSql, ValueRef};
 use sqlite::{Alter, Error, Transaction, params};
@@ -88,7 +88,7 @@ pub fn put_sheet_row<'x, S: Alter>(
     ensures kept { HasCleanDisk (state S.Store tx.new.conn.now) → KeepsCommit (state S.Store tx.old.conn.now) (state S.Store tx.new.conn.now) }
     ensures survives { Survives (state S.Store tx.old.conn.now) (state S.Store tx.new.conn.now) (λ _. ⊥) }
 {
-    let designators = spaced(alloc, row.designators.as_slice())?;
+    let designators = designators_text(alloc, row.designators.as_slice())?;
     run(
         tx,
         "INSERT INTO sheet_row VALUES (?1, ?2, ?3, ?4, ?5, ?6)",

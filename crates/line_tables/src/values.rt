@@ -57,7 +57,7 @@ pub fn placement_id<'a>(number: u64, place: u64) -> Result<ValueRef<'a>, Error>
 }
 
 /// The designators with one space between each and the next.
-pub fn spaced(alloc: Global, designators: &[Designator]) -> Result<Vec<u8>, AllocError>
+pub fn designators_text(alloc: Global, designators: &[Designator]) -> Result<Vec<u8>, AllocError>
     ensures { IfOk result (λ text. text.items ≡ join_with_byte 0x20 designators.now) }
 {
     let mut text = Vec::new(alloc);

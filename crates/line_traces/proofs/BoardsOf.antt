@@ -24,13 +24,13 @@ use Rattle.line_tables.specs.Line as line
 use Rattle.line_tables.specs.Calls.{Selects}
 use Rattle.line_tables.specs.StateRows.{columns, rows_in, reel_columns, has_text}
 use Rattle.line_tables.proofs.Finds.{answer_of, and_true}
-use Rattle.line_traces.specs.Committed.{HoldsList, Tells, name_row}
+use Rattle.line_traces.specs.Committed.{HoldsList, FindsOfList, name_row}
 use Rattle.line_traces.proofs.Columns.{equal-text}
 use Rattle.line_traces.proofs.Joins.{paired, pairing, pair-one, map-pair, swapped, found-of}
-use Rattle.line_traces.proofs.Known.{piece_row, pieces-listed, IsKnown, pieces-known}
-use Rattle.line_traces.proofs.Sets.{shown_name, by-shown, kept-set, set-sorted}
+use Rattle.line_traces.proofs.PlacedColumns.{piece_row, pieces-listed, IsKnown, pieces-known}
+use Rattle.line_traces.proofs.DistinctNames.{shown_name, by-shown, kept-set, set-sorted}
 use Rattle.line_traces.proofs.Texts.{select_names, names_query, select_names_is}
-use Rattle.line_traces.proofs.Traced.{is_reel}
+use Rattle.line_traces.proofs.FoundPieces.{is_reel}
 
 in-order : (names : List Name) → IsStrictlySortedBy by_name names → IsAscending (λ a b. by_name a b ≡ Less) names
 unfolding IsStrictlySortedBy
@@ -84,7 +84,7 @@ module _ (lot : Name) where
       sorted_unique (output_cmp names_query) (output_cmp_total names_query) _ a.ordered up (IsPermutation-trans _ _ _ (IsPermutation-sym _ _ kept) a.same) a.sorted in
       a.shown ∙ ap (map (λ (o : Output). o.1)) ordered ∙ map-map (λ (o : Output). o.1) shown_name (boards_of H lot)
 
-  pub finds-names : {S : Type 0} (g : Ghosts S) (old : Held S) (rows : List Row) → Selects g select_names (Text lot ∷ []) old rows → Tells (λ H. map name_row (boards_of H lot)) (state g old) rows
+  pub finds-names : {S : Type 0} (g : Ghosts S) (old : Held S) (rows : List Row) → Selects g select_names (Text lot ∷ []) old rows → FindsOfList (λ H. map name_row (boards_of H lot)) (state g old) rows
   finds-names g old rows h = record {
     was_open = h.was_open;
     are = λ schema H held. names-answer (state g old).committed H held rows (answer_of g select_names names_query _ select_names_is (Text lot ∷ []) old rows h schema);

@@ -15,9 +15,9 @@ use Rattle.state_rows.proofs.PlacedRows.{entry_of, pieces-ascend}
 use Rattle.trace_lists.specs.Lists.{Key, keys_where}
 use Rattle.line_traces.specs.declared.row.PlacedRow.{PlacedRow}
 use Rattle.line_traces.specs.Pieces.{placed_row, pieces_where, piece_at}
-use Rattle.line_traces.proofs.Known.{both, itself}
-use Rattle.line_traces.proofs.Traced.{IsBefore, before-all}
-use Rattle.line_traces.proofs.Told.{all-shown}
+use Rattle.line_traces.proofs.PlacedColumns.{both, itself}
+use Rattle.line_traces.proofs.FoundPieces.{IsBefore, before-all}
+use Rattle.line_traces.proofs.TwoCalls.{all-placed_columns}
 
 -- ---- look-ups
 
@@ -62,4 +62,4 @@ by-keys H judged test =
 
 -- The pieces with the keys of those that pass are the pieces that pass.
 pub listed-pieces : (H : History) → IsJudged Two H → (test : Placement → Bool) (keys : List Key) (pieces : List PlacedRow) → keys ≡ keys_where test H → map Some pieces ≡ map (piece_at H) keys → pieces ≡ pieces_where test H
-listed-pieces H judged test keys pieces are told = all-shown Some (λ x y is. cc) pieces (pieces_where test H) (told ∙ ap (map (piece_at H)) are ∙ by-keys H judged test)
+listed-pieces H judged test keys pieces are told = all-placed_columns Some (λ x y is. cc) pieces (pieces_where test H) (told ∙ ap (map (piece_at H)) are ∙ by-keys H judged test)

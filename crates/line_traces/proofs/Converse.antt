@@ -26,11 +26,11 @@ use Rattle.desk_laws.proofs.Accepted.{next-accepted}
 use Rattle.desk_laws.proofs.Judgements.{judged-prefix}
 use Rattle.desk_laws.proofs.Mounts.{has}
 use Rattle.desk_laws.proofs.NameSets.{has-set, traces-agree}
-use Rattle.desk_laws.proofs.Placing.{rightly-placed}
-use Rattle.desk_laws.proofs.Working.{work-product}
+use Rattle.desk_laws.proofs.InstalledPieces.{rightly-placed}
+use Rattle.desk_laws.proofs.BoardsInWork.{work-product}
 use Rattle.line_traces.specs.declared.row.PlacedRow.{PlacedRow}
 use Rattle.line_traces.specs.Pieces.{placed_row, pieces_on, is_board, is_lot, board_trace, lot_board_names, receives, starts, AreConverse}
-use Rattle.line_traces.proofs.Named.{board-started, receipt-lot}
+use Rattle.line_traces.proofs.StartedAndReceived.{board-started, receipt-lot}
 
 -- ---- every list
 

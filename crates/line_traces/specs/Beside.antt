@@ -17,8 +17,8 @@ pub record HoldsBeside {D : Type 0} (Stands : D → History → Type 0) (lists :
   pub stands : IfSome desk (λ d. Stands d H)
 
 -- the connection was open, and what was found is so of the list of which the tables are committed, and which the lists and the desk have beside them
-abbrev pub TellsBeside : {D X : Type 0} → (D → History → Type 0) → Option TraceLists → Option D → (History → X) → State → X → Type 0
-TellsBeside Stands lists desk of old found = Reads old (λ db. (H : History) → HoldsBeside Stands lists desk db H → found ≡ of H)
+abbrev pub FindsBeside : {D X : Type 0} → (D → History → Type 0) → Option TraceLists → Option D → (History → X) → State → X → Type 0
+FindsBeside Stands lists desk of old found = Reads old (λ db. (H : History) → HoldsBeside Stands lists desk db H → found ≡ of H)
 
 -- the pieces that were added are those with these keys
 abbrev pub AddsPieces : History → List Key → List PlacedRow → List PlacedRow → Type 0

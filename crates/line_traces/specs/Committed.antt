@@ -28,12 +28,12 @@ pub record HoldsList (db : Database) (H : History) : Type 0 where
   pub state : HoldsState db (tables_of H)
 
 -- the connection was open, and what was found is so of the list of which the tables are committed
-abbrev pub Tells : {X : Type 0} → (History → X) → State → X → Type 0
-Tells of old found = Reads old (λ db. (H : History) → HoldsList db H → found ≡ of H)
+abbrev pub FindsOfList : {X : Type 0} → (History → X) → State → X → Type 0
+FindsOfList of old found = Reads old (λ db. (H : History) → HoldsList db H → found ≡ of H)
 
 -- the columns that a query shows of a placed piece
-abbrev pub shown : PlacedRow → Row
-shown p =
+abbrev pub placed_columns : PlacedRow → Row
+placed_columns p =
     Int (pos p.number) ∷ Int (pos p.place) ∷ Text p.board ∷ Text p.designator ∷ Text p.part ∷ Text p.lot ∷ Text p.reel ∷ Text p.machine ∷ Text p.slot ∷ Int (pos p.effective)
     ∷ Int (flag p.overdue) ∷ []
 

@@ -10,7 +10,7 @@ ghost use Rattle.desk_types.specs.Placements.{boards_of, set_of};
 ghost use Rattle.trace_lists.specs.Lists.{key_of, keys_of_install, keys_of_installs};
 ghost use Rattle.line_traces.specs.declared.row.PlacedRow.{PlacedRow};
 ghost use Rattle.line_traces.specs.Pieces.{pieces_on, pieces_of_lot, overdue_pieces};
-ghost use Rattle.line_traces.specs.Beside.{TellsBeside};
+ghost use Rattle.line_traces.specs.Beside.{FindsBeside};
 
 use crate::looked::pieces_at;
 use crate::pieces::{board_pieces, lot_names, lot_pieces, overdue};
@@ -19,7 +19,7 @@ use desk_types::{Desk, Id, IdList, Listing};
 use sqlite::{Alter, Connection, Error};
 use std::alloc::{AllocError, Global};
 use std::collections::BTreeSet;
-use trace_lists::{Install, Piece, TraceLists};
+use trace_lists::{Install, PieceKey, TraceLists};
 
 /// The pieces on the board by number, then place.
 pub fn pieces_of_board<S: Alter, D: Desk>(
@@ -29,7 +29,7 @@ pub fn pieces_of_board<S: Alter, D: Desk>(
     desk: Option<&D>,
     board: &Id,
 ) -> Result<PlacedRows, Error>
-    ensures pieces { HasCleanDisk (state S.Store conn.new) → IfOk result (TellsBeside D.Stands (option_copied lists.entry) (option_copied desk.entry) (λ H. pieces_on H board.now) (state S.Store conn.old)) }
+    ensures pieces { HasCleanDisk (state S.Store conn.new) → IfOk result (FindsBeside D.Stands (option_copied lists.entry) (option_copied desk.entry) (λ H. pieces_on H board.now) (state S.Store conn.old)) }
     ensures kept { HasCleanDisk (state S.Store conn.new) → KeepsCommit (state S.Store conn.old) (state S.Store conn.new) }
     ensures mode { conn.old.in_transaction ≡ false → conn.new.in_transaction ≡ false }
     ensures survives { Survives (state S.Store conn.old) (state S.Store conn.new) (λ _. ⊥) }
@@ -52,7 +52,7 @@ pub fn pieces_of_lot<S: Alter, D: Desk>(
     desk: Option<&D>,
     lot: &Id,
 ) -> Result<PlacedRows, Error>
-    ensures pieces { HasCleanDisk (state S.Store conn.new) → IfOk result (TellsBeside D.Stands (option_copied lists.entry) (option_copied desk.entry) (λ H. pieces_of_lot H lot.now) (state S.Store conn.old)) }
+    ensures pieces { HasCleanDisk (state S.Store conn.new) → IfOk result (FindsBeside D.Stands (option_copied lists.entry) (option_copied desk.entry) (λ H. pieces_of_lot H lot.now) (state S.Store conn.old)) }
     ensures kept { HasCleanDisk (state S.Store conn.new) → KeepsCommit (state S.Store conn.old) (state S.Store conn.new) }
     ensures mode { conn.old.in_transaction ≡ false → conn.new.in_transaction ≡ false }
     ensures survives { Survives (state S.Store conn.old) (state S.Store conn.new) (λ _. ⊥) }
@@ -75,7 +75,7 @@ pub fn boards_of_lot<S: Alter, D: Desk>(
     desk: Option<&D>,
     lot: &Id,
 ) -> Result<IdList, Error>
-    ensures boards { HasCleanDisk (state S.Store conn.new) → IfOk result (TellsBeside D.Stands (option_copied lists.entry) (option_copied desk.entry) (λ H. boards_of H lot.now) (state S.Store conn.old)) }
+    ensures boards { HasCleanDisk (state S.Store conn.new) → IfOk result (FindsBeside D.Stands (option_copied lists.entry) (option_copied desk.entry) (λ H. boards_of H lot.now) (state S.Store conn.old)) }
     ensures kept { HasCleanDisk (state S.Store conn.new) → KeepsCommit (state S.Store conn.old) (state S.Store conn.new) }
     ensures mode { conn.old.in_transaction ≡ false → conn.new.in_transaction ≡ false }
     ensures survives { Survives (state S.Store conn.old) (state S.Store conn.new) (λ _. ⊥) }
@@ -96,7 +96,7 @@ pub fn pieces_overdue<S: Alter, D: Desk>(
     lists: Option<&TraceLists>,
     desk: Option<&D>,
 ) -> Result<PlacedRows, Error>
-    ensures pieces { HasCleanDisk (state S.Store conn.new) → IfOk result (TellsBeside D.Stands (option_copied lists.entry) (option_copied desk.entry) overdue_pieces (state S.Store conn.old)) }
+    ensures pieces { HasCleanDisk (state S.Store conn.new) → IfOk result (FindsBeside D.Stands (option_copied lists.entry) (option_copied desk.entry) overdue_pieces (state S.Store conn.old)) }
     ensures kept { HasCleanDisk (state S.Store conn.new) → KeepsCommit (state S.Store conn.old) (state S.Store conn.new) }
     ensures inside { IsTrue conn.old.in_transaction → (result ≡ Err (Error.SqliteFailure code.TransactionState)) × (conn.new ≡ conn.old) }
     ensures mode { conn.old.in_transaction ≡ false → conn.new.in_transaction ≡ false }
@@ -113,7 +113,7 @@ pub fn pieces_overdue<S: Alter, D: Desk>(
 }
 
 /// The keys of the pieces of installs, install by install: each one's places from 1.
-fn keys_of(alloc: Global, installs: &[Install]) -> Result<Vec<Piece>, AllocError>
+fn keys_of(alloc: Global, installs: &[Install]) -> Result<Vec<PieceKey>, AllocError>
     ensures { IfOk result (λ keys. map key_of keys.items ≡ keys_of_installs installs.now) }
 {
     let mut keys = Vec::new(alloc);
@@ -124,11 +124,11 @@ fn keys_of(alloc: Global, installs: &[Install]) -> Result<Vec<Piece>, AllocError
 }
 
 /// Adds the keys of an install's pieces.
-fn add_keys(keys: &mut Vec<Piece>, install: Install) -> Result<(), AllocError>
+fn add_keys(keys: &mut Vec<PieceKey>, install: Install) -> Result<(), AllocError>
     ensures { OnOk result (map key_of keys.new.items ≡ map key_of keys.old.items ++ keys_of_install install) }
 {
     for before in 0..install.pieces {
-        keys.push(Piece {
+        keys.push(PieceKey {
             number: install.number,
             place: before + 1,
         })?;

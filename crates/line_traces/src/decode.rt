@@ -4,7 +4,7 @@ ghost use Rattle.std.specs.Prelude.{◌≡◌, ℕ, ◌<◌, length, IfOk, map, 
 ghost use Rattle.sqlite.specs.declared.types.Value.TheVariants.{Int, Text};
 ghost use Rattle.sqlite_value.specs.Order.{column};
 ghost use Rattle.line_tables.specs.StateRows.{flag, placement_columns};
-ghost use Rattle.line_traces.specs.Committed.{shown, name_row};
+ghost use Rattle.line_traces.specs.Committed.{placed_columns, name_row};
 
 use crate::row::{PlacedRow, PlacedRows};
 use desk_types::{Designator, Id, IdList, Listing, Minute};
@@ -62,7 +62,7 @@ fn yes_or_no(row: &Row, at: usize) -> Result<bool, Error>
 }
 
 fn piece(row: &Row) -> Result<PlacedRow, Error>
-    ensures { IfOk result (λ piece. row.now ≡ shown piece) }
+    ensures { IfOk result (λ piece. row.now ≡ placed_columns piece) }
 {
     if row.column_count() != 11 {
         return Err(Error::InvalidColumnIndex(11));
@@ -85,7 +85,7 @@ fn piece(row: &Row) -> Result<PlacedRow, Error>
 /// The pieces of these rows, in their order. A value that is no name, number, minute or flag is an
 /// error, and so is a row of another length.
 pub fn pieces(alloc: Global, rows: &[Row]) -> Result<PlacedRows, Error>
-    ensures { IfOk result (λ pieces. rows.now ≡ map shown pieces) }
+    ensures { IfOk result (λ pieces. rows.now ≡ map placed_columns pieces) }
 {
     let mut pieces = Vec::new(alloc);
     for row in rows {

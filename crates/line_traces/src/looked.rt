@@ -16,7 +16,7 @@ ghost use Rattle.line_tables.specs.Shown.{AreOf};
 ghost use Rattle.line_tables.specs.StateRows.{rows_in};
 ghost use Rattle.trace_lists.specs.Lists.{key_of};
 ghost use Rattle.line_traces.specs.Pieces.{piece_at};
-ghost use Rattle.line_traces.specs.Beside.{HoldsBeside, TellsBeside, AddsPieces};
+ghost use Rattle.line_traces.specs.Beside.{HoldsBeside, FindsBeside, AddsPieces};
 
 use crate::decode::placement;
 use crate::row::{PlacedRow, PlacedRows};
@@ -25,7 +25,7 @@ use line_tables::placements_between;
 use line_tables::select::select;
 use sqlite::{Alter, Connection, Error, Row};
 use std::alloc::Global;
-use trace_lists::{Piece, TraceLists};
+use trace_lists::{PieceKey, TraceLists};
 
 /// An error where the connection does not answer.
 fn ask<S: Alter>(conn: &mut Connection<S>) -> Result<(), Error>
@@ -40,14 +40,14 @@ fn ask<S: Alter>(conn: &mut Connection<S>) -> Result<(), Error>
 }
 
 /// The rowid of a piece in a file of ours.
-fn rowid_of(piece: Piece) -> i64
+fn rowid_of(piece: PieceKey) -> i64
     ensures { result ≡ pos (placement_id piece.number piece.place) }
 {
     (u64::from(piece.number) * 65_536 + u64::from(piece.place)) as i64
 }
 
 /// The first pieces that stand one after the other in one message, and the others.
-fn split_run(pieces: &[Piece]) -> (&[Piece], &[Piece])
+fn split_run(pieces: &[PieceKey]) -> (&[PieceKey], &[PieceKey])
     ensures whole { pieces.now ≡ result.0.now ++ result.1.now }
     ensures some { 0 < length pieces.now → 0 < length result.0.now }
 {
@@ -56,7 +56,7 @@ fn split_run(pieces: &[Piece]) -> (&[Piece], &[Piece])
 }
 
 /// How many pieces, from the first on, stand one after the other in one message.
-fn run_length(pieces: &[Piece]) -> usize
+fn run_length(pieces: &[PieceKey]) -> usize
     ensures within { result ≤ length pieces.now }
     ensures some { 0 < length pieces.now → 0 < result }
 {
@@ -67,7 +67,7 @@ fn run_length(pieces: &[Piece]) -> usize
 }
 
 /// How many of the others stand behind the first piece, each in the next place of its message.
-fn more_places(first: Piece, others: &[Piece]) -> usize
+fn more_places(first: PieceKey, others: &[PieceKey]) -> usize
     ensures { result ≤ length others.now }
 {
     let mut last = first;
@@ -81,7 +81,7 @@ fn more_places(first: Piece, others: &[Piece]) -> usize
 }
 
 /// Whether the piece is of the same message as the last one, in the next place.
-fn is_next(last: Piece, piece: Piece) -> bool
+fn is_next(last: PieceKey, piece: PieceKey) -> bool
     ensures { IsTrue result ↔ (piece.number ≡ last.number) × (piece.place ≡ last.place + 1) }
 {
     piece.number == last.number && piece.place > last.place && piece.place - last.place == 1
@@ -92,7 +92,7 @@ fn is_next(last: Piece, piece: Piece) -> bool
 fn piece_of<D: Desk>(
     lists: &TraceLists,
     desk: &D,
-    key: Piece,
+    key: PieceKey,
     row: &Row,
 ) -> Result<Option<PlacedRow>, Error>
     ensures { IfOk result (λ found. IfSome found (λ piece. (db : Database) (H : History) → HoldsBeside D.Stands (Some lists.now) (Some desk.now) db H
@@ -128,7 +128,7 @@ fn piece_of<D: Desk>(
 fn add_rows<D: Desk>(
     lists: &TraceLists,
     desk: &D,
-    keys: &[Piece],
+    keys: &[PieceKey],
     rows: &[Row],
     pieces: &mut Vec<PlacedRow>,
 ) -> Result<bool, Error>
@@ -148,7 +148,7 @@ fn add_rows<D: Desk>(
 }
 
 /// The rowids of the first and of the last piece of a run, in a file of ours.
-fn ends_of(run: &[Piece]) -> (i64, i64) {
+fn ends_of(run: &[PieceKey]) -> (i64, i64) {
     match (run.first(), run.last()) {
         (Some(first), Some(last)) => (rowid_of(*first), rowid_of(*last)),
         _ => (1, 0),
@@ -160,7 +160,7 @@ fn add_run<S: Alter, D: Desk>(
     conn: &mut Connection<S>,
     lists: &TraceLists,
     desk: &D,
-    run: &[Piece],
+    run: &[PieceKey],
     pieces: &mut Vec<PlacedRow>,
 ) -> Result<bool, Error>
     ensures added { HasCleanDisk (state S.Store conn.new) → IfOk result (λ all. Reads (state S.Store conn.old) (λ db. IsTrue all → (H : History) → HoldsBeside D.Stands (Some lists.now) (Some desk.now) db H
@@ -181,9 +181,9 @@ pub fn pieces_at<S: Alter, D: Desk>(
     conn: &mut Connection<S>,
     lists: &TraceLists,
     desk: &D,
-    keys: &[Piece],
+    keys: &[PieceKey],
 ) -> Result<Option<PlacedRows>, Error>
-    ensures told { HasCleanDisk (state S.Store conn.new) → IfOk result (λ found. IfSome found (λ pieces. TellsBeside D.Stands (Some lists.now) (Some desk.now) (λ H. map (piece_at H) (map key_of keys.now)) (state S.Store conn.old) (map Some pieces))) }
+    ensures told { HasCleanDisk (state S.Store conn.new) → IfOk result (λ found. IfSome found (λ pieces. FindsBeside D.Stands (Some lists.now) (Some desk.now) (λ H. map (piece_at H) (map key_of keys.now)) (state S.Store conn.old) (map Some pieces))) }
     ensures kept { HasCleanDisk (state S.Store conn.new) → KeepsCommit (state S.Store conn.old) (state S.Store conn.new) }
     ensures inside { IsTrue conn.old.in_transaction → (result ≡ Err (Error.SqliteFailure code.TransactionState)) × (conn.new ≡ conn.old) }
     ensures mode { conn.old.in_transaction ≡ false → conn.new.in_transaction ≡ false }

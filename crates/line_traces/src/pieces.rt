@@ -7,7 +7,7 @@ ghost use Rattle.sqlite.specs.State.{HasCleanDisk, Survives, KeepsCommit};
 ghost use Rattle.sqlite.specs.Held.{state};
 ghost use Rattle.desk_types.specs.Placements.{boards_of};
 ghost use Rattle.line_traces.specs.Pieces.{pieces_on, pieces_of_lot, overdue_pieces, is_board, is_lot};
-ghost use Rattle.line_traces.specs.Committed.{Tells};
+ghost use Rattle.line_traces.specs.Committed.{FindsOfList};
 
 use crate::decode::{names, pieces};
 use crate::row::PlacedRows;
@@ -19,7 +19,7 @@ use std::alloc::Global;
 
 /// Whether the board was started.
 pub fn has_board<S: Alter>(conn: &mut Connection<S>, board: &Id) -> Result<bool, Error>
-    ensures found { HasCleanDisk (state S.Store conn.new) → IfOk result (Tells (λ H. is_board H board.now) (state S.Store conn.old)) }
+    ensures found { HasCleanDisk (state S.Store conn.new) → IfOk result (FindsOfList (λ H. is_board H board.now) (state S.Store conn.old)) }
     ensures kept { HasCleanDisk (state S.Store conn.new) → KeepsCommit (state S.Store conn.old) (state S.Store conn.new) }
     ensures inside { IsTrue conn.old.in_transaction → (result ≡ Err (Error.SqliteFailure code.TransactionState)) × (conn.new ≡ conn.old) }
     ensures mode { conn.old.in_transaction ≡ false → conn.new.in_transaction ≡ false }
@@ -35,7 +35,7 @@ pub fn has_board<S: Alter>(conn: &mut Connection<S>, board: &Id) -> Result<bool,
 
 /// Whether a reel of the lot was received. Each reel is looked at.
 pub fn has_lot<S: Alter>(conn: &mut Connection<S>, lot: &Id) -> Result<bool, Error>
-    ensures found { HasCleanDisk (state S.Store conn.new) → IfOk result (Tells (λ H. is_lot H lot.now) (state S.Store conn.old)) }
+    ensures found { HasCleanDisk (state S.Store conn.new) → IfOk result (FindsOfList (λ H. is_lot H lot.now) (state S.Store conn.old)) }
     ensures kept { HasCleanDisk (state S.Store conn.new) → KeepsCommit (state S.Store conn.old) (state S.Store conn.new) }
     ensures inside { IsTrue conn.old.in_transaction → (result ≡ Err (Error.SqliteFailure code.TransactionState)) × (conn.new ≡ conn.old) }
     ensures mode { conn.old.in_transaction ≡ false → conn.new.in_transaction ≡ false }
@@ -55,7 +55,7 @@ pub fn board_pieces<S: Alter>(
     conn: &mut Connection<S>,
     board: &Id,
 ) -> Result<PlacedRows, Error>
-    ensures pieces { HasCleanDisk (state S.Store conn.new) → IfOk result (Tells (λ H. pieces_on H board.now) (state S.Store conn.old)) }
+    ensures pieces { HasCleanDisk (state S.Store conn.new) → IfOk result (FindsOfList (λ H. pieces_on H board.now) (state S.Store conn.old)) }
     ensures kept { HasCleanDisk (state S.Store conn.new) → KeepsCommit (state S.Store conn.old) (state S.Store conn.new) }
     ensures inside { IsTrue conn.old.in_transaction → (result ≡ Err (Error.SqliteFailure code.TransactionState)) × (conn.new ≡ conn.old) }
     ensures mode { conn.old.in_transaction ≡ false → conn.new.in_transaction ≡ false }
@@ -75,7 +75,7 @@ pub fn lot_pieces<S: Alter>(
     conn: &mut Connection<S>,
     lot: &Id,
 ) -> Result<PlacedRows, Error>
-    ensures pieces { HasCleanDisk (state S.Store conn.new) → IfOk result (Tells (λ H. pieces_of_lot H lot.now) (state S.Store conn.old)) }
+    ensures pieces { HasCleanDisk (state S.Store conn.new) → IfOk result (FindsOfList (λ H. pieces_of_lot H lot.now) (state S.Store conn.old)) }
     ensures kept { HasCleanDisk (state S.Store conn.new) → KeepsCommit (state S.Store conn.old) (state S.Store conn.new) }
     ensures inside { IsTrue conn.old.in_transaction → (result ≡ Err (Error.SqliteFailure code.TransactionState)) × (conn.new ≡ conn.old) }
     ensures mode { conn.old.in_transaction ≡ false → conn.new.in_transaction ≡ false }
@@ -91,7 +91,7 @@ pub fn lot_pieces<S: Alter>(
 
 /// The pieces of reels whose floor life was used up, by number, then place.
 pub fn overdue<S: Alter>(alloc: Global, conn: &mut Connection<S>) -> Result<PlacedRows, Error>
-    ensures pieces { HasCleanDisk (state S.Store conn.new) → IfOk result (Tells overdue_pieces (state S.Store conn.old)) }
+    ensures pieces { HasCleanDisk (state S.Store conn.new) → IfOk result (FindsOfList overdue_pieces (state S.Store conn.old)) }
     ensures kept { HasCleanDisk (state S.Store conn.new) → KeepsCommit (state S.Store conn.old) (state S.Store conn.new) }
     ensures inside { IsTrue conn.old.in_transaction → (result ≡ Err (Error.SqliteFailure code.TransactionState)) × (conn.new ≡ conn.old) }
     ensures mode { conn.old.in_transaction ≡ false → conn.new.in_transaction ≡ false }
@@ -111,7 +111,7 @@ pub fn lot_names<S: Alter>(
     conn: &mut Connection<S>,
     lot: &Id,
 ) -> Result<IdList, Error>
-    ensures names { HasCleanDisk (state S.Store conn.new) → IfOk result (Tells (λ H. boards_of H lot.now) (state S.Store conn.old)) }
+    ensures names { HasCleanDisk (state S.Store conn.new) → IfOk result (FindsOfList (λ H. boards_of H lot.now) (state S.Store conn.old)) }
     ensures kept { HasCleanDisk (state S.Store conn.new) → KeepsCommit (state S.Store conn.old) (state S.Store conn.new) }
     ensures inside { IsTrue conn.old.in_transaction → (result ≡ Err (Error.SqliteFailure code.TransactionState)) × (conn.new ≡ conn.old) }
     ensures mode { conn.old.in_transaction ≡ false → conn.new.in_transaction ≡ false }

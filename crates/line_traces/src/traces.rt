@@ -9,7 +9,7 @@ ghost use Rattle.sqlite.specs.declared.error.ErrorCode.TheVariants as code;
 ghost use Rattle.sqlite.specs.State.{HasCleanDisk, Survives, KeepsCommit};
 ghost use Rattle.sqlite.specs.Held.{state};
 ghost use Rattle.line_traces.specs.Pieces.{board_trace, lot_trace, lot_board_names, overdue_pieces};
-ghost use Rattle.line_traces.specs.Beside.{TellsBeside};
+ghost use Rattle.line_traces.specs.Beside.{FindsBeside};
 
 use crate::by_lists::{boards_of_lot, pieces_of_board, pieces_of_lot, pieces_overdue};
 use crate::pieces::{has_board, has_lot};
@@ -27,7 +27,7 @@ pub fn board_rows<S: Alter, D: Desk>(
     desk: Option<&D>,
     board: &Id,
 ) -> Result<Option<PlacedRows>, Error>
-    ensures trace { HasCleanDisk (state S.Store conn.new) → IfOk result (TellsBeside D.Stands (option_copied lists.entry) (option_copied desk.entry) (λ H. board_trace H board.now) (state S.Store conn.old)) }
+    ensures trace { HasCleanDisk (state S.Store conn.new) → IfOk result (FindsBeside D.Stands (option_copied lists.entry) (option_copied desk.entry) (λ H. board_trace H board.now) (state S.Store conn.old)) }
     ensures kept { HasCleanDisk (state S.Store conn.new) → KeepsCommit (state S.Store conn.old) (state S.Store conn.new) }
     ensures inside { IsTrue conn.old.in_transaction → (result ≡ Err (Error.SqliteFailure code.TransactionState)) × (conn.new ≡ conn.old) }
     ensures mode { conn.old.in_transaction ≡ false → conn.new.in_transaction ≡ false }
@@ -47,7 +47,7 @@ pub fn lot_rows<S: Alter, D: Desk>(
     desk: Option<&D>,
     lot: &Id,
 ) -> Result<Option<PlacedRows>, Error>
-    ensures trace { HasCleanDisk (state S.Store conn.new) → IfOk result (TellsBeside D.Stands (option_copied lists.entry) (option_copied desk.entry) (λ H. lot_trace H lot.now) (state S.Store conn.old)) }
+    ensures trace { HasCleanDisk (state S.Store conn.new) → IfOk result (FindsBeside D.Stands (option_copied lists.entry) (option_copied desk.entry) (λ H. lot_trace H lot.now) (state S.Store conn.old)) }
     ensures kept { HasCleanDisk (state S.Store conn.new) → KeepsCommit (state S.Store conn.old) (state S.Store conn.new) }
     ensures inside { IsTrue conn.old.in_transaction → (result ≡ Err (Error.SqliteFailure code.TransactionState)) × (conn.new ≡ conn.old) }
     ensures mode { conn.old.in_transaction ≡ false → conn.new.in_transaction ≡ false }
@@ -66,7 +66,7 @@ pub fn overdue_rows<S: Alter, D: Desk>(
     lists: Option<&TraceLists>,
     desk: Option<&D>,
 ) -> Result<PlacedRows, Error>
-    ensures rows { HasCleanDisk (state S.Store conn.new) → IfOk result (TellsBeside D.Stands (option_copied lists.entry) (option_copied desk.entry) overdue_pieces (state S.Store conn.old)) }
+    ensures rows { HasCleanDisk (state S.Store conn.new) → IfOk result (FindsBeside D.Stands (option_copied lists.entry) (option_copied desk.entry) overdue_pieces (state S.Store conn.old)) }
     ensures kept { HasCleanDisk (state S.Store conn.new) → KeepsCommit (state S.Store conn.old) (state S.Store conn.new) }
     ensures inside { IsTrue conn.old.in_transaction → (result ≡ Err (Error.SqliteFailure code.TransactionState)) × (conn.new ≡ conn.old) }
     ensures mode { conn.old.in_transaction ≡ false → conn.new.in_transaction ≡ false }
@@ -84,7 +84,7 @@ pub fn lot_boards<S: Alter, D: Desk>(
     desk: Option<&D>,
     lot: &Id,
 ) -> Result<Option<IdList>, Error>
-    ensures boards { HasCleanDisk (state S.Store conn.new) → IfOk result (TellsBeside D.Stands (option_copied lists.entry) (option_copied desk.entry) (λ H. lot_board_names H lot.now) (state S.Store conn.old)) }
+    ensures boards { HasCleanDisk (state S.Store conn.new) → IfOk result (FindsBeside D.Stands (option_copied lists.entry) (option_copied desk.entry) (λ H. lot_board_names H lot.now) (state S.Store conn.old)) }
     ensures kept { HasCleanDisk (state S.Store conn.new) → KeepsCommit (state S.Store conn.old) (state S.Store conn.new) }
     ensures inside { IsTrue conn.old.in_transaction → (result ≡ Err (Error.SqliteFailure code.TransactionState)) × (conn.new ≡ conn.old) }
     ensures mode { conn.old.in_transaction ≡ false → conn.new.in_transaction ≡ false }

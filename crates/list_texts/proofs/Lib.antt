@@ -1,4 +1,4 @@
-pub mod ConstantRows
-mod Kitting
-mod Once
+mod KitRows
+mod NoReelTwice
 mod Prefixes
+pub mod ConstantRows

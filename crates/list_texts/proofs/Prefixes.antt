@@ -6,7 +6,7 @@ use Rattle.std.specs.Option.{option_map}
 use Rattle.std.proofs.lemmas.Bool.{leb-true, leb-false}
 use Rattle.std.proofs.lemmas.List.Sums.{sum_by-cons}
 use Rattle.desk_types.specs.declared.view.ReelView.{ReelView}
-use Rattle.desk_types.proofs.Steps.{drop-next}
+use Rattle.desk_types.proofs.LoopSteps.{drop-next}
 use Rattle.list_texts.specs.Kit.{pieces_on, prefixes, enough}
 
 -- ---- what is enough

@@ -1,3 +1,3 @@
 pub mod ByTwo
-pub mod Installing
-pub mod Searching
+pub mod FoundLive
+pub mod PlacedSets

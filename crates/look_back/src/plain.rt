@@ -19,7 +19,7 @@ use entry_search::fronts::fronts;
 use entry_search::setup::{desk_minute, selected_on, sheet_of};
 use entry_search::slots::slots_of;
 use entry_search::views::reel_view;
-use judging::judged;
+use judging::judge;
 use std::alloc::{AllocError, Global};
 use std::marker::Model;
 
@@ -135,7 +135,7 @@ impl Desk for PlainDesk {
     fn judge(&self, stamped: &Stamped) -> Result<Change, JudgeFault> {
         let entries = self.entries.as_slice();
         let found = search(self.alloc, entries, self.takes.as_slice(), &stamped.command)?;
-        judged(self.alloc, self.rules, &found, stamped)
+        judge(self.alloc, self.rules, &found, stamped)
     }
 
     fn settle(&mut self, change: Change) -> Result<(), AllocError> {

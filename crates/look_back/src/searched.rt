@@ -140,7 +140,7 @@ impl<'a> Facts for Searched<'a> {
         reel_on(&self.floor, reel)
     }
 
-    fn left(&self, reel: &Id) -> u64 {
+    fn left_of(&self, reel: &Id) -> u64 {
         pieces(&self.floor.stock, reel)
     }
 

@@ -1,2 +1,2 @@
-pub mod Closing
-pub mod Joining
+pub mod ProgramRuns
+pub mod RunsInTurn

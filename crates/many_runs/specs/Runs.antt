@@ -10,7 +10,7 @@ use Rattle.desk_answers.specs.Ledger.{Ledger}
 use Rattle.consistency.specs.Consistent.{IsConsistent}
 use Rattle.http_answers.specs.Requests.{Reports}
 use Rattle.line_tables.specs.Rows.{Tables, HoldsAt}
-use Rattle.line_rows.specs.Rows.{tables_of}
+use Rattle.line_rows.specs.Rows.{ledger_tables}
 use Rattle.desk_file.specs.Files.{Begins, HasLineAlone, IsWhole}
 use Rattle.headline.specs.Calls.{AnswersByTheList, Call}
 
@@ -43,7 +43,7 @@ pub record IsRunFrom (reports : Reports) (run : Run) (greatest : ℕ) (H H' : Hi
   pub answers : AnswersByTheList reports (by_two greatest H) run.calls H'
   pub lawful : IsLawful Two greatest H'
   pub consistent : IsConsistent H'
-  pub ends : EndsWith run.ending (tables_of greatest H') run.last
+  pub ends : EndsWith run.ending (ledger_tables greatest H') run.last
 
 -- where the files held the tables of a desk with none beside them, or no table at all, the run went on from their list
 abbrev pub IsRun : Reports → Run → Type 0
@@ -55,10 +55,10 @@ AreRuns reports image [] = ⊤
 AreRuns reports image (run ∷ runs) = (run.first ≡ image) × IsRun reports run × AreRuns reports run.last runs
 
 -- two runs as one: it begins as the first, makes the calls of both, and ends as the second
-abbrev pub joined : Run → Run → Run
-joined run next = record run { calls = run.calls ++ next.calls; ending = next.ending; last = next.last }
+abbrev pub run_then : Run → Run → Run
+run_then run next = record run { calls = run.calls ++ next.calls; ending = next.ending; last = next.last }
 
 -- a run and those after it as one
 abbrev pub as_one : Run → List Run → Run
 as_one run [] = run
-as_one run (next ∷ runs) = as_one (joined run next) runs
+as_one run (next ∷ runs) = as_one (run_then run next) runs

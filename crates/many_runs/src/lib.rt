@@ -9,7 +9,7 @@ ghost use Rattle.http_answers.specs.Requests.{Reports};
 ghost use Rattle.http_listener.specs.Connections.{Ended};
 ghost use Rattle.http_stream.specs.Answers.{Told};
 ghost use Rattle.gateway_http.specs.Reports.{report_of};
-ghost use Rattle.desk_runs.specs.Runs.{StaysSame, TellsReport};
+ghost use Rattle.desk_runs.specs.Runs.{StaysSame, AnswersReport};
 ghost use Rattle.desk_commands.specs.declared.left.Left.TheVariants.{Desk};
 ghost use Rattle.desk_commands.specs.Runs.{RunsOn, ServesEach};
 ghost use Rattle.desk_commands.specs.Closed.{RunsTo, whole};
@@ -40,7 +40,7 @@ pub fn closed_runs_are_runs<T: Start>(desk: &FileDesk<T, StateDesk>, files: &Fil
         → ClosesTo desk.now files.now image → IsRun report_of (run_of T.Start make (fed input out out' ended ∷ []) image) }
     ensures serves { (make : Option ℕ) (ends : List Ended) (image : Image) → RunsOn T.Start make (Desk desk.now) (ServesEach ends)
         → ClosesTo desk.now files.now image → IsRun report_of (run_of T.Start make (connections_of ends) image) }
-    ensures reports { (make : Option ℕ) (target : List ℕ) (told : Told) (image : Image) → RunsOn T.Start make (Desk desk.now) (TellsReport report_of target told)
+    ensures reports { (make : Option ℕ) (target : List ℕ) (told : Told) (image : Image) → RunsOn T.Start make (Desk desk.now) (AnswersReport report_of target told)
         → ClosesTo desk.now files.now image → IsRun report_of (run_of T.Start make (asked target told ∷ []) image) }
     ensures stays { (make : Option ℕ) (image : Image) → RunsOn T.Start make (Desk desk.now) StaysSame
         → ClosesTo desk.now files.now image → IsRun report_of (run_of T.Start make [] image) }
@@ -53,7 +53,7 @@ pub fn whole_runs_are_runs<T: Start>(files: &Files<FileFrom<T>>)
         → ReadsClean ⟦<FileFrom<T> as Disk>⟧ files.now image → IsRun report_of (run_of T.Start make (fed input out out' ended ∷ []) image) }
     ensures serves { (make : Option ℕ) (ends : List Ended) (image : Image) → RunsTo whole T.Start ⟦<FileFrom<T> as Disk>⟧ (Some files.now) make (ServesEach ends)
         → ReadsClean ⟦<FileFrom<T> as Disk>⟧ files.now image → IsRun report_of (run_of T.Start make (connections_of ends) image) }
-    ensures reports { (make : Option ℕ) (target : List ℕ) (told : Told) (image : Image) → RunsTo whole T.Start ⟦<FileFrom<T> as Disk>⟧ (Some files.now) make (TellsReport report_of target told)
+    ensures reports { (make : Option ℕ) (target : List ℕ) (told : Told) (image : Image) → RunsTo whole T.Start ⟦<FileFrom<T> as Disk>⟧ (Some files.now) make (AnswersReport report_of target told)
         → ReadsClean ⟦<FileFrom<T> as Disk>⟧ files.now image → IsRun report_of (run_of T.Start make (asked target told ∷ []) image) }
     ensures stays { (make : Option ℕ) (image : Image) → RunsTo whole T.Start ⟦<FileFrom<T> as Disk>⟧ (Some files.now) make StaysSame
         → ReadsClean ⟦<FileFrom<T> as Disk>⟧ files.now image → IsRun report_of (run_of T.Start make [] image) }

@@ -1,2 +1,2 @@
 pub mod ConstantRows
-pub mod Fronts
+pub mod SentFronts

@@ -24,7 +24,7 @@ pub fn send_line<W: Write>(wire: &mut Wire<W>, text: &[u8]) -> Result<(), WriteF
     ensures front { OnErr result (SendsFront (W.contents (inner_of wire.old)) (W.contents (inner_of wire.new)) (text.now ++ 10 ∷ [])) }
 {
     if text.len() < SHORT {
-        let line = ended(text);
+        let line = with_line_feed(text);
         return send(wire, &line[..text.len() + 1]);
     }
     send(wire, text)?;
@@ -32,7 +32,7 @@ pub fn send_line<W: Write>(wire: &mut Wire<W>, text: &[u8]) -> Result<(), WriteF
 }
 
 /// The text with a line feed, in a block.
-fn ended(text: &[u8]) -> [u8; SHORT]
+fn with_line_feed(text: &[u8]) -> [u8; SHORT]
     requires { length text.now < SHORT }
     ensures { take (length text.now + 1) result ≡ text.now ++ 10 ∷ [] }
 {

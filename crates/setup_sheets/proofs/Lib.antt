@@ -1,3 +1,3 @@
-pub mod Looking
-pub mod Seen
-pub mod Starting
+pub mod SeenNames
+pub mod SheetLookUps
+pub mod VerifiedStarts

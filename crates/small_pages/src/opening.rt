@@ -37,7 +37,7 @@ pub fn open_files<D: Disk + Drop>(
     let size = PageSize::new(PAGE_SIZE).unwrap();
     match probe_blank(alloc, &mut files, size, false) {
         Ok(true) => {
-            let Some(store) = made(alloc, files, size, options) else {
+            let Some(store) = new_store(alloc, files, size, options) else {
                 return Err(FAILED);
             };
             match Connection::over(alloc, store) {
@@ -56,7 +56,7 @@ pub fn open_files<D: Disk + Drop>(
 const FAILED: Error = Error::SqliteFailure(ErrorCode::SystemIoFailure);
 
 /// Makes an empty database in the files.
-fn made<D: Disk + Drop>(
+fn new_store<D: Disk + Drop>(
     alloc: Global,
     files: Files<D>,
     size: PageSize,
@@ -66,7 +66,7 @@ fn made<D: Disk + Drop>(
     requires db { IsTrue (D.Disk.is_usable files.db) }
     ensures made { IfSome result (λ store. IsTrue (view store).is_clean → IsMadeOf files store) }
 {
-    let fresh = unopened(alloc, files, size, options)?;
+    let fresh = unopened_files(alloc, files, size, options)?;
     match fresh.create() {
         Ok(store) => Some(store),
         Err((_error, _files)) => None,
@@ -74,7 +74,7 @@ fn made<D: Disk + Drop>(
 }
 
 /// The files, of which nothing is read yet.
-fn unopened<D: Disk + Drop>(
+fn unopened_files<D: Disk + Drop>(
     alloc: Global,
     files: Files<D>,
     size: PageSize,

@@ -9,7 +9,7 @@ use Rattle.desk_types.specs.declared.command.Command.TheVariants.{MaterialsLoade
 use Rattle.desk_types.specs.declared.rules.Rules.TheVariants.{Two}
 use Rattle.desk_types.specs.Id.{Name, same}
 use Rattle.desk_types.specs.History.{History}
-use Rattle.desk_types.specs.Tape.{spliced, tape_after, tape_of}
+use Rattle.desk_types.specs.Tape.{tape_with, tape_after, tape_of}
 use Rattle.desk_types.specs.Pieces.{left_of, live_on, is_mounted}
 use Rattle.desk_types.specs.Refusals.{command_refusal}
 use Rattle.desk_types.specs.Judged.{IsJudged}
@@ -136,7 +136,7 @@ step H minute number machine slot (MaterialsSpliced m s r) judged accepted later
     now : after r ≡ number
     now = ap (λ b. option_map_or (λ (row : MountRow). row.since) (option_or (if b then Some (record { since = number; machine = m; slot = s; reel = r }) else None) (last_put H r)) 0) (same-refl r)
 
-    joined : (rs : List Name) → Ascends after rs → AllByRecursion (λ x. after x < after r) rs → Ascends after (spliced rs r)
+    joined : (rs : List Name) → Ascends after rs → AllByRecursion (λ x. after x < after r) rs → Ascends after (tape_with rs r)
     joined [] up less = tt
     joined (x ∷ xs) up less = ascends-end after (x ∷ xs) r up less
 
@@ -144,7 +144,7 @@ step H minute number machine slot (MaterialsSpliced m s r) judged accepted later
     every [] = tt
     every (x ∷ xs) = (tt, every xs)
 
-    by : (b : Bool) → Ascends after (if b then spliced (live_on H machine slot) r else live_on H machine slot)
+    by : (b : Bool) → Ascends after (if b then tape_with (live_on H machine slot) r else live_on H machine slot)
     by true =
         joined (live_on H machine slot) (ascends-agree (since_of H) after (live_on H machine slot) kept up)
         (all-agree (λ x. ⊤) (λ x. after x < after r) (live_on H machine slot)

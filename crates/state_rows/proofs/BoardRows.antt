@@ -16,7 +16,7 @@ use Rattle.desk_types.specs.Judged.{IsJudged}
 use Rattle.desk_types.proofs.Keys.{same-refl, same-sym, same-true}
 use Rattle.desk_laws.proofs.Accepted.{none-holds, next-accepted}
 use Rattle.desk_laws.proofs.Lookups.{somewhere-in_work}
-use Rattle.desk_laws.proofs.Working.{IsStartable, startable, completable}
+use Rattle.desk_laws.proofs.BoardsInWork.{IsStartable, startable, completable}
 use Rattle.state_tables.specs.declared.row.BoardRow.{BoardRow}
 use Rattle.state_tables.specs.Tables.{board_row}
 use Rattle.state_rows.specs.After.{board_after}

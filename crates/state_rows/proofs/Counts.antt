@@ -15,25 +15,25 @@ use Rattle.desk_types.specs.declared.view.ReelView.{ReelView}
 use Rattle.desk_types.specs.Id.{Name, same}
 use Rattle.desk_types.specs.History.{History}
 use Rattle.desk_types.specs.Setup.{receipt_of}
-use Rattle.desk_types.specs.Pieces.{picked, pieces_off, count_picks, picks_of, left_of, is_placed, found_by, found_of}
+use Rattle.desk_types.specs.Pieces.{pieces_picked, pieces_off, count_picks, picks_of, left_of, is_placed, found_by, found_of}
 use Rattle.desk_types.specs.Refusals.{counts_refusal, command_refusal}
 use Rattle.desk_types.specs.View.{view_of, reel_view}
 use Rattle.desk_types.specs.Judged.{IsJudged}
 use Rattle.desk_types.proofs.Keys.{same-refl, same-true}
 use Rattle.desk_laws.proofs.Balance.{unreceived-empty}
 use Rattle.desk_laws.proofs.Picks.{countable, IsCounted, counted, find-passes}
-use Rattle.desk_laws.proofs.Placing.{AreUnplaced, unplaced-count}
-use Rattle.desk_laws.proofs.Totals.{picked-split}
+use Rattle.desk_laws.proofs.InstalledPieces.{AreUnplaced, unplaced-count}
+use Rattle.desk_laws.proofs.Totals.{pieces_picked-split}
 use Rattle.state_tables.specs.declared.edit.RowEdit.TheVariants.{PutReel, PutFound}
 use Rattle.state_tables.specs.declared.row.ReelRow.{ReelRow}
 use Rattle.state_tables.specs.Tables.{Tables, columns_of, reel_row, found_row, tables_of}
 use Rattle.state_tables.specs.Edits.{with_edits}
 use Rattle.state_rows.specs.After.{placed_in, scrapped_in, step_row, reel_after, found_after}
 use Rattle.state_rows.specs.EditsOf.{is_picked, counted_row, counted_edits, count_edits}
-use Rattle.state_rows.proofs.Editing.{with_edits-append}
+use Rattle.state_rows.proofs.EditLists.{with_edits-append}
 use Rattle.state_rows.proofs.MountRows.{left_after}
 use Rattle.state_rows.proofs.ReelRows.{same-rows, found-kept}
-use Rattle.state_rows.proofs.Taking.{OnlyTakes, none-step, unpicked}
+use Rattle.state_rows.proofs.TablesLess.{OnlyTakes, none-step, unpicked}
 
 -- the row of a count for the reel
 abbrev row_of : List CountRow → Name → Option CountRow
@@ -173,14 +173,14 @@ uncounted pieces (row ∷ rows) reel none = by (same row.reel reel) refl none (u
 pub uncounted-left : (H : History) (rows : List CountRow) (reel : Name) → row_of rows reel ≡ None → left_after H (CountsTaken rows) reel ≡ left_of H reel
 uncounted-left H rows reel none =
     let nothing = unpicked (count_picks (left_of H) rows) reel (uncounted (left_of H) rows reel none) in
-    ap (λ o. unwrap_or (option_map (λ (row : CountRow). row.quantity) o) (left_of H reel - picked (count_picks (left_of H) rows) reel)) none
-    ∙ (let all : left_of H reel - picked (count_picks (left_of H) rows) reel ≡ left_of H reel = omega (arith, nothing) in all)
+    ap (λ o. unwrap_or (option_map (λ (row : CountRow). row.quantity) o) (left_of H reel - pieces_picked (count_picks (left_of H) rows) reel)) none
+    ∙ (let all : left_of H reel - pieces_picked (count_picks (left_of H) rows) reel ≡ left_of H reel = omega (arith, nothing) in all)
 
 -- a count places no piece
 nothing-placed : (picks : List Pick) (reel : Name) → AreUnplaced picks → placed_in picks reel ≡ 0
 nothing-placed [] reel all = refl
 nothing-placed (p ∷ ps) reel (first, all) =
-    ap (λ b. picked (if b then p ∷ filter (λ (x : Pick). is_placed x.purpose) ps else filter (λ (x : Pick). is_placed x.purpose) ps) reel) first ∙ nothing-placed ps reel all
+    ap (λ b. pieces_picked (if b then p ∷ filter (λ (x : Pick). is_placed x.purpose) ps else filter (λ (x : Pick). is_placed x.purpose) ps) reel) first ∙ nothing-placed ps reel all
 
 -- the row of a reel after the count
 module _ (H : History) (minute : ℕ) (rows : List CountRow) (judged : IsJudged Two H) (accepted : counts_refusal Two H [] rows ≡ None) (r : Name) where
@@ -206,7 +206,7 @@ module _ (H : History) (minute : ℕ) (rows : List CountRow) (judged : IsJudged 
       (ap (λ o. before.received + option_map_or (λ (x : CountRow). x.quantity - before.remaining) o 0) (sym is))
       (omega (arith, unplaced))
       (omega (arith, split, unplaced, said.within, exact, left))
-      (ap (λ o. unwrap_or (option_map (λ (x : CountRow). x.quantity) o) (before.remaining - picked picks r)) (sym is))
+      (ap (λ o. unwrap_or (option_map (λ (x : CountRow). x.quantity) o) (before.remaining - pieces_picked picks r)) (sym is))
       refl refl refl
     where
       said : IsCounted H rows r
@@ -215,14 +215,14 @@ module _ (H : History) (minute : ℕ) (rows : List CountRow) (judged : IsJudged 
       unplaced : placed_in picks r ≡ 0
       unplaced = nothing-placed picks r (unplaced-count (left_of H) rows)
 
-      split : picked picks r ≡ placed_in picks r + scrapped_in picks r
-      split = picked-split picks r
+      split : pieces_picked picks r ≡ placed_in picks r + scrapped_in picks r
+      split = pieces_picked-split picks r
 
-      exact : row.quantity ≡ left_of H r - picked picks r + (row.quantity - left_of H r)
+      exact : row.quantity ≡ left_of H r - pieces_picked picks r + (row.quantity - left_of H r)
       exact =
-          ap (λ o. unwrap_or (option_map (λ (x : CountRow). x.quantity) o) (left_of H r - picked picks r)) (sym is)
+          ap (λ o. unwrap_or (option_map (λ (x : CountRow). x.quantity) o) (left_of H r - pieces_picked picks r)) (sym is)
           ∙ said.told
-          ∙ ap (λ o. left_of H r - picked picks r + option_map_or (λ (x : CountRow). x.quantity - left_of H r) o 0) is
+          ∙ ap (λ o. left_of H r - pieces_picked picks r + option_map_or (λ (x : CountRow). x.quantity - left_of H r) o 0) is
 
   -- the rows of reels
   reels-counted : option_map_or (λ (row : CountRow). reel_counted row.quantity (reel_view H row.reel) (reel_row H r)) (row_of rows r) (reel_row H r)

@@ -10,7 +10,7 @@ use Rattle.desk_types.specs.declared.rules.Rules.TheVariants.{Two}
 use Rattle.desk_types.specs.Id.{Name, same}
 use Rattle.desk_types.specs.History.{History}
 use Rattle.desk_types.specs.Setup.{receipt_of}
-use Rattle.desk_types.specs.Pieces.{picked, told_by, picks_of, left_of, live_on, is_mounted}
+use Rattle.desk_types.specs.Pieces.{pieces_picked, pieces_by, picks_of, left_of, live_on, is_mounted}
 use Rattle.desk_types.specs.Refusals.{command_refusal}
 use Rattle.desk_types.specs.Judged.{IsJudged}
 use Rattle.desk_types.proofs.Keys.{same-true}
@@ -31,7 +31,7 @@ some_left H reel = nat_lt 0 (left_of H reel)
 
 -- what is left of the reel after the command
 abbrev pub left_after : History → Command → Name → ℕ
-left_after H command reel = unwrap_or (told_by reel command) (left_of H reel - picked (picks_of H command) reel)
+left_after H command reel = unwrap_or (pieces_by reel command) (left_of H reel - pieces_picked (picks_of H command) reel)
 
 -- taking nothing leaves all
 less-none : (n : ℕ) → n - 0 ≡ n

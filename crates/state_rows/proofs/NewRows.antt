@@ -34,10 +34,10 @@ use Rattle.state_tables.specs.declared.edit.RowEdit.TheVariants.{TakeSheetRow, T
 use Rattle.state_tables.specs.Tables.{at_place, columns_of, Tables, tables_of, last_put, reel_row}
 use Rattle.state_tables.specs.Edits.{with_edit, with_edits, IsNew, AreNew, takes_out, AreTakesFirst, IsBalanced, AreBalanced}
 use Rattle.state_rows.specs.After.{fresh_row, step_row, placed_row}
-use Rattle.state_rows.specs.EditsOf.{taken_rows, put_rows, opened_row, sealed_row, baked_row, reel_edit, board_edit, reels_on, pick_of, gathered, take_spent, counted_row, counted_edits, count_edits, place_rows, AreTakeEdits, AreEditsOf}
-use Rattle.state_rows.proofs.Editing.{rows-taken}
+use Rattle.state_rows.specs.EditsOf.{taken_rows, put_rows, opened_row, sealed_row, baked_row, reel_edit, board_edit, reels_on, pick_of, picked_rows, take_spent, counted_row, counted_edits, count_edits, place_rows, AreTakeEdits, AreEditsOf}
+use Rattle.state_rows.proofs.EditLists.{rows-taken}
 use Rattle.state_rows.proofs.ReelRows.{reel_row-next}
-use Rattle.state_rows.proofs.Taking.{OnlyTakes, picks-again, reels-took}
+use Rattle.state_rows.proofs.TablesLess.{OnlyTakes, picks-again, reels-took}
 
 -- ---- lists of edits
 
@@ -140,7 +140,7 @@ count-in H (row ∷ rows) t judged =
 
 -- the row of a reel off which a command takes pieces accounts for them
 took-balanced : (H : History) (e : Entry) (reel : Name) (row : ReelRow) → IsJudged Two (e ∷ H) → OnlyTakes reel e.stamped.command → receipt_by reel e.effective e.stamped.command ≡ None
-    → gathered (reel_row H) (picks_of H e.stamped.command) reel ≡ Some row → IsBalanced (PutReel row)
+    → picked_rows (reel_row H) (picks_of H e.stamped.command) reel ≡ Some row → IsBalanced (PutReel row)
 took-balanced H e reel row judged only other is =
     row-balanced (e ∷ H) reel row judged (
     reel_row-next H e reel judged
@@ -224,9 +224,9 @@ spent-taken (row ∷ rows) = by (row.remaining == 0) (spent-taken rows)
     by true rest = (refl, rest)
     by false rest = rest
 
-module _ (H : History) (number : ℕ) (takes : List Take) (balanced : (reel : Name) (row : ReelRow) → gathered (reel_row H) (map pick_of takes) reel ≡ Some row → IsBalanced (PutReel row)) where
+module _ (H : History) (number : ℕ) (takes : List Take) (balanced : (reel : Name) (row : ReelRow) → picked_rows (reel_row H) (map pick_of takes) reel ≡ Some row → IsBalanced (PutReel row)) where
   -- gathered rows are put
-  rows-in : (rows : List ReelRow) (t : Tables) → AllByRecursion (λ row. gathered (reel_row H) (map pick_of takes) row.reel ≡ Some row) rows → ArePutIn (map (λ row. PutReel row) rows) t
+  rows-in : (rows : List ReelRow) (t : Tables) → AllByRecursion (λ row. picked_rows (reel_row H) (map pick_of takes) row.reel ≡ Some row) rows → ArePutIn (map (λ row. PutReel row) rows) t
   rows-in [] t each = tt
   rows-in (row ∷ rows) t (is, each) = ((refl, balanced row.reel row is, tt), rows-in rows (with_edit (PutReel row) t) each)
 
@@ -261,7 +261,7 @@ module _ (H : History) (minute number : ℕ) (takes : List Take) (placed : ℕ �
   -- the gathered rows account for the pieces that the command takes
   abbrev TakesBalance : Command → Type 0
   TakesBalance command = (reel : Name) (row : ReelRow) → OnlyTakes reel command → receipt_by reel minute command ≡ None
-      → gathered (reel_row H) (map pick_of takes) reel ≡ Some row → IsBalanced (PutReel row)
+      → picked_rows (reel_row H) (map pick_of takes) reel ≡ Some row → IsBalanced (PutReel row)
 
   put-only : (edits given : List RowEdit) → edits ≡ given → ArePutIn given (tables_with H placed) → AreFit edits (tables_with H placed)
   put-only edits given are puts = subst (λ xs. AreFit xs (tables_with H placed)) (sym are) (put-fit given (tables_with H placed) puts).0
@@ -306,5 +306,5 @@ pub edits-fit : (H : History) (e : Entry) (number : ℕ) (placed : ℕ → ℕ �
 edits-fit H e number placed edits (next, judged) free are =
     command-fit H e.effective number _ placed judged free e.stamped.command edits (next-accepted H e next)
     (λ reel row only other is.
-    took-balanced H e reel row (next, judged) only other (sym (ap (λ ps. gathered (reel_row H) ps reel) (picks-again H e.effective (picks_of H e.stamped.command))) ∙ is))
+    took-balanced H e reel row (next, judged) only other (sym (ap (λ ps. picked_rows (reel_row H) ps reel) (picks-again H e.effective (picks_of H e.stamped.command))) ∙ is))
     are

@@ -9,7 +9,7 @@ use Rattle.desk_types.specs.declared.rules.Rules.TheVariants.{Two}
 use Rattle.desk_types.specs.Id.{Name}
 use Rattle.desk_types.specs.History.{History, now_of, latest}
 use Rattle.desk_types.specs.Setup.{receipt_by, receipt_of}
-use Rattle.desk_types.specs.Pieces.{picked, picks_of, told_by, left_of, found_by, found_of, received_of, placed_of, scrapped_of}
+use Rattle.desk_types.specs.Pieces.{pieces_picked, picks_of, pieces_by, left_of, found_by, found_of, received_of, placed_of, scrapped_of}
 use Rattle.desk_types.specs.FloorLife.{open_by, baked_by, last_bake, exposure_starts, exposure_of, since_after, out_since, is_baked}
 use Rattle.desk_types.specs.View.{used_of, view_of}
 use Rattle.desk_types.specs.Judged.{IsJudged}
@@ -23,7 +23,7 @@ use Rattle.state_tables.specs.declared.row.ReelRow.{ReelRow}
 use Rattle.state_tables.specs.Tables.{columns_of, reel_row, found_row}
 use Rattle.state_rows.specs.After.{fresh_row, used_after, bakes, step_row, reel_after, found_after}
 use Rattle.state_rows.proofs.Exposed.{now-next, now-before, exposure-in_bag, exposure-out, since-by}
-use Rattle.state_rows.proofs.Handled.{IsReceipt, IsReceipt-said, IsBake-said, IsQuiet-said, unbaked}
+use Rattle.state_rows.proofs.ReelCommands.{IsReceipt, IsReceipt-said, IsBake-said, IsQuiet-said, unbaked}
 
 -- ---- pieces
 
@@ -34,7 +34,7 @@ found-next H e reel = refl
 
 -- what is left after the next entry, as it tells or takes
 left-told : (H : History) (e : Entry) (reel : Name)
-    → left_of (e ∷ H) reel ≡ unwrap_or (told_by reel e.stamped.command) (left_of H reel - picked (picks_of H e.stamped.command) reel)
+    → left_of (e ∷ H) reel ≡ unwrap_or (pieces_by reel e.stamped.command) (left_of H reel - pieces_picked (picks_of H e.stamped.command) reel)
 unfolding left_of
 left-told H e reel = refl
 

@@ -22,7 +22,7 @@ use Rattle.desk_laws.proofs.Mounts.{has}
 use Rattle.state_tables.specs.declared.row.MountRow.{MountRow}
 use Rattle.state_tables.specs.Tables.{put_by, last_put, mount_row}
 use Rattle.state_rows.specs.Kept.{by_since, since_is, ListsMounts}
-use Rattle.state_rows.proofs.Meaning.{mount-live, live-mount}
+use Rattle.state_rows.proofs.MountedRows.{mount-live, live-mount}
 use Rattle.state_rows.proofs.Ascending.{since_of, Ascends, since-put, since-within, since-ascends, ascending-same}
 
 -- ---- numbers

@@ -15,7 +15,7 @@ use Rattle.desk_types.specs.declared.rules.Rules.TheVariants.{Two}
 use Rattle.desk_types.specs.Id.{Name, same}
 use Rattle.desk_types.specs.History.{History}
 use Rattle.desk_types.specs.Setup.{sheet_by, sheet_of, selected_on, row_in, row_on}
-use Rattle.desk_types.specs.Tape.{spliced, tape_after, tape_of}
+use Rattle.desk_types.specs.Tape.{tape_with, tape_after, tape_of}
 use Rattle.desk_types.specs.Pieces.{left_of, live_on}
 use Rattle.desk_types.specs.View.{defines_on, has_sheet, loaded_slots, mount_of, slot_mounts}
 use Rattle.desk_types.specs.Refusals.{command_refusal}
@@ -67,7 +67,7 @@ bare-step H minute machine slot (MaterialsLoaded m s r) accepted none = by (same
     by false here = refl
 bare-step H minute machine slot (MaterialsSpliced m s r) accepted none = by (same m machine && same s slot)
   where
-    by : (b : Bool) → (if b then spliced [] r else []) ≡ []
+    by : (b : Bool) → (if b then tape_with [] r else []) ≡ []
     by true = refl
     by false = refl
 bare-step H minute machine slot (MaterialsUnloaded m s) accepted none = by (same m machine && same s slot)

@@ -11,7 +11,7 @@ use Rattle.desk_types.specs.declared.take.Purpose.{Purpose}
 use Rattle.desk_types.specs.declared.take.Purpose.TheVariants.{Placed}
 use Rattle.desk_types.specs.Id.{Name, same}
 use Rattle.desk_types.specs.Setup.{receipt_by}
-use Rattle.desk_types.specs.Pieces.{picked, is_placed, told_by, found_by}
+use Rattle.desk_types.specs.Pieces.{pieces_picked, is_placed, pieces_by, found_by}
 use Rattle.desk_types.specs.FloorLife.{open_by, since_after, baked_by}
 use Rattle.state_tables.specs.declared.row.ReelRow.{ReelRow}
 use Rattle.state_tables.specs.declared.row.MountRow.{MountRow}
@@ -21,10 +21,10 @@ use Rattle.state_tables.specs.Tables.{at_place}
 
 -- how many pieces of the reel the picks place, and how many they scrap
 abbrev pub placed_in : List Pick → Name → ℕ
-placed_in picks reel = picked (filter (λ p. is_placed p.purpose) picks) reel
+placed_in picks reel = pieces_picked (filter (λ p. is_placed p.purpose) picks) reel
 
 abbrev pub scrapped_in : List Pick → Name → ℕ
-scrapped_in picks reel = picked (filter (λ p. not (is_placed p.purpose)) picks) reel
+scrapped_in picks reel = pieces_picked (filter (λ p. not (is_placed p.purpose)) picks) reel
 
 -- the row of a reel that was just received
 abbrev pub fresh_row : Name → Receipt → ReelRow
@@ -60,7 +60,7 @@ step_row minute picks reel command row = record row {
   received = row.received + found_by row.remaining reel command;
   placed = row.placed + placed_in picks reel;
   scrapped = row.scrapped + scrapped_in picks reel;
-  remaining = unwrap_or (told_by reel command) (row.remaining - picked picks reel);
+  remaining = unwrap_or (pieces_by reel command) (row.remaining - pieces_picked picks reel);
   used = used_after (bakes reel command) (open_by reel command) minute row.open_since row.used;
   open_since = since_after (open_by reel command) minute row.open_since;
   baked = unwrap_or (baked_by reel command) row.baked;

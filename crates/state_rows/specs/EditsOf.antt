@@ -13,7 +13,7 @@ use Rattle.desk_types.specs.declared.view.ReelView.{ReelView}
 use Rattle.desk_types.specs.Id.{Name, same}
 use Rattle.desk_types.specs.History.{History}
 use Rattle.desk_types.specs.Setup.{sheet_of, selected_on}
-use Rattle.desk_types.specs.Pieces.{picked, is_placed, placed_of, scrapped_of}
+use Rattle.desk_types.specs.Pieces.{pieces_picked, is_placed, placed_of, scrapped_of}
 use Rattle.desk_types.specs.View.{mounts_on, reel_view}
 use Rattle.state_tables.specs.declared.row.ReelRow.{ReelRow}
 use Rattle.state_tables.specs.declared.row.PlacementRow.{PlacementRow}
@@ -77,12 +77,12 @@ abbrev pub less_row : List Pick → ReelRow → ReelRow
 less_row picks row = record row {
   placed = row.placed + placed_in picks row.reel;
   scrapped = row.scrapped + scrapped_in picks row.reel;
-  remaining = row.remaining - picked picks row.reel;
+  remaining = row.remaining - pieces_picked picks row.reel;
 }
 
 -- the rows of the reels off which these pieces come, where the reels have these rows before
-abbrev pub gathered : (Name → Option ReelRow) → List Pick → Name → Option ReelRow
-gathered rows picks r = if is_picked picks r then option_map (less_row picks) (rows r) else None
+abbrev pub picked_rows : (Name → Option ReelRow) → List Pick → Name → Option ReelRow
+picked_rows rows picks r = if is_picked picks r then option_map (less_row picks) (rows r) else None
 
 -- whether the row is one of a reel with nothing left
 abbrev pub is_spent : Option ReelRow → Bool
@@ -138,9 +138,9 @@ after_placing number takes t = record t {
 -- The edits of takes: the reels with nothing left are taken off, the gathered rows are put, and then the pieces are placed.
 pub record AreTakeEdits (H : History) (number : ℕ) (takes : List Take) (edits : List RowEdit) : Type 0 where
   pub rows : List ReelRow
-  pub each : AllByRecursion (λ row. gathered (reel_row H) (map pick_of takes) row.reel ≡ Some row) rows
+  pub each : AllByRecursion (λ row. picked_rows (reel_row H) (map pick_of takes) row.reel ≡ Some row) rows
   pub are : edits ≡ (flat_map take_spent rows ++ map (λ row. PutReel row) rows) ++ place_rows number 1 takes
-  pub lead : (t : Tables) → with_edits edits t ≡ after_placing number takes (after_rows (gathered (reel_row H) (map pick_of takes)) t)
+  pub lead : (t : Tables) → with_edits edits t ≡ after_placing number takes (after_rows (picked_rows (reel_row H) (map pick_of takes)) t)
 
 -- ---- counts
 

@@ -15,7 +15,7 @@ use state_tables::{ReelRow, RowEdit};
 use std::alloc::{AllocError, Global};
 
 /// The reel's row with so many pieces counted.
-fn counted(view: &ReelView, pieces: u64) -> ReelRow
+fn counted_row(view: &ReelView, pieces: u64) -> ReelRow
     requires { CountFits pieces view.now }
     ensures { result ≡ counted_row pieces (columns_of view.now) }
 {
@@ -39,7 +39,7 @@ fn note(edits: &mut Vec<RowEdit>, view: &ReelView, pieces: u64) -> Result<(), Al
     requires { CountFits pieces view.now }
     ensures { OnOk result (edits.new.items ≡ edits.old.items ++ counted_edits pieces (Some view.now)) }
 {
-    edits.push(RowEdit::PutReel(counted(view, pieces)))?;
+    edits.push(RowEdit::PutReel(counted_row(view, pieces)))?;
     if view.remaining < pieces {
         edits.push(RowEdit::PutFound {
             reel: view.reel,

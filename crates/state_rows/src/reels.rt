@@ -45,7 +45,7 @@ pub fn row<D: Desk>(desk: &D, reel: &Id) -> Option<ReelRow>
 }
 
 /// The row of a reel out of its bag: since this minute, if it was in its bag.
-fn opened(row: ReelRow, minute: Minute) -> ReelRow
+fn opened_row(row: ReelRow, minute: Minute) -> ReelRow
     ensures { result ≡ opened_row minute row }
 {
     let open_since = match row.open_since {
@@ -56,7 +56,7 @@ fn opened(row: ReelRow, minute: Minute) -> ReelRow
 }
 
 /// The exposure at the minute.
-fn kept(row: &ReelRow, minute: Minute) -> u64
+fn exposure_at(row: &ReelRow, minute: Minute) -> u64
     ensures { row.now.used + option_map_or (λ from. minute - from) row.now.open_since 0 < 2 ^ 64 → result ≡ row.now.used + option_map_or (λ from. minute - from) row.now.open_since 0 }
 {
     match row.open_since {
@@ -68,10 +68,10 @@ fn kept(row: &ReelRow, minute: Minute) -> u64
 }
 
 /// The row of a reel that is put into its bag.
-fn sealed(row: ReelRow, minute: Minute) -> ReelRow
+fn sealed_row(row: ReelRow, minute: Minute) -> ReelRow
     ensures { row.used + option_map_or (λ from. minute - from) row.open_since 0 < 2 ^ 64 → result ≡ sealed_row minute row }
 {
-    let used = kept(&row, minute);
+    let used = exposure_at(&row, minute);
     ReelRow {
         used,
         open_since: None,
@@ -80,7 +80,7 @@ fn sealed(row: ReelRow, minute: Minute) -> ReelRow
 }
 
 /// The row of a baked reel.
-fn baked(row: ReelRow) -> ReelRow
+fn baked_row(row: ReelRow) -> ReelRow
     ensures { result ≡ baked_row row }
 {
     ReelRow {
@@ -103,7 +103,7 @@ pub fn open<D: Desk>(
     let mut edits = Vec::new(alloc);
     match row(desk, reel) {
         Some(row) => {
-            edits.push(RowEdit::PutReel(opened(row, minute)))?;
+            edits.push(RowEdit::PutReel(opened_row(row, minute)))?;
             Ok(edits)
         }
         None => Ok(edits),
@@ -123,7 +123,7 @@ pub fn seal<D: Desk>(
     let mut edits = Vec::new(alloc);
     match row(desk, reel) {
         Some(row) => {
-            edits.push(RowEdit::PutReel(sealed(row, minute)))?;
+            edits.push(RowEdit::PutReel(sealed_row(row, minute)))?;
             Ok(edits)
         }
         None => Ok(edits),
@@ -137,7 +137,7 @@ pub fn bake<D: Desk>(alloc: Global, desk: &D, reel: &Id) -> Result<Vec<RowEdit>,
     let mut edits = Vec::new(alloc);
     match row(desk, reel) {
         Some(row) => {
-            edits.push(RowEdit::PutReel(baked(row)))?;
+            edits.push(RowEdit::PutReel(baked_row(row)))?;
             Ok(edits)
         }
         None => Ok(edits),
@@ -157,7 +157,7 @@ pub fn mount<D: Desk>(
     edits.push(RowEdit::PutMount(put))?;
     match row(desk, &put.reel) {
         Some(row) => {
-            edits.push(RowEdit::PutReel(opened(row, minute)))?;
+            edits.push(RowEdit::PutReel(opened_row(row, minute)))?;
             Ok(edits)
         }
         None => Ok(edits),
@@ -165,7 +165,7 @@ pub fn mount<D: Desk>(
 }
 
 /// The row of a reel that is received.
-pub fn received(reel: Id, part: Id, lot: Id, moisture: Moisture, quantity: Quantity) -> ReelRow
+pub fn fresh_row(reel: Id, part: Id, lot: Id, moisture: Moisture, quantity: Quantity) -> ReelRow
     ensures { (minute : ℕ) → result ≡ fresh_row reel (record { part = part; lot = lot; moisture = moisture; quantity = quantity; effective = minute }) }
 {
     ReelRow {

@@ -10,7 +10,7 @@ ghost use Rattle.state_tables.specs.Edits.{with_edits, AreNew, AreTakesFirst, Ar
 ghost use Rattle.state_rows.specs.EditsOf.{pick_of, AreEditsOf, ArePiecesFitting};
 
 use crate::counted::count;
-use crate::reels::{bake, mount, open, received, seal};
+use crate::reels::{bake, fresh_row, mount, open, seal};
 use crate::sheets::define;
 use crate::slot_rows::{board, unload};
 use crate::takes::take;
@@ -71,7 +71,7 @@ fn edits_of<D: Desk>(
             quantity,
         } => one(
             alloc,
-            RowEdit::PutReel(received(*reel, *part, *lot, *moisture, *quantity)),
+            RowEdit::PutReel(fresh_row(*reel, *part, *lot, *moisture, *quantity)),
         ),
         Command::ReelOpened { reel } => open(alloc, desk, reel, minute),
         Command::ReelSealed { reel } => seal(alloc, desk, reel, minute),

@@ -13,7 +13,7 @@ ghost use Rattle.state_tables.specs.declared.row.PlacementRow.{PlacementRow};
 ghost use Rattle.state_tables.specs.declared.edit.RowEdit.TheVariants.{PutReel, PutPlacement};
 ghost use Rattle.state_tables.specs.Tables.{reel_row};
 ghost use Rattle.state_rows.specs.After.{placed_row};
-ghost use Rattle.state_rows.specs.EditsOf.{pick_of, less_by, LessFits, ArePiecesFitting, gathered, take_spent, place_rows, AreTakeEdits};
+ghost use Rattle.state_rows.specs.EditsOf.{pick_of, less_by, LessFits, ArePiecesFitting, picked_rows, take_spent, place_rows, AreTakeEdits};
 
 use crate::reels::row;
 use desk_types::{Desk, Id, Purpose, Take};
@@ -67,7 +67,7 @@ fn gather<D: Desk>(
     takes: &[Take],
 ) -> Result<BTreeMap<Id, ReelRow>, AllocError>
     requires fits { (H : History) × D.Stands desk.now H × ArePiecesFitting H (map pick_of takes.now) }
-    ensures { (H : History) → D.Stands desk.now H → IfOk result (λ rows. (r : Name) → get by_name rows r ≡ gathered (reel_row H) (map pick_of takes.now) r) }
+    ensures { (H : History) → D.Stands desk.now H → IfOk result (λ rows. (r : Name) → get by_name rows r ≡ picked_rows (reel_row H) (map pick_of takes.now) r) }
 {
     let mut rows = BTreeMap::new(alloc);
     for take in takes {

@@ -3,7 +3,7 @@
 
 mod feeding;
 
-use desk_answers::{Answer, Line};
+use desk_answers::{Answer, Owner};
 use desk_types::{Command, Desk, Id, Minute, Stamped};
 use feeder_state::StateDesk;
 use line_schema::{LineStore, OpenFault, in_memory};
@@ -18,7 +18,7 @@ fn id(text: &str) -> Result<Id, Fail> {
 }
 
 /// The command of a stored text, in a message of minute 0.
-fn stamped(alloc: Global, uid: &str, text: &str) -> Result<Stamped, Fail> {
+fn message_of_text(alloc: Global, uid: &str, text: &str) -> Result<Stamped, Fail> {
     let command = Command::read_text(alloc, text.as_bytes())?;
     Ok(Stamped {
         uid: id(uid)?,
@@ -37,7 +37,7 @@ fn message_of(
     members: &str,
 ) -> Result<(Stamped, String), Fail> {
     let uid = format!(in alloc; "u{number}")?;
-    let message = stamped(alloc, uid.as_str(), text)?;
+    let message = message_of_text(alloc, uid.as_str(), text)?;
     let wanted = format!(in alloc;
         "{{\"Answer\":\"Accepted\",{members}\"Number\":{number},\"UniqueID\":\"u{number}\"}}"
     )?;
@@ -58,7 +58,7 @@ fn is_accepted(rt: &impl Abort, answer: Answer, number: u32, wanted: &str) -> Re
 }
 
 /// Defines the part of this number, now or before.
-fn define<L: Line>(rt: &impl Abort, alloc: Global, line: &mut L, number: u32) -> Result<(), Fail>
+fn define<L: Owner>(rt: &impl Abort, alloc: Global, line: &mut L, number: u32) -> Result<(), Fail>
     requires { L.Ready line.old }
     ensures { L.Ready line.new }
 {
@@ -68,7 +68,12 @@ fn define<L: Line>(rt: &impl Abort, alloc: Global, line: &mut L, number: u32) ->
 }
 
 /// Defines as many parts, each of its own number.
-fn define_all<L: Line>(rt: &impl Abort, alloc: Global, line: &mut L, parts: u32) -> Result<(), Fail>
+fn define_all<L: Owner>(
+    rt: &impl Abort,
+    alloc: Global,
+    line: &mut L,
+    parts: u32,
+) -> Result<(), Fail>
     requires { L.Ready line.old }
     ensures { L.Ready line.new }
 {
@@ -79,7 +84,7 @@ fn define_all<L: Line>(rt: &impl Abort, alloc: Global, line: &mut L, parts: u32)
 }
 
 /// The same once more: each repeat gets its first answer.
-fn define_twice<L: Line>(
+fn define_twice<L: Owner>(
     rt: &impl Abort,
     alloc: Global,
     line: &mut L,
@@ -113,14 +118,14 @@ fn make<S: Alter>(rt: &impl Abort, alloc: Global, conn: Connection<S>, parts: u3
             }
         }
         Err((fault, conn)) => Made {
-            outcome: refused(fault),
+            outcome: fail_with(fault),
             count: 0,
             conn,
         },
     }
 }
 
-fn refused(fault: OpenFault) -> Result<(), Fail> {
+fn fail_with(fault: OpenFault) -> Result<(), Fail> {
     match fault {
         OpenFault::Unavailable => Err(AllocError)?,
         fault => Err(fault)?,
@@ -141,7 +146,7 @@ fn open<S: Alter>(rt: &impl Abort, alloc: Global, conn: Connection<S>, parts: u3
             }
         }
         Err((fault, conn)) => Made {
-            outcome: refused(fault),
+            outcome: fail_with(fault),
             count: 0,
             conn,
         },
@@ -198,7 +203,7 @@ fn other_tables_stay(rt: HostRuntime) -> Result<(), Fail> {
 
 /// A line that shows whether its desk is at hand. Where it isn't, the next command that is judged has
 /// it made of the tables first.
-trait Shown: Line {
+trait Shown: Owner {
     fn has_desk(&self) -> bool;
 }
 
@@ -220,7 +225,7 @@ const FIRST_RUN: [(&str, &str); 6] = [
 ];
 
 /// The command of this number, sent once more where it was Unavailable: how often it was, at most once.
-fn insist<L: Line>(rt: &impl Abort, alloc: Global, line: &mut L, number: u32) -> Result<u32, Fail>
+fn insist<L: Owner>(rt: &impl Abort, alloc: Global, line: &mut L, number: u32) -> Result<u32, Fail>
     requires { L.Ready line.old }
     ensures { L.Ready line.new }
 {
@@ -299,7 +304,7 @@ fn build_boards<L: Shown>(rt: &impl Abort, alloc: Global, line: &mut L) -> Resul
     insist_on_all(rt, alloc, line)?;
     for n in 0..6u32 {
         let uid = format!(in alloc; "b{n}")?;
-        let message = stamped(alloc, uid.as_str(), BOARDS[(n % 6) as usize])?;
+        let message = message_of_text(alloc, uid.as_str(), BOARDS[(n % 6) as usize])?;
         match line.command(&message) {
             Answer::Accepted(_, _) => {}
             _ => return Err(Fail::from(AllocError)),
@@ -341,7 +346,7 @@ fn boards_of_a_lot(rt: HostRuntime) -> Result<(), Fail> {
             let _conn = store.into_connection();
             told
         }
-        Err((fault, _)) => refused(fault),
+        Err((fault, _)) => fail_with(fault),
     }
 }
 

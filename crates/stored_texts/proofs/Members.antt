@@ -5,7 +5,7 @@ use Rattle.std.specs.Result.{IsErrAnd}
 use Rattle.stored_texts.specs.Apart.{names_apart, numbers_apart, levels_apart, quantities_fit, pairs_apart, triples_apart, lists_apart, rows_apart, counts_apart}
 use Rattle.desk_types.specs.Command.{IsCommand, IsListOf, IsSheetRow, IsCountRow}
 use Rattle.desk_types.specs.Designator.{IsDesignator}
-use Rattle.stored_texts.specs.Fields.{Reads, TellsApart, TripleInRange, triple_fields, number_fields, level_fields, IsNumber, members_of, IsSaidBy}
+use Rattle.stored_texts.specs.Fields.{Reads, IsPrefixFree, TripleInRange, triple_fields, number_fields, level_fields, IsNumber, members_of, IsSaidBy}
 use Rattle.desk_types.specs.Id.{Name, IsId}
 use Rattle.desk_types.specs.Level.{IsLabel}
 use Rattle.desk_types.specs.Number.{IsQuantity}
@@ -164,21 +164,21 @@ receipt_fields m = triple_fields name_fields name_fields name_fields m.0 ++ trip
 pub receipt_in_range : (m : MembersOf ReelReceived) → IsCommand (made ReelReceived m) → AreOfReceipt m
 receipt_in_range m is = ((is.0, is.1, is.2), (tt, is.4, label_fits m.1.0 m.1.2 is.3))
 
-two_names : TellsApart (λ (m : Name × Name). IsId m.0 × IsId m.1) (λ m. m.0 ∷ m.1 ∷ [])
+two_names : IsPrefixFree (λ (m : Name × Name). IsId m.0 × IsId m.1) (λ m. m.0 ∷ m.1 ∷ [])
 two_names = pairs_apart IsId IsId name_fields name_fields (names_apart IsId) (names_apart IsId)
 
-two_names_and : {X : Type 0} (Is : X → Type 0) (spelling : X → List Field) → TellsApart Is spelling
-    → TellsApart (λ (m : Name × Name × X). IsId m.0 × IsId m.1 × Is m.2) (λ m. m.0 ∷ m.1 ∷ spelling m.2)
+two_names_and : {X : Type 0} (Is : X → Type 0) (spelling : X → List Field) → IsPrefixFree Is spelling
+    → IsPrefixFree (λ (m : Name × Name × X). IsId m.0 × IsId m.1 × Is m.2) (λ m. m.0 ∷ m.1 ∷ spelling m.2)
 two_names_and Is spelling apart = triples_apart IsId IsId Is name_fields name_fields spelling (names_apart IsId) (names_apart IsId) apart
 
-pub receipts_apart : TellsApart AreOfReceipt receipt_fields
+pub receipts_apart : IsPrefixFree AreOfReceipt receipt_fields
 receipts_apart =
     pairs_apart (TripleInRange IsId IsId IsId) (TripleInRange (λ _. ⊤) IsQuantity IsNumber) (triple_fields name_fields name_fields name_fields) (triple_fields level_fields number_fields number_fields)
     (triples_apart IsId IsId IsId name_fields name_fields name_fields (names_apart IsId) (names_apart IsId) (names_apart IsId))
     (triples_apart (λ _. ⊤) IsQuantity IsNumber level_fields number_fields number_fields (levels_apart (λ _. ⊤)) (numbers_apart IsQuantity quantities_fit) (numbers_apart IsNumber (λ n fits. fits)))
 
 -- the members of no command begin those of another of its word
-apart_by_word : (word : Word) → TellsApart (λ (m : MembersOf word). IsCommand (made word m)) (λ m. members_of (made word m))
+apart_by_word : (word : Word) → IsPrefixFree (λ (m : MembersOf word). IsCommand (made word m)) (λ m. members_of (made word m))
 apart_by_word PartDefined = names_apart IsId
 apart_by_word AlternateAllowed = two_names
 apart_by_word SheetDefined = two_names_and (IsListOf IsSheetRow) (list_fields row_fields) (lists_apart IsSheetRow row_fields rows_apart)
@@ -198,7 +198,7 @@ apart_by_word CountsTaken = lists_apart IsCountRow count_fields counts_apart
 apart_by_word ClockSet = λ a b left right is_a is_b e. (refl, e)
 
 -- and so of commands
-pub commands_apart : (word : Word) → TellsApart (IsSaidBy word) members_of
+pub commands_apart : (word : Word) → IsPrefixFree (IsSaidBy word) members_of
 commands_apart word a b left right is_a is_b e =
     let m = said word a is_a.1 in
     let n = said word b is_b.1 in

@@ -6,7 +6,7 @@ use Rattle.std.proofs.lemmas.List.{length-append}
 use Rattle.std.proofs.lemmas.List.Elements.{recursion_from_All}
 use Rattle.stored_texts.specs.Apart.{front_apart, numbers_apart, lengths_fit}
 use Rattle.desk_types.specs.Command.{IsListOf}
-use Rattle.stored_texts.specs.Fields.{Reads, TellsApart, AreCounted, IsNumber}
+use Rattle.stored_texts.specs.Fields.{Reads, IsPrefixFree, AreCounted, IsNumber}
 use Rattle.stored_texts.specs.StoredText.{Field, list_fields}
 use Rattle.stored_texts.specs.declared.fields.Unread.{Unread}
 use Rattle.stored_texts.specs.declared.fields.Unread.TheVariants.{NoMemory, NotStored}
@@ -23,7 +23,7 @@ unread_as {X} {Y} Is spelling IsY spelling_y of is spelled before after then fau
     by NotStored unread = λ y more is_y e. unread (of y) more (is y is_y) (e ∙ ap (λ fields. fields ++ more) (spelled y))
 
 -- One more value of some that are as many as a count is not there.
-pub value_unread : {X : Type 0} (Is : X → Type 0) (spelling : X → List Field) → TellsApart Is spelling
+pub value_unread : {X : Type 0} (Is : X → Type 0) (spelling : X → List Field) → IsPrefixFree Is spelling
     → (count : ℕ) (found : List X) (before here after then : List Field) (fault : Unread) (r : Result (List X) Unread)
     → AllByRecursion Is found → before ≡ flat_map spelling found ++ here → length found < count → IsErrAnd r (λ e. e ≡ fault)
     → Reads Is spelling here after (Err fault) → Reads (AreCounted Is count) (flat_map spelling) before then r

@@ -10,7 +10,7 @@ use Rattle.std.proofs.lemmas.Str.Parse.{digit_at}
 use Rattle.stored_texts.specs.Apart.{lengths_fit, quantities_fit, counted_quantities_fit}
 use Rattle.desk_types.specs.Command.{IsCommand, IsListOf, IsSheetRow, IsCountRow}
 use Rattle.desk_types.specs.Designator.{IsDesignator}
-use Rattle.stored_texts.specs.Fields.{fields_in, after_tabs, written, members_of}
+use Rattle.stored_texts.specs.Fields.{fields_in, after_tabs, fields_text, members_of}
 use Rattle.desk_types.specs.Id.{IsId}
 use Rattle.desk_types.specs.Level.{text_of}
 use Rattle.stored_texts.specs.StoredText.{Field, word_text, name_fields, list_fields, row_fields, count_fields, fields_of, stored_text}
@@ -138,15 +138,15 @@ unfolding stored_text
 stored_text-fields_in c text e = sym (join_with_byte-slice_split 0x09 text) ∙ ap (join_with_byte 0x09) e
 
 -- fields joined by tabs are the first, and the others behind a tab each
-pub stored_text-written : (c : Command) → stored_text c ≡ written (fields_of c)
+pub stored_text-fields_text : (c : Command) → stored_text c ≡ fields_text (fields_of c)
 unfolding stored_text
-stored_text-written c = by (fields_of c)
+stored_text-fields_text c = by (fields_of c)
   where
     behind : (field : Field) (fields : List Field) → join_with_byte 0x09 (field ∷ fields) ≡ field ++ after_tabs fields
     behind field [] = sym (append-nil field)
     behind field (next ∷ fields) = ap (λ rest. field ++ 0x09 ∷ rest) (behind next fields)
 
-    by : (fields : List Field) → join_with_byte 0x09 fields ≡ written fields
+    by : (fields : List Field) → join_with_byte 0x09 fields ≡ fields_text fields
     by [] = refl
     by (field ∷ fields) = behind field fields
 

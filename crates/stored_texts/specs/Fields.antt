@@ -26,8 +26,8 @@ Reads {X} InRange spelling before after (Err NotStored) = (x : X) (more : List F
 Reads InRange spelling before after (Err NoMemory) = ⊤
 
 -- the spelling of no value begins that of another, whatever follows
-abbrev pub TellsApart : {X : Type 0} → (X → Type 0) → (X → List Field) → Type 0
-TellsApart {X} InRange spelling =
+abbrev pub IsPrefixFree : {X : Type 0} → (X → Type 0) → (X → List Field) → Type 0
+IsPrefixFree {X} InRange spelling =
     (a b : X) (left right : List Field) → InRange a → InRange b → spelling a ++ left ≡ spelling b ++ right → (a ≡ b) × (left ≡ right)
 
 -- two values: the fields of the first, and then those of the second
@@ -65,9 +65,9 @@ abbrev pub after_tabs : List Field → List ℕ
 after_tabs fields = flat_map (λ field. 0x09 ∷ field) fields
 
 -- the first field, and the others behind a tab each
-abbrev pub written : List Field → List ℕ
-written [] = []
-written (field ∷ fields) = field ++ after_tabs fields
+abbrev pub fields_text : List Field → List ℕ
+fields_text [] = []
+fields_text (field ∷ fields) = field ++ after_tabs fields
 
 -- the members of a command: its fields behind its word
 abbrev pub members_of : Command → List Field

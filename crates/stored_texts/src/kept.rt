@@ -6,7 +6,7 @@ ghost use Rattle.stored_texts.specs.StoredText.{stored_text};
 
 use crate::fields::Unread;
 use crate::reading::whole;
-use crate::writing::written;
+use crate::writing::fields_text;
 use desk_types::{Command, Text};
 use std::alloc::{AllocError, Global};
 
@@ -37,7 +37,7 @@ impl Kept for Command {
     ghost stored = { stored_text };
 
     fn write_text(&self, alloc: Global) -> Result<Text, AllocError> {
-        Ok(Text::new(written(alloc, self)?))
+        Ok(Text::new(fields_text(alloc, self)?))
     }
 
     fn read_text(alloc: Global, text: &[u8]) -> Result<Option<Command>, AllocError> {

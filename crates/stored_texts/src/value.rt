@@ -2,7 +2,7 @@
 
 ghost use Rattle.std.specs.Prelude.{◌≡◌, ◌∷◌, [], ⊤, IfOk, IfErr, OnOk, ◌++◌};
 ghost use Rattle.desk_types.specs.Designator.{IsDesignator};
-ghost use Rattle.stored_texts.specs.Fields.{Reads, TellsApart, number_fields, level_fields, IsNumber, after_tabs};
+ghost use Rattle.stored_texts.specs.Fields.{Reads, IsPrefixFree, number_fields, level_fields, IsNumber, after_tabs};
 ghost use Rattle.desk_types.specs.Id.{IsId};
 ghost use Rattle.desk_types.specs.Number.{IsQuantity, IsCountedQuantity};
 ghost use Rattle.stored_texts.specs.StoredText.{name_fields};
@@ -34,7 +34,7 @@ pub trait Stored: Drop + Sized {
         ensures { Reads in_range spelling fields.old fields.new result };
 
     /// No value's fields begin those of another.
-    ghost apart: { TellsApart in_range spelling };
+    ghost apart: { IsPrefixFree in_range spelling };
 }
 
 /// Writes a field at the end of the text, behind a tab.

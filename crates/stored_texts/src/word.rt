@@ -53,7 +53,7 @@ impl Word {
         ensures read { IfSome result (λ word. text.now ≡ word_text word) }
         ensures refused { IfNone result ((word : Word) → ¬ (text.now ≡ word_text word)) }
     {
-        named(&WORDS, text).copied()
+        first_named(&WORDS, text).copied()
     }
 
     /// The text of the word.
@@ -84,7 +84,7 @@ impl Word {
 }
 
 /// The first of some words with this text.
-fn named<'a>(words: &'a [Word], text: &[u8]) -> Option<&'a Word>
+fn first_named<'a>(words: &'a [Word], text: &[u8]) -> Option<&'a Word>
     ensures { option_map (λ word. word.now) result ≡ find (λ word. same (word_text word) text.now) words.now }
 {
     words.iter().find(|word| word.as_str().as_bytes() == text)

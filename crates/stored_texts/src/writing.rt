@@ -1,7 +1,7 @@
 //! The text of a command.
 
 ghost use Rattle.std.specs.Prelude.{◌≡◌, ◌∷◌, ◌++◌, IfOk, OnOk};
-ghost use Rattle.stored_texts.specs.Fields.{after_tabs, members_of, written};
+ghost use Rattle.stored_texts.specs.Fields.{after_tabs, members_of, fields_text};
 ghost use Rattle.stored_texts.specs.StoredText.{fields_of, word_text};
 
 use crate::value::Stored;
@@ -10,8 +10,8 @@ use desk_types::Command;
 use std::alloc::{AllocError, Global};
 
 /// The fields of a command, each but the first behind a tab.
-pub fn written(alloc: Global, command: &Command) -> Result<Vec<u8>, AllocError>
-    ensures { IfOk result (λ text. text.items ≡ written (fields_of command.now)) }
+pub fn fields_text(alloc: Global, command: &Command) -> Result<Vec<u8>, AllocError>
+    ensures { IfOk result (λ text. text.items ≡ fields_text (fields_of command.now)) }
 {
     let mut text = Vec::from_slice(alloc, word_of(command).as_str().as_bytes())?;
     write_members(command, &mut text)?;

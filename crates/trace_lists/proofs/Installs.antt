@@ -12,7 +12,7 @@ use Rattle.desk_types.specs.Id.{Name, same}
 use Rattle.desk_types.specs.History.{History}
 use Rattle.desk_types.specs.Setup.{slot_on}
 use Rattle.desk_types.specs.Tape.{tape_of}
-use Rattle.desk_types.specs.Pieces.{picked, pick_for, install_picks, scrap_picks, count_picks, left_of, picks_of}
+use Rattle.desk_types.specs.Pieces.{pieces_picked, pick_for, install_picks, scrap_picks, count_picks, left_of, picks_of}
 use Rattle.desk_types.specs.Outcome.{take_of, takes_by}
 use Rattle.desk_types.specs.Placements.{Placement, placement_of}
 use Rattle.trace_lists.specs.Lists.{Key}
@@ -41,9 +41,9 @@ module _ (slot_of : Name → Option Name) (tape : Name → List Name) (pieces : 
       found slot None = tt
       found slot (Some reel) = ((d, machine, slot, refl), tt)
 
-      by : (slot : Option Name) → ArePlacedOn board (option_to_list (option_and_then (λ s. option_map (pick s) (find (λ r. nat_lt (picked before r) (pieces r)) (tape s))) slot))
+      by : (slot : Option Name) → ArePlacedOn board (option_to_list (option_and_then (λ s. option_map (pick s) (find (λ r. nat_lt (pieces_picked before r) (pieces r)) (tape s))) slot))
       by None = tt
-      by (Some slot) = found slot (find (λ r. nat_lt (picked before r) (pieces r)) (tape slot))
+      by (Some slot) = found slot (find (λ r. nat_lt (pieces_picked before r) (pieces r)) (tape slot))
 
   all-on : (before : List Pick) (ds : List Name) → ArePlacedOn board before → ArePlacedOn board (install_picks slot_of tape pieces machine board before ds)
   unfolding install_picks

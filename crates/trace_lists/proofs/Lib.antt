@@ -1,4 +1,4 @@
 pub mod Installs
-pub mod Keeping
+pub mod KeptUnderNames
 pub mod Keys
 pub mod Minutes

@@ -9,7 +9,7 @@ use Rattle.desk_types.specs.Id.{Name, same, by_name}
 use Rattle.desk_types.specs.History.{History}
 use Rattle.desk_types.specs.Number.{IsMinute}
 use Rattle.desk_types.specs.Placements.{Placement, placements_of}
-use Rattle.trace_lists.specs.declared.lists.Piece.{Piece}
+use Rattle.trace_lists.specs.declared.lists.PieceKey.{PieceKey}
 use Rattle.trace_lists.specs.declared.lists.Install.{Install}
 use Rattle.trace_lists.specs.declared.lists.TraceLists.{TraceLists}
 
@@ -19,7 +19,7 @@ use Rattle.trace_lists.specs.declared.lists.TraceLists.{TraceLists}
 abbrev pub Key : Type 0
 Key = ℕ × ℕ
 
-abbrev pub key_of : Piece → Key
+abbrev pub key_of : PieceKey → Key
 key_of p = (p.number, p.place)
 
 -- the keys of the placements that pass a test, by number and then by place

@@ -7,4 +7,4 @@ mod kept;
 mod lists;
 mod noting;
 
-pub use lists::{Install, Piece, TraceLists};
+pub use lists::{Install, PieceKey, TraceLists};

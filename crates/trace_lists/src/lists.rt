@@ -14,7 +14,7 @@ use std::collections::BTreeMap;
 
 /// A placed piece: the number of its entry, and its place in the message. Both count from 1.
 #[derive(Clone, Copy, Debug, PartialEq, Eq)]
-pub struct Piece {
+pub struct PieceKey {
     pub number: u32,
     pub place: u32,
 }
@@ -32,9 +32,9 @@ pub struct Install {
 #[derive(Drop)]
 pub struct TraceLists {
     alloc: Global,
-    lots: BTreeMap<Id, Kept<Piece>>,
+    lots: BTreeMap<Id, Kept<PieceKey>>,
     boards: BTreeMap<Id, Kept<Install>>,
-    overdue: Vec<Piece>,
+    overdue: Vec<PieceKey>,
     minutes: Vec<u32>,
 }
 
@@ -92,7 +92,7 @@ impl TraceLists {
     }
 
     /// The placed pieces of the lot.
-    pub fn of_lot(&self, lot: &Id) -> &[Piece]
+    pub fn of_lot(&self, lot: &Id) -> &[PieceKey]
         ensures listed { (H : History) → IsListed self.now H → map key_of result.now ≡ keys_where (λ p. same p.lot lot.now) H }
     {
         kept_under(&self.lots, lot)
@@ -106,7 +106,7 @@ impl TraceLists {
     }
 
     /// The placed pieces of reels whose floor life was used up.
-    pub fn overdue(&self) -> &[Piece]
+    pub fn overdue(&self) -> &[PieceKey]
         ensures listed { (H : History) → IsListed self.now H → map key_of result.now ≡ keys_where (λ p. p.overdue) H }
     {
         self.overdue.as_slice()

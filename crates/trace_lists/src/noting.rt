@@ -7,7 +7,7 @@ ghost use Rattle.trace_lists.specs.Lists.{kept_at, key_of, keys_of_installs};
 ghost use Rattle.trace_lists.specs.Noting.{keys_in, install_keys};
 
 use crate::kept::{Kept, keep, make_room};
-use crate::lists::{Install, Piece};
+use crate::lists::{Install, PieceKey};
 use desk_types::{Command, Id, Purpose, Take};
 use std::alloc::{AllocError, Global};
 use std::collections::BTreeMap;
@@ -30,7 +30,7 @@ pub fn room_for_install(
 /// that follow each other are mostly of one lot, and the look-up is made once for those.
 pub fn room_for_pieces(
     alloc: Global,
-    lots: &mut BTreeMap<Id, Kept<Piece>>,
+    lots: &mut BTreeMap<Id, Kept<PieceKey>>,
     takes: &[Take],
 ) -> Result<(), AllocError>
     ensures { (n : Name) → kept_at lots.new n ≡ kept_at lots.old n }
@@ -72,8 +72,8 @@ pub fn note_install(
 /// Puts the placed pieces to those of their lots, and the overdue ones to the others of their kind.
 pub fn note_pieces(
     alloc: Global,
-    lots: &mut BTreeMap<Id, Kept<Piece>>,
-    overdue: &mut Vec<Piece>,
+    lots: &mut BTreeMap<Id, Kept<PieceKey>>,
+    overdue: &mut Vec<PieceKey>,
     install: Install,
     takes: &[Take],
 ) -> Result<(), AllocError>
@@ -82,7 +82,7 @@ pub fn note_pieces(
     ensures overdue { (minute : ℕ) → OnOk result (map key_of overdue.new.items ≡ map key_of overdue.old.items ++ keys_in (λ p. p.overdue) install.number minute 1 takes.now) }
 {
     for i in 0..install.pieces {
-        let piece = Piece {
+        let piece = PieceKey {
             number: install.number,
             place: i + 1,
         };
@@ -94,9 +94,9 @@ pub fn note_pieces(
 /// Puts a placed piece to those of its lot, and to the overdue ones where it is one.
 fn note_piece(
     alloc: Global,
-    lots: &mut BTreeMap<Id, Kept<Piece>>,
-    overdue: &mut Vec<Piece>,
-    piece: Piece,
+    lots: &mut BTreeMap<Id, Kept<PieceKey>>,
+    overdue: &mut Vec<PieceKey>,
+    piece: PieceKey,
     take: &Take,
 ) -> Result<(), AllocError>
     ensures lots { (n : Name) → OnOk result (kept_at lots.new n ≡ kept_at lots.old n ++ (if is_placed take.now.purpose && same take.now.lot n then piece ∷ [] else [])) }

@@ -1,1 +1,1 @@
-mod Tested
+mod ReportedPieces

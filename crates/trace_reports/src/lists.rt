@@ -16,7 +16,7 @@ use list_texts::Boards;
 use sqlite::Alter;
 use std::alloc::Global;
 
-fn found(text: Option<Text>, kind: Kind) -> Result<Text, ReportFault>
+fn or_not_found(text: Option<Text>, kind: Kind) -> Result<Text, ReportFault>
     ensures { Answers kind text result }
 {
     match text {
@@ -43,7 +43,7 @@ pub fn reel_card<S: Alter, D: Desk + Drop>(
     let Some(desk) = store.desk() else {
         unreachable!()
     };
-    found(list_texts::reel_card(alloc, desk, reel)?, Kind::Reel)
+    or_not_found(list_texts::reel_card(alloc, desk, reel)?, Kind::Reel)
 }
 
 /// The live reels of a machine's slots, by slot and then by position. It is not found where no sheet
@@ -64,7 +64,7 @@ pub fn slot_list<S: Alter, D: Desk + Drop>(
     let Some(desk) = store.desk() else {
         unreachable!()
     };
-    found(list_texts::slot_list(alloc, desk, machine)?, Kind::Machine)
+    or_not_found(list_texts::slot_list(alloc, desk, machine)?, Kind::Machine)
 }
 
 /// The reels to bring for so many boards of a product on a machine. It is not found where the product
@@ -87,7 +87,7 @@ pub fn kit_list<S: Alter, D: Desk + Drop>(
     let Some(desk) = store.desk() else {
         unreachable!()
     };
-    found(
+    or_not_found(
         list_texts::kit_list(alloc, desk, product, machine, boards)?,
         Kind::Sheet,
     )

@@ -1,3 +1,3 @@
-mod Sets
-mod Wholes
-mod Writings
+mod BorrowedSets
+mod FieldsOfRecords
+mod RecordSets

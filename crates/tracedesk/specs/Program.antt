@@ -12,7 +12,7 @@ use Rattle.desk_feed.specs.Stream.{LeavesNone}
 use Rattle.desk_import.specs.declared.options.BadOption.{BadOption}
 use Rattle.desk_import.specs.declared.options.Import.{Import}
 use Rattle.desk_words.specs.CommandLine.{AsksForAudit, AsksForFeed, AsksForImport, AsksForMigration, AsksForNothing, AsksForReport, AsksForServing, AsksForText, HasBadOption}
-use Rattle.http_listener.specs.Connections.{Ended, Tells}
+use Rattle.http_listener.specs.Connections.{Ended, TellsConnections}
 use Rattle.http_stream.specs.Answers.{Told, code_of}
 use Rattle.gateway_http.specs.Reports.{report_of}
 use Rattle.served.specs.declared.serving.Served.{Served}
@@ -21,8 +21,8 @@ use Rattle.served.specs.declared.serving.ServeFault.TheVariants.{Read as ReadFau
 use Rattle.served.specs.Counts.{none_served}
 use Rattle.served.specs.Sent.{SendsFront}
 use Rattle.served.specs.Shown.{IsShown}
-use Rattle.desk_runs.specs.Runs.{AnswersAll, AnswersImport, AnswersUpTo, CutsImport, StaysSame, TellsReport}
-use Rattle.desk_runs.specs.Told.{fault_line, lawful_line, option_line, printed, unavailable_line, version_line, TellsEnd, TellsLine}
+use Rattle.desk_runs.specs.Runs.{AnswersAll, AnswersImport, AnswersUpTo, CutsImport, StaysSame, AnswersReport}
+use Rattle.desk_runs.specs.Told.{fault_line, lawful_line, option_line, report_output, unavailable_line, version_line, TellsEnd, TellsLine}
 use Rattle.desk_runs.specs.Told as told
 use Rattle.desk_commands.specs.declared.left.Left.{Left}
 use Rattle.desk_commands.specs.declared.left.Left.TheVariants as left
@@ -44,14 +44,14 @@ RunsImport ways words Fact =
 abbrev pub RunsServing : {W : Type 0} → Ways → List (List ℕ) → (W → Option (List ℕ)) → Wire W → Wire W → ℕ → Type 0
 RunsServing ways words contents output output' status =
     (file : List ℕ) × (port : ℕ) × (connections : ℕ) × (greatest : ℕ) × AsksForServing words file port connections greatest
-    × (ends : List Ended) × Tells connections ends status (contents (inner_of output)) (contents (inner_of output')) (failures_of output) (failures_of output')
+    × (ends : List Ended) × TellsConnections connections ends status (contents (inner_of output)) (contents (inner_of output')) (failures_of output) (failures_of output')
     × ways.Runs (Some greatest) (ServesEach ends)
 
 -- the words ask for a report, and this was answered by the list of the desk of the file that they name
 abbrev pub RunsReport : Ways → List (List ℕ) → (Told → Type 0) → Type 0
 RunsReport ways words Shown =
     (file : List ℕ) × (target : List ℕ) × AsksForReport words file target
-    × (answer : Told) × Shown answer × ways.Runs None (TellsReport report_of target answer)
+    × (answer : Told) × Shown answer × ways.Runs None (AnswersReport report_of target answer)
 
 -- the words ask for an import of a file that may fail to be read, and the list stays
 abbrev pub ImportUnread : Ways → List (List ℕ) → (List ℕ → Type 0) → Type 0
@@ -113,14 +113,14 @@ module _ {R W E : Type 0} (ways : Ways) (holds : List ℕ → Option (List ℕ))
       ⊎ RunsImport ways words (λ import from. AnswersImport writes output output' false import (holds from))
       ⊎ (AsksForText words × (text : List ℕ) × Sent text)
       ⊎ RunsServing ways words writes output output' 0
-      ⊎ RunsReport ways words (λ answer. (code_of answer.status ≡ 200) × Sent (printed answer))
+      ⊎ RunsReport ways words (λ answer. (code_of answer.status ≡ 200) × Sent (report_output answer))
 
   -- status 1: some line was refused; the import was; some connection was faulty; there is no such report
   abbrev pub Refused : Type 0
   Refused = ((served : Served) × (0 < served.refused) × RunsAsked ways words (AnswersAll reads writes input output output' served))
       ⊎ RunsImport ways words (λ import from. AnswersImport writes output output' true import (holds from))
       ⊎ RunsServing ways words writes output output' 1
-      ⊎ RunsReport ways words (λ answer. (code_of answer.status ≢ 200) × Sent (printed answer))
+      ⊎ RunsReport ways words (λ answer. (code_of answer.status ≢ 200) × Sent (report_output answer))
 
   -- status 2: the words ask for nothing that the program does, or an option of an import can't be read
   abbrev pub Bad : Type 0
@@ -139,7 +139,7 @@ module _ {R W E : Type 0} (ways : Ways) (holds : List ℕ → Option (List ℕ))
       ⊎ ((file : List ℕ) × AsksForMigration words file × SentFront version_line × ways.Migrates)
       ⊎ RunsImport ways words (λ import from. CutsImport writes output output' import (holds from))
       ⊎ (AsksForText words × (text : List ℕ) × SentFront text)
-      ⊎ RunsReport ways words (λ answer. SentFront (printed answer))))
+      ⊎ RunsReport ways words (λ answer. SentFront (report_output answer))))
       ⊎ ((input' ≡ input) × (output' ≡ output) × ToldLine (fault_line (ReadFault none_served)) × ImportUnread ways words may_fail)
       ⊎ ((input' ≡ input) × TellsEnd tells output output' errors errors' × RunsServing ways words writes output output' 4)
 

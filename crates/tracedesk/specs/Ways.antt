@@ -26,8 +26,8 @@ pub record Ways : Type 1 where
   pub RefusesToMigrate : OpenFault → Type 0
 
 -- of a run that has this open, in files that held this at first
-abbrev pub opened : {T D : Type 0} {g : disk.Ghosts D} → start.Ghosts T → Left D g → Ways
-opened first it = record {
+abbrev pub ways_when_open : {T D : Type 0} {g : disk.Ghosts D} → start.Ghosts T → Left D g → Ways
+ways_when_open first it = record {
   OpensNone = it ≡ left.Nothing;
   Runs = λ make Fact. run.RunsOn first make it Fact;
   Audits = run.Audits first it;
@@ -37,8 +37,8 @@ opened first it = record {
 }
 
 -- of a run that closed these files, whole or not
-abbrev pub ended : {T D : Type 0} → Close → start.Ghosts T → disk.Ghosts D → Option (Files D) → Ways
-ended how first g files = record {
+abbrev pub ways_when_closed : {T D : Type 0} → Close → start.Ghosts T → disk.Ghosts D → Option (Files D) → Ways
+ways_when_closed how first g files = record {
   OpensNone = files ≡ None;
   Runs = λ make Fact. RunsTo how first g files make Fact;
   Audits = AuditsTo how first g files;

@@ -9,7 +9,7 @@ ghost use Rattle.desk_words.specs.CommandLine.{AsksForFeed};
 ghost use Rattle.desk_commands.specs.declared.left.Left.TheVariants.{Nothing};
 ghost use Rattle.desk_commands.specs.Closed.{ClosesLeft, failed, whole};
 ghost use Rattle.tracedesk.specs.Program.{Bad, Done, Failed, Names, NamesFile, NoDesk, Refused, Unclosed};
-ghost use Rattle.tracedesk.specs.Ways.{ended, opened};
+ghost use Rattle.tracedesk.specs.Ways.{ways_when_closed, ways_when_open};
 
 use desk_commands::{
     Left, audit_file, feed_in_file, feed_in_memory, import_in_file, migrate_file, report_in_file,
@@ -44,12 +44,12 @@ pub fn whole_run<T: Start, F: Folder, R: Read, W: Write, E: Write>(
     requires write_failures { failures_of output.old < 2 ^ 63 }
     requires error_failures { failures_of errors.old + 1 < 2 ^ 63 }
     ensures status { result.0 ≤ 4 }
-    ensures done { result.0 ≡ 0 → Done (ended whole T.Start ⟦<FileFrom<T> as Disk>⟧ result.1) (F.holds folder.now) (F.may_fail folder.now) R.remaining W.contents E.contents (map string_bytes words.now) input.old input.new output.old output.new errors.old errors.new }
-    ensures refused { result.0 ≡ 1 → Refused (ended whole T.Start ⟦<FileFrom<T> as Disk>⟧ result.1) (F.holds folder.now) (F.may_fail folder.now) R.remaining W.contents E.contents (map string_bytes words.now) input.old input.new output.old output.new errors.old errors.new }
-    ensures bad { result.0 ≡ 2 → Bad (ended whole T.Start ⟦<FileFrom<T> as Disk>⟧ result.1) (F.holds folder.now) (F.may_fail folder.now) R.remaining W.contents E.contents (map string_bytes words.now) input.old input.new output.old output.new errors.old errors.new }
-    ensures no_desk { result.0 ≡ 3 → NoDesk (ended whole T.Start ⟦<FileFrom<T> as Disk>⟧ result.1) (F.holds folder.now) (F.may_fail folder.now) R.remaining W.contents E.contents (map string_bytes words.now) input.old input.new output.old output.new errors.old errors.new
-        ⊎ Unclosed (ended failed T.Start ⟦<FileFrom<T> as Disk>⟧ result.1) (F.holds folder.now) (F.may_fail folder.now) R.remaining W.contents E.contents (map string_bytes words.now) input.old input.new output.old output.new errors.old errors.new }
-    ensures failed { result.0 ≡ 4 → Failed (ended whole T.Start ⟦<FileFrom<T> as Disk>⟧ result.1) (F.holds folder.now) (F.may_fail folder.now) R.remaining W.contents E.contents (map string_bytes words.now) input.old input.new output.old output.new errors.old errors.new }
+    ensures done { result.0 ≡ 0 → Done (ways_when_closed whole T.Start ⟦<FileFrom<T> as Disk>⟧ result.1) (F.holds folder.now) (F.may_fail folder.now) R.remaining W.contents E.contents (map string_bytes words.now) input.old input.new output.old output.new errors.old errors.new }
+    ensures refused { result.0 ≡ 1 → Refused (ways_when_closed whole T.Start ⟦<FileFrom<T> as Disk>⟧ result.1) (F.holds folder.now) (F.may_fail folder.now) R.remaining W.contents E.contents (map string_bytes words.now) input.old input.new output.old output.new errors.old errors.new }
+    ensures bad { result.0 ≡ 2 → Bad (ways_when_closed whole T.Start ⟦<FileFrom<T> as Disk>⟧ result.1) (F.holds folder.now) (F.may_fail folder.now) R.remaining W.contents E.contents (map string_bytes words.now) input.old input.new output.old output.new errors.old errors.new }
+    ensures no_desk { result.0 ≡ 3 → NoDesk (ways_when_closed whole T.Start ⟦<FileFrom<T> as Disk>⟧ result.1) (F.holds folder.now) (F.may_fail folder.now) R.remaining W.contents E.contents (map string_bytes words.now) input.old input.new output.old output.new errors.old errors.new
+        ⊎ Unclosed (ways_when_closed failed T.Start ⟦<FileFrom<T> as Disk>⟧ result.1) (F.holds folder.now) (F.may_fail folder.now) R.remaining W.contents E.contents (map string_bytes words.now) input.old input.new output.old output.new errors.old errors.new }
+    ensures failed { result.0 ≡ 4 → Failed (ways_when_closed whole T.Start ⟦<FileFrom<T> as Disk>⟧ result.1) (F.holds folder.now) (F.may_fail folder.now) R.remaining W.contents E.contents (map string_bytes words.now) input.old input.new output.old output.new errors.old errors.new }
     ensures unopened { result.0 ≡ 2 → result.1 ≡ None }
     ensures opened { OnSome result.1 (NamesFile (map string_bytes words.now)) }
     ensures untouched { result.0 ≡ 2 → (input.new ≡ input.old) × (output.new ≡ output.old) }
@@ -60,7 +60,7 @@ pub fn whole_run<T: Start, F: Folder, R: Read, W: Write, E: Write>(
     ensures quiet { (result.0 ≡ 0) ⊎ (result.0 ≡ 1) → errors.new ≡ errors.old }
 {
     let (status, left) = program(rt, words, start, folder, input, output, errors);
-    match closed(left) {
+    match close_run(left) {
         Ok(files) => (status, files),
         Err(files) if status == Exit::NoDesk as u8 => (status, files),
         Err(files) => (unavailable(errors), files),
@@ -68,7 +68,7 @@ pub fn whole_run<T: Start, F: Folder, R: Read, W: Write, E: Write>(
 }
 
 /// Closes what a command left open: the files that were closed, or that could not be.
-fn closed<T: Start>(
+fn close_run<T: Start>(
     left: Left<FileFrom<T>>,
 ) -> Result<Option<Files<FileFrom<T>>>, Option<Files<FileFrom<T>>>>
     ensures ok { IfOk result (ClosesLeft whole left) }
@@ -118,11 +118,11 @@ fn program<T: Start, F: Folder, R: Read, W: Write, E: Write>(
     requires write_failures { failures_of output.old < 2 ^ 63 }
     requires error_failures { failures_of errors.old < 2 ^ 63 }
     ensures status { result.0 ≤ 4 }
-    ensures done { result.0 ≡ 0 → Done (opened T.Start result.1) (F.holds folder.now) (F.may_fail folder.now) R.remaining W.contents E.contents (map string_bytes words.now) input.old input.new output.old output.new errors.old errors.new }
-    ensures refused { result.0 ≡ 1 → Refused (opened T.Start result.1) (F.holds folder.now) (F.may_fail folder.now) R.remaining W.contents E.contents (map string_bytes words.now) input.old input.new output.old output.new errors.old errors.new }
-    ensures bad { result.0 ≡ 2 → Bad (opened T.Start result.1) (F.holds folder.now) (F.may_fail folder.now) R.remaining W.contents E.contents (map string_bytes words.now) input.old input.new output.old output.new errors.old errors.new }
-    ensures no_desk { result.0 ≡ 3 → NoDesk (opened T.Start result.1) (F.holds folder.now) (F.may_fail folder.now) R.remaining W.contents E.contents (map string_bytes words.now) input.old input.new output.old output.new errors.old errors.new }
-    ensures failed { result.0 ≡ 4 → Failed (opened T.Start result.1) (F.holds folder.now) (F.may_fail folder.now) R.remaining W.contents E.contents (map string_bytes words.now) input.old input.new output.old output.new errors.old errors.new }
+    ensures done { result.0 ≡ 0 → Done (ways_when_open T.Start result.1) (F.holds folder.now) (F.may_fail folder.now) R.remaining W.contents E.contents (map string_bytes words.now) input.old input.new output.old output.new errors.old errors.new }
+    ensures refused { result.0 ≡ 1 → Refused (ways_when_open T.Start result.1) (F.holds folder.now) (F.may_fail folder.now) R.remaining W.contents E.contents (map string_bytes words.now) input.old input.new output.old output.new errors.old errors.new }
+    ensures bad { result.0 ≡ 2 → Bad (ways_when_open T.Start result.1) (F.holds folder.now) (F.may_fail folder.now) R.remaining W.contents E.contents (map string_bytes words.now) input.old input.new output.old output.new errors.old errors.new }
+    ensures no_desk { result.0 ≡ 3 → NoDesk (ways_when_open T.Start result.1) (F.holds folder.now) (F.may_fail folder.now) R.remaining W.contents E.contents (map string_bytes words.now) input.old input.new output.old output.new errors.old errors.new }
+    ensures failed { result.0 ≡ 4 → Failed (ways_when_open T.Start result.1) (F.holds folder.now) (F.may_fail folder.now) R.remaining W.contents E.contents (map string_bytes words.now) input.old input.new output.old output.new errors.old errors.new }
     ensures unopened { result.0 ≡ 2 → result.1 ≡ Nothing }
     ensures named { Names (map string_bytes words.now) result.1 }
     ensures untouched { (result.0 ≡ 2) ⊎ (result.0 ≡ 3) → (input.new ≡ input.old) × (output.new ≡ output.old) }

@@ -10,7 +10,7 @@ use std::test::Fail;
 use stored_texts::Kept;
 
 /// The command of a stored text, in a message of minute 0.
-fn stamped(alloc: Global, uid: &str, text: &str) -> Result<Stamped, Fail> {
+fn message_of_text(alloc: Global, uid: &str, text: &str) -> Result<Stamped, Fail> {
     let command = Command::read_text(alloc, text.as_bytes())?;
     Ok(Stamped {
         uid: id(uid)?,
@@ -31,7 +31,7 @@ fn accept(
 ) -> Result<(), Fail> {
     let before = desk.entries().len();
     assert!(rt; before < 1000);
-    let message = stamped(alloc, uid, text)?;
+    let message = message_of_text(alloc, uid, text)?;
     let change = match desk.judge(&message) {
         Ok(change) => change,
         Err(JudgeFault::NoMemory) => return Err(AllocError)?,

@@ -8,7 +8,7 @@ use reels::Reel;
 use std::test::Fail;
 
 /// A reel of this level, with the minutes of its label.
-fn received(level: Level, label: u64, at: Minute) -> Result<Reel, Fail>
+fn reel_of_level(level: Level, label: u64, at: Minute) -> Result<Reel, Fail>
     ensures { IfOk result (λ reel. reel.last ≡ at) }
 {
     let moisture = Moisture::new(level, label).ok_or("no label")?;
@@ -20,8 +20,8 @@ fn received(level: Level, label: u64, at: Minute) -> Result<Reel, Fail>
 #[test]
 fn a_reel_waits_for_its_bake(rt: HostRuntime) -> Result<(), Fail> {
     let at = Minute::new(50).ok_or("no minute")?;
-    assert!(rt; received(Level::One, 0, at)?.usable(at));
-    let mut reel = received(Level::Six, 60, at)?;
+    assert!(rt; reel_of_level(Level::One, 0, at)?.usable(at));
+    let mut reel = reel_of_level(Level::Six, 60, at)?;
     assert!(rt; !reel.usable(at));
     reel.bake(at);
     assert!(rt; reel.usable(at));

@@ -16,7 +16,7 @@ use std::alloc::AllocError;
 use std::collections::BTreeMap;
 
 /// The reel that a command handles.
-fn handled(command: &Command) -> Option<Id>
+fn handled_reel(command: &Command) -> Option<Id>
     ensures { (name : Name) → ForSome (open_by name command.now) (λ out. result ≡ Some name) }
 {
     match command {
@@ -45,7 +45,7 @@ pub fn note_reel(reels: &mut BTreeMap<Id, Reel>, entry: &Entry) -> Result<(), Al
     requires { AreReelsBy reels.old entry.now.effective }
     ensures { (H : History) → IsJudged Two (entry.now ∷ H) → AreReels H reels.old → OnOk result (AreReels (entry.now ∷ H) reels.new) }
 {
-    let Some(name) = handled(&entry.stamped.command) else {
+    let Some(name) = handled_reel(&entry.stamped.command) else {
         return Ok(());
     };
     let before = reel_in(reels, &name);

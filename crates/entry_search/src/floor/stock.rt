@@ -2,9 +2,9 @@
 
 ghost use Rattle.std.specs.Prelude.{◌≡◌, ◌-◌, if◌then◌else◌, unwrap_or, OnOk};
 ghost use Rattle.desk_types.specs.Id.{Name, same};
-ghost use Rattle.desk_types.specs.Pieces.{told_by};
-ghost use Rattle.entry_search.specs.Floor.{pieces_at, told_or};
-ghost use Rattle.entry_search.specs.Kept.{taken};
+ghost use Rattle.desk_types.specs.Pieces.{pieces_by};
+ghost use Rattle.entry_search.specs.Floor.{pieces_at, count_or};
+ghost use Rattle.entry_search.specs.Kept.{pieces_taken};
 
 use desk_types::{Command, CountRow, Id, Take};
 use std::alloc::AllocError;
@@ -31,7 +31,7 @@ fn lower(stock: &mut BTreeMap<Id, u64>, reel: &Id, n: u64)
 
 /// Takes off what takes took.
 fn lower_all(stock: &mut BTreeMap<Id, u64>, takes: &[Take])
-    ensures { (r : Name) → pieces_at stock.new r ≡ pieces_at stock.old r - taken takes.now r }
+    ensures { (r : Name) → pieces_at stock.new r ≡ pieces_at stock.old r - pieces_taken takes.now r }
 {
     for take in takes {
         lower(stock, &take.reel, take.quantity);
@@ -48,7 +48,7 @@ fn tell(stock: &mut BTreeMap<Id, u64>, reel: Id, n: u64) -> Result<(), AllocErro
 
 /// The counted reels have so many pieces; the first row of a reel counts.
 fn tell_counts(stock: &mut BTreeMap<Id, u64>, rows: &[CountRow]) -> Result<(), AllocError>
-    ensures { (r : Name) → OnOk result (pieces_at stock.new r ≡ told_or rows.now r (pieces_at stock.old r)) }
+    ensures { (r : Name) → OnOk result (pieces_at stock.new r ≡ count_or rows.now r (pieces_at stock.old r)) }
 {
     let mut rest = rows;
     while let Some((row, before)) = rest.split_last() {
@@ -64,7 +64,7 @@ pub fn note_stock(
     command: &Command,
     takes: &[Take],
 ) -> Result<(), AllocError>
-    ensures { (r : Name) → OnOk result (pieces_at stock.new r ≡ unwrap_or (told_by r command.now) (pieces_at stock.old r - taken takes.now r)) }
+    ensures { (r : Name) → OnOk result (pieces_at stock.new r ≡ unwrap_or (pieces_by r command.now) (pieces_at stock.old r - pieces_taken takes.now r)) }
 {
     lower_all(stock, takes);
     match command {

@@ -4,7 +4,7 @@ ghost use Rattle.std.specs.Prelude.{◌≡◌, ◌&&◌, [], ◌∷◌, if◌the
 ghost use Rattle.std.specs.List.{list_any};
 ghost use Rattle.desk_types.specs.Id.{Name, same};
 ghost use Rattle.desk_types.specs.Pieces.{first};
-ghost use Rattle.desk_types.specs.Tape.{spliced, tape_after};
+ghost use Rattle.desk_types.specs.Tape.{tape_with, tape_after};
 ghost use Rattle.entry_search.specs.Floor.{tape_at};
 
 use desk_types::{Command, Id};
@@ -68,7 +68,7 @@ impl Tape {
 
     /// Joins a reel to the end, where there is one.
     fn join(&mut self, reel: Id) -> Result<(), AllocError>
-        ensures { OnOk result (self.new ≡ spliced self.old reel) }
+        ensures { OnOk result (self.new ≡ tape_with self.old reel) }
     {
         if !self.reels.is_empty() {
             self.reels.push_back(reel)?;
@@ -99,7 +99,7 @@ fn splice(
     slot: Id,
     reel: Id,
 ) -> Result<(), AllocError>
-    ensures { (m s : Name) → OnOk result (tape_at tapes.new m s ≡ (if same machine m && same slot s then spliced (tape_at tapes.old m s) reel else tape_at tapes.old m s)) }
+    ensures { (m s : Name) → OnOk result (tape_at tapes.new m s ≡ (if same machine m && same slot s then tape_with (tape_at tapes.old m s) reel else tape_at tapes.old m s)) }
 {
     if let Some(tape) = tapes.get_mut(&(machine, slot)) {
         tape.join(reel)?;

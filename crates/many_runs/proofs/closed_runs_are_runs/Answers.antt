@@ -1,11 +1,11 @@
 use Rattle.std.proofs.Common.{[], ◌∷◌, refl}
-use Rattle.desk_runs.specs.Runs.{StaysSame, TellsReport}
+use Rattle.desk_runs.specs.Runs.{StaysSame, AnswersReport}
 use Rattle.gateway_http.specs.Reports.{report_of}
 use Rattle.headline.specs.Calls.{Feeds}
 use Rattle.headline.specs.Calls.Call.{asked, fed}
 use Rattle.desk_commands.specs.Runs.{ServesEach}
 use Rattle.many_runs.specs.Closed.{connections_of}
-use Rattle.many_runs.proofs.Closing.{is_run, serves_each}
+use Rattle.many_runs.proofs.ProgramRuns.{is_run, serves_each}
 use Rattle.many_runs.proofs.closed_runs_are_runs.Goals as goal
 
 pub returns-clause-feeds : goal.returns-clause-feeds
@@ -18,7 +18,7 @@ returns-clause-serves g c = λ make ends image.
 
 pub returns-clause-reports : goal.returns-clause-reports
 returns-clause-reports g c = λ make target told image.
-    is_run g.T.Start make c.args.desk.now c.args.files.now image (TellsReport report_of target told) (asked target told ∷ []) (λ G H fact. (H, (fact.1, fact.0), refl))
+    is_run g.T.Start make c.args.desk.now c.args.files.now image (AnswersReport report_of target told) (asked target told ∷ []) (λ G H fact. (H, (fact.1, fact.0), refl))
 
 pub returns-clause-stays : goal.returns-clause-stays
 returns-clause-stays g c = λ make image.

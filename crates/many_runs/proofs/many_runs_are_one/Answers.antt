@@ -1,4 +1,4 @@
-use Rattle.many_runs.proofs.Joining.{are_one}
+use Rattle.many_runs.proofs.RunsInTurn.{are_one}
 use Rattle.many_runs.proofs.many_runs_are_one.Goals as goal
 
 pub returns : goal.returns

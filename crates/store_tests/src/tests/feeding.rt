@@ -1,7 +1,7 @@
 //! Lines fed to a store in memory: readers and writers that give or take little at a time and fail once,
 //! and each allocation refused in turn by `tools/refuse-memory`.
 
-use desk_answers::Line;
+use desk_answers::Owner;
 use desk_feed::feed;
 use desk_types::Wire;
 use feeder_state::StateDesk;
@@ -100,7 +100,7 @@ const READS: usize = 12;
 const WRITES: usize = 9;
 
 /// The texts, one behind the other.
-fn joined(alloc: Global, texts: &[&str]) -> Result<Vec<u8>, AllocError> {
+fn join_texts(alloc: Global, texts: &[&str]) -> Result<Vec<u8>, AllocError> {
     let mut all = Vec::new(alloc);
     for text in texts {
         all.extend_from_slice(text.as_bytes())?;
@@ -141,8 +141,8 @@ fn feed_anew<R: Read + Drop>(alloc: Global, input: R, output: Taker) -> Result<F
 /// that were read before have their answers.
 #[test]
 fn a_failing_read_ends_the_feed(rt: HostRuntime) -> Result<(), Fail> {
-    let input = joined(rt.alloc(), &[PART, SHEET, PRODUCT])?;
-    let all = joined(rt.alloc(), &TOLD)?;
+    let input = join_texts(rt.alloc(), &[PART, SHEET, PRODUCT])?;
+    let all = join_texts(rt.alloc(), &TOLD)?;
     for good in 0..14 {
         let giver = Giver {
             bytes: &input,
@@ -173,8 +173,8 @@ fn a_failing_read_ends_the_feed(rt: HostRuntime) -> Result<(), Fail> {
 /// before have their answers, and of one more the first bytes may have gone out.
 #[test]
 fn a_failing_write_ends_the_feed(rt: HostRuntime) -> Result<(), Fail> {
-    let input = joined(rt.alloc(), &[PART, SHEET, PRODUCT])?;
-    let all = joined(rt.alloc(), &TOLD)?;
+    let input = join_texts(rt.alloc(), &[PART, SHEET, PRODUCT])?;
+    let all = join_texts(rt.alloc(), &TOLD)?;
     for good in 0..14 {
         let mut taker = Taker::new(rt.alloc())?;
         taker.piece = 20;
@@ -198,12 +198,12 @@ fn a_failing_write_ends_the_feed(rt: HostRuntime) -> Result<(), Fail> {
 }
 
 /// Three passes of the same three messages, of which one is Unavailable at most once.
-fn feed_thrice<L: Line>(rt: &impl Abort, alloc: Global, line: &mut L) -> Result<(), Fail>
+fn feed_thrice<L: Owner>(rt: &impl Abort, alloc: Global, line: &mut L) -> Result<(), Fail>
     requires { L.Ready line.old }
     ensures { L.Ready line.new }
 {
-    let input = joined(alloc, &[PART, SHEET, PRODUCT])?;
-    let all = joined(alloc, &TOLD)?;
+    let input = join_texts(alloc, &[PART, SHEET, PRODUCT])?;
+    let all = join_texts(alloc, &TOLD)?;
     let mut met = 0usize;
     for pass in 0..3u8 {
         let mut giver = Wire::new(input.as_slice());

@@ -1,7 +1,7 @@
 //! When answers go out, and how much a read takes: a machine that waits for its answers, and an owner of
 //! no list.
 
-use desk_answers::{Answer, Line};
+use desk_answers::{Answer, Owner};
 use desk_feed::feed;
 use desk_types::{Stamped, Wire};
 use std::cell::Cell;
@@ -72,7 +72,7 @@ impl Write for Counter<'_> {
 #[derive(Drop)]
 struct Full;
 
-impl Line for Full {
+impl Owner for Full {
     ghost use Rattle.std.specs.Prelude.{⊤};
 
     ghost Stands = { λ _ _. ⊥ };

@@ -70,17 +70,26 @@ fn a_wire_hands_writes_on(rt: HostRuntime) -> Result<(), Fail> {
 }
 
 /// What a write answered: how many bytes it took, or none where it failed.
-fn taken(wire: &mut Wire<Narrow>, bytes: &[u8]) -> Option<usize> {
+fn bytes_taken(wire: &mut Wire<Narrow>, bytes: &[u8]) -> Option<usize> {
     wire.write(bytes).ok()
 }
 
 #[test]
 fn a_wire_counts_failed_writes(rt: HostRuntime) -> Result<(), Fail> {
     let mut wire = Wire::new(Narrow { calls: 0 });
-    assert_eq!(rt; (taken(&mut wire, b"abc"), wire.failures()), (Some(2), 0));
-    assert_eq!(rt; (taken(&mut wire, b"c"), wire.failures()), (Some(0), 1));
-    assert_eq!(rt; (taken(&mut wire, b""), wire.failures()), (Some(0), 1));
-    assert_eq!(rt; (taken(&mut wire, b"c"), wire.failures()), (None, 2));
+    assert_eq!(rt;
+        (bytes_taken(&mut wire, b"abc"), wire.failures()),
+        (Some(2), 0)
+    );
+    assert_eq!(rt;
+        (bytes_taken(&mut wire, b"c"), wire.failures()),
+        (Some(0), 1)
+    );
+    assert_eq!(rt;
+        (bytes_taken(&mut wire, b""), wire.failures()),
+        (Some(0), 1)
+    );
+    assert_eq!(rt; (bytes_taken(&mut wire, b"c"), wire.failures()), (None, 2));
     assert!(rt; wire.flush().is_err());
     assert_eq!(rt; (wire.reads(), wire.failures()), (0, 2));
     Ok(())

@@ -1,5 +1,5 @@
 use Rattle.std.proofs.Common.{None, refl, inl, inr}
-use Rattle.desk_commands.proofs.Running.{audits, stays}
+use Rattle.desk_commands.proofs.RunsOnFiles.{audits, stays}
 use Rattle.desk_commands.proofs.looks.audit_file.Goals as goal
 
 pub returns-in-Ok-clause-done : goal.returns-in-Ok-clause-done
@@ -16,4 +16,4 @@ pub returns-in-Ok-clause-no_desk : goal.returns-in-Ok-clause-no_desk
 returns-in-Ok-clause-no_desk g c = λ is. inr (stays g.T.Start None c.in-Ok.store c.in-Ok.store refl c.in-Ok.ensures.begins, c.tell_lawful-status.ensures.no_desk is)
 
 pub returns-in-Err-clause-no_desk : goal.returns-in-Err-clause-no_desk
-returns-in-Err-clause-no_desk g c = λ _. inl (c.in-Err.refusal.fault, (refl, c.in-Err.ensures.refused), c.refused.ensures.told)
+returns-in-Err-clause-no_desk g c = λ _. inl (c.in-Err.refusal.fault, (refl, c.in-Err.ensures.refused), c.tell_refusal.ensures.told)

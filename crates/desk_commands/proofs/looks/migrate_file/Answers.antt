@@ -11,4 +11,4 @@ returns-in-Ok-clause-failed g c = λ is.
     (fault.0, fault.1, told.front is, c.in-Ok.ensures.migrated)
 
 pub returns-in-Err-clause-no_desk : goal.returns-in-Err-clause-no_desk
-returns-in-Err-clause-no_desk g c = λ _. inl (c.in-Err.refusal.fault, (refl, c.in-Err.ensures.refused), c.refused.ensures.told)
+returns-in-Err-clause-no_desk g c = λ _. inl (c.in-Err.refusal.fault, (refl, c.in-Err.ensures.refused), c.tell_refusal.ensures.told)

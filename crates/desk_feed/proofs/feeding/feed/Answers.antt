@@ -1,9 +1,9 @@
 use Rattle.std.proofs.Common.{◌≡◌, ◌∙◌, ◌++◌, true, false, subst, arith, [], refl, Bool, drop, take}
 use Rattle.desk_types.specs.Wire.{inner_of}
-use Rattle.desk_feed.proofs.Answering.{same_write}
+use Rattle.desk_feed.proofs.AnsweredLines.{same_write}
 use Rattle.desk_feed.specs.Owners.{ForLists}
-use Rattle.desk_feed.proofs.Going.{goes_none, goes_on, stops_into}
-use Rattle.desk_feed.proofs.Lining.{start_gone, lines_go, last_goes, next_first, end_behind, no_end, one_more_end, all_ended}
+use Rattle.desk_feed.proofs.OwnersOfLines.{goes_none, goes_on, stops_into}
+use Rattle.desk_feed.proofs.LinesOfInputs.{start_gone, lines_go, last_goes, next_first, end_behind, no_end, one_more_end, all_ended}
 use Rattle.desk_feed.specs.Inbox.{TakesLine, source}
 use Rattle.desk_feed.specs.Lines.{lines_in}
 use Rattle.served.specs.Counts.{none_served}
@@ -26,7 +26,7 @@ lines-init g c =
       lines = [];
       ended = no_end c.new-inbox.result (g.R.Read.remaining (inner_of c.args.input.now)) e.0 e.1;
       gone = start_gone c.new-inbox.result (g.R.Read.remaining (inner_of c.args.input.now)) e.0 e.1;
-      answered = goes_none g.L.Line.Stands g.L.Line.Trusts c.args.line.now (g.W.Write.contents (inner_of c.args.output.now));
+      answered = goes_none g.L.Owner.Stands g.L.Owner.Trusts c.args.owner.now (g.W.Write.contents (inner_of c.args.output.now));
     }
 
 pub returns-in-Ok-serve_line-clause-end : goal.returns-in-Ok-serve_line-clause-end
@@ -52,7 +52,7 @@ returns-in-Ok-serve_line-clause-ok g c = λ G stands trusts.
     let is_last : c.in-Ok.field-0.last ≡ true = cc in
     let took = subst (λ (b : Bool). TakesLine before raw b behind) is_last took in
     let contents = g.W.Write.contents in
-    let all = goes_on g.L.Line.Stands g.L.Line.Trusts inv.lines (lines_in raw) c.args.line.now c.lines.line c.serve_line.new.line
+    let all = goes_on g.L.Owner.Stands g.L.Owner.Trusts inv.lines (lines_in raw) c.args.owner.now c.lines.owner c.serve_line.new.owner
     (contents (inner_of c.args.output.now)) (contents (inner_of c.lines.output)) (contents (inner_of c.serve_line.new.output)) none_served c.lines.served c.serve_line.new.served
     c.serve_line.ensures.trusts inv.answered (λ G stands trusts. c.in-Ok-serve_line.ensures.ok G stands trusts raw got.1) G stands trusts in
     (all.0, all.1, (inv.lines ++ lines_in raw, all.2.0, last_goes asked before behind inv.lines raw inv.gone took, all.2.1))
@@ -82,7 +82,7 @@ lines-preserved g c =
       lines = inv.lines ++ lines_in raw;
       ended = one_more_end asked before behind c.lines.served.answered c.serve_line.new.served.answered raw inv.ended took (c.in-Ok-serve_line.ensures.counted raw got.1);
       gone = lines_go asked before behind inv.lines raw inv.gone took;
-      answered = goes_on g.L.Line.Stands g.L.Line.Trusts inv.lines (lines_in raw) c.args.line.now c.lines.line c.serve_line.new.line
+      answered = goes_on g.L.Owner.Stands g.L.Owner.Trusts inv.lines (lines_in raw) c.args.owner.now c.lines.owner c.serve_line.new.owner
           (contents (inner_of c.args.output.now)) (contents (inner_of c.lines.output)) (contents (inner_of c.serve_line.new.output)) none_served c.lines.served c.serve_line.new.served
           c.serve_line.ensures.trusts inv.answered (λ G stands trusts. c.in-Ok-serve_line.ensures.ok G stands trusts raw got.1);
     }
@@ -100,10 +100,10 @@ returns-in-Err-clause-write g c = λ served e.
     let out₀ = contents (inner_of c.args.output.now) in
     let out₂ = contents (inner_of c.serve_line.new.output) in
     let failed = c.in-Err.ensures.failed in
-    let into = stops_into g.L.Line.Stands g.L.Line.Trusts inv.lines (lines_in raw) asked c.args.line.now c.lines.line c.serve_line.new.line out₀ (contents (inner_of c.lines.output)) out₂ c.lines.served c.serve_line.new.served
+    let into = stops_into g.L.Owner.Stands g.L.Owner.Trusts inv.lines (lines_in raw) asked c.args.owner.now c.lines.owner c.serve_line.new.owner out₀ (contents (inner_of c.lines.output)) out₂ c.lines.served c.serve_line.new.served
     c.serve_line.ensures.trusts (λ line is. next_first asked before behind inv.lines raw line c.in-Ok.field-0.last inv.gone took is) inv.answered (λ G stands trusts. c.in-Err.ensures.err G stands trusts raw got.1) in (
       (omega (arith, failed, inv.write_failures), c.in-Ok.ensures.kept ∙ inv.read_failures),
-      subst (λ (s : Served). ForLists g.L.Line.Stands g.L.Line.Trusts c.args.line.now c.serve_line.new.line (λ G H. AnsweredInto G.rules G.greatest asked G.history out₀ H out₂ s))
+      subst (λ (s : Served). ForLists g.L.Owner.Stands g.L.Owner.Trusts c.args.owner.now c.serve_line.new.owner (λ G H. AnsweredInto G.rules G.greatest asked G.history out₀ H out₂ s))
           (same_write c.serve_line.new.served served e) into,
     )
 

@@ -4,8 +4,8 @@ use Rattle.served.specs.declared.serving.TheConstants.{MOST_READS}
 use Rattle.desk_feed.specs.declared.inbox.TheConstants.{BLOCK}
 use Rattle.desk_feed.specs.Inbox.{IsInbox, source, fuel, LinesGone}
 use Rattle.served.specs.Counts.{none_served}
-use Rattle.desk_feed.proofs.Going.{Goes}
-use Rattle.desk_feed.proofs.Lining.{EndsGone}
+use Rattle.desk_feed.proofs.OwnersOfLines.{Goes}
+use Rattle.desk_feed.proofs.LinesOfInputs.{EndsGone}
 use Rattle.desk_feed.proofs.feeding.feed.Given as goal
 
 abbrev pub invariant-lines : goal.invariant-lines
@@ -16,12 +16,12 @@ invariant-lines g l = record {
   write_failures : failures_of l.output ≡ failures_of l.fn.output;
   counted : l.served.answered + fuel l.most_reads (reads_of l.input) l.inbox ≤ MOST_READS * (BLOCK + 1);
   refused : l.served.refused ≤ l.served.answered;
-  ready : g.L.Line.Ready l.line;
-  trusts : g.L.Line.Trusts l.line → g.L.Line.Trusts l.fn.line;
+  ready : g.L.Owner.Ready l.owner;
+  trusts : g.L.Owner.Trusts l.owner → g.L.Owner.Trusts l.fn.owner;
   lines : List (List ℕ);
   ended : EndsGone (g.R.Read.remaining (inner_of l.fn.input)) l.served.answered (source l.inbox (g.R.Read.remaining (inner_of l.input)));
   gone : LinesGone (g.R.Read.remaining (inner_of l.fn.input)) lines (source l.inbox (g.R.Read.remaining (inner_of l.input)));
-  answered : Goes g.L.Line.Stands g.L.Line.Trusts lines l.fn.line (g.W.Write.contents (inner_of l.fn.output)) none_served l.line (g.W.Write.contents (inner_of l.output)) l.served;
+  answered : Goes g.L.Owner.Stands g.L.Owner.Trusts lines l.fn.owner (g.W.Write.contents (inner_of l.fn.output)) none_served l.owner (g.W.Write.contents (inner_of l.output)) l.served;
 }
 
 abbrev pub decreases-lines : goal.decreases-lines

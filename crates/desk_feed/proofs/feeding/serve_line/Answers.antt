@@ -1,10 +1,10 @@
 use Rattle.std.proofs.Common.{◌≡◌, ◌+◌, ◌++◌, ◌∷◌, [], List, ℕ, cond, sym, subst, Bool}
 use Rattle.std.specs.Io.KnownBytes.{Appends}
 use Rattle.desk_types.specs.Wire.{inner_of}
-use Rattle.desk_feed.specs.LineAnswers.{told_by}
+use Rattle.desk_feed.specs.LineAnswers.{line_told}
 use Rattle.desk_feed.specs.Lines.{without_return}
 use Rattle.desk_feed.specs.Stream.{Answered}
-use Rattle.desk_feed.proofs.Answering.{one_answered}
+use Rattle.desk_feed.proofs.AnsweredLines.{one_answered}
 use Rattle.desk_feed.proofs.feeding.serve_line.Goals as goal
 
 pub returns-in_ok-send_line-clause-ok : goal.returns-in_ok-send_line-clause-ok
@@ -16,12 +16,12 @@ returns-in_ok-send_line-clause-ok g c = λ G stands trusts bytes holds.
     let out' = g.W.Write.contents (inner_of c.send_line.new.wire) in
     let went = subst (λ (l : List ℕ). Appends out out' (l ++ 10 ∷ [])) c.text.ensures c.in_ok-send_line.ensures.ok in
     let n = c.args.served.now.refused in
-    let counted : c.count.new.self.refused ≡ cond (told_by c.in-Some.answer).refused (n + 1) n = subst (λ (b : Bool). c.count.new.self.refused ≡ cond b (n + 1) n) c.is_refused.ensures c.count.ensures.refused in (
+    let counted : c.count.new.self.refused ≡ cond (line_told c.in-Some.answer).refused (n + 1) n = subst (λ (b : Bool). c.count.new.self.refused ≡ cond b (n + 1) n) c.is_refused.ensures c.count.ensures.refused in (
       H',
       a.1,
       (
         mark ∷ [],
         subst (λ (ls : List (List ℕ)). Answered G.rules G.greatest ls (mark ∷ []) G.history out c.args.served.now H' out' c.count.new.self) (sym a.2.1)
-            (one_answered G.rules G.greatest mark G.history H' (without_return bytes) out out' c.args.served.now c.count.new.self (told_by c.in-Some.answer) a.2.2 a.2.3 went c.count.ensures.answered counted),
+            (one_answered G.rules G.greatest mark G.history H' (without_return bytes) out out' c.args.served.now c.count.new.self (line_told c.in-Some.answer) a.2.2 a.2.3 went c.count.ensures.answered counted),
       ),
     )

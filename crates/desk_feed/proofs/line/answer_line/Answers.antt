@@ -1,5 +1,5 @@
 use Rattle.std.proofs.Common.{rules, arith, ◌∙◌, length, ap, subst}
-use Rattle.desk_feed.proofs.Answering.{told_too_long, one_shorter}
+use Rattle.desk_feed.proofs.AnsweredLines.{told_too_long, one_shorter}
 use Rattle.desk_feed.specs.Inbox.{HoldsLine}
 use Rattle.desk_feed.specs.Lines.{without_return}
 use Rattle.desk_feed.specs.declared.inbox.RawLine.{RawLine}

@@ -1,5 +1,5 @@
 use Rattle.desk_types.specs.declared.rules.Rules.TheVariants.{Two}
-use Rattle.desk_file.proofs.Beginning.{held, line_alone, same_list}
+use Rattle.desk_file.proofs.FirstLists.{held, line_alone, same_list}
 use Rattle.desk_file.proofs.law.next_run_goes_on.Goals as goal
 
 pub returns-clause-alone : goal.returns-clause-alone

@@ -2,7 +2,7 @@ use Rattle.std.proofs.Common.{IfOk, IfErr, subst}
 use Rattle.std.proofs.lemmas.Result.{IfOk-weaker}
 use Rattle.sqlite_store.specs.declared.store.FileStore.{FileStore}
 use Rattle.sqlite.specs.Held.{Held}
-use Rattle.desk_file.proofs.Closing.{closes}
+use Rattle.desk_file.proofs.ClosedFiles.{closes}
 use Rattle.desk_file.specs.Files.{Copies, Leaves}
 use Rattle.desk_file.proofs.opening.close_desk.Goals as goal
 

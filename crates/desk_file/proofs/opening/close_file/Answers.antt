@@ -1,4 +1,4 @@
-use Rattle.desk_file.proofs.Closing.{keeps, leaves}
+use Rattle.desk_file.proofs.ClosedFiles.{keeps, leaves}
 use Rattle.desk_file.proofs.opening.close_file.Goals as goal
 
 pub returns-in-Ok-clause-whole : goal.returns-in-Ok-clause-whole

@@ -5,9 +5,9 @@ use Rattle.sqlite.specs.Files.{file_state}
 use Rattle.sqlite.specs.State.{HasCleanDisk}
 use Rattle.desk_types.specs.declared.rules.Rules.TheVariants.{One}
 use Rattle.line_tables.specs.Calls.{LeavesMigrated}
-use Rattle.desk_file.proofs.Beginning.{migrates}
+use Rattle.desk_file.proofs.FirstLists.{migrates}
 use Rattle.desk_file.specs.Refused.{IsFaultIn}
-use Rattle.desk_file.proofs.Refusing.{fault_in, refused}
+use Rattle.desk_file.proofs.RefusedFiles.{fault_in, refused}
 use Rattle.desk_file.proofs.opening.migrate_desk.Goals as goal
 
 pub returns-in-Ok-clause-migrated : goal.returns-in-Ok-clause-migrated

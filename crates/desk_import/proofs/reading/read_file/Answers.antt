@@ -1,5 +1,5 @@
 use Rattle.std.proofs.Common.{refl}
-use Rattle.desk_import.proofs.Fronts.{is_read}
+use Rattle.desk_import.proofs.FileFronts.{is_read}
 use Rattle.desk_import.proofs.reading.read_file.Goals as goal
 
 pub returns : goal.returns

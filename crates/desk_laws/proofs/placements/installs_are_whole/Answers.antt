@@ -6,7 +6,7 @@ use Rattle.desk_types.specs.Outcome.{change_of}
 use Rattle.desk_types.proofs.BothRules.{accepted-by-two}
 use Rattle.desk_laws.proofs.Accepted.{command-accepted}
 use Rattle.desk_laws.proofs.Installs.{named-once}
-use Rattle.desk_laws.proofs.Whole.{install-whole, install-told}
+use Rattle.desk_laws.proofs.WholeInstalls.{install-whole, install-told}
 use Rattle.desk_laws.proofs.placements.installs_are_whole.Goals as goal
 
 pub returns-clause-spots : goal.returns-clause-spots

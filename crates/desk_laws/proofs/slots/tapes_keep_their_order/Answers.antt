@@ -1,4 +1,4 @@
-use Rattle.desk_laws.proofs.Joining.{tape-joins}
+use Rattle.desk_laws.proofs.GrowingTapes.{tape-joins}
 use Rattle.desk_laws.proofs.slots.tapes_keep_their_order.Goals as goal
 
 pub returns : goal.returns

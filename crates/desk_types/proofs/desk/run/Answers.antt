@@ -6,7 +6,7 @@ use Rattle.desk_types.specs.declared.answer.Refusal.{Refusal}
 use Rattle.desk_types.specs.declared.rules.Rules.{Rules}
 use Rattle.desk_types.specs.History.{History, accept}
 use Rattle.desk_types.specs.Refusals.{refusal_of}
-use Rattle.desk_types.proofs.Steps.{drop-next}
+use Rattle.desk_types.proofs.LoopSteps.{drop-next}
 use Rattle.desk_types.specs.Outcome.{after_command, after_commands, reply_to, replies_to}
 use Rattle.desk_types.proofs.desk.run.Goals as goal
 

@@ -43,4 +43,4 @@ unfolding told_of
 returns-in-Err-clause-asks c =
     let is : app_of c.in_ok-command.command ≡ commands = search rules in
     let words = map string_bytes c.args.words.now in
-    c.told.ensures.asks words (subst (λ (a : App). HasKind (fault_of a words) c.in-Err.error) is (c.in-Err.ensures.kinds (ap is_simple_and_free is ∙ is_free)))
+    c.help_or_mistake.ensures.asks words (subst (λ (a : App). HasKind (fault_of a words) c.in-Err.error) is (c.in-Err.ensures.kinds (ap is_simple_and_free is ∙ is_free)))

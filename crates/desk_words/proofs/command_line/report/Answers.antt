@@ -1,11 +1,11 @@
 use Rattle.std.proofs.Common.{rules, ◌≡◌, ◌∙◌, ap, codes}
 use Rattle.std.proofs.lemmas.Result.{IfOk-weaker}
 use Rattle.clap.specs.Simple.{App, app_of, new_app, with_rule}
-use Rattle.desk_words.specs.CommandLine.{wanted}
+use Rattle.desk_words.specs.CommandLine.{required_option}
 use Rattle.desk_words.proofs.command_line.report.Goals as goal
 
 pub returns-clause-shape : goal.returns-clause-shape
 returns-clause-shape c =
     let start_is : app_of c.after_help-start.result ≡ new_app (codes "report") = search rules in
-    let kept = c.in_ok-kept.ensures.shape ∙ ap (λ (a : App). with_rule a (wanted (codes "db"))) start_is in
-    IfOk-weaker c.with_wanted-2.result _ _ (λ command is. ap (λ (a : App). a.top) (is ∙ ap (λ (a : App). with_rule a (wanted (codes "get"))) kept)) c.with_wanted-2.ensures.shape
+    let kept = c.in_ok-kept.ensures.shape ∙ ap (λ (a : App). with_rule a (required_option (codes "db"))) start_is in
+    IfOk-weaker c.with_wanted-2.result _ _ (λ command is. ap (λ (a : App). a.top) (is ∙ ap (λ (a : App). with_rule a (required_option (codes "get"))) kept)) c.with_wanted-2.ensures.shape

@@ -4,7 +4,7 @@ use Rattle.std.specs.Map.{lookup}
 use Rattle.desk_types.specs.Id.{by_name}
 use Rattle.desk_types.specs.Pair.{by_pair}
 use Rattle.entry_search.specs.Life.{IsReelOf}
-use Rattle.entry_search.proofs.Flooring.{left_of-none, tape_of-none}
+use Rattle.entry_search.proofs.FloorOfEntries.{left_of-none, tape_of-none}
 use Rattle.entry_search.proofs.floor.bare.Goals as goal
 
 pub returns : goal.returns

@@ -1,8 +1,8 @@
 use Rattle.std.proofs.Common.{reverse, take, sym, subst, ◌∙◌, arith}
 use Rattle.std.proofs.lemmas.List.{length-reverse}
 use Rattle.entry_search.specs.Floor.{IsFloor, reel_at}
-use Rattle.entry_search.proofs.Handling.{so-far, judged-next, by-then}
-use Rattle.entry_search.proofs.Keeping.{as-many, takes-at}
+use Rattle.entry_search.proofs.HandledReels.{so-far, judged-next, by-then}
+use Rattle.entry_search.proofs.KeptTakes.{as-many, takes-at}
 use Rattle.entry_search.proofs.floor.floor_of.Goals as goal
 
 pub bounds-takes-i : goal.bounds-takes-i

@@ -1,7 +1,7 @@
 use Rattle.std.proofs.Common.{[], unwrap_or, nat_lt, ap, ◌∙◌}
 use Rattle.std.specs.List.{find}
 use Rattle.entry_search.specs.Floor.{pieces_at}
-use Rattle.entry_search.proofs.Flooring.{floor-front}
+use Rattle.entry_search.proofs.FloorOfEntries.{floor-front}
 use Rattle.entry_search.proofs.floor.front.Goals as goal
 
 pub returns-in-Some : goal.returns-in-Some

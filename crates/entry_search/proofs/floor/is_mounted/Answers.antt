@@ -2,7 +2,7 @@ use Rattle.std.proofs.Common.{◌≡◌, true, false, nat_lt, sym, ap, ◌∙◌
 use Rattle.std.specs.Prelude.{◌&&◌}
 use Rattle.std.proofs.lemmas.Bool.{lt-ltb}
 use Rattle.entry_search.specs.Floor.{pieces_at, tape_at, mount_at, is_on}
-use Rattle.entry_search.proofs.Flooring.{floor-mounted}
+use Rattle.entry_search.proofs.FloorOfEntries.{floor-mounted}
 use Rattle.entry_search.proofs.floor.is_mounted.Goals as goal
 
 pub returns-then-pieces-gt0 : goal.returns-then-pieces-gt0

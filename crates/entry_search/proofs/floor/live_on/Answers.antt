@@ -1,6 +1,6 @@
 use Rattle.std.proofs.Common.{◌≡◌, [], IfOk, unwrap_or, nat_lt, filter, ap, subst, ◌∙◌}
 use Rattle.entry_search.specs.Floor.{pieces_at}
-use Rattle.entry_search.proofs.Flooring.{floor-live}
+use Rattle.entry_search.proofs.FloorOfEntries.{floor-live}
 use Rattle.entry_search.proofs.floor.live_on.Goals as goal
 
 pub returns-in-Some : goal.returns-in-Some

@@ -1,10 +1,10 @@
 use Rattle.std.proofs.Common.{◌-◌, unwrap_or, ap, ◌∙◌}
 use Rattle.desk_types.specs.Tape.{tape_after}
-use Rattle.desk_types.specs.Pieces.{told_by}
+use Rattle.desk_types.specs.Pieces.{pieces_by}
 use Rattle.std.specs.Option.{option_or}
 use Rattle.entry_search.specs.Floor.{mount_by}
-use Rattle.entry_search.specs.Kept.{taken}
-use Rattle.entry_search.proofs.Flooring.{left_of-next, tape_of-next}
+use Rattle.entry_search.specs.Kept.{pieces_taken}
+use Rattle.entry_search.proofs.FloorOfEntries.{left_of-next, tape_of-next}
 use Rattle.entry_search.proofs.floor.note.Goals as goal
 
 pub returns : goal.returns
@@ -16,7 +16,7 @@ returns c = λ H judged are is_floor.
       reels = c.in_ok-note_reel.ensures H judged is_floor.reels;
       stock = λ reel.
           c.in_ok-note_stock.ensures reel
-          ∙ ap (λ n. unwrap_or (told_by reel command) (n - taken takes reel)) (is_floor.stock reel)
+          ∙ ap (λ n. unwrap_or (pieces_by reel command) (n - pieces_taken takes reel)) (is_floor.stock reel)
           ∙ left_of-next H entry takes reel are;
       tapes = λ machine slot.
           c.in_ok-note_tape.ensures machine slot ∙ ap (tape_after machine slot command) (is_floor.tapes machine slot) ∙ tape_of-next H entry machine slot;

@@ -1,7 +1,7 @@
 use Rattle.std.proofs.Common.{refl, sym, ◌∙◌}
 use Rattle.std.specs.Prelude.{◌≡◌, false, Some}
 use Rattle.desk_types.specs.FloorLife.{open_by}
-use Rattle.entry_search.proofs.Handling.{sealed}
+use Rattle.entry_search.proofs.HandledReels.{sealed}
 use Rattle.entry_search.proofs.floor_life.handle.Goals as goal
 
 pub returns-in-Some-false-2-clause-stands : goal.returns-in-Some-false-2-clause-stands

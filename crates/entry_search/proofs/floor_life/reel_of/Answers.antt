@@ -1,6 +1,6 @@
 use Rattle.std.proofs.Common.{reverse, take, sym, subst}
 use Rattle.entry_search.specs.Life.{IsReelOf}
-use Rattle.entry_search.proofs.Handling.{so-far, judged-next, by-then}
+use Rattle.entry_search.proofs.HandledReels.{so-far, judged-next, by-then}
 use Rattle.entry_search.proofs.floor_life.reel_of.Goals as goal
 
 pub reel_after-reel-requires : goal.reel_after-reel-requires

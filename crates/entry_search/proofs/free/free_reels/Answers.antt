@@ -3,7 +3,7 @@ use Rattle.std.proofs.lemmas.List.{take_all}
 use Rattle.desk_types.specs.declared.view.Left.{Left}
 use Rattle.desk_types.specs.Id.{Name}
 use Rattle.desk_types.specs.View.{reel_view}
-use Rattle.entry_search.proofs.Turning.{free_among, told-next, views-of_turns}
+use Rattle.entry_search.proofs.FreeReels.{free_among, told-next, views-of_turns}
 use Rattle.entry_search.proofs.free.free_reels.Goals as goal
 
 pub loop-turn-preserved : goal.loop-turn-preserved

@@ -1,5 +1,5 @@
 use Rattle.std.proofs.Common.{reverse, sym, ◌∙◌}
-use Rattle.entry_search.proofs.Turning.{untold-turn}
+use Rattle.entry_search.proofs.FreeReels.{untold-turn}
 use Rattle.entry_search.proofs.free.turn_by.Goals as goal
 
 pub returns-in_err-view : goal.returns-in_err-view

@@ -6,10 +6,10 @@ use Rattle.std.specs.declared.cmp.Ordering.{Ordering}
 use Rattle.desk_types.specs.declared.view.Left.{Left}
 use Rattle.desk_types.specs.Id.{by_name}
 use Rattle.desk_types.proofs.Lives.{left-order}
-use Rattle.desk_types.proofs.Steps.{take-next}
+use Rattle.desk_types.proofs.LoopSteps.{take-next}
 use Rattle.entry_search.specs.Turns.{turn_of, by_life}
-use Rattle.entry_search.proofs.Leaving.{reverse-last}
-use Rattle.entry_search.proofs.Turning.{free_among, turns-next}
+use Rattle.entry_search.proofs.ReelsLater.{reverse-last}
+use Rattle.entry_search.proofs.FreeReels.{free_among, turns-next}
 use Rattle.entry_search.proofs.free.turns.Goals as goal
 
 pub loop-entry-preserved : goal.loop-entry-preserved

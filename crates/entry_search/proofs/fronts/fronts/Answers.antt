@@ -1,7 +1,7 @@
 use Rattle.std.proofs.Common.{◌≡◌, unwrap_or, reverse, sym, ap, ◌∙◌, arith}
 use Rattle.desk_types.specs.History.{now_of}
-use Rattle.entry_search.proofs.Flooring.{floor-by}
-use Rattle.entry_search.proofs.Fronting.{no-fronts}
+use Rattle.entry_search.proofs.FloorOfEntries.{floor-by}
+use Rattle.entry_search.proofs.FirstFronts.{no-fronts}
 use Rattle.entry_search.proofs.fronts.fronts.Goals as goal
 
 pub returns-in_default : goal.returns-in_default

@@ -3,7 +3,7 @@ use Rattle.std.proofs.lemmas.List.Elements.{All-get_or}
 use Rattle.desk_types.specs.Id.{Name}
 use Rattle.desk_types.specs.View.{mount_of}
 use Rattle.entry_search.specs.Floor.{reel_at}
-use Rattle.entry_search.proofs.Listing.{place-next}
+use Rattle.entry_search.proofs.ListedReels.{place-next}
 use Rattle.entry_search.proofs.slots.put_mounts.Goals as goal
 
 pub mount-requires-clause-received : goal.mount-requires-clause-received

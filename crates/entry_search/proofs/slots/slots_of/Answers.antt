@@ -1,8 +1,8 @@
 use Rattle.std.proofs.Common.{◌≡◌, true, is_some, All, unwrap_or, reverse, sym, subst, ap, ◌∙◌, arith}
 use Rattle.desk_types.specs.History.{now_of}
 use Rattle.entry_search.specs.Floor.{reel_at}
-use Rattle.entry_search.proofs.Flooring.{floor-by}
-use Rattle.entry_search.proofs.Listing.{all-there, no-mounts}
+use Rattle.entry_search.proofs.FloorOfEntries.{floor-by}
+use Rattle.entry_search.proofs.ListedReels.{all-there, no-mounts}
 use Rattle.entry_search.proofs.slots.slots_of.Goals as goal
 
 pub returns-in_default : goal.returns-in_default

@@ -2,7 +2,7 @@ use Rattle.std.proofs.Common.{◌-◌, ◌^◌, min, reverse, sum_by, sym, ap, �
 use Rattle.std.proofs.lemmas.List.{reverse-reverse, take_all}
 use Rattle.entry_search.specs.Totals.{taken_for}
 use Rattle.entry_search.proofs.Ranges.{total-fits}
-use Rattle.entry_search.proofs.Summing.{total-kept}
+use Rattle.entry_search.proofs.SumsOfTakes.{total-kept}
 use Rattle.entry_search.proofs.totals.total.Goals as goal
 
 pub returns : goal.returns

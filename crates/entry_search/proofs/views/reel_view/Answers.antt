@@ -1,6 +1,6 @@
 use Rattle.std.proofs.Common.{reverse, sym, ap, ◌∙◌, ◌-◌, unwrap_or, arith}
 use Rattle.entry_search.proofs.Ranges.{few-reversed}
-use Rattle.entry_search.proofs.Viewing.{no-reel, found-is, viewed}
+use Rattle.entry_search.proofs.ReelViews.{no-reel, found-is, viewed}
 use Rattle.entry_search.proofs.views.reel_view.Goals as goal
 
 pub returns-in_err-minute : goal.returns-in_err-minute
@@ -8,8 +8,8 @@ returns-in_err-minute c = c.from_residual.ensures ∙ sym (no-reel (reverse c.ar
 
 pub overflow_sub-result : goal.overflow_sub-result
 overflow_sub-result c =
-    let told = (found-is (reverse c.args.entries.now) c.args.name.now c.in_ok-told.told c.received-received.result
-    (sym c.receipt.ensures ∙ c.in_ok-told.was) c.received-received.ensures).0 in
+    let told = (found-is (reverse c.args.entries.now) c.args.name.now c.in_ok-told.told c.received_of-received.result
+    (sym c.receipt.ensures ∙ c.in_ok-told.was) c.received_of-received.ensures).0 in
     omega (arith, told, c.get.ensures.value)
 
 pub returns : goal.returns
@@ -20,14 +20,14 @@ returns c =
     let few = few-reversed c.args.entries.now c.requires.most in
     let stands = c.in_ok-reel.ensures in
     let minute = ap (λ m. unwrap_or m 0) (sym c.desk_minute.ensures ∙ c.in_ok-minute.was) in
-    let new = (found-is H name c.in_ok-told.told c.received-received.result (sym c.receipt.ensures ∙ c.in_ok-told.was) c.received-received.ensures).1 in
-    viewed H name c.in_ok-reel.reel c.received-received.result _ c.total.result c.total-2.result c.left.result c.life_left.result c.is_mounted.result c.is_some.result
+    let new = (found-is H name c.in_ok-told.told c.received_of-received.result (sym c.receipt.ensures ∙ c.in_ok-told.was) c.received_of-received.ensures).1 in
+    viewed H name c.in_ok-reel.reel c.received_of-received.result _ c.total.result c.total-2.result c.left_of.result c.life_left.result c.is_mounted.result c.is_some.result
     stands.0 stands.1
-    c.received-received.ensures
-    (ap (λ n. c.received-received.result - n) c.get.ensures.value ∙ new)
+    c.received_of-received.ensures
+    (ap (λ n. c.received_of-received.result - n) c.get.ensures.value ∙ new)
     (c.total.ensures H judged few c.requires.takes)
     (c.total-2.ensures H judged few c.requires.takes)
-    c.left.ensures
+    c.left_of.ensures
     (c.life_left.ensures H name stands.0 minute)
     c.is_mounted.ensures
     c.is_some.ensures

@@ -5,7 +5,7 @@ use Rattle.desk_types.specs.Id.{Name}
 use Rattle.feeder_state.specs.Held.{held_at}
 use Rattle.feeder_state.specs.Handling.{touches}
 use Rattle.feeder_state.specs.Noted.{may_take}
-use Rattle.feeder_state.proofs.Holding.{held-untouched}
+use Rattle.feeder_state.proofs.HeldReels.{held-untouched}
 use Rattle.feeder_state.proofs.ReelSteps.{noted-by}
 use Rattle.feeder_state.proofs.floor.note_reels.Goals as goal
 

@@ -1,9 +1,9 @@
 use Rattle.std.proofs.Common.{sym, ap, subst, ◌∙◌}
 use Rattle.std.specs.Option.{option_map}
 use Rattle.entry_search.specs.Turns.{turn_of}
-use Rattle.entry_search.proofs.Turning.{untold-free}
+use Rattle.entry_search.proofs.FreeReels.{untold-free}
 use Rattle.feeder_state.specs.Held.{held_at, IsHeldOf}
-use Rattle.feeder_state.proofs.Telling.{told-now, absent-view}
+use Rattle.feeder_state.proofs.FloorTells.{told-now, absent-view}
 use Rattle.feeder_state.proofs.free.turn_at.Goals as goal
 
 pub returns-in_err-held : goal.returns-in_err-held

@@ -4,7 +4,7 @@ use Rattle.desk_types.specs.History.{History}
 use Rattle.setup_sheets.specs.Alternates.{AreAlternates}
 use Rattle.entry_search.specs.Turns.{turn_of}
 use Rattle.feeder_state.specs.Told.{IsTold}
-use Rattle.feeder_state.proofs.Turning.{free_in}
+use Rattle.feeder_state.proofs.FreeReels.{free_in}
 use Rattle.feeder_state.proofs.free.turns.Given as goal
 
 -- the names so far, and the turns of the free reels among them

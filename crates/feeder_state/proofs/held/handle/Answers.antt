@@ -2,7 +2,7 @@ use Rattle.std.proofs.Common.{◌||◌, rules, arith, sym, ap, subst, ◌∙◌,
 use Rattle.desk_types.proofs.Keys.{name-written}
 use Rattle.feeder_state.specs.Held.{held_at, IsHeldOf}
 use Rattle.feeder_state.specs.Handling.{handles, puts_on_slot}
-use Rattle.feeder_state.proofs.Holding.{held-handled, held-untouched, held-written, held-absent, handles-others}
+use Rattle.feeder_state.proofs.HeldReels.{held-handled, held-untouched, held-written, held-absent, handles-others}
 use Rattle.feeder_state.proofs.held.handle.Goals as goal
 
 pub returns-in-Some : goal.returns-in-Some

@@ -1,10 +1,10 @@
 use Rattle.std.proofs.Common.{take, refl, arith}
 use Rattle.desk_types.specs.Id.{same}
 use Rattle.reels.specs.declared.reel.Usage.TheVariants.{Placed, Scrapped}
-use Rattle.entry_search.specs.Totals.{went}
+use Rattle.entry_search.specs.Totals.{is_usage_of}
 use Rattle.feeder_state.specs.Held.{held_at, left_at}
-use Rattle.feeder_state.proofs.Dropping.{unspent-next}
-use Rattle.feeder_state.proofs.Moving.{are-moved-none, are-moved-more, taken-split, taken_for-push, next-within, left-taken, left-other}
+use Rattle.feeder_state.proofs.ReelsOffTapes.{unspent-next}
+use Rattle.feeder_state.proofs.PiecesOffReels.{are-moved-none, are-moved-more, pieces_taken-split, taken_for-push, next-within, left-pieces_taken, left-other}
 use Rattle.feeder_state.proofs.held.lower_all.Goals as goal
 
 pub loop-take-init : goal.loop-take-init
@@ -16,8 +16,8 @@ lower-last-requires c =
     let i = c.loop-take.take-index in
     let t = c.take-item.result in
     let within = next-within takes i t c.loop-take-test.true c.take-item.is in
-    let left = left-taken _ _ (held_at c.args.reels.now t.reel) (held_at c.loop-take.reels t.reel) (c.loop-take.invariant.moved t.reel) in
-    let so_far = taken-split (take i takes) t.reel in
+    let left = left-pieces_taken _ _ (held_at c.args.reels.now t.reel) (held_at c.loop-take.reels t.reel) (c.loop-take.invariant.moved t.reel) in
+    let so_far = pieces_taken-split (take i takes) t.reel in
     let all = c.requires t.reel in
     omega (arith, within, left, so_far, all)
 
@@ -31,7 +31,7 @@ loop-take-preserved c =
     record {
       unspent = unspent-next takes i t (left_at before) (left_at after) c.loop-take.spent c.lower-last.result c.loop-take-test.true c.take-item.is c.loop-take.invariant.unspent
           c.lower-last.ensures.spent
-          (λ r other. left-other (same t.reel r) (went Placed t.purpose) (went Scrapped t.purpose) t.quantity (held_at before r) (held_at after r) other (c.lower-last.ensures.moved r));
+          (λ r other. left-other (same t.reel r) (is_usage_of Placed t.purpose) (is_usage_of Scrapped t.purpose) t.quantity (held_at before r) (held_at after r) other (c.lower-last.ensures.moved r));
       moved = λ r.
           let on_boards = taken_for-push Placed takes i t r c.loop-take-test.true c.take-item.is in
           let away = taken_for-push Scrapped takes i t r c.loop-take-test.true c.take-item.is in

@@ -2,7 +2,7 @@ use Rattle.std.proofs.Common.{rules, refl, sym, arith}
 use Rattle.desk_types.proofs.Keys.{name-written}
 use Rattle.feeder_state.specs.declared.held.Held.{Held}
 use Rattle.feeder_state.specs.Held.{held_at}
-use Rattle.feeder_state.proofs.Rising.{found-one}
+use Rattle.feeder_state.proofs.FoundPieces.{found-one}
 use Rattle.feeder_state.proofs.held.rise.Goals as goal
 
 pub returns-then-counted-held : goal.returns-then-counted-held

@@ -1,5 +1,5 @@
 use Rattle.feeder_state.specs.Held.{held_at}
-use Rattle.feeder_state.proofs.Rising.{can-rise, found-next}
+use Rattle.feeder_state.proofs.FoundPieces.{can-rise, found-next}
 use Rattle.feeder_state.proofs.held.rise_all.Goals as goal
 
 pub rise-requires-clause-fits : goal.rise-requires-clause-fits

@@ -1,5 +1,5 @@
 use Rattle.std.proofs.Common.{rules, ◌≡◌, ◌<◌, get_or, length}
-use Rattle.feeder_state.proofs.Rising.{off-next}
+use Rattle.feeder_state.proofs.FoundPieces.{off-next}
 use Rattle.feeder_state.proofs.held.take_all_off.Goals as goal
 
 pub loop-i-preserved : goal.loop-i-preserved

@@ -3,7 +3,7 @@ use Rattle.std.specs.Option.{option_map}
 use Rattle.desk_types.proofs.Keys.{name-written, name-changed}
 use Rattle.feeder_state.specs.Held.{held_at}
 use Rattle.feeder_state.specs.Taking.{off_slot}
-use Rattle.feeder_state.proofs.Rising.{off-absent}
+use Rattle.feeder_state.proofs.FoundPieces.{off-absent}
 use Rattle.feeder_state.proofs.held.take_off.Goals as goal
 
 pub returns-in-Some : goal.returns-in-Some

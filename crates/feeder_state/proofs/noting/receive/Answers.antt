@@ -1,7 +1,7 @@
 use Rattle.std.proofs.Common.{refl, ap, ◌∙◌, sym}
 use Rattle.feeder_state.specs.Held.{held_at}
 use Rattle.feeder_state.specs.Handling.{touches}
-use Rattle.feeder_state.proofs.Holding.{held-untouched, held-written}
+use Rattle.feeder_state.proofs.HeldReels.{held-untouched, held-written}
 use Rattle.feeder_state.proofs.ReelSteps.{held-received, received-fresh}
 use Rattle.feeder_state.proofs.noting.receive.Goals as goal
 

@@ -8,9 +8,9 @@ use Rattle.entry_search.specs.Totals.{taken_for}
 use Rattle.feeder_state.specs.Held.{held_at, left_at}
 use Rattle.feeder_state.specs.Noted.{IsNoted}
 use Rattle.feeder_state.specs.Taking.{AreMoved, highest}
-use Rattle.feeder_state.proofs.Counted.{counts-find, unspent-rows}
-use Rattle.feeder_state.proofs.Moving.{are-moved-then}
-use Rattle.feeder_state.proofs.ReelSteps.{noted-within, noted-moved, counted-left, count-accepted, unfound, taken-fits}
+use Rattle.feeder_state.proofs.CountedRows.{counts-find, unspent-rows}
+use Rattle.feeder_state.proofs.PiecesOffReels.{are-moved-then}
+use Rattle.feeder_state.proofs.ReelSteps.{noted-within, noted-moved, counted-left, count-accepted, unfound, pieces_taken-fits}
 use Rattle.feeder_state.proofs.noting.take_pieces.Goals as goal
 
 pub lower_all-spent-requires : goal.lower_all-spent-requires
@@ -32,7 +32,7 @@ rise_all-requires-clause-unspent c =
 pub rise_all-requires-clause-fits : goal.rise_all-requires-clause-fits
 rise_all-requires-clause-fits c = λ r.
     let known = c.requires.known in
-    taken-fits known.0 r _ _ (held_at c.args.reels.now r) (held_at c.lower_all-spent.new.reels r) known.3.judged.1 (omega (arith, known.5)) (known.4 r) (c.lower_all-spent.ensures.moved r)
+    pieces_taken-fits known.0 r _ _ (held_at c.args.reels.now r) (held_at c.lower_all-spent.new.reels r) known.3.judged.1 (omega (arith, known.5)) (known.4 r) (c.lower_all-spent.ensures.moved r)
 
 pub returns-in-CountsTaken-clause-held : goal.returns-in-CountsTaken-clause-held
 returns-in-CountsTaken-clause-held c = λ H e at noted are r.

@@ -1,7 +1,7 @@
 use Rattle.std.proofs.Common.{rules, ◌≡◌, ◌<◌, get_or, length}
 use Rattle.feeder_state.specs.Resting.{is_resting}
 use Rattle.feeder_state.proofs.AtRest.{put-next}
-use Rattle.feeder_state.proofs.Sets.{put}
+use Rattle.feeder_state.proofs.NameSets.{put}
 use Rattle.feeder_state.proofs.resting.put_tape.Goals as goal
 
 pub loop-i-preserved : goal.loop-i-preserved

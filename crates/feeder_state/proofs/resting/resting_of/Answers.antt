@@ -5,9 +5,9 @@ use Rattle.desk_types.specs.Id.{same}
 use Rattle.feeder_state.specs.Held.{held_at}
 use Rattle.feeder_state.specs.Resting.{held_rests, is_resting}
 use Rattle.feeder_state.proofs.AtRest.{rests-held}
-use Rattle.feeder_state.proofs.Filling.{set-next}
-use Rattle.feeder_state.proofs.Sets.{put}
-use Rattle.feeder_state.proofs.Working.{has_such}
+use Rattle.feeder_state.proofs.FilledMaps.{set-next}
+use Rattle.feeder_state.proofs.NameSets.{put}
+use Rattle.feeder_state.proofs.RestoredWork.{has_such}
 use Rattle.feeder_state.proofs.resting.resting_of.Goals as goal
 
 pub loop-name-preserved-in_ok-insert : goal.loop-name-preserved-in_ok-insert

@@ -2,7 +2,7 @@ use Rattle.std.proofs.Common.{◌≡◌}
 use Rattle.std.specs.Prelude.{◌||◌}
 use Rattle.desk_types.specs.Id.{Name}
 use Rattle.feeder_state.specs.Resting.{held_rests, is_resting}
-use Rattle.feeder_state.proofs.Working.{has_such}
+use Rattle.feeder_state.proofs.RestoredWork.{has_such}
 use Rattle.feeder_state.proofs.resting.resting_of.Given as goal
 
 -- the reels that are in, or are left to be put in

@@ -2,7 +2,7 @@ use Rattle.std.proofs.Common.{sym, ap, ◌∙◌}
 use Rattle.std.specs.Prelude.{◌||◌}
 use Rattle.desk_types.specs.View.{defines_on}
 use Rattle.feeder_state.specs.Setup.{is_sheeted}
-use Rattle.feeder_state.proofs.Sets.{put}
+use Rattle.feeder_state.proofs.NameSets.{put}
 use Rattle.feeder_state.proofs.setup.note_machine.Goals as goal
 
 pub returns-in_ok-insert : goal.returns-in_ok-insert

@@ -4,7 +4,7 @@ use Rattle.desk_types.specs.Id.{same}
 use Rattle.desk_types.specs.Setup.{selection_by}
 use Rattle.desk_types.proofs.Keys.{name-written}
 use Rattle.feeder_state.specs.Setup.{selected_at}
-use Rattle.feeder_state.proofs.Sets.{says-or}
+use Rattle.feeder_state.proofs.NameSets.{says-or}
 use Rattle.feeder_state.proofs.setup.note_selection.Goals as goal
 
 pub returns-in_ok-insert : goal.returns-in_ok-insert

@@ -5,7 +5,7 @@ use Rattle.desk_laws.proofs.Distinct.{distinct-filter}
 use Rattle.entry_search.specs.Floor.{tape_at}
 use Rattle.feeder_state.specs.Held.{left_at}
 use Rattle.feeder_state.specs.Spending.{is_spent_by}
-use Rattle.feeder_state.proofs.Dropping.{dropped-next, filter-kept}
+use Rattle.feeder_state.proofs.ReelsOffTapes.{dropped-next, filter-kept}
 use Rattle.feeder_state.proofs.tapes.drop_all_spent.Goals as goal
 
 pub drop_spent-requires : goal.drop_spent-requires

@@ -4,7 +4,7 @@ use Rattle.std.specs.List.{filter}
 use Rattle.desk_types.specs.Id.{same}
 use Rattle.desk_types.proofs.Keys.{pair-written, pair-changed}
 use Rattle.entry_search.specs.Floor.{tape_at}
-use Rattle.feeder_state.proofs.Dropping.{drop-there, drop-absent}
+use Rattle.feeder_state.proofs.ReelsOffTapes.{drop-there, drop-absent}
 use Rattle.feeder_state.proofs.tapes.drop_reel.Goals as goal
 
 pub returns-in-Some : goal.returns-in-Some

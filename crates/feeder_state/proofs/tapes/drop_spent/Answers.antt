@@ -2,7 +2,7 @@ use Rattle.std.proofs.Common.{rules, ◌≡◌, false, sym}
 use Rattle.std.specs.Prelude.{◌==◌}
 use Rattle.entry_search.specs.Floor.{tape_at}
 use Rattle.feeder_state.specs.Held.{left_at}
-use Rattle.feeder_state.proofs.Dropping.{filter-kept, unspent-stay, counted-stay}
+use Rattle.feeder_state.proofs.ReelsOffTapes.{filter-kept, unspent-stay, counted-stay}
 use Rattle.feeder_state.proofs.tapes.drop_spent.Goals as goal
 
 pub returns-then-not-is_spent : goal.returns-then-not-is_spent

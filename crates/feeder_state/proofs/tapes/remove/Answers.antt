@@ -2,7 +2,7 @@ use Rattle.std.proofs.Common.{rules, ◌≡◌, Bool, not, ◌∷◌, sym, ap, s
 use Rattle.std.specs.List.{filter, IsDistinct}
 use Rattle.std.proofs.lemmas.Fn.{filter_same}
 use Rattle.desk_types.specs.Id.{Name, same}
-use Rattle.feeder_state.proofs.Dropping.{drop-head}
+use Rattle.feeder_state.proofs.ReelsOffTapes.{drop-head}
 use Rattle.feeder_state.proofs.tapes.remove.Goals as goal
 
 pub returns-in-Some : goal.returns-in-Some

@@ -9,8 +9,8 @@ use Rattle.desk_types.specs.View.{slot_mounts, mount_of}
 use Rattle.desk_types.proofs.Keys.{same-true}
 use Rattle.entry_search.specs.Floor.{tape_at}
 use Rattle.feeder_state.specs.Held.{held_at}
-use Rattle.feeder_state.proofs.Slotting.{by_pair-total, slots_among, told-loaded}
-use Rattle.feeder_state.proofs.Telling.{told-now, all-held}
+use Rattle.feeder_state.proofs.SlotsOfMachines.{by_pair-total, slots_among, told-loaded}
+use Rattle.feeder_state.proofs.FloorTells.{told-now, all-held}
 use Rattle.feeder_state.proofs.views.put_slots.Goals as goal
 
 pub loop-key-preserved : goal.loop-key-preserved

@@ -4,7 +4,7 @@ use Rattle.std.specs.Map.{keys_of}
 use Rattle.desk_types.specs.History.{History}
 use Rattle.desk_types.specs.View.{slot_mounts}
 use Rattle.feeder_state.specs.Told.{IsTold}
-use Rattle.feeder_state.proofs.Slotting.{slots_among}
+use Rattle.feeder_state.proofs.SlotsOfMachines.{slots_among}
 use Rattle.feeder_state.proofs.views.put_slots.Given as goal
 
 -- what is told so far, and what is left to tell

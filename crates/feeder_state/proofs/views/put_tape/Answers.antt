@@ -5,7 +5,7 @@ use Rattle.std.proofs.lemmas.List.Elements.{All-get_or}
 use Rattle.desk_types.specs.Id.{Name}
 use Rattle.desk_types.specs.View.{mount_of}
 use Rattle.feeder_state.specs.Held.{held_at, IsHeldOf}
-use Rattle.entry_search.proofs.Listing.{place-next}
+use Rattle.entry_search.proofs.ListedReels.{place-next}
 use Rattle.feeder_state.proofs.views.put_tape.Goals.{in-Some+in_ok-push, in_default}
 use Rattle.feeder_state.proofs.views.put_tape.Goals as goal
 

@@ -1,6 +1,6 @@
 use Rattle.std.proofs.Common.{sym, subst, ◌∙◌}
 use Rattle.feeder_state.specs.Held.{held_at, IsHeldOf}
-use Rattle.feeder_state.proofs.Telling.{told-now, absent-view}
+use Rattle.feeder_state.proofs.FloorTells.{told-now, absent-view}
 use Rattle.feeder_state.proofs.views.reel_view_at.Goals as goal
 
 pub returns-in_err-held : goal.returns-in_err-held

@@ -1,7 +1,7 @@
 use Rattle.std.proofs.Common.{true, false, sym, ap, ◌∙◌}
 use Rattle.desk_laws.specs.Working.{in_work_after}
 use Rattle.feeder_state.specs.Work.{is_busy}
-use Rattle.feeder_state.proofs.Sets.{changed}
+use Rattle.feeder_state.proofs.NameSets.{changed}
 use Rattle.feeder_state.proofs.work.note_busy.Goals as goal
 
 pub returns-in_ok-insert-in-WorkStarted : goal.returns-in_ok-insert-in-WorkStarted

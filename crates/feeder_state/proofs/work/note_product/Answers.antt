@@ -2,7 +2,7 @@ use Rattle.std.proofs.Common.{◌≡◌, Some, None, sym, ap, ◌∙◌}
 use Rattle.std.specs.Option.{option_or}
 use Rattle.desk_types.proofs.Keys.{name-written}
 use Rattle.feeder_state.specs.Work.{product_at, product_by}
-use Rattle.feeder_state.proofs.Sets.{absent, first-put}
+use Rattle.feeder_state.proofs.NameSets.{absent, first-put}
 use Rattle.feeder_state.proofs.work.note_product.Goals as goal
 
 pub returns-in_ok-insert : goal.returns-in_ok-insert

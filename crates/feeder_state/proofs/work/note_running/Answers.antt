@@ -3,7 +3,7 @@ use Rattle.desk_types.specs.Id.{same}
 use Rattle.desk_types.specs.Work.{work_by}
 use Rattle.desk_types.proofs.Keys.{name-written}
 use Rattle.feeder_state.specs.Work.{running_at}
-use Rattle.feeder_state.proofs.Sets.{says-over}
+use Rattle.feeder_state.proofs.NameSets.{says-over}
 use Rattle.feeder_state.proofs.work.note_running.Goals as goal
 
 pub returns-in_ok-insert-in-WorkStarted : goal.returns-in_ok-insert-in-WorkStarted

@@ -5,7 +5,7 @@ use Rattle.std.specs.BTreeMap.{BTreeMap}
 use Rattle.desk_types.specs.Id.{Name, same}
 use Rattle.desk_types.proofs.Keys.{name-written}
 use Rattle.feeder_state.specs.Work.{is_placed_at}
-use Rattle.feeder_state.proofs.Sets.{placed-put}
+use Rattle.feeder_state.proofs.NameSets.{placed-put}
 use Rattle.feeder_state.proofs.work.place.Goals as goal
 
 pub returns-in_ok-add_all-in-Some : goal.returns-in_ok-add_all-in-Some

@@ -1,4 +1,4 @@
-use Rattle.http_answers.proofs.Getting.{get-stays}
+use Rattle.http_answers.proofs.GetsLeaveLists.{get-stays}
 use Rattle.http_answers.proofs.law.questions_leave_the_list.Goals as goal
 
 pub returns : goal.returns

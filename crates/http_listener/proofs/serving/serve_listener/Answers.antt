@@ -5,7 +5,7 @@ use Rattle.desk_types.specs.Wire.{inner_of}
 use Rattle.served.specs.Sent.{SendsFront}
 use Rattle.http_listener.specs.Connections.{Ended, connection_line, lines_from}
 use Rattle.http_listener.proofs.Lines.{lines_more}
-use Rattle.http_listener.proofs.Sequels.{faulty_more, serves_more}
+use Rattle.http_listener.proofs.ListsAfter.{faulty_more, serves_more}
 use Rattle.http_listener.proofs.serving.serve_listener.Goals as goal
 
 pub returns-in-Err-clause-told : goal.returns-in-Err-clause-told

@@ -3,7 +3,7 @@ use Rattle.std.specs.List.{list_any}
 use Rattle.std.specs.Io.KnownBytes.{Appends}
 use Rattle.desk_types.specs.Wire.{inner_of, failures_of}
 use Rattle.http_listener.specs.Connections.{Ended, is_faulty, lines_from}
-use Rattle.http_listener.proofs.Sequels.{Serves}
+use Rattle.http_listener.proofs.ListsAfter.{Serves}
 use Rattle.http_listener.proofs.serving.serve_listener.Given as goal
 
 abbrev pub invariant-loop-k : goal.invariant-loop-k

@@ -1,7 +1,7 @@
 use Rattle.std.proofs.Common.{subst}
 use Rattle.std.proofs.lemmas.Result.{on_err_weaker}
 use Rattle.desk_types.specs.Wire.{inner_of}
-use Rattle.http_stream.specs.Inbox.{source, pending, IsFront}
+use Rattle.http_stream.specs.Inbox.{source, pending_bytes, IsFront}
 use Rattle.http_stream.proofs.Portions.{takes_bad, takes_large, keeps_inside}
 use Rattle.http_stream.proofs.portion.take_portion.Goals as goal
 
@@ -9,13 +9,13 @@ pub returns-in-Bad-clause-portion : goal.returns-in-Bad-clause-portion
 returns-in-Bad-clause-portion g c =
     let known = g.R.Read.remaining (inner_of c.front.new.wire) in
     let told = subst (IsFront c.front.new.self known) c.in-Bad.is c.in_ok-front.ensures.front in
-    takes_bad (source c.args.inbox.now (g.R.Read.remaining (inner_of c.args.input.now))) (pending c.front.new.self) known c.in_ok-front.ensures.source told
+    takes_bad (source c.args.inbox.now (g.R.Read.remaining (inner_of c.args.input.now))) (pending_bytes c.front.new.self) known c.in_ok-front.ensures.source told
 
 pub returns-in-TooLarge-clause-portion : goal.returns-in-TooLarge-clause-portion
 returns-in-TooLarge-clause-portion g c =
     let known = g.R.Read.remaining (inner_of c.front.new.wire) in
     let told = subst (IsFront c.front.new.self known) c.in-TooLarge.is c.in_ok-front.ensures.front in
-    takes_large (source c.args.inbox.now (g.R.Read.remaining (inner_of c.args.input.now))) (pending c.front.new.self) known c.in_ok-front.ensures.source told.0 told.1
+    takes_large (source c.args.inbox.now (g.R.Read.remaining (inner_of c.args.input.now))) (pending_bytes c.front.new.self) known c.in_ok-front.ensures.source told.0 told.1
 
 pub returns-in-Head-clause-unread : goal.returns-in-Head-clause-unread
 returns-in-Head-clause-unread g c = on_err_weaker c.take_request.result

@@ -8,8 +8,8 @@ use Rattle.http_stream.specs.Cut.{EndsInside, TakesPortion, is_last}
 use Rattle.http_stream.specs.Inbox.{source, fuel}
 use Rattle.http_stream.specs.Portions.{portion_of}
 use Rattle.http_stream.specs.Stream.{AnsweredInto, ForLists}
-use Rattle.http_stream.proofs.Answering.{same_write}
-use Rattle.http_stream.proofs.Going.{goes_none, goes_on, stops_into}
+use Rattle.http_stream.proofs.AnsweredPortions.{same_write}
+use Rattle.http_stream.proofs.HandlersOfPortions.{goes_none, goes_on, stops_into}
 use Rattle.http_stream.proofs.Portions.{start_gone, portions_go, last_goes, end_comes, next_first}
 use Rattle.http_stream.proofs.serving.serve.Goals as goal
 

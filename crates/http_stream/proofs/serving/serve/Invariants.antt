@@ -5,7 +5,7 @@ use Rattle.served.specs.declared.serving.TheConstants.{MOST_READS}
 use Rattle.http_stream.specs.declared.inbox.TheConstants.{BLOCK}
 use Rattle.http_stream.specs.Cut.{Portion, PortionsGone}
 use Rattle.http_stream.specs.Inbox.{IsInbox, source, fuel}
-use Rattle.http_stream.proofs.Going.{Goes}
+use Rattle.http_stream.proofs.HandlersOfPortions.{Goes}
 use Rattle.http_stream.proofs.serving.serve.Given as goal
 
 abbrev pub invariant-portions : goal.invariant-portions

@@ -1,11 +1,11 @@
 use Rattle.std.proofs.Common.{◌≡◌, ◌∙◌, ◌+◌, ◌∷◌, [], Bool, cond, ap, subst}
 use Rattle.std.specs.Io.KnownBytes.{Appends}
 use Rattle.desk_types.specs.Wire.{inner_of}
-use Rattle.http_stream.specs.Answers.{Told, is_refused, reply_told, written}
+use Rattle.http_stream.specs.Answers.{Told, is_refused, reply_told, answer_bytes}
 use Rattle.http_stream.specs.Cut.{is_last}
 use Rattle.http_stream.specs.Portions.{portion_of}
 use Rattle.http_stream.specs.Stream.{has_body, outcome}
-use Rattle.http_stream.proofs.Answering.{one_answered}
+use Rattle.http_stream.proofs.AnsweredPortions.{one_answered}
 use Rattle.http_stream.proofs.serving.serve_portion.Goals as goal
 
 pub returns-clause-ok : goal.returns-clause-ok
@@ -17,9 +17,9 @@ returns-clause-ok g c = λ G stands trusts.
     let out = g.W.Write.contents (inner_of c.args.output.now) in
     let out' = g.W.Write.contents (inner_of c.send_answer.new.wire) in
     let told = c.answer_portion-told.result in
-    let went = subst (λ (b : Bool). Appends out out' (written b told.has_body (reply_told told.reply))) c.answer_portion-told.ensures.closes c.in_ok-send_answer.ensures.ok in
-    let went = subst (λ (b : Bool). Appends out out' (written (is_last p) b (reply_told told.reply))) c.answer_portion-told.ensures.has_body went in
-    let went = subst (λ (t : Told). Appends out out' (written (is_last p) (has_body p) t)) a.2.1 went in
+    let went = subst (λ (b : Bool). Appends out out' (answer_bytes b told.has_body (reply_told told.reply))) c.answer_portion-told.ensures.closes c.in_ok-send_answer.ensures.ok in
+    let went = subst (λ (b : Bool). Appends out out' (answer_bytes (is_last p) b (reply_told told.reply))) c.answer_portion-told.ensures.has_body went in
+    let went = subst (λ (t : Told). Appends out out' (answer_bytes (is_last p) (has_body p) t)) a.2.1 went in
     let s = c.args.served.now in
     let counts : c.is_refused.result ≡ is_refused (outcome rule mark G.history p).told.status = c.is_refused.ensures ∙ ap is_refused c.status.ensures ∙ ap (λ (t : Told). is_refused t.status) a.2.1 in
     let counted = subst (λ (b : Bool). c.count.new.self.refused ≡ cond b (s.refused + 1) s.refused) counts c.count.ensures.refused in

@@ -3,7 +3,7 @@ use Rattle.desk_types.specs.declared.answer.Detail.TheVariants.{Taken}
 use Rattle.desk_types.specs.Command.{IsCommand, IsCountRow, IsListOf}
 use Rattle.desk_types.specs.Outcome.{detail_of, pieces_of}
 use Rattle.desk_types.specs.Pieces.{picks_of}
-use Rattle.judging.proofs.Taking.{scrap-fits, count-fits}
+use Rattle.judging.proofs.PicksOfCommands.{scrap-fits, count-fits}
 use Rattle.judging.proofs.judging.detail.Goals as goal
 
 pub returns-in-MaterialsScrapped : goal.returns-in-MaterialsScrapped

@@ -1,5 +1,5 @@
 use Rattle.std.proofs.Common.{sym, ◌∙◌}
-use Rattle.judging.proofs.Halves.{found-or-not}
+use Rattle.judging.proofs.SortedSearch.{found-or-not}
 use Rattle.judging.proofs.placing.has_placed.Goals as goal
 
 pub returns-in-Some : goal.returns-in-Some

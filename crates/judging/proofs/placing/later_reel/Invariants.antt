@@ -1,10 +1,10 @@
 use Rattle.std.proofs.Common.{◌≡◌}
 use Rattle.desk_types.specs.History.{History}
 use Rattle.desk_types.specs.Pieces.{left_of}
-use Rattle.judging.specs.Placing.{live_behind}
+use Rattle.judging.specs.Placing.{live_past}
 use Rattle.judging.proofs.placing.later_reel.Given as goal
 
 -- the reels that were passed over are spent
 abbrev pub invariant-loop-place : goal.invariant-loop-place
 invariant-loop-place g l = let reels = g.F.Facts.reels_on l.facts l.machine l.slot in (H : History) → g.F.Facts.Stands l.facts H
-    → live_behind (left_of H) reels l.past ≡ live_behind (left_of H) reels l.place
+    → live_past (left_of H) reels l.past ≡ live_past (left_of H) reels l.place

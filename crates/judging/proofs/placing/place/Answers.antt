@@ -3,10 +3,10 @@ use Rattle.desk_types.specs.declared.answer.Refusal.TheVariants.{ReelShort}
 use Rattle.desk_types.specs.Setup.{slot_on}
 use Rattle.desk_types.specs.Tape.{tape_of}
 use Rattle.desk_types.specs.Pieces.{left_of}
-use Rattle.setup_sheets.proofs.Seen.{HasSeen-push, was-new}
-use Rattle.judging.specs.declared.placing.Piece.{Piece}
+use Rattle.setup_sheets.proofs.SeenNames.{HasSeen-push, was-new}
+use Rattle.judging.specs.declared.placing.Feeder.{Feeder}
 use Rattle.judging.specs.Placing.{pick_of}
-use Rattle.judging.proofs.Spending.{pick-found, pick-none, not-refused, refused-short}
+use Rattle.judging.proofs.PlacedInTurn.{pick-found, pick-none, not-refused, refused-short}
 use Rattle.judging.proofs.placing.place.Goals as goal
 
 pub returns : goal.returns
@@ -14,7 +14,7 @@ returns g c = λ H picks before stands feeding seen.
     let d = c.args.designator.now in
     let machine = c.args.machine.now in
     let board = c.args.board.now in
-    let piece : Piece = record { slot = c.in-Some.slot; reel = c.in-Some-2.reel } in
+    let piece : Feeder = record { slot = c.in-Some.slot; reel = c.in-Some-2.reel } in
     let slot : slot_on H machine d ≡ Some piece.slot = sym (c.slot_for.ensures H stands) ∙ c.in-Some.is in
     let new = was-new c.args.seen.now before d c.in_ok-insert.field-0 seen c.in_ok-insert.ensures.added c.if-not-branch.false in
     let front = sym (c.in_ok-reel.ensures.front H picks stands feeding) ∙ c.in-Some-2.is in

@@ -10,11 +10,11 @@ use Rattle.desk_types.specs.Tape.{tape_of}
 use Rattle.desk_types.specs.Pieces.{left_of, live_on, install_picks}
 use Rattle.desk_types.specs.Refusals.{designators_refusal}
 use Rattle.desk_types.specs.Work.{is_placed_on}
-use Rattle.desk_types.proofs.Steps.{take-next}
+use Rattle.desk_types.proofs.LoopSteps.{take-next}
 use Rattle.setup_sheets.specs.Names.{HasSeen}
 use Rattle.judging.specs.Placing.{IsFeeding, pick_of}
 use Rattle.judging.proofs.Feeds.{feeds-first}
-use Rattle.judging.proofs.Spending.{refusal-next, refusal-here, picks-next, picks-end}
+use Rattle.judging.proofs.PlacedInTurn.{refusal-next, refusal-here, picks-next, picks-end}
 use Rattle.judging.proofs.placing.place_all.Goals as goal
 
 pub loop-designator-init : goal.loop-designator-init

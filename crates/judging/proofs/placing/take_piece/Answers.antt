@@ -2,8 +2,8 @@ use Rattle.std.proofs.Common.{◌≡◌, [], ◌∷◌, Some, unwrap_or, refl, s
 use Rattle.desk_types.specs.Pieces.{left_of, live_on}
 use Rattle.desk_types.proofs.Keys.{name-written}
 use Rattle.desk_laws.proofs.Tapes.{live-distinct}
-use Rattle.judging.specs.Placing.{IsFed, feed_at, one_less, live_behind, live_next}
-use Rattle.judging.proofs.Feeds.{fed-front, fed-next, fed-none, feeds-next, given-reel, given-nothing, less-written, other-written}
+use Rattle.judging.specs.Placing.{IsFed, feed_at, one_less, live_past, live_next}
+use Rattle.judging.proofs.Feeds.{fed-front, fed-next, fed-none, feeds-next, given_by-reel, given_by-nothing, less-written, other-written}
 use Rattle.judging.proofs.Reels.{find-tape}
 use Rattle.judging.proofs.placing.take_piece.Goals as goal
 
@@ -12,7 +12,7 @@ returns-in-Reel-clause-front g c = λ H picks stands is.
     let machine = c.args.machine.now in
     let slot = c.args.slot.now in
     let reels = g.F.Facts.reels_on c.args.facts.now machine slot in
-    let hand = given-reel (feed_at c.args.feeds.now slot) c.in-Reel.reel (sym c.in-Reel.ensures.given) in
+    let hand = given_by-reel (feed_at c.args.feeds.now slot) c.in-Reel.reel (sym c.in-Reel.ensures.given) in
     let here = subst (λ o. IsFed (left_of H) (live_on H machine slot) reels picks o) hand.1 (is slot) in
     ap Some hand.2 ∙ sym (fed-front (left_of H) (live_on H machine slot) reels picks hand.0 hand.3 here) ∙ find-tape H machine slot picks
 
@@ -22,7 +22,7 @@ returns-in-Reel-clause-feeds g c = λ H picks p stands is one.
     let slot = c.args.slot.now in
     let reels = g.F.Facts.reels_on c.args.facts.now machine in
     let judged = c.is_judged.ensures H stands in
-    let hand = given-reel (feed_at c.args.feeds.now slot) c.in-Reel.reel (sym c.in-Reel.ensures.given) in
+    let hand = given_by-reel (feed_at c.args.feeds.now slot) c.in-Reel.reel (sym c.in-Reel.ensures.given) in
     let here = subst (λ o. IsFed (left_of H) (live_on H machine slot) (reels slot) picks o) hand.1 (is slot) in
     feeds-next H machine reels picks c.args.feeds.now c.take_in_hand.new.feeds slot hand.0 p judged (λ s. live-distinct H machine s judged)
     (sym (ap (λ o. unwrap_or o p.reel) one.0) ∙ hand.2) one.1 is here
@@ -34,8 +34,8 @@ returns-in_default-clause-front g c = λ H picks stands is.
     let slot = c.args.slot.now in
     let reels = g.F.Facts.reels_on c.args.facts.now machine slot in
     let feed = feed_at c.args.feeds.now slot in
-    let hand = given-nothing feed c.in-Nothing.past (sym c.in-Nothing.ensures.given) in
-    let none : live_next (left_of H) reels feed ≡ [] = ap (live_behind (left_of H) reels) (sym hand.1) ∙ c.in_default.ensures.live H stands in
+    let hand = given_by-nothing feed c.in-Nothing.past (sym c.in-Nothing.ensures.given) in
+    let none : live_next (left_of H) reels feed ≡ [] = ap (live_past (left_of H) reels) (sym hand.1) ∙ c.in_default.ensures.live H stands in
     sym (fed-none (left_of H) (live_on H machine slot) reels picks feed hand.0 none (is slot)) ∙ find-tape H machine slot picks
 
 pub returns-clause-front : goal.returns-clause-front
@@ -45,9 +45,9 @@ returns-clause-front g c = λ H picks stands is.
     let reels = g.F.Facts.reels_on c.args.facts.now machine slot in
     let feed = feed_at c.args.feeds.now slot in
     let f = c.in-Some.next in
-    let hand = given-nothing feed c.in-Nothing.past (sym c.in-Nothing.ensures.given) in
-    let next : live_next (left_of H) reels feed ≡ f.reel ∷ live_behind (left_of H) reels f.behind =
-    ap (live_behind (left_of H) reels) (sym hand.1) ∙ c.in-Some.ensures.live H stands in
+    let hand = given_by-nothing feed c.in-Nothing.past (sym c.in-Nothing.ensures.given) in
+    let next : live_next (left_of H) reels feed ≡ f.reel ∷ live_past (left_of H) reels f.passed =
+    ap (live_past (left_of H) reels) (sym hand.1) ∙ c.in-Some.ensures.live H stands in
     let here = fed-next (left_of H) (live_on H machine slot) reels picks feed f hand.0 (c.in-Some.ensures.pieces H stands) next (is slot) in
     sym (fed-front (left_of H) (live_on H machine slot) reels picks f c.in-Some.ensures.some here) ∙ find-tape H machine slot picks
 
@@ -59,9 +59,9 @@ returns-clause-feeds g c = λ H picks p stands is one.
     let judged = c.is_judged.ensures H stands in
     let feed = feed_at c.args.feeds.now slot in
     let f = c.in-Some.next in
-    let hand = given-nothing feed c.in-Nothing.past (sym c.in-Nothing.ensures.given) in
-    let next : live_next (left_of H) (reels slot) feed ≡ f.reel ∷ live_behind (left_of H) (reels slot) f.behind =
-    ap (live_behind (left_of H) (reels slot)) (sym hand.1) ∙ c.in-Some.ensures.live H stands in
+    let hand = given_by-nothing feed c.in-Nothing.past (sym c.in-Nothing.ensures.given) in
+    let next : live_next (left_of H) (reels slot) feed ≡ f.reel ∷ live_past (left_of H) (reels slot) f.passed =
+    ap (live_past (left_of H) (reels slot)) (sym hand.1) ∙ c.in-Some.ensures.live H stands in
     let here = fed-next (left_of H) (live_on H machine slot) (reels slot) picks feed f hand.0 (c.in-Some.ensures.pieces H stands) next (is slot) in
     feeds-next H machine reels picks c.args.feeds.now c.insert.new.self slot f p judged (λ s. live-distinct H machine s judged)
     (sym (ap (λ o. unwrap_or o p.reel) one.0)) one.1 is here

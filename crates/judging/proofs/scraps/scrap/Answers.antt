@@ -3,7 +3,7 @@ use Rattle.std.specs.List.{sum_by}
 use Rattle.desk_types.specs.declared.take.Purpose.TheVariants.{Rejected}
 use Rattle.desk_types.specs.Pieces.{left_of, pieces_off, scrap_picks}
 use Rattle.judging.proofs.Reels.{no-gap}
-use Rattle.judging.proofs.Rejecting.{scrap-step, sum-step, scrap-done}
+use Rattle.judging.proofs.ScrapPicks.{scrap-step, sum-step, scrap-done}
 use Rattle.judging.proofs.scraps.scrap.Goals as goal
 use Rattle.judging.proofs.scraps.scrap.Goals.{in-Some+in_ok-put_off, in_default}
 
@@ -34,7 +34,7 @@ loop-index-preserved g c = λ H stands.
     × (c.match-reel_at.wanting - sum_by (left_of H) (drop (i + 1) reels) ≡ w - sum_by (left_of H) (drop i reels))) [
       | in-Some+in_ok-put_off v ↦
           (let reel = v.in-Some.reel in
-          let left = v.left-left.ensures H stands in
+          let left = v.left_of-left.ensures H stands in
           let here = sym c.reel_at.ensures ∙ v.in-Some.is in
           let some : v.min.result ≡ min w (left_of H reel) = omega (arith, v.min.ensures, left) in
           let put = ap (λ ps. ps.items) v.picks-is ∙ v.in_ok-put_off.ensures ∙ ap (λ n. c.loop-index.picks.items ++ pieces_off reel n (Rejected machine slot)) some in

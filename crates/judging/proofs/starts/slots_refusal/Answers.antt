@@ -4,7 +4,7 @@ use Rattle.desk_types.specs.declared.front.Front.{Front}
 use Rattle.desk_types.specs.History.{now_of}
 use Rattle.desk_types.specs.Setup.{sheet_on}
 use Rattle.desk_types.specs.Front.{front_at}
-use Rattle.setup_sheets.proofs.Starting.{fronts-slots}
+use Rattle.setup_sheets.proofs.VerifiedStarts.{fronts-slots}
 use Rattle.judging.proofs.starts.slots_refusal.Goals as goal
 
 pub verify-requires : goal.verify-requires

@@ -1,8 +1,8 @@
 use Rattle.std.proofs.Common.{Bool, ◌&&◌, ◌==◌, sym, subst}
 use Rattle.sqlite.specs.Held.{state}
-use Rattle.line_audit.specs.Alone.{Tells}
+use Rattle.line_audit.specs.Alone.{Decides}
 use Rattle.line_audit.specs.Audit.{HasPlacements}
-use Rattle.line_audit.proofs.Placing.{same_placements}
+use Rattle.line_audit.proofs.PlacementsAsExpected.{same_placements}
 use Rattle.line_audit.proofs.auditing.are_placements.Goals as goal
 
 pub returns-then-placed-clause-same : goal.returns-then-placed-clause-same
@@ -10,12 +10,12 @@ returns-then-placed-clause-same g c clean f es expected =
     let old = state g.S.Store c.args.conn.now in
     let placed = c.args.placed in
     let n = c.in_ok-count.count in
-    subst (λ (b : Bool). Tells (λ db. HasPlacements db f) old (b && (n == placed.count))) c.if-placed.true (same_placements old placed.all placed.count n es f expected (c.in_ok-count.ensures.counted clean))
+    subst (λ (b : Bool). Decides (λ db. HasPlacements db f) old (b && (n == placed.count))) c.if-placed.true (same_placements old placed.all placed.count n es f expected (c.in_ok-count.ensures.counted clean))
 
 pub returns-else-placed-clause-same : goal.returns-else-placed-clause-same
 returns-else-placed-clause-same g c clean f es expected =
     let old = state g.S.Store c.args.conn.now in
     let placed = c.args.placed in
     let n = c.in_ok-count.count in
-    let told = subst (λ (b : Bool). Tells (λ db. HasPlacements db f) old (b && (n == placed.count))) c.if-placed.false (same_placements old placed.all placed.count n es f expected (c.in_ok-count.ensures.counted clean)) in
-    subst (λ (b : Bool). Tells (λ db. HasPlacements db f) old b) (sym c.if-placed.false) told
+    let told = subst (λ (b : Bool). Decides (λ db. HasPlacements db f) old (b && (n == placed.count))) c.if-placed.false (same_placements old placed.all placed.count n es f expected (c.in_ok-count.ensures.counted clean)) in
+    subst (λ (b : Bool). Decides (λ db. HasPlacements db f) old b) (sym c.if-placed.false) told

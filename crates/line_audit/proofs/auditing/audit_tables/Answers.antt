@@ -8,9 +8,9 @@ use Rattle.state_tables.specs.declared.row.PlacementRow.{PlacementRow}
 use Rattle.state_rows.specs.Kept.{tables_in}
 use Rattle.line_tables.proofs.Keeps.{keeps_then}
 use Rattle.line_audit.specs.Audit.{Pieces, IsExpected, HoldsTable, with_placements}
-use Rattle.line_audit.proofs.Matching.{reads_before}
-use Rattle.line_audit.proofs.Placing.{expected_after}
-use Rattle.line_audit.proofs.Telling.{split_at, right_more}
+use Rattle.line_audit.proofs.MatchedEntries.{reads_before}
+use Rattle.line_audit.proofs.PlacementsAsExpected.{expected_after}
+use Rattle.line_audit.proofs.Verdicts.{split_at, right_more}
 use Rattle.line_audit.proofs.auditing.audit_tables.Goals as goal
 
 pub returns-then-not-branch-clause-verdict : goal.returns-then-not-branch-clause-verdict

@@ -4,7 +4,7 @@ use Rattle.sqlite.specs.Held.{state}
 use Rattle.sqlite.proofs.StateLemmas.{survives_then}
 use Rattle.line_tables.proofs.Keeps.{keeps_then}
 use Rattle.line_audit.specs.TableNames.{table_of}
-use Rattle.line_audit.proofs.Matching.{matched_more, too_few, not_alone, all_alone}
+use Rattle.line_audit.proofs.MatchedEntries.{matched_more, too_few, not_alone, all_alone}
 use Rattle.line_audit.proofs.compared.are_rows.Goals as goal
 
 pub returns-then-left-eq0-clause-same : goal.returns-then-left-eq0-clause-same

@@ -1,5 +1,5 @@
 use Rattle.std.proofs.lemmas.Result.{IfOk-weaker}
-use Rattle.line_audit.proofs.Here.{run_here}
+use Rattle.line_audit.proofs.PlacementsFound.{run_here}
 use Rattle.line_audit.proofs.placements.are_in_a_row.Goals as goal
 
 pub returns-clause-found : goal.returns-clause-found

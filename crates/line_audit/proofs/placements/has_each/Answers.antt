@@ -9,9 +9,9 @@ use Rattle.line_tables.specs.Line as line
 use Rattle.line_tables.specs.StateRows.{rows_in, placement_columns}
 use Rattle.line_tables.proofs.Keeps.{keeps_then}
 use Rattle.line_audit.specs.Placed.{has_placement, AreHere}
-use Rattle.line_audit.proofs.Here.{looked_here, one_missing, all_here}
-use Rattle.line_audit.proofs.Matching.{reads_before}
-use Rattle.line_audit.proofs.Telling.{right_more}
+use Rattle.line_audit.proofs.PlacementsFound.{looked_here, one_missing, all_here}
+use Rattle.line_audit.proofs.MatchedEntries.{reads_before}
+use Rattle.line_audit.proofs.Verdicts.{right_more}
 use Rattle.line_audit.proofs.placements.has_each.Goals as goal
 
 pub returns-then-not-branch-clause-found : goal.returns-then-not-branch-clause-found

@@ -1,5 +1,5 @@
 use Rattle.sqlite.specs.Held.{state}
-use Rattle.line_audit.proofs.Here.{all_here}
+use Rattle.line_audit.proofs.PlacementsFound.{all_here}
 use Rattle.line_audit.proofs.placements.has_placements.Goals as goal
 
 pub returns-then-branch-clause-found : goal.returns-then-branch-clause-found

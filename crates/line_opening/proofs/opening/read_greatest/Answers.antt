@@ -1,5 +1,5 @@
 use Rattle.sqlite.specs.Held.{state}
-use Rattle.line_opening.proofs.Reading.{version_fault}
+use Rattle.line_opening.proofs.ReadOfCommitted.{version_fault}
 use Rattle.line_opening.proofs.opening.read_greatest.Goals as goal
 
 pub returns-in-Some-clause-err : goal.returns-in-Some-clause-err

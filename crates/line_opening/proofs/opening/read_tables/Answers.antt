@@ -3,8 +3,8 @@ use Rattle.std.proofs.lemmas.Result.{err_from_is_err_and}
 use Rattle.sqlite.specs.State.{HasCleanDisk, KeepsCommit}
 use Rattle.sqlite.specs.Held.{state}
 use Rattle.line_tables.proofs.Keeps.{keeps_then}
-use Rattle.line_replay.proofs.Reading.{reads_as, reads_back}
-use Rattle.line_opening.proofs.Reading.{audited, list_fault, opened_on, reads_all, table_fault}
+use Rattle.line_replay.proofs.ReadOfCommitted.{reads_as, reads_back}
+use Rattle.line_opening.proofs.ReadOfCommitted.{audited, list_fault, opened_on, reads_all, table_fault}
 use Rattle.line_opening.proofs.opening.read_tables.Goals as goal
 
 pub returns-in-None-clause-ok : goal.returns-in-None-clause-ok

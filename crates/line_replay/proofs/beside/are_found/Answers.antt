@@ -3,8 +3,8 @@ use Rattle.sqlite.specs.Effect.{Database}
 use Rattle.sqlite.specs.Held.{state}
 use Rattle.line_audit.specs.Audit.{ArePlaced, piece_of}
 use Rattle.line_replay.specs.Beside.{ArePlacedToo}
-use Rattle.line_replay.proofs.Adding.{too_false, too_none, too_found}
-use Rattle.line_replay.proofs.Reading.{reads_as}
+use Rattle.line_replay.proofs.RowsBeside.{too_false, too_none, too_found}
+use Rattle.line_replay.proofs.ReadOfCommitted.{reads_as}
 use Rattle.line_replay.proofs.beside.are_found.Goals as goal
 
 pub returns-then-not-found-clause-told : goal.returns-then-not-found-clause-told

@@ -4,7 +4,7 @@ use Rattle.sqlite.specs.State.{HasCleanDisk}
 use Rattle.sqlite.specs.Held.{state}
 use Rattle.line_replay.specs.Replay.{StandsListed}
 use Rattle.line_replay.proofs.Committed.{replayed, too_few, fault_before}
-use Rattle.line_replay.proofs.Taken.{desk-taken}
+use Rattle.line_replay.proofs.OneRowMore.{desk-taken}
 use Rattle.line_replay.proofs.replaying.replay.Goals as goal
 
 pub returns-in_err-least_is_one-clause-fault : goal.returns-in_err-least_is_one-clause-fault

@@ -4,8 +4,8 @@ use Rattle.line_tables.specs.Calls.{IsLeast}
 use Rattle.line_tables.specs.Rows.{accepted_in}
 use Rattle.sqlite.specs.Held.{state}
 use Rattle.line_replay.specs.Listed.{StopsAt}
-use Rattle.line_replay.proofs.Reading.{reads_as}
-use Rattle.line_replay.proofs.Stopping.{stops_first}
+use Rattle.line_replay.proofs.ReadOfCommitted.{reads_as}
+use Rattle.line_replay.proofs.StopsOfRows.{stops_first}
 use Rattle.line_replay.proofs.taking.least_is_one.Goals as goal
 
 pub returns-in-Some-clause-err : goal.returns-in-Some-clause-err

@@ -5,8 +5,8 @@ use Rattle.sqlite.specs.Held.{state}
 use Rattle.state_tables.specs.declared.edit.RowEdit.{RowEdit}
 use Rattle.line_tables.proofs.Keeps.{keeps_then}
 use Rattle.line_replay.specs.Beside.{Adds}
-use Rattle.line_replay.proofs.Adding.{adds_back}
-use Rattle.line_replay.proofs.Taken.{row_taken, fault_stuck}
+use Rattle.line_replay.proofs.RowsBeside.{adds_back}
+use Rattle.line_replay.proofs.OneRowMore.{row_taken, fault_stuck}
 use Rattle.line_replay.proofs.taking.take_row.Goals as goal
 
 pub returns-in_ok-add-in-Some-clause-ok : goal.returns-in_ok-add-in-Some-clause-ok

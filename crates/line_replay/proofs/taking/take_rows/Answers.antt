@@ -9,8 +9,8 @@ use Rattle.line_replay.specs.declared.fault.ReplayFault.TheVariants.{NotLawful, 
 use Rattle.line_tables.specs.Calls.{Reads}
 use Rattle.line_tables.specs.Rows.{accepted_in}
 use Rattle.line_replay.specs.Replay.{StandsListed, Goes, IsStuck}
-use Rattle.line_replay.proofs.Adding.{beside_none}
-use Rattle.line_replay.proofs.Taken.{taken_more, fault_taken}
+use Rattle.line_replay.proofs.RowsBeside.{beside_none}
+use Rattle.line_replay.proofs.OneRowMore.{taken_more, fault_taken}
 use Rattle.line_replay.proofs.taking.take_rows.Goals as goal
 
 pub loop-number-init : goal.loop-number-init

@@ -1,6 +1,6 @@
 use Rattle.std.proofs.Common.{◌≡◌, ◌∙◌, ap, rules}
 use Rattle.desk_answers.specs.Texts.{accepted_text}
-use Rattle.line_rows.proofs.Putting.{put_is, put_new}
+use Rattle.line_rows.proofs.EditsOfChanges.{put_is, put_new}
 use Rattle.line_rows.proofs.edits.prepare.Goals as goal
 
 pub returns-clause-edits : goal.returns-clause-edits

@@ -1,4 +1,4 @@
-use Rattle.line_rows.proofs.Telling.{rows_tell}
+use Rattle.line_rows.proofs.RowsTellLists.{rows_tell}
 use Rattle.line_rows.proofs.kept.rows_tell_lists_apart.Goals as goal
 
 pub returns : goal.returns

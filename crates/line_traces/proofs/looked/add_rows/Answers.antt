@@ -3,18 +3,18 @@ use Rattle.std.proofs.lemmas.List.{take_all, get_or_default}
 use Rattle.sqlite_rules.specs.Lists.{Has}
 use Rattle.line_tables.specs.Line as line
 use Rattle.line_tables.specs.StateRows.{rows_in}
-use Rattle.trace_lists.specs.declared.lists.Piece.{Piece}
+use Rattle.trace_lists.specs.declared.lists.PieceKey.{PieceKey}
 use Rattle.trace_lists.specs.Lists.{key_of}
 use Rattle.line_traces.specs.Pieces.{piece_at}
 use Rattle.line_traces.specs.Beside.{AddsPieces}
-use Rattle.line_traces.proofs.Telling.{all-got, one-added}
+use Rattle.line_traces.proofs.LookedPieces.{all-got, one-added}
 use Rattle.line_traces.proofs.looked.add_rows.Goals as goal
 
 pub loop-at-preserved : goal.loop-at-preserved
 loop-at-preserved g c db H beside are =
     let keys = c.args.keys.now in
     let i = c.loop-at.at in
-    let none : Piece = record { number = 0; place = 0 } in
+    let none : PieceKey = record { number = 0; place = 0 } in
     let key = get_or keys i none in
     let within = c.loop-at-test.true in
     let got = c.in-Some.ensures.lookup in
@@ -26,4 +26,4 @@ loop-at-preserved g c db H beside are =
 pub returns : goal.returns
 returns g c all db H beside are =
     let keys = c.args.keys.now in
-    subst (λ (ks : List Piece). AddsPieces H (map key_of ks) c.args.pieces.now.items c.loop-at.pieces.items) (take_all c.loop-at.at keys c.loop-at-test.false) (c.loop-at.invariant db H beside are)
+    subst (λ (ks : List PieceKey). AddsPieces H (map key_of ks) c.args.pieces.now.items c.loop-at.pieces.items) (take_all c.loop-at.at keys c.loop-at-test.false) (c.loop-at.invariant db H beside are)

@@ -4,8 +4,8 @@ use Rattle.sqlite.specs.Held.{state}
 use Rattle.sqlite.proofs.StateLemmas.{survives_then}
 use Rattle.line_tables.proofs.Keeps.{keeps_then}
 use Rattle.line_traces.specs.Pieces.{piece_at}
-use Rattle.line_traces.proofs.Telling.{run-added}
-use Rattle.line_traces.proofs.Told.{reads-before}
+use Rattle.line_traces.proofs.LookedPieces.{run-added}
+use Rattle.line_traces.proofs.TwoCalls.{reads-before}
 use Rattle.line_traces.proofs.looked.pieces_at.Goals as goal
 
 pub loop-left-preserved : goal.loop-left-preserved

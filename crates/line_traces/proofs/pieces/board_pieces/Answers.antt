@@ -1,8 +1,8 @@
 use Rattle.std.proofs.lemmas.Result.{IfOk-weaker}
 use Rattle.sqlite.specs.Held.{state}
 use Rattle.line_traces.specs.Pieces.{pieces_on}
-use Rattle.line_traces.proofs.Told.{pieces-told}
-use Rattle.line_traces.proofs.Traced.{finds-on}
+use Rattle.line_traces.proofs.TwoCalls.{pieces-told}
+use Rattle.line_traces.proofs.FoundPieces.{finds-on}
 use Rattle.line_traces.proofs.pieces.board_pieces.Goals as goal
 
 pub returns-clause-pieces : goal.returns-clause-pieces

@@ -1,5 +1,5 @@
 use Rattle.std.proofs.Common.{◌≡◌, ◌==◌, length, rules}
-use Rattle.line_traces.proofs.Asked.{asks-board}
+use Rattle.line_traces.proofs.FoundRows.{asks-board}
 use Rattle.line_traces.proofs.pieces.has_board.Goals as goal
 
 pub returns-clause-found : goal.returns-clause-found

@@ -1,8 +1,8 @@
 use Rattle.std.proofs.lemmas.Result.{IfOk-weaker}
 use Rattle.sqlite.specs.Held.{state}
 use Rattle.line_traces.specs.Pieces.{overdue_pieces}
-use Rattle.line_traces.proofs.Told.{pieces-told}
-use Rattle.line_traces.proofs.Traced.{finds-overdue}
+use Rattle.line_traces.proofs.TwoCalls.{pieces-told}
+use Rattle.line_traces.proofs.FoundPieces.{finds-overdue}
 use Rattle.line_traces.proofs.pieces.overdue.Goals as goal
 
 pub returns-clause-pieces : goal.returns-clause-pieces

@@ -3,8 +3,8 @@ use Rattle.sqlite.specs.State.{HasCleanDisk}
 use Rattle.sqlite.specs.Held.{state}
 use Rattle.desk_types.specs.Placements.{boards_of}
 use Rattle.line_traces.specs.Pieces.{is_lot}
-use Rattle.line_traces.specs.Committed.{Tells}
-use Rattle.line_traces.proofs.Told.{reads-before, there-told}
+use Rattle.line_traces.specs.Committed.{FindsOfList}
+use Rattle.line_traces.proofs.TwoCalls.{reads-before, there-told}
 use Rattle.line_traces.proofs.traces.lot_boards.Goals as goal
 
 pub returns-clause-boards : goal.returns-clause-boards
@@ -13,6 +13,6 @@ returns-clause-boards g c clean =
     let mid = state g.S.Store c.has_lot.new.conn in
     let first : HasCleanDisk mid = omega (arith, c.boards_of_lot.ensures.survives.clean) in
     let is : c.in_ok-has_lot.field-0 ≡ true = search rules in
-    let named = subst (Tells (λ H. is_lot H c.args.lot.now) old) is (c.in_ok-has_lot.ensures.found first) in
+    let named = subst (FindsOfList (λ H. is_lot H c.args.lot.now) old) is (c.in_ok-has_lot.ensures.found first) in
     there-told g.D.Desk.Stands (option_copied c.args.lists) (option_copied c.args.desk) (λ H. boards_of H c.args.lot.now) old (λ H. is_lot H c.args.lot.now) _ named (
     reads-before old mid (c.has_lot.ensures.kept first) _ (c.in_ok-boards_of_lot.ensures.boards clean))

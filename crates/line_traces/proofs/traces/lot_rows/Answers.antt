@@ -2,8 +2,8 @@ use Rattle.std.proofs.Common.{◌≡◌, true, arith, rules, subst, option_copie
 use Rattle.sqlite.specs.State.{HasCleanDisk}
 use Rattle.sqlite.specs.Held.{state}
 use Rattle.line_traces.specs.Pieces.{is_lot, pieces_of_lot}
-use Rattle.line_traces.specs.Committed.{Tells}
-use Rattle.line_traces.proofs.Told.{reads-before, there-told}
+use Rattle.line_traces.specs.Committed.{FindsOfList}
+use Rattle.line_traces.proofs.TwoCalls.{reads-before, there-told}
 use Rattle.line_traces.proofs.traces.lot_rows.Goals as goal
 
 pub returns-clause-trace : goal.returns-clause-trace
@@ -12,6 +12,6 @@ returns-clause-trace g c clean =
     let mid = state g.S.Store c.has_lot.new.conn in
     let first : HasCleanDisk mid = omega (arith, c.pieces_of_lot.ensures.survives.clean) in
     let is : c.in_ok-has_lot.field-0 ≡ true = search rules in
-    let named = subst (Tells (λ H. is_lot H c.args.lot.now) old) is (c.in_ok-has_lot.ensures.found first) in
+    let named = subst (FindsOfList (λ H. is_lot H c.args.lot.now) old) is (c.in_ok-has_lot.ensures.found first) in
     there-told g.D.Desk.Stands (option_copied c.args.lists) (option_copied c.args.desk) (λ H. pieces_of_lot H c.args.lot.now) old (λ H. is_lot H c.args.lot.now) _ named (
     reads-before old mid (c.has_lot.ensures.kept first) _ (c.in_ok-pieces_of_lot.ensures.pieces clean))

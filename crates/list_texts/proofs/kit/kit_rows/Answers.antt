@@ -7,7 +7,7 @@ use Rattle.desk_types.specs.Id.{Name}
 use Rattle.desk_types.specs.Free.{free_reels}
 use Rattle.setup_sheets.specs.Names.{is_among}
 use Rattle.list_texts.specs.Kit.{needed_by, enough, reels_for}
-use Rattle.list_texts.proofs.Kitting.{kit-next, kit-end}
+use Rattle.list_texts.proofs.KitRows.{kit-next, kit-end}
 use Rattle.list_texts.proofs.kit.kit_rows.Goals as goal
 
 pub loop-row-preserved : goal.loop-row-preserved

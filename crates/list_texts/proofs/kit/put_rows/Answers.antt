@@ -1,9 +1,9 @@
 use Rattle.std.proofs.Common.{◌++◌, ◌∷◌, [], map, take, sym, ap, subst, ◌∙◌, append_assoc, arith}
 use Rattle.desk_types.specs.declared.view.ReelView.{ReelView}
 use Rattle.setup_sheets.specs.Names.{HasSeen}
-use Rattle.setup_sheets.proofs.Seen.{HasSeen-push}
+use Rattle.setup_sheets.proofs.SeenNames.{HasSeen-push}
 use Rattle.list_texts.specs.Kit.{reel_row}
-use Rattle.list_texts.proofs.Kitting.{read-next, pieces-next}
+use Rattle.list_texts.proofs.KitRows.{read-next, pieces-next}
 use Rattle.list_texts.proofs.kit.put_rows.Goals as goal
 
 pub loop-reel-preserved : goal.loop-reel-preserved

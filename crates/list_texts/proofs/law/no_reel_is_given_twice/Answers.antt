@@ -1,5 +1,5 @@
 use Rattle.desk_types.proofs.BothRules.{judged-by-two}
-use Rattle.list_texts.proofs.Once.{kit-once}
+use Rattle.list_texts.proofs.NoReelTwice.{kit-once}
 use Rattle.list_texts.proofs.law.no_reel_is_given_twice.Goals as goal
 
 pub returns : goal.returns

@@ -2,9 +2,9 @@ use Rattle.std.proofs.Common.{take, sym, ap, ◌∙◌}
 use Rattle.std.specs.Prelude.{◌||◌}
 use Rattle.std.specs.List.{list_any}
 use Rattle.desk_types.specs.Id.{same}
-use Rattle.desk_types.proofs.Steps.{take-next}
+use Rattle.desk_types.proofs.LoopSteps.{take-next}
 use Rattle.look_back.specs.Installs.{is_in}
-use Rattle.look_back.proofs.Installing.{is_in-push}
+use Rattle.look_back.proofs.PlacedSets.{is_in-push}
 use Rattle.look_back.proofs.installs.add_all.Goals as goal
 
 pub loop-designator-preserved : goal.loop-designator-preserved

@@ -1,6 +1,6 @@
 use Rattle.std.proofs.Common.{◌∷◌, []}
 use Rattle.std.proofs.lemmas.Result.{on_err_weaker}
-use Rattle.served.proofs.Fronts.{front_after}
+use Rattle.served.proofs.SentFronts.{front_after}
 use Rattle.served.proofs.sending.send_line.Goals as goal
 
 pub returns-clause-front : goal.returns-clause-front

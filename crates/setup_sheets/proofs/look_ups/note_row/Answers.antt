@@ -2,9 +2,9 @@ use Rattle.std.proofs.Common.{Some, take, cond, sym, ap, ◌∙◌}
 use Rattle.std.specs.List.{list_any}
 use Rattle.desk_types.specs.Id.{same}
 use Rattle.desk_types.proofs.Keys.{name-written}
-use Rattle.desk_types.proofs.Steps.{take-next}
+use Rattle.desk_types.proofs.LoopSteps.{take-next}
 use Rattle.setup_sheets.specs.LookUps.{slot_at}
-use Rattle.setup_sheets.proofs.Looking.{slot-push}
+use Rattle.setup_sheets.proofs.SheetLookUps.{slot-push}
 use Rattle.setup_sheets.proofs.look_ups.note_row.Goals as goal
 
 pub loop-designator-preserved : goal.loop-designator-preserved

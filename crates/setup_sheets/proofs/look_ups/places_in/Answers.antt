@@ -6,7 +6,7 @@ use Rattle.desk_types.specs.Id.{same}
 use Rattle.desk_types.specs.Setup.{row_in}
 use Rattle.desk_types.proofs.Keys.{name-written}
 use Rattle.setup_sheets.specs.LookUps.{row_at}
-use Rattle.setup_sheets.proofs.Looking.{row-placed}
+use Rattle.setup_sheets.proofs.SheetLookUps.{row-placed}
 use Rattle.setup_sheets.proofs.look_ups.places_in.Goals as goal
 
 pub loop-i-preserved : goal.loop-i-preserved

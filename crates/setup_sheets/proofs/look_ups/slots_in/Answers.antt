@@ -2,7 +2,7 @@ use Rattle.std.proofs.Common.{sym, ap, ◌∙◌}
 use Rattle.std.specs.Option.{option_or}
 use Rattle.desk_types.specs.Setup.{slot_in}
 use Rattle.setup_sheets.specs.LookUps.{slot_at}
-use Rattle.setup_sheets.proofs.Looking.{slot_in-last}
+use Rattle.setup_sheets.proofs.SheetLookUps.{slot_in-last}
 use Rattle.setup_sheets.proofs.look_ups.slots_in.Goals as goal
 
 pub loop-row-preserved : goal.loop-row-preserved

@@ -2,8 +2,8 @@ use Rattle.std.proofs.Common.{◌≡◌, Some, None, Ok, [], ◌∷◌, ◌++◌
 use Rattle.std.proofs.lemmas.Grind.{flat_map-append}
 use Rattle.desk_types.specs.declared.sheet.SheetRow.{SheetRow}
 use Rattle.desk_types.specs.Refusals.{name_twice, designators_of_rows}
-use Rattle.desk_types.proofs.Steps.{take-next, drop-next}
-use Rattle.setup_sheets.proofs.Seen.{name_twice-append_some, name_twice-append_none}
+use Rattle.desk_types.proofs.LoopSteps.{take-next, drop-next}
+use Rattle.setup_sheets.proofs.SeenNames.{name_twice-append_some, name_twice-append_none}
 use Rattle.setup_sheets.proofs.sheet.designator_twice.Goals as goal
 
 pub returns-in-Some : goal.returns-in-Some

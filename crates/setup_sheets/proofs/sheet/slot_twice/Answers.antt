@@ -2,8 +2,8 @@ use Rattle.std.proofs.Common.{◌≡◌, [], ◌∷◌, ◌++◌, take, drop, �
 use Rattle.std.proofs.lemmas.List.{map-append}
 use Rattle.desk_types.specs.declared.sheet.SheetRow.{SheetRow}
 use Rattle.desk_types.specs.Refusals.{name_twice, slots_of_rows}
-use Rattle.desk_types.proofs.Steps.{take-next, drop-next}
-use Rattle.setup_sheets.proofs.Seen.{HasSeen-push, name_twice-new, was-new}
+use Rattle.desk_types.proofs.LoopSteps.{take-next, drop-next}
+use Rattle.setup_sheets.proofs.SeenNames.{HasSeen-push, name_twice-new, was-new}
 use Rattle.setup_sheets.proofs.sheet.slot_twice.Goals as goal
 
 pub loop-row-preserved : goal.loop-row-preserved

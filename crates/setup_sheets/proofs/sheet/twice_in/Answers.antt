@@ -1,8 +1,8 @@
 use Rattle.std.proofs.Common.{◌≡◌, [], ◌∷◌, ◌++◌, take, drop, ◌+◌, sym, ap, ◌∙◌, append_assoc, arith}
 use Rattle.std.proofs.lemmas.List.{take_all}
 use Rattle.desk_types.specs.Refusals.{name_twice}
-use Rattle.desk_types.proofs.Steps.{take-next, drop-next}
-use Rattle.setup_sheets.proofs.Seen.{HasSeen-push, name_twice-new, name_twice-seen, was-new, was-seen}
+use Rattle.desk_types.proofs.LoopSteps.{take-next, drop-next}
+use Rattle.setup_sheets.proofs.SeenNames.{HasSeen-push, name_twice-new, name_twice-seen, was-new, was-seen}
 use Rattle.setup_sheets.proofs.sheet.twice_in.Goals as goal
 
 pub returns-then-not-branch-clause-twice : goal.returns-then-not-branch-clause-twice

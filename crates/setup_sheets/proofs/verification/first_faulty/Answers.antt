@@ -4,7 +4,7 @@ use Rattle.desk_types.specs.declared.answer.Refusal.{Refusal}
 use Rattle.desk_types.specs.declared.front.Front.{Front}
 use Rattle.desk_types.specs.declared.sheet.SheetRow.{SheetRow}
 use Rattle.desk_types.specs.Id.{Name}
-use Rattle.desk_types.proofs.Steps.{drop-next}
+use Rattle.desk_types.proofs.LoopSteps.{drop-next}
 use Rattle.setup_sheets.specs.Verification.{first_fault, front_fault}
 use Rattle.setup_sheets.proofs.verification.first_faulty.Goals as goal
 

@@ -1,5 +1,5 @@
 use Rattle.std.proofs.Common.{◌∙◌}
-use Rattle.state_rows.proofs.Pushing.{count-next}
+use Rattle.state_rows.proofs.PushedEdits.{count-next}
 use Rattle.state_rows.proofs.counted.count.Goals as goal
 
 pub loop-row-preserved : goal.loop-row-preserved

@@ -1,5 +1,5 @@
 use Rattle.std.proofs.Common.{sym, ◌∙◌, arith}
-use Rattle.state_rows.proofs.Fitting.{count-fits}
+use Rattle.state_rows.proofs.SumsInRange.{count-fits}
 use Rattle.state_rows.proofs.counted.count_row.Goals as goal
 
 pub note-requires : goal.note-requires

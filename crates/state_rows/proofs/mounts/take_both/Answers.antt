@@ -2,7 +2,7 @@ use Rattle.std.proofs.Common.{None, sym, ◌∙◌, refl}
 use Rattle.desk_types.specs.Id.{by_name}
 use Rattle.desk_types.proofs.Keys.{is_at-by_name}
 use Rattle.desk_types.specs.Id.{same}
-use Rattle.state_rows.proofs.Keeping.{row-written}
+use Rattle.state_rows.proofs.RowLists.{row-written}
 use Rattle.state_rows.proofs.MountKeeping.{both-written, step-taken}
 use Rattle.state_rows.proofs.mounts.take_both.Goals as goal
 

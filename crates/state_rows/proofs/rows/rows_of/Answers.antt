@@ -5,7 +5,7 @@ use Rattle.desk_types.proofs.BothRules.{judged-by-two}
 use Rattle.state_tables.specs.Tables.{tables_of}
 use Rattle.state_tables.specs.Edits.{with_edits, AreNew, AreTakesFirst, AreBalanced}
 use Rattle.state_rows.specs.EditsOf.{pick_of, AreEditsOf, ArePiecesFitting}
-use Rattle.state_rows.proofs.Taken.{change-fits, rows-lead, rows-new, rows-fit}
+use Rattle.state_rows.proofs.RowsLess.{change-fits, rows-lead, rows-new, rows-fit}
 use Rattle.state_rows.proofs.rows.rows_of.Goals as goal
 
 pub edits_of-requires-clause-judged : goal.edits_of-requires-clause-judged

@@ -1,6 +1,6 @@
 use Rattle.std.specs.BTreeMap.{get}
 use Rattle.desk_types.specs.Id.{by_name}
-use Rattle.state_rows.proofs.Taken.{next-fits, gather-next}
+use Rattle.state_rows.proofs.RowsLess.{next-fits, gather-next}
 use Rattle.state_rows.proofs.takes.gather.Goals as goal
 
 pub note-requires : goal.note-requires

@@ -3,9 +3,9 @@ use Rattle.std.specs.BTreeMap.{get}
 use Rattle.desk_types.specs.Id.{Name, by_name}
 use Rattle.desk_types.specs.History.{History}
 use Rattle.state_tables.specs.Tables.{reel_row}
-use Rattle.state_rows.specs.EditsOf.{pick_of, gathered}
+use Rattle.state_rows.specs.EditsOf.{pick_of, picked_rows}
 use Rattle.state_rows.proofs.takes.gather.Given as goal
 
 abbrev pub invariant-loop-take : goal.invariant-loop-take
 invariant-loop-take g l = (H : History) → g.D.Desk.Stands l.desk H
-    → (r : Name) → get by_name l.rows r ≡ gathered (reel_row H) (map pick_of (take l.take-index l.takes)) r
+    → (r : Name) → get by_name l.rows r ≡ picked_rows (reel_row H) (map pick_of (take l.take-index l.takes)) r

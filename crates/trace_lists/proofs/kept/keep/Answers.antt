@@ -3,7 +3,7 @@ use Rattle.std.specs.BTreeMap.{BTreeMap}
 use Rattle.desk_types.specs.Id.{Name, same}
 use Rattle.desk_types.proofs.Keys.{name-written}
 use Rattle.trace_lists.specs.Lists.{kept_at}
-use Rattle.trace_lists.proofs.Keeping.{one-more}
+use Rattle.trace_lists.proofs.KeptUnderNames.{one-more}
 use Rattle.trace_lists.proofs.kept.keep.Goals as goal
 
 pub returns-in_ok-push-in-Some : goal.returns-in_ok-push-in-Some

@@ -9,7 +9,7 @@ use Rattle.trace_texts.specs.declared.detail.TraceDetail.TheVariants.{One, Two, 
 use Rattle.trace_texts.specs.declared.piece.Piece.{Piece}
 use Rattle.trace_texts.specs.Reports.{project, board_columns, lot_columns, board_header, lot_header, board_text, lot_text, board_rows, lot_rows, pieces_on, pieces_of_lot}
 use Rattle.trace_reports.specs.Reports.{board_trace, lot_trace, rows_below}
-use Rattle.trace_reports.proofs.Tested.{told, told-where, found-rows}
+use Rattle.trace_reports.proofs.ReportedPieces.{told, told-where, found-rows}
 use Rattle.trace_reports.proofs.laws.reports_are_converse.Goals as goal
 
 -- the rows that are read of the trace of a board, where its texts are read back

@@ -1,6 +1,6 @@
 use Rattle.std.specs.Prelude.{map}
 use Rattle.trace_texts.specs.Reports.{project, board_columns, lot_columns, board_header, lot_header, board_rows, lot_rows, overdue_header, overdue_row}
-use Rattle.trace_texts.proofs.Wholes.{board-whole, lot-whole, overdue-whole}
+use Rattle.trace_texts.proofs.FieldsOfRecords.{board-whole, lot-whole, overdue-whole}
 use Rattle.trace_texts.proofs.laws.reports_read_back.Goals as goal
 
 pub returns-clause-board : goal.returns-clause-board

@@ -1,4 +1,4 @@
-use Rattle.trace_texts.proofs.Sets.{lots-converse, parts-converse, reels-converse}
+use Rattle.trace_texts.proofs.RecordSets.{lots-converse, parts-converse, reels-converse}
 use Rattle.trace_texts.proofs.laws.traces_are_converse.Goals as goal
 
 pub returns-clause-lots : goal.returns-clause-lots

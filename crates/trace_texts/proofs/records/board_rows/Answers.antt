@@ -1,10 +1,10 @@
 use Rattle.std.proofs.Common.{◌≡◌, ◌+◌, ◌-◌, ◌∙◌, ◌∷◌, List, drop, map, sym, ap, ap₂, arith}
 use Rattle.std.specs.BTreeSet.{insert_key}
-use Rattle.desk_types.proofs.Steps.{drop-next}
+use Rattle.desk_types.proofs.LoopSteps.{drop-next}
 use Rattle.trace_texts.specs.declared.piece.Piece.{Piece}
 use Rattle.trace_texts.specs.Sets.{by_fields, set_of, bytes_of}
 use Rattle.trace_texts.specs.Reports.{project, board_columns, on_board}
-use Rattle.trace_texts.proofs.Writings.{put-same}
+use Rattle.trace_texts.proofs.BorrowedSets.{put-same}
 use Rattle.trace_texts.proofs.records.board_rows.Goals as goal
 
 pub loop-i-preserved : goal.loop-i-preserved

@@ -7,12 +7,12 @@ use Rattle.served.specs.Counts.{none_served}
 use Rattle.served.specs.Sent.{SendsFront}
 use Rattle.http_stream.specs.Answers.{code_of}
 use Rattle.desk_runs.specs.Runs.{AnswersImport, CutsImport, StaysSame}
-use Rattle.desk_runs.specs.Told.{printed, TellsLine}
+use Rattle.desk_runs.specs.Told.{report_output, TellsLine}
 use Rattle.desk_commands.specs.declared.left.Left.TheVariants.{Nothing}
 use Rattle.desk_commands.specs.Runs.{Refuses, RefusesToMigrate, RunsOn}
 use Rattle.tracedesk.specs.Program.{RefusesNamed}
-use Rattle.tracedesk.specs.Ways.{opened}
-use Rattle.tracedesk.proofs.Running.{has_none, names_desk, names_migrated, runs_import, runs_report, runs_serving}
+use Rattle.tracedesk.specs.Ways.{ways_when_open}
+use Rattle.tracedesk.proofs.AskedRuns.{has_none, names_desk, names_migrated, runs_import, runs_report, runs_serving}
 use Rattle.tracedesk.proofs.program.program.Goals as goal
 
 pub returns-in-Some-clause-done : goal.returns-in-Some-clause-done
@@ -74,18 +74,18 @@ returns-in-Ok-Migrate-clause-failed g c = λ is.
 pub returns-in-Ok-Import-clause-done : goal.returns-in-Ok-Import-clause-done
 returns-in-Ok-Import-clause-done g c = λ is.
     let asks : AsksForImport (map string_bytes c.args.words.now) (string_bytes c.in-Ok-Import.file) c.in-Ok-Import.import (string_bytes c.in-Ok-Import.from) = search rules in
-    inr (inr (inr (inl (runs_import (opened g.T.Start c.import_in_file.result.1) (map string_bytes c.args.words.now) (λ import from. AnswersImport g.W.Write.contents c.args.output.now c.import_in_file.new.output false import (g.F.Folder.holds c.args.folder.now from)) (string_bytes c.in-Ok-Import.file) c.in-Ok-Import.import (string_bytes c.in-Ok-Import.from) c.as_str-in-Ok-Import-2.result.now asks c.as_str-in-Ok-Import-2.ensures.value (c.import_in_file.ensures.done is)))))
+    inr (inr (inr (inl (runs_import (ways_when_open g.T.Start c.import_in_file.result.1) (map string_bytes c.args.words.now) (λ import from. AnswersImport g.W.Write.contents c.args.output.now c.import_in_file.new.output false import (g.F.Folder.holds c.args.folder.now from)) (string_bytes c.in-Ok-Import.file) c.in-Ok-Import.import (string_bytes c.in-Ok-Import.from) c.as_str-in-Ok-Import-2.result.now asks c.as_str-in-Ok-Import-2.ensures.value (c.import_in_file.ensures.done is)))))
 
 pub returns-in-Ok-Import-clause-refused : goal.returns-in-Ok-Import-clause-refused
 returns-in-Ok-Import-clause-refused g c = λ is.
     let asks : AsksForImport (map string_bytes c.args.words.now) (string_bytes c.in-Ok-Import.file) c.in-Ok-Import.import (string_bytes c.in-Ok-Import.from) = search rules in
-    inr (inl (runs_import (opened g.T.Start c.import_in_file.result.1) (map string_bytes c.args.words.now) (λ import from. AnswersImport g.W.Write.contents c.args.output.now c.import_in_file.new.output true import (g.F.Folder.holds c.args.folder.now from)) (string_bytes c.in-Ok-Import.file) c.in-Ok-Import.import (string_bytes c.in-Ok-Import.from) c.as_str-in-Ok-Import-2.result.now asks c.as_str-in-Ok-Import-2.ensures.value (c.import_in_file.ensures.refused is)))
+    inr (inl (runs_import (ways_when_open g.T.Start c.import_in_file.result.1) (map string_bytes c.args.words.now) (λ import from. AnswersImport g.W.Write.contents c.args.output.now c.import_in_file.new.output true import (g.F.Folder.holds c.args.folder.now from)) (string_bytes c.in-Ok-Import.file) c.in-Ok-Import.import (string_bytes c.in-Ok-Import.from) c.as_str-in-Ok-Import-2.result.now asks c.as_str-in-Ok-Import-2.ensures.value (c.import_in_file.ensures.refused is)))
 
 pub returns-in-Ok-Import-clause-failed : goal.returns-in-Ok-Import-clause-failed
 returns-in-Ok-Import-clause-failed g c = λ is.
     let asks : AsksForImport (map string_bytes c.args.words.now) (string_bytes c.in-Ok-Import.file) c.in-Ok-Import.import (string_bytes c.in-Ok-Import.from) = search rules in
     elim (c.import_in_file.ensures.failed is) [
-      | inl cut ↦ inl (Write none_served, (cut.0, refl), cut.1, inr (inr (inr (inl (runs_import (opened g.T.Start c.import_in_file.result.1) (map string_bytes c.args.words.now) (λ import from. CutsImport g.W.Write.contents c.args.output.now c.import_in_file.new.output import (g.F.Folder.holds c.args.folder.now from)) (string_bytes c.in-Ok-Import.file) c.in-Ok-Import.import (string_bytes c.in-Ok-Import.from) c.as_str-in-Ok-Import-2.result.now asks c.as_str-in-Ok-Import-2.ensures.value cut.2)))))
+      | inl cut ↦ inl (Write none_served, (cut.0, refl), cut.1, inr (inr (inr (inl (runs_import (ways_when_open g.T.Start c.import_in_file.result.1) (map string_bytes c.args.words.now) (λ import from. CutsImport g.W.Write.contents c.args.output.now c.import_in_file.new.output import (g.F.Folder.holds c.args.folder.now from)) (string_bytes c.in-Ok-Import.file) c.in-Ok-Import.import (string_bytes c.in-Ok-Import.from) c.as_str-in-Ok-Import-2.result.now asks c.as_str-in-Ok-Import-2.ensures.value cut.2)))))
       | inr unread ↦ inr (inl (refl, unread.1, unread.2, (string_bytes c.in-Ok-Import.file, c.in-Ok-Import.import, string_bytes c.in-Ok-Import.from, asks, subst (λ (at : List ℕ). g.F.Folder.may_fail c.args.folder.now at) c.as_str-in-Ok-Import-2.ensures.value unread.0, unread.3)))
     ]
 
@@ -94,7 +94,7 @@ returns-in-Ok-Serve-clause-done g c = λ is.
     let asked = c.in-Ok-Serve in
     let run = c.serve_in_file in
     let asks : AsksForServing (map string_bytes c.args.words.now) (string_bytes asked.file) asked.port asked.connections asked.greatest = search rules in
-    let serves = runs_serving (opened g.T.Start run.result.1) (map string_bytes c.args.words.now) g.W.Write.contents c.args.output.now run.new.output (string_bytes asked.file) asked.port asked.connections asked.greatest run.result.0 0 asks is (run.ensures.served (inl is)) in
+    let serves = runs_serving (ways_when_open g.T.Start run.result.1) (map string_bytes c.args.words.now) g.W.Write.contents c.args.output.now run.new.output (string_bytes asked.file) asked.port asked.connections asked.greatest run.result.0 0 asks is (run.ensures.served (inl is)) in
     inr (inr (inr (inr (inr (inl serves)))))
 
 pub returns-in-Ok-Serve-clause-refused : goal.returns-in-Ok-Serve-clause-refused
@@ -102,7 +102,7 @@ returns-in-Ok-Serve-clause-refused g c = λ is.
     let asked = c.in-Ok-Serve in
     let run = c.serve_in_file in
     let asks : AsksForServing (map string_bytes c.args.words.now) (string_bytes asked.file) asked.port asked.connections asked.greatest = search rules in
-    let serves = runs_serving (opened g.T.Start run.result.1) (map string_bytes c.args.words.now) g.W.Write.contents c.args.output.now run.new.output (string_bytes asked.file) asked.port asked.connections asked.greatest run.result.0 1 asks is (run.ensures.served (inr (inl is))) in
+    let serves = runs_serving (ways_when_open g.T.Start run.result.1) (map string_bytes c.args.words.now) g.W.Write.contents c.args.output.now run.new.output (string_bytes asked.file) asked.port asked.connections asked.greatest run.result.0 1 asks is (run.ensures.served (inr (inl is))) in
     inr (inr (inl serves))
 
 pub returns-in-Ok-Serve-clause-failed : goal.returns-in-Ok-Serve-clause-failed
@@ -110,7 +110,7 @@ returns-in-Ok-Serve-clause-failed g c = λ is.
     let asked = c.in-Ok-Serve in
     let run = c.serve_in_file in
     let asks : AsksForServing (map string_bytes c.args.words.now) (string_bytes asked.file) asked.port asked.connections asked.greatest = search rules in
-    let serves = runs_serving (opened g.T.Start run.result.1) (map string_bytes c.args.words.now) g.W.Write.contents c.args.output.now run.new.output (string_bytes asked.file) asked.port asked.connections asked.greatest run.result.0 4 asks is (run.ensures.served (inr (inr is))) in
+    let serves = runs_serving (ways_when_open g.T.Start run.result.1) (map string_bytes c.args.words.now) g.W.Write.contents c.args.output.now run.new.output (string_bytes asked.file) asked.port asked.connections asked.greatest run.result.0 4 asks is (run.ensures.served (inr (inr is))) in
     inr (inr (refl, run.ensures.failed is, serves))
 
 pub returns-in-Ok-Report-clause-done : goal.returns-in-Ok-Report-clause-done
@@ -122,7 +122,7 @@ returns-in-Ok-Report-clause-done g c = λ is.
     let out' = g.W.Write.contents (inner_of run.new.output) in
     let path = c.as_str-in-Ok-Report-2 in
     let told = run.ensures.done is in
-    inr (inr (inr (inr (inr (inr (runs_report (opened g.T.Start run.result.1) (map string_bytes c.args.words.now) (λ answer. (code_of answer.status ≡ 200) × Appends out out' (printed answer)) (string_bytes asked.file) (string_bytes asked.target) path.result.now told.0 asks path.ensures.value (told.1, told.2) told.3))))))
+    inr (inr (inr (inr (inr (inr (runs_report (ways_when_open g.T.Start run.result.1) (map string_bytes c.args.words.now) (λ answer. (code_of answer.status ≡ 200) × Appends out out' (report_output answer)) (string_bytes asked.file) (string_bytes asked.target) path.result.now told.0 asks path.ensures.value (told.1, told.2) told.3))))))
 
 pub returns-in-Ok-Report-clause-refused : goal.returns-in-Ok-Report-clause-refused
 returns-in-Ok-Report-clause-refused g c = λ is.
@@ -133,7 +133,7 @@ returns-in-Ok-Report-clause-refused g c = λ is.
     let out' = g.W.Write.contents (inner_of run.new.output) in
     let path = c.as_str-in-Ok-Report-2 in
     let told = run.ensures.refused is in
-    inr (inr (inr (runs_report (opened g.T.Start run.result.1) (map string_bytes c.args.words.now) (λ answer. (code_of answer.status ≢ 200) × Appends out out' (printed answer)) (string_bytes asked.file) (string_bytes asked.target) path.result.now told.0 asks path.ensures.value (told.1, told.2) told.3)))
+    inr (inr (inr (runs_report (ways_when_open g.T.Start run.result.1) (map string_bytes c.args.words.now) (λ answer. (code_of answer.status ≢ 200) × Appends out out' (report_output answer)) (string_bytes asked.file) (string_bytes asked.target) path.result.now told.0 asks path.ensures.value (told.1, told.2) told.3)))
 
 pub returns-in-Ok-Report-clause-failed : goal.returns-in-Ok-Report-clause-failed
 returns-in-Ok-Report-clause-failed g c = λ is.
@@ -144,7 +144,7 @@ returns-in-Ok-Report-clause-failed g c = λ is.
     let out' = g.W.Write.contents (inner_of run.new.output) in
     let path = c.as_str-in-Ok-Report-2 in
     let told = run.ensures.failed is in
-    inl (Write none_served, (told.0, refl), told.1, inr (inr (inr (inr (inr (runs_report (opened g.T.Start run.result.1) (map string_bytes c.args.words.now) (λ answer. SendsFront out out' (printed answer)) (string_bytes asked.file) (string_bytes asked.target) path.result.now told.2 asks path.ensures.value told.3 told.4))))))
+    inl (Write none_served, (told.0, refl), told.1, inr (inr (inr (inr (inr (runs_report (ways_when_open g.T.Start run.result.1) (map string_bytes c.args.words.now) (λ answer. SendsFront out out' (report_output answer)) (string_bytes asked.file) (string_bytes asked.target) path.result.now told.2 asks path.ensures.value told.3 told.4))))))
 
 pub returns-in-Some-clause-unread : goal.returns-in-Some-clause-unread
 returns-in-Some-clause-unread g c = λ no_feed.
@@ -158,9 +158,11 @@ returns-in-None-clause-unread g c = λ no_feed.
 
 pub returns-in-Some-clause-no_desk : goal.returns-in-Some-clause-no_desk
 returns-in-Some-clause-no_desk g c = λ status.
-    let asks : AsksForFeed (map string_bytes c.args.words.now) (Some (string_bytes c.in-Some.file)) c.in-Ok-Feed.greatest = search rules in
-    (c.feed_in_file.ensures.untouched status, has_none (Refuses g.T.Start (Some c.in-Ok-Feed.greatest) c.feed_in_file.result.1) (RefusesNamed (opened g.T.Start c.feed_in_file.result.1) (map string_bytes c.args.words.now)) ⊥ ((c.feed_in_file.result.1 ≡ Nothing) ⊎ RunsOn g.T.Start None c.feed_in_file.result.1 StaysSame) (TellsLine g.E.Write.contents c.args.errors.now c.feed_in_file.new.errors)
-    (λ fault is. inl ((string_bytes c.in-Some.file, c.in-Ok-Feed.greatest, asks, is))) (λ none. absurd none) (c.feed_in_file.ensures.no_desk status))
+    let asks : AsksForFeed (map string_bytes c.args.words.now) (Some (string_bytes c.in-Some.file)) c.in-Ok-Feed.greatest = search rules in (
+      c.feed_in_file.ensures.untouched status,
+      has_none (Refuses g.T.Start (Some c.in-Ok-Feed.greatest) c.feed_in_file.result.1) (RefusesNamed (ways_when_open g.T.Start c.feed_in_file.result.1) (map string_bytes c.args.words.now)) ⊥ ((c.feed_in_file.result.1 ≡ Nothing) ⊎ RunsOn g.T.Start None c.feed_in_file.result.1 StaysSame) (TellsLine g.E.Write.contents c.args.errors.now c.feed_in_file.new.errors)
+          (λ fault is. inl ((string_bytes c.in-Some.file, c.in-Ok-Feed.greatest, asks, is))) (λ none. absurd none) (c.feed_in_file.ensures.no_desk status),
+    )
 
 pub returns-in-Some-clause-named : goal.returns-in-Some-clause-named
 returns-in-Some-clause-named g c =
@@ -169,9 +171,11 @@ returns-in-Some-clause-named g c =
 
 pub returns-in-Ok-Serve-clause-no_desk : goal.returns-in-Ok-Serve-clause-no_desk
 returns-in-Ok-Serve-clause-no_desk g c = λ status.
-    let asks : AsksForServing (map string_bytes c.args.words.now) (string_bytes c.in-Ok-Serve.file) c.in-Ok-Serve.port c.in-Ok-Serve.connections c.in-Ok-Serve.greatest = search rules in
-    ((refl, c.serve_in_file.ensures.untouched status), has_none (Refuses g.T.Start (Some c.in-Ok-Serve.greatest) c.serve_in_file.result.1) (RefusesNamed (opened g.T.Start c.serve_in_file.result.1) (map string_bytes c.args.words.now)) (c.serve_in_file.result.1 ≡ Nothing) ((c.serve_in_file.result.1 ≡ Nothing) ⊎ RunsOn g.T.Start None c.serve_in_file.result.1 StaysSame) (TellsLine g.E.Write.contents c.args.errors.now c.serve_in_file.new.errors)
-    (λ fault is. inr (inl ((string_bytes c.in-Ok-Serve.file, c.in-Ok-Serve.port, c.in-Ok-Serve.connections, c.in-Ok-Serve.greatest, asks, is)))) (λ none. inl none) (c.serve_in_file.ensures.no_desk status))
+    let asks : AsksForServing (map string_bytes c.args.words.now) (string_bytes c.in-Ok-Serve.file) c.in-Ok-Serve.port c.in-Ok-Serve.connections c.in-Ok-Serve.greatest = search rules in (
+      (refl, c.serve_in_file.ensures.untouched status),
+      has_none (Refuses g.T.Start (Some c.in-Ok-Serve.greatest) c.serve_in_file.result.1) (RefusesNamed (ways_when_open g.T.Start c.serve_in_file.result.1) (map string_bytes c.args.words.now)) (c.serve_in_file.result.1 ≡ Nothing) ((c.serve_in_file.result.1 ≡ Nothing) ⊎ RunsOn g.T.Start None c.serve_in_file.result.1 StaysSame) (TellsLine g.E.Write.contents c.args.errors.now c.serve_in_file.new.errors)
+          (λ fault is. inr (inl ((string_bytes c.in-Ok-Serve.file, c.in-Ok-Serve.port, c.in-Ok-Serve.connections, c.in-Ok-Serve.greatest, asks, is)))) (λ none. inl none) (c.serve_in_file.ensures.no_desk status),
+    )
 
 pub returns-in-Ok-Serve-clause-named : goal.returns-in-Ok-Serve-clause-named
 returns-in-Ok-Serve-clause-named g c =
@@ -180,9 +184,11 @@ returns-in-Ok-Serve-clause-named g c =
 
 pub returns-in-Ok-Import-clause-no_desk : goal.returns-in-Ok-Import-clause-no_desk
 returns-in-Ok-Import-clause-no_desk g c = λ status.
-    let asks : AsksForImport (map string_bytes c.args.words.now) (string_bytes c.in-Ok-Import.file) c.in-Ok-Import.import (string_bytes c.in-Ok-Import.from) = search rules in
-    ((refl, c.import_in_file.ensures.untouched status), has_none (Refuses g.T.Start None c.import_in_file.result.1) (RefusesNamed (opened g.T.Start c.import_in_file.result.1) (map string_bytes c.args.words.now)) (RunsOn g.T.Start None c.import_in_file.result.1 StaysSame) ((c.import_in_file.result.1 ≡ Nothing) ⊎ RunsOn g.T.Start None c.import_in_file.result.1 StaysSame) (TellsLine g.E.Write.contents c.args.errors.now c.import_in_file.new.errors)
-    (λ fault is. inr (inr (inl ((string_bytes c.in-Ok-Import.file, c.in-Ok-Import.import, string_bytes c.in-Ok-Import.from, asks, is))))) (λ stays. inr stays) (c.import_in_file.ensures.no_desk status))
+    let asks : AsksForImport (map string_bytes c.args.words.now) (string_bytes c.in-Ok-Import.file) c.in-Ok-Import.import (string_bytes c.in-Ok-Import.from) = search rules in (
+      (refl, c.import_in_file.ensures.untouched status),
+      has_none (Refuses g.T.Start None c.import_in_file.result.1) (RefusesNamed (ways_when_open g.T.Start c.import_in_file.result.1) (map string_bytes c.args.words.now)) (RunsOn g.T.Start None c.import_in_file.result.1 StaysSame) ((c.import_in_file.result.1 ≡ Nothing) ⊎ RunsOn g.T.Start None c.import_in_file.result.1 StaysSame) (TellsLine g.E.Write.contents c.args.errors.now c.import_in_file.new.errors)
+          (λ fault is. inr (inr (inl ((string_bytes c.in-Ok-Import.file, c.in-Ok-Import.import, string_bytes c.in-Ok-Import.from, asks, is))))) (λ stays. inr stays) (c.import_in_file.ensures.no_desk status),
+    )
 
 pub returns-in-Ok-Import-clause-named : goal.returns-in-Ok-Import-clause-named
 returns-in-Ok-Import-clause-named g c =
@@ -191,9 +197,11 @@ returns-in-Ok-Import-clause-named g c =
 
 pub returns-in-Ok-Report-clause-no_desk : goal.returns-in-Ok-Report-clause-no_desk
 returns-in-Ok-Report-clause-no_desk g c = λ status.
-    let asks : AsksForReport (map string_bytes c.args.words.now) (string_bytes c.in-Ok-Report.file) (string_bytes c.in-Ok-Report.target) = search rules in
-    ((refl, c.report_in_file.ensures.untouched status), has_none (Refuses g.T.Start None c.report_in_file.result.1) (RefusesNamed (opened g.T.Start c.report_in_file.result.1) (map string_bytes c.args.words.now)) (c.report_in_file.result.1 ≡ Nothing) ((c.report_in_file.result.1 ≡ Nothing) ⊎ RunsOn g.T.Start None c.report_in_file.result.1 StaysSame) (TellsLine g.E.Write.contents c.args.errors.now c.report_in_file.new.errors)
-    (λ fault is. inr (inr (inr (inl ((string_bytes c.in-Ok-Report.file, string_bytes c.in-Ok-Report.target, asks, is)))))) (λ none. inl none) (c.report_in_file.ensures.no_desk status))
+    let asks : AsksForReport (map string_bytes c.args.words.now) (string_bytes c.in-Ok-Report.file) (string_bytes c.in-Ok-Report.target) = search rules in (
+      (refl, c.report_in_file.ensures.untouched status),
+      has_none (Refuses g.T.Start None c.report_in_file.result.1) (RefusesNamed (ways_when_open g.T.Start c.report_in_file.result.1) (map string_bytes c.args.words.now)) (c.report_in_file.result.1 ≡ Nothing) ((c.report_in_file.result.1 ≡ Nothing) ⊎ RunsOn g.T.Start None c.report_in_file.result.1 StaysSame) (TellsLine g.E.Write.contents c.args.errors.now c.report_in_file.new.errors)
+          (λ fault is. inr (inr (inr (inl ((string_bytes c.in-Ok-Report.file, string_bytes c.in-Ok-Report.target, asks, is)))))) (λ none. inl none) (c.report_in_file.ensures.no_desk status),
+    )
 
 pub returns-in-Ok-Report-clause-named : goal.returns-in-Ok-Report-clause-named
 returns-in-Ok-Report-clause-named g c =
@@ -202,9 +210,11 @@ returns-in-Ok-Report-clause-named g c =
 
 pub returns-in-Ok-Audit-clause-no_desk : goal.returns-in-Ok-Audit-clause-no_desk
 returns-in-Ok-Audit-clause-no_desk g c = λ status.
-    let asks : AsksForAudit (map string_bytes c.args.words.now) (string_bytes c.in-Ok-Audit.file) = search rules in
-    ((refl, c.audit_file.ensures.untouched status), has_none (Refuses g.T.Start None c.audit_file.result.1) (RefusesNamed (opened g.T.Start c.audit_file.result.1) (map string_bytes c.args.words.now)) (RunsOn g.T.Start None c.audit_file.result.1 StaysSame) ((c.audit_file.result.1 ≡ Nothing) ⊎ RunsOn g.T.Start None c.audit_file.result.1 StaysSame) (TellsLine g.E.Write.contents c.args.errors.now c.audit_file.new.errors)
-    (λ fault is. inr (inr (inr (inr (inl ((string_bytes c.in-Ok-Audit.file, asks, is))))))) (λ stays. inr stays) (c.audit_file.ensures.no_desk status))
+    let asks : AsksForAudit (map string_bytes c.args.words.now) (string_bytes c.in-Ok-Audit.file) = search rules in (
+      (refl, c.audit_file.ensures.untouched status),
+      has_none (Refuses g.T.Start None c.audit_file.result.1) (RefusesNamed (ways_when_open g.T.Start c.audit_file.result.1) (map string_bytes c.args.words.now)) (RunsOn g.T.Start None c.audit_file.result.1 StaysSame) ((c.audit_file.result.1 ≡ Nothing) ⊎ RunsOn g.T.Start None c.audit_file.result.1 StaysSame) (TellsLine g.E.Write.contents c.args.errors.now c.audit_file.new.errors)
+          (λ fault is. inr (inr (inr (inr (inl ((string_bytes c.in-Ok-Audit.file, asks, is))))))) (λ stays. inr stays) (c.audit_file.ensures.no_desk status),
+    )
 
 pub returns-in-Ok-Audit-clause-named : goal.returns-in-Ok-Audit-clause-named
 returns-in-Ok-Audit-clause-named g c =
@@ -213,9 +223,11 @@ returns-in-Ok-Audit-clause-named g c =
 
 pub returns-in-Ok-Migrate-clause-no_desk : goal.returns-in-Ok-Migrate-clause-no_desk
 returns-in-Ok-Migrate-clause-no_desk g c = λ status.
-    let asks : AsksForMigration (map string_bytes c.args.words.now) (string_bytes c.in-Ok-Migrate.file) = search rules in
-    ((refl, c.migrate_file.ensures.untouched status), has_none (RefusesToMigrate g.T.Start c.migrate_file.result.1) (RefusesNamed (opened g.T.Start c.migrate_file.result.1) (map string_bytes c.args.words.now)) ⊥ ((c.migrate_file.result.1 ≡ Nothing) ⊎ RunsOn g.T.Start None c.migrate_file.result.1 StaysSame) (TellsLine g.E.Write.contents c.args.errors.now c.migrate_file.new.errors)
-    (λ fault is. inr (inr (inr (inr (inr ((string_bytes c.in-Ok-Migrate.file, asks, is))))))) (λ none. absurd none) (c.migrate_file.ensures.no_desk status))
+    let asks : AsksForMigration (map string_bytes c.args.words.now) (string_bytes c.in-Ok-Migrate.file) = search rules in (
+      (refl, c.migrate_file.ensures.untouched status),
+      has_none (RefusesToMigrate g.T.Start c.migrate_file.result.1) (RefusesNamed (ways_when_open g.T.Start c.migrate_file.result.1) (map string_bytes c.args.words.now)) ⊥ ((c.migrate_file.result.1 ≡ Nothing) ⊎ RunsOn g.T.Start None c.migrate_file.result.1 StaysSame) (TellsLine g.E.Write.contents c.args.errors.now c.migrate_file.new.errors)
+          (λ fault is. inr (inr (inr (inr (inr ((string_bytes c.in-Ok-Migrate.file, asks, is))))))) (λ none. absurd none) (c.migrate_file.ensures.no_desk status),
+    )
 
 pub returns-in-Ok-Migrate-clause-named : goal.returns-in-Ok-Migrate-clause-named
 returns-in-Ok-Migrate-clause-named g c =

@@ -6,7 +6,7 @@ use Rattle.std.proofs.lemmas.List.Elements.{All-append}
 use Rattle.desk_types.specs.Wire.{inner_of}
 use Rattle.desk_feed.specs.Inbox.{HasNoFeed, source}
 use Rattle.desk_feed.specs.Lines.{is_feed}
-use Rattle.desk_feed.proofs.Sources.{line_goes, block_goes}
+use Rattle.desk_feed.proofs.InboxSources.{line_goes, block_goes}
 use Rattle.desk_feed.proofs.inbox.Inbox.next_line.Goals as goal
 
 pub returns-in-Some-clause-line : goal.returns-in-Some-clause-line
@@ -20,7 +20,7 @@ returns-in-Some-clause-line g c =
     let step = line_goes box.block box.at box.end c.in-Some.count (g.R.Read.remaining (inner_of c.ready.new.wire)) c.ready.ensures.valid.0 s.0 s.2 in
     let all = Consumes-trans _ _ _ _ _ here step in (
       raw ++ piece,
-      c.grown-line.ensures raw inv.7,
+      c.extend_line-line.ensures raw inv.7,
       (
         All-append (λ b. is_feed b ≡ false) raw piece inv.6 s.1,
         subst (Consumes _ _) (sym (append_assoc raw piece (10 ∷ []))) all,
@@ -42,7 +42,7 @@ loop-line-preserved g c =
       raw ++ piece,
       Consumes-trans _ _ _ _ _ here step,
       All-append (λ b. is_feed b ≡ false) raw piece inv.6 c.in-None.ensures,
-      c.grown-line-in-None.ensures raw inv.7,
+      c.extend_line-line-in-None.ensures raw inv.7,
     )
 
 pub returns-in_err-ready-clause-unread : goal.returns-in_err-ready-clause-unread

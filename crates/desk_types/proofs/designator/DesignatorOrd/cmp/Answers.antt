@@ -2,7 +2,7 @@ use Rattle.std.proofs.Common.{sym, ◌∙◌}
 use Rattle.std.specs.Cmp.Lexicographic.{slice_cmp}
 use Rattle.std.specs.Ordering.{nat_cmp}
 use Rattle.desk_types.proofs.Ascii.{printable-marks}
-use Rattle.desk_types.proofs.Words.{kept-order}
+use Rattle.desk_types.proofs.EightBytes.{kept-order}
 use Rattle.desk_types.proofs.designator.DesignatorOrd.cmp.Goals as goal
 
 pub returns : goal.returns

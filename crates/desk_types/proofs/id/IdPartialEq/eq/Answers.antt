@@ -1,6 +1,6 @@
 use Rattle.std.proofs.Common.{◌==◌, sym, ◌∙◌}
 use Rattle.std.specs.Cmp.Lexicographic.{pointwise}
-use Rattle.desk_types.proofs.Words.{kept-same}
+use Rattle.desk_types.proofs.EightBytes.{kept-same}
 use Rattle.desk_types.proofs.id.IdPartialEq.eq.Goals as goal
 
 pub returns : goal.returns

@@ -1,7 +1,7 @@
 use Rattle.std.proofs.Common.{unwrap_or, sym, ap, ◌∙◌, rules}
 use Rattle.desk_types.proofs.Keys.{name-written}
 use Rattle.entry_search.specs.Floor.{pieces_at}
-use Rattle.entry_search.proofs.Stocking.{lowered}
+use Rattle.entry_search.proofs.StockMaps.{lowered}
 use Rattle.entry_search.proofs.floor.stock.lower.Goals as goal
 
 pub returns-in-Some : goal.returns-in-Some

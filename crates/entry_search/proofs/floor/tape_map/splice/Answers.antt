@@ -1,5 +1,5 @@
 use Rattle.std.proofs.Common.{unwrap_or, [], sym, ap, ◌∙◌, rules}
-use Rattle.desk_types.specs.Tape.{spliced}
+use Rattle.desk_types.specs.Tape.{tape_with}
 use Rattle.desk_types.proofs.Keys.{pair-written, pair-changed}
 use Rattle.entry_search.specs.Floor.{tape_at}
 use Rattle.entry_search.proofs.floor.tape_map.splice.Goals as goal
@@ -8,5 +8,5 @@ pub returns-in_ok-join : goal.returns-in_ok-join
 returns-in_ok-join c = λ m s.
     let h = c.get_mut.follows.holds c.join.new.self in
     pair-written _ _ (c.args.machine, c.args.slot) _ (λ o. unwrap_or o []) ((h.3 (search rules)).0) m s
-    ∙ pair-changed _ _ (tape_at c.args.tapes.now) (λ reels. spliced reels c.args.reel) (c.args.machine, c.args.slot)
+    ∙ pair-changed _ _ (tape_at c.args.tapes.now) (λ reels. tape_with reels c.args.reel) (c.args.machine, c.args.slot)
     (sym (ap (λ o. unwrap_or o []) c.in-Some.ensures.value)) (sym c.in_ok-join.ensures) m s

@@ -2,7 +2,7 @@ use Rattle.std.proofs.Common.{refl, sym, subst}
 use Rattle.desk_types.specs.Number.{IsMinute}
 use Rattle.desk_types.specs.History.{entry_of}
 use Rattle.feeder_state.specs.Noted.{IsNoted}
-use Rattle.feeder_state.proofs.Accepting.{accepted-judged, accepted-noted, accepted-minute}
+use Rattle.feeder_state.proofs.AcceptedChanges.{accepted-judged, accepted-noted, accepted-minute}
 use Rattle.feeder_state.proofs.desk.StateDesk.accept.Goals as goal
 
 pub note-requires : goal.note-requires

@@ -1,6 +1,6 @@
 use Rattle.std.proofs.Common.{sym, subst, ◌∙◌}
 use Rattle.feeder_state.specs.State.{IsState}
-use Rattle.feeder_state.proofs.Accepting.{none-accepted}
+use Rattle.feeder_state.proofs.AcceptedChanges.{none-accepted}
 use Rattle.feeder_state.proofs.desk.StateDesk.restore.Goals as goal
 
 pub returns-in_default-clause-stands : goal.returns-in_default-clause-stands

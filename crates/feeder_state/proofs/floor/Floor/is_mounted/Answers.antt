@@ -1,6 +1,6 @@
 use Rattle.std.proofs.Common.{sym, subst, ◌∙◌}
 use Rattle.feeder_state.specs.Held.{IsHeldOf}
-use Rattle.feeder_state.proofs.Telling.{absent-mounted}
+use Rattle.feeder_state.proofs.FloorTells.{absent-mounted}
 use Rattle.feeder_state.proofs.floor.Floor.is_mounted.Goals as goal
 
 pub returns-in-Some : goal.returns-in-Some

@@ -4,7 +4,7 @@ use Rattle.std.specs.Map.{lookup}
 use Rattle.desk_types.specs.Id.{by_name}
 use Rattle.desk_types.specs.Pair.{by_pair}
 use Rattle.feeder_state.specs.Held.{IsHeldOf}
-use Rattle.feeder_state.proofs.Flooring.{live_on-none, none-rests}
+use Rattle.feeder_state.proofs.FirstFloor.{live_on-none, none-rests}
 use Rattle.feeder_state.proofs.floor.Floor.new.Goals as goal
 
 pub returns : goal.returns

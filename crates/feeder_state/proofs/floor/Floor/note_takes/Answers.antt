@@ -7,7 +7,7 @@ use Rattle.feeder_state.specs.Held.{held_at, left_at}
 use Rattle.feeder_state.specs.Noted.{may_take}
 use Rattle.feeder_state.specs.Spending.{is_spent_by}
 use Rattle.feeder_state.proofs.AtRest.{rests-left, rests-taken}
-use Rattle.feeder_state.proofs.Dropping.{filter-kept, none-spent}
+use Rattle.feeder_state.proofs.ReelsOffTapes.{filter-kept, none-spent}
 use Rattle.feeder_state.proofs.ReelSteps.{left-held}
 use Rattle.feeder_state.proofs.TapeSteps.{lives-taken}
 use Rattle.feeder_state.proofs.floor.Floor.note_takes.Goals as goal

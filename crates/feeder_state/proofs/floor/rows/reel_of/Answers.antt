@@ -1,5 +1,5 @@
 use Rattle.std.proofs.Common.{◌≤◌, refl, sym, subst}
-use Rattle.feeder_state.proofs.Returning.{row-fits, row-held, found-fits}
+use Rattle.feeder_state.proofs.RestoredReels.{row-fits, row-held, found-fits}
 use Rattle.feeder_state.proofs.floor.rows.reel_of.Goals as goal
 
 pub returns : goal.returns

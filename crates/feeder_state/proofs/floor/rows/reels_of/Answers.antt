@@ -6,8 +6,8 @@ use Rattle.desk_types.specs.Id.{by_name}
 use Rattle.state_rows.specs.Kept.{tables_in, row_at, Lists}
 use Rattle.state_tables.specs.Tables.{Tables}
 use Rattle.feeder_state.specs.Held.{held_at, IsHeldOf}
-use Rattle.feeder_state.proofs.Filling.{AreOf, each-of}
-use Rattle.feeder_state.proofs.Returning.{row-is, row-none, reel-next}
+use Rattle.feeder_state.proofs.FilledMaps.{AreOf, each-of}
+use Rattle.feeder_state.proofs.RestoredReels.{row-is, row-none, reel-next}
 use Rattle.feeder_state.proofs.floor.rows.reels_of.Goals as goal
 
 pub loop-name-init : goal.loop-name-init

@@ -4,7 +4,7 @@ use Rattle.desk_types.specs.History.{History, now_of}
 use Rattle.state_rows.specs.Kept.{tables_in, row_at}
 use Rattle.feeder_state.specs.Held.{held_at, IsHeldOf}
 use Rattle.feeder_state.specs.Restored.{AreRowsOf}
-use Rattle.feeder_state.proofs.Filling.{AreOf}
+use Rattle.feeder_state.proofs.FilledMaps.{AreOf}
 use Rattle.feeder_state.proofs.floor.rows.reels_of.Given as goal
 
 -- the rows that are left are of the table, and each reel of which no row is left is as the list left it

@@ -3,7 +3,7 @@ use Rattle.desk_types.proofs.Keys.{same-refl}
 use Rattle.state_tables.specs.Tables.{Tables}
 use Rattle.state_rows.proofs.ReelRows.{found-kept}
 use Rattle.feeder_state.specs.Held.{held_at, IsHeld, IsHeldOf}
-use Rattle.feeder_state.proofs.Returning.{mounted-row}
+use Rattle.feeder_state.proofs.RestoredReels.{mounted-row}
 use Rattle.feeder_state.proofs.floor.rows.restore_reel.Goals as goal
 
 pub reel_of-reel-requires : goal.reel_of-reel-requires

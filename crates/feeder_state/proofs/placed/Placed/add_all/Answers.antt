@@ -1,5 +1,5 @@
 use Rattle.std.proofs.Common.{◌≡◌, ◌++◌, ap, ◌∙◌}
-use Rattle.feeder_state.proofs.Halves.{gathered}
+use Rattle.feeder_state.proofs.SortedNames.{gathered}
 use Rattle.feeder_state.proofs.placed.Placed.add_all.Goals as goal
 
 pub returns-clause-ok : goal.returns-clause-ok

@@ -3,7 +3,7 @@ use Rattle.std.specs.Prelude.{length}
 use Rattle.std.specs.List.{list_any}
 use Rattle.std.specs.List.Sorted.{IsBinarySearchResult, IsSearchInRange}
 use Rattle.desk_types.specs.Id.{same, by_name}
-use Rattle.judging.proofs.Halves.{found-or-not}
+use Rattle.judging.proofs.SortedSearch.{found-or-not}
 use Rattle.feeder_state.proofs.placed.Placed.has.Goals as goal
 
 pub returns : goal.returns

@@ -5,7 +5,7 @@ use Rattle.desk_types.specs.Pair.{same_pair, by_pair}
 use Rattle.desk_types.proofs.Keys.{is_at-by_pair, same-sym}
 use Rattle.setup_sheets.specs.Alternates.{is_pair_among}
 use Rattle.state_rows.specs.Kept.{has_key}
-use Rattle.feeder_state.proofs.Filling.{set-next}
+use Rattle.feeder_state.proofs.FilledMaps.{set-next}
 use Rattle.feeder_state.proofs.setup.rows.alternates_of.Goals as goal
 
 pub loop-pair-preserved : goal.loop-pair-preserved

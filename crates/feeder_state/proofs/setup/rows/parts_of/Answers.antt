@@ -4,7 +4,7 @@ use Rattle.desk_types.specs.Id.{same, by_name}
 use Rattle.desk_types.proofs.Keys.{is_at-by_name, same-sym}
 use Rattle.setup_sheets.specs.Names.{is_among}
 use Rattle.state_rows.specs.Kept.{has_key}
-use Rattle.feeder_state.proofs.Filling.{set-next}
+use Rattle.feeder_state.proofs.FilledMaps.{set-next}
 use Rattle.feeder_state.proofs.setup.rows.parts_of.Goals as goal
 
 pub loop-part-preserved : goal.loop-part-preserved

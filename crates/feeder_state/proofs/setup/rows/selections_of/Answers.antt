@@ -7,7 +7,7 @@ use Rattle.desk_types.specs.Id.{by_name}
 use Rattle.desk_types.proofs.Keys.{is_at-by_name}
 use Rattle.state_rows.specs.Kept.{tables_in, Lists}
 use Rattle.feeder_state.specs.Setup.{selected_at}
-use Rattle.feeder_state.proofs.Filling.{IsFilled, filled-first, filled-put}
+use Rattle.feeder_state.proofs.FilledMaps.{IsFilled, filled-first, filled-put}
 use Rattle.feeder_state.proofs.setup.rows.selections_of.Goals as goal
 
 pub loop-machine-init : goal.loop-machine-init

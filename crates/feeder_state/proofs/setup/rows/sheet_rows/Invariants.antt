@@ -4,7 +4,7 @@ use Rattle.desk_types.specs.Pair.{by_pair}
 use Rattle.desk_types.specs.History.{History}
 use Rattle.desk_types.specs.Setup.{sheet_of}
 use Rattle.feeder_state.specs.Restored.{AreRowsOf, group_at, sheet_in}
-use Rattle.feeder_state.proofs.Sheeting.{rows_in}
+use Rattle.feeder_state.proofs.RestoredSheets.{rows_in}
 use Rattle.feeder_state.proofs.setup.rows.sheet_rows.Given as goal
 
 -- the rows of a sheet that are gathered, and those that are left to gather

@@ -6,9 +6,9 @@ use Rattle.desk_types.specs.Id.{same, by_name}
 use Rattle.state_rows.specs.Kept.{tables_in, by_sheet_place, Lists}
 use Rattle.state_tables.specs.Tables.{Tables}
 use Rattle.feeder_state.specs.Setup.{is_sheeted}
-use Rattle.feeder_state.proofs.Filling.{set-next}
-use Rattle.feeder_state.proofs.Sets.{put}
-use Rattle.feeder_state.proofs.Sheeting.{is_for, rows-for}
+use Rattle.feeder_state.proofs.FilledMaps.{set-next}
+use Rattle.feeder_state.proofs.NameSets.{put}
+use Rattle.feeder_state.proofs.RestoredSheets.{is_for, rows-for}
 use Rattle.feeder_state.proofs.setup.rows.sheeted_of.Goals as goal
 
 pub loop-key-init : goal.loop-key-init

@@ -5,7 +5,7 @@ use Rattle.desk_types.specs.History.{History}
 use Rattle.desk_types.specs.View.{has_sheet}
 use Rattle.feeder_state.specs.Restored.{AreRowsOf}
 use Rattle.feeder_state.specs.Setup.{is_sheeted}
-use Rattle.feeder_state.proofs.Sheeting.{is_for}
+use Rattle.feeder_state.proofs.RestoredSheets.{is_for}
 use Rattle.feeder_state.proofs.setup.rows.sheeted_of.Given as goal
 
 -- the machines that are in, or are left to be put in

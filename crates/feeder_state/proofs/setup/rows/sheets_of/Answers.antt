@@ -9,9 +9,9 @@ use Rattle.desk_types.proofs.Keys.{is_at-by_pair}
 use Rattle.state_rows.specs.Kept.{row_at}
 use Rattle.feeder_state.specs.Restored.{sheet_in}
 use Rattle.feeder_state.specs.Setup.{sheet_at}
-use Rattle.feeder_state.proofs.Filling.{IsFilled, filled-first, filled-next}
-use Rattle.feeder_state.proofs.Sheeting.{group-sheet}
-use Rattle.feeder_state.proofs.Slotting.{by_pair-total}
+use Rattle.feeder_state.proofs.FilledMaps.{IsFilled, filled-first, filled-next}
+use Rattle.feeder_state.proofs.RestoredSheets.{group-sheet}
+use Rattle.feeder_state.proofs.SlotsOfMachines.{by_pair-total}
 use Rattle.feeder_state.proofs.setup.rows.sheets_of.Goals as goal
 
 exact : CmpEqualImpliesEq by_pair

@@ -4,9 +4,9 @@ use Rattle.std.specs.Option.{option_and_then, option_or}
 use Rattle.desk_types.specs.Setup.{selected_on}
 use Rattle.desk_types.specs.Work.{work_by, in_work_on, is_in_work, start_by, product_of, places, is_placed_on}
 use Rattle.desk_laws.specs.Working.{in_work_after}
-use Rattle.desk_laws.proofs.Working.{work-next, in_work-next}
+use Rattle.desk_laws.proofs.BoardsInWork.{work-next, in_work-next}
 use Rattle.feeder_state.specs.Work.{product_by}
-use Rattle.feeder_state.proofs.Worked.{started-product}
+use Rattle.feeder_state.proofs.WorkLater.{started-product}
 use Rattle.feeder_state.proofs.work.Work.note.Goals as goal
 
 pub returns : goal.returns

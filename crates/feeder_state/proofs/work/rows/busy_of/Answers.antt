@@ -8,9 +8,9 @@ use Rattle.desk_types.specs.Id.{same, by_name}
 use Rattle.state_rows.specs.Kept.{tables_in, Lists}
 use Rattle.state_tables.specs.Tables.{Tables}
 use Rattle.feeder_state.specs.Work.{is_busy}
-use Rattle.feeder_state.proofs.Filling.{each-of, set-next}
-use Rattle.feeder_state.proofs.Sets.{put}
-use Rattle.feeder_state.proofs.Working.{has_such, is_at_work, such-all, busy-row}
+use Rattle.feeder_state.proofs.FilledMaps.{each-of, set-next}
+use Rattle.feeder_state.proofs.NameSets.{put}
+use Rattle.feeder_state.proofs.RestoredWork.{has_such, is_at_work, such-all, busy-row}
 use Rattle.feeder_state.proofs.work.rows.busy_of.Goals as goal
 
 pub loop-board-init : goal.loop-board-init

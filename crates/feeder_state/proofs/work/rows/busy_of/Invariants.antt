@@ -5,7 +5,7 @@ use Rattle.desk_types.specs.History.{History}
 use Rattle.desk_types.specs.Work.{is_in_work}
 use Rattle.feeder_state.specs.Restored.{AreRowsOf}
 use Rattle.feeder_state.specs.Work.{is_busy}
-use Rattle.feeder_state.proofs.Working.{has_such, is_at_work}
+use Rattle.feeder_state.proofs.RestoredWork.{has_such, is_at_work}
 use Rattle.feeder_state.proofs.work.rows.busy_of.Given as goal
 
 -- the boards that are in, or are left to be put in

@@ -8,8 +8,8 @@ use Rattle.desk_types.proofs.Keys.{is_at-by_name, same-sym, same-true}
 use Rattle.state_rows.specs.Kept.{tables_in, by_piece, Lists}
 use Rattle.state_tables.specs.Tables.{Tables}
 use Rattle.feeder_state.specs.Restored.{group_at}
-use Rattle.feeder_state.proofs.Grouping.{grouped-name}
-use Rattle.feeder_state.proofs.Placing.{is_spot, rows-placed}
+use Rattle.feeder_state.proofs.GroupedThings.{grouped-name}
+use Rattle.feeder_state.proofs.PlacedDesignators.{is_spot, rows-placed}
 use Rattle.feeder_state.proofs.work.rows.designators_of.Goals as goal
 
 pub loop-row-init : goal.loop-row-init

@@ -5,7 +5,7 @@ use Rattle.desk_types.specs.Id.{Name, same, by_name}
 use Rattle.desk_types.specs.History.{History}
 use Rattle.desk_types.specs.Work.{is_placed_on}
 use Rattle.feeder_state.specs.Restored.{AreRowsOf, group_at}
-use Rattle.feeder_state.proofs.Placing.{is_spot}
+use Rattle.feeder_state.proofs.PlacedDesignators.{is_spot}
 use Rattle.feeder_state.proofs.work.rows.designators_of.Given as goal
 
 -- the designators that are gathered, or are left to gather

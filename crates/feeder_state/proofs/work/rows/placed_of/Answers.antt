@@ -8,8 +8,8 @@ use Rattle.std.proofs.lemmas.Cmp.{nat_list_cmp_total}
 use Rattle.desk_types.specs.Id.{same, by_name}
 use Rattle.state_rows.specs.Kept.{row_at}
 use Rattle.feeder_state.specs.Work.{is_placed_at}
-use Rattle.feeder_state.proofs.Filling.{each-of, set-next}
-use Rattle.feeder_state.proofs.Working.{has_such, such-all, among-group}
+use Rattle.feeder_state.proofs.FilledMaps.{each-of, set-next}
+use Rattle.feeder_state.proofs.RestoredWork.{has_such, such-all, among-group}
 use Rattle.feeder_state.proofs.work.rows.placed_of.Goals as goal
 
 pub loop-board-init : goal.loop-board-init

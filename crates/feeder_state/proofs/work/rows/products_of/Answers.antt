@@ -10,8 +10,8 @@ use Rattle.state_tables.specs.declared.row.BoardRow.{BoardRow}
 use Rattle.state_rows.specs.Kept.{tables_in, Lists}
 use Rattle.state_tables.specs.Tables.{Tables}
 use Rattle.feeder_state.specs.Work.{product_at}
-use Rattle.feeder_state.proofs.Filling.{IsFilled, filled-first, filled-put}
-use Rattle.feeder_state.proofs.Working.{product-row}
+use Rattle.feeder_state.proofs.FilledMaps.{IsFilled, filled-first, filled-put}
+use Rattle.feeder_state.proofs.RestoredWork.{product-row}
 use Rattle.feeder_state.proofs.work.rows.products_of.Goals as goal
 
 pub loop-board-init : goal.loop-board-init

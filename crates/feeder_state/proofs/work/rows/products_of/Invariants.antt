@@ -3,7 +3,7 @@ use Rattle.desk_types.specs.Id.{by_name}
 use Rattle.state_tables.specs.declared.row.BoardRow.{BoardRow}
 use Rattle.state_rows.specs.Kept.{tables_in}
 use Rattle.feeder_state.specs.Work.{product_at}
-use Rattle.feeder_state.proofs.Filling.{IsFilled}
+use Rattle.feeder_state.proofs.FilledMaps.{IsFilled}
 use Rattle.feeder_state.proofs.work.rows.products_of.Given as goal
 
 abbrev pub invariant-loop-board : goal.invariant-loop-board

@@ -8,8 +8,8 @@ use Rattle.desk_types.specs.Work.{in_work_on}
 use Rattle.state_rows.specs.Kept.{tables_in, Lists}
 use Rattle.state_tables.specs.Tables.{Tables}
 use Rattle.feeder_state.specs.Work.{running_at}
-use Rattle.feeder_state.proofs.Filling.{AreOf, each-of}
-use Rattle.feeder_state.proofs.Working.{IsRunning, running-first, running-next, running-last}
+use Rattle.feeder_state.proofs.FilledMaps.{AreOf, each-of}
+use Rattle.feeder_state.proofs.RestoredWork.{IsRunning, running-first, running-next, running-last}
 use Rattle.feeder_state.proofs.work.rows.running_of.Goals as goal
 
 pub loop-board-init : goal.loop-board-init

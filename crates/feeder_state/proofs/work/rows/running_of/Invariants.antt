@@ -4,8 +4,8 @@ use Rattle.desk_types.specs.Work.{in_work_on}
 use Rattle.state_rows.specs.Kept.{tables_in}
 use Rattle.feeder_state.specs.Restored.{AreRowsOf}
 use Rattle.feeder_state.specs.Work.{running_at}
-use Rattle.feeder_state.proofs.Filling.{AreOf}
-use Rattle.feeder_state.proofs.Working.{IsRunning}
+use Rattle.feeder_state.proofs.FilledMaps.{AreOf}
+use Rattle.feeder_state.proofs.RestoredWork.{IsRunning}
 use Rattle.feeder_state.proofs.work.rows.running_of.Given as goal
 
 abbrev pub invariant-loop-board : goal.invariant-loop-board

@@ -5,7 +5,7 @@ use Rattle.http_stream.specs.Heads.{IsBadHead, IsUnfinished}
 use Rattle.http_stream.specs.declared.head.TheConstants.{HEAD_LIMIT}
 use Rattle.desk_types.specs.Wire.{inner_of}
 use Rattle.http_stream.specs.Cut.{ReadsInside}
-use Rattle.http_stream.specs.Inbox.{pending, source}
+use Rattle.http_stream.specs.Inbox.{pending_bytes, source}
 use Rattle.http_stream.proofs.Portions.{stops_in_head}
 use Rattle.http_stream.proofs.Sources.{window_is, length-pending}
 use Rattle.http_stream.proofs.inbox.Inbox.front.Goals as goal
@@ -56,5 +56,5 @@ returns-in_err-more-in-Unfinished-clause-unread g c =
     let told = subst IsUnfinished (ap (λ n. slice_range box.block box.at n) to ∙ sym is ∙ whole) (c.in-Unfinished.ensures.unfinished refl) in
     let old = source c.args.self.now (g.R.Read.remaining (inner_of c.args.wire.now)) in
     let new = g.R.Read.remaining (inner_of c.more.new.wire) in
-    let stops : ReadsInside old new = stops_in_head old (pending box) (g.R.Read.remaining (inner_of c.looks.wire)) new c.looks.invariant.source c.in_err-more-in-Unfinished.ensures.unread (omega (arith, long, few)) told in
+    let stops : ReadsInside old new = stops_in_head old (pending_bytes box) (g.R.Read.remaining (inner_of c.looks.wire)) new c.looks.invariant.source c.in_err-more-in-Unfinished.ensures.unread (omega (arith, long, few)) told in
     search rules

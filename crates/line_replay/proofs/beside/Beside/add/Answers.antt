@@ -2,7 +2,7 @@ use Rattle.std.proofs.Common.{◌+◌, List, length, subst, ap, ◌∙◌}
 use Rattle.sqlite.specs.Effect.{Database}
 use Rattle.sqlite.specs.Held.{state}
 use Rattle.state_tables.specs.declared.row.PlacementRow.{PlacementRow}
-use Rattle.line_replay.specs.Beside.{Tells, ArePlacedToo}
+use Rattle.line_replay.specs.Beside.{HoldsAsRead, ArePlacedToo}
 use Rattle.line_replay.proofs.beside.Beside.add.Goals as goal
 
 pub returns-clause-ok : goal.returns-clause-ok
@@ -11,6 +11,6 @@ returns-clause-ok g c =
       rows = c.in_ok-apply_but_placements.ensures;
       count = c.in_ok-count.ensures.ok ∙ ap (λ n. c.args.self.now.placed.count + n) (ap length same);
       told = λ clean.
-          subst (λ (rows : List PlacementRow). Tells (state g.S.Store c.args.conn.now) (λ (db : Database). ArePlacedToo db c.args.self.now.placed.all c.in_ok-all.all rows))
+          subst (λ (rows : List PlacementRow). HoldsAsRead (state g.S.Store c.args.conn.now) (λ (db : Database). ArePlacedToo db c.args.self.now.placed.all c.in_ok-all.all rows))
           same (c.in_ok-all.ensures.told clean);
     }

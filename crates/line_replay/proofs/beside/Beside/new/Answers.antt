@@ -1,5 +1,5 @@
 use Rattle.std.proofs.Common.{[], refl, sym, ◌∙◌}
-use Rattle.line_replay.proofs.Adding.{none_placed}
+use Rattle.line_replay.proofs.RowsBeside.{none_placed}
 use Rattle.line_replay.proofs.beside.Beside.new.Goals as goal
 
 pub returns : goal.returns

@@ -2,7 +2,7 @@ use Rattle.std.proofs.Common.{rules, sym, subst}
 use Rattle.sqlite.specs.Held.{state}
 use Rattle.line_traces.specs.Pieces.{board_trace, lot_board_names, AreConverse}
 use Rattle.line_traces.proofs.Converse.{told-converse}
-use Rattle.line_schema.proofs.Telling.{told-of}
+use Rattle.line_schema.proofs.TracesOfLists.{told-of}
 use Rattle.line_schema.proofs.store.LineStore.board_rows.Goals as goal
 
 pub returns-clause-trace : goal.returns-clause-trace

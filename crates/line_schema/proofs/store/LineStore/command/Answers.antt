@@ -6,8 +6,8 @@ use Rattle.desk_answers.specs.declared.answer.Answer.TheVariants.{Accepted, Refu
 use Rattle.desk_answers.specs.Commands.{command_answer}
 use Rattle.desk_answers.specs.Ledger.{IsAnswer}
 use Rattle.line_schema.specs.Stands.{Kept, Stands, ledger, kept_after}
-use Rattle.line_schema.proofs.Leaving.{kept_so}
-use Rattle.line_schema.proofs.Standing.{tables_there}
+use Rattle.line_schema.proofs.ListsAfter.{kept_so}
+use Rattle.line_schema.proofs.StandsAfter.{tables_there}
 use Rattle.line_schema.proofs.store.LineStore.command.Goals as goal
 
 answer_so : (L : Kept) (s : Stamped) (a : Answer) → a ≡ command_answer Two L.greatest L.history s → IsAnswer (ledger L) s a

@@ -2,7 +2,7 @@ use Rattle.std.proofs.Common.{[], inl, refl, rules, arith}
 use Rattle.desk_types.specs.declared.rules.Rules.TheVariants.{Two}
 use Rattle.consistency.proofs.Judged.{consistent}
 use Rattle.line_tables.proofs.Ours.{blank_is}
-use Rattle.line_schema.proofs.Standing.{none_yet}
+use Rattle.line_schema.proofs.StandsAfter.{none_yet}
 use Rattle.line_schema.proofs.store.LineStore.create.Goals as goal
 
 pub returns-in-Ok-clause-stands : goal.returns-in-Ok-clause-stands

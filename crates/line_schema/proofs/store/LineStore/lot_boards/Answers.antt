@@ -2,7 +2,7 @@ use Rattle.std.proofs.Common.{rules, sym, subst}
 use Rattle.sqlite.specs.Held.{state}
 use Rattle.line_traces.specs.Pieces.{lot_board_names, board_trace, AreConverse}
 use Rattle.line_traces.proofs.Converse.{told-converse}
-use Rattle.line_schema.proofs.Telling.{told-of}
+use Rattle.line_schema.proofs.TracesOfLists.{told-of}
 use Rattle.line_schema.proofs.store.LineStore.lot_boards.Goals as goal
 
 pub returns-clause-boards : goal.returns-clause-boards

@@ -6,10 +6,10 @@ use Rattle.consistency.proofs.Judged.{consistent}
 use Rattle.line_tables.specs.Line.{is_ours}
 use Rattle.line_tables.specs.Rows.{Holds}
 use Rattle.line_tables.proofs.Ours.{ours_is}
-use Rattle.line_rows.specs.Rows.{tables_of}
+use Rattle.line_rows.specs.Rows.{ledger_tables}
 use Rattle.line_schema.specs.Stands.{Kept}
-use Rattle.line_opening.proofs.Reading.{opened_lawful, opened_holds}
-use Rattle.line_schema.proofs.Standing.{still_open}
+use Rattle.line_opening.proofs.ReadOfCommitted.{opened_lawful, opened_holds}
+use Rattle.line_schema.proofs.StandsAfter.{still_open}
 use Rattle.line_schema.proofs.store.LineStore.open.Goals as goal
 
 pub returns-in-Ok-clause-stands : goal.returns-in-Ok-clause-stands
@@ -37,7 +37,7 @@ returns-in-Ok-clause-stands g c =
         mode = search rules;
         stays_open = λ clean. still_open _ c.read_tables.ensures.survives (λ was. inl (o.apart clean).was_open) clean;
         lawful = λ clean own. opened_lawful F K _ old c.in-Ok.field-0 all.0 o clean own;
-        tables = λ clean own is_open. subst (λ (db : Database). Holds db (tables_of L.greatest L.history)) (sym ((c.read_tables.ensures.kept clean).committed is_open)) ((holds clean).are (let ours = ours_is old.committed.schema own in (Two, ours.0, ours.1)));
+        tables = λ clean own is_open. subst (λ (db : Database). Holds db (ledger_tables L.greatest L.history)) (sym ((c.read_tables.ensures.kept clean).committed is_open)) ((holds clean).are (let ours = ours_is old.committed.schema own in (Two, ours.0, ours.1)));
       },
       holds,
     )

@@ -1,7 +1,7 @@
 use Rattle.std.proofs.Common.{rules}
 use Rattle.sqlite.specs.Held.{state}
 use Rattle.line_traces.specs.Pieces.{overdue_pieces}
-use Rattle.line_schema.proofs.Telling.{told-of}
+use Rattle.line_schema.proofs.TracesOfLists.{told-of}
 use Rattle.line_schema.proofs.store.LineStore.overdue_rows.Goals as goal
 
 pub returns-clause-rows : goal.returns-clause-rows

@@ -2,8 +2,8 @@ use Rattle.std.proofs.Common.{IsTrue, refl, sym, subst, arith}
 use Rattle.sqlite.specs.State.{HasCleanDisk}
 use Rattle.sqlite.specs.Held.{state}
 use Rattle.line_tables.specs.Rows.{Holds}
-use Rattle.line_rows.specs.Rows.{tables_of}
-use Rattle.line_schema.proofs.Standing.{remade, remade_same}
+use Rattle.line_rows.specs.Rows.{ledger_tables}
+use Rattle.line_schema.proofs.StandsAfter.{remade, remade_same}
 use Rattle.line_schema.proofs.store.LineStore.remake.Goals as goal
 
 pub returns-in-Some-clause-kept : goal.returns-in-Some-clause-kept
@@ -18,6 +18,6 @@ pub returns-in-Some-clause-stands : goal.returns-in-Some-clause-stands
 returns-in-Some-clause-stands g c L s clean own =
     let old = state g.S.Store c.args.self.now.conn in
     let early : HasCleanDisk (state g.S.Store c.rebuild.new.conn) → HasCleanDisk old = λ now. omega (arith, c.rebuild.ensures.survives.clean, now) in
-    let held = subst (λ n. IsTrue old.is_open → Holds old.committed (tables_of n L.history)) (sym s.greatest) (s.tables (early clean) own) in
+    let held = subst (λ n. IsTrue old.is_open → Holds old.committed (ledger_tables n L.history)) (sym s.greatest) (s.tables (early clean) own) in
     let same = c.in-Some.ensures.same L.history s.judged held clean in
     remade_same g.S.Store g.D.Desk.Stands g.D.Desk.kept_rules c.args.self.now _ c.in-Some.field-0.desk c.in-Some.field-0.lists L refl same.1 refl refl (c.rebuild.ensures.mode s.mode) same.0 same.2 c.in-Some.ensures.rules c.rebuild.ensures.survives c.rebuild.ensures.kept s

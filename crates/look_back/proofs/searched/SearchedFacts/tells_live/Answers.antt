@@ -1,4 +1,4 @@
-use Rattle.look_back.proofs.Searching.{floor-tells_live}
+use Rattle.look_back.proofs.FoundLive.{floor-tells_live}
 use Rattle.look_back.proofs.searched.SearchedFacts.tells_live.Goals as goal
 
 pub returns : goal.returns

@@ -1,5 +1,5 @@
 use Rattle.std.proofs.Common.{refl}
-use Rattle.reels.proofs.Standing.{StandsFor-bake}
+use Rattle.reels.proofs.StandingReels.{StandsFor-bake}
 use Rattle.reels.proofs.reel.Reel.bake.Goals as goal
 
 pub returns-clause-stands : goal.returns-clause-stands

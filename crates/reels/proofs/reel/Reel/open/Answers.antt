@@ -1,5 +1,5 @@
 use Rattle.std.proofs.Common.{Some, refl, sym, ap, ◌∙◌}
-use Rattle.reels.proofs.Standing.{since-between, StandsFor-open}
+use Rattle.reels.proofs.StandingReels.{since-between, StandsFor-open}
 use Rattle.reels.proofs.reel.Reel.open.Goals as goal
 
 pub invariant_of-self : goal.invariant_of-self

@@ -1,5 +1,5 @@
 use Rattle.std.proofs.Common.{refl}
-use Rattle.reels.proofs.Standing.{StandsFor-receive}
+use Rattle.reels.proofs.StandingReels.{StandsFor-receive}
 use Rattle.reels.proofs.reel.Reel.receive.Goals as goal
 
 pub returns-clause-stands : goal.returns-clause-stands

@@ -1,5 +1,5 @@
 use Rattle.std.proofs.Common.{refl}
-use Rattle.reels.proofs.Standing.{StandsFor-seal}
+use Rattle.reels.proofs.StandingReels.{StandsFor-seal}
 use Rattle.reels.proofs.reel.Reel.seal.Goals as goal
 
 pub returns-clause-stands : goal.returns-clause-stands

@@ -1,4 +1,4 @@
-use Rattle.reels.proofs.Standing.{StandsFor-untouched}
+use Rattle.reels.proofs.StandingReels.{StandsFor-untouched}
 use Rattle.reels.proofs.reel.Reel.stays.Goals as goal
 
 pub returns : goal.returns

@@ -1,7 +1,7 @@
 use Rattle.std.proofs.Common.{ap}
 use Rattle.desk_types.specs.Pair.{by_pair}
 use Rattle.state_rows.specs.Kept.{tables_in}
-use Rattle.state_rows.proofs.Keeping.{lists-keys}
+use Rattle.state_rows.proofs.RowLists.{lists-keys}
 use Rattle.state_rows.proofs.set.RowSet.alternates.Goals as goal
 
 pub returns : goal.returns

@@ -3,8 +3,8 @@ use Rattle.state_tables.specs.Tables.{tables_of}
 use Rattle.desk_types.specs.Id.{by_name}
 use Rattle.desk_types.specs.Pair.{by_pair}
 use Rattle.state_rows.specs.Kept.{row_at, has_key, by_sheet_place, by_piece}
-use Rattle.state_rows.proofs.Editing.{same-tables}
-use Rattle.state_rows.proofs.Keeping.{no-placements, none-found}
+use Rattle.state_rows.proofs.EditLists.{same-tables}
+use Rattle.state_rows.proofs.RowLists.{no-placements, none-found}
 use Rattle.state_rows.proofs.set.RowSet.new.Goals as goal
 
 pub returns : goal.returns

@@ -1,6 +1,6 @@
 use Rattle.std.proofs.Common.{ap}
 use Rattle.state_rows.specs.Kept.{tables_in, by_piece}
-use Rattle.state_rows.proofs.Keeping.{lists}
+use Rattle.state_rows.proofs.RowLists.{lists}
 use Rattle.state_rows.proofs.set.RowSet.placements.Goals as goal
 
 pub returns : goal.returns

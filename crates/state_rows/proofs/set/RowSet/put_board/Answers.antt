@@ -1,5 +1,5 @@
 use Rattle.state_rows.specs.contracts.set.RowSet.{the_view}
-use Rattle.state_rows.proofs.Keeping.{board-put}
+use Rattle.state_rows.proofs.RowLists.{board-put}
 use Rattle.state_rows.proofs.set.RowSet.put_board.Goals as goal
 
 pub returns : goal.returns

@@ -1,5 +1,5 @@
 use Rattle.state_rows.specs.contracts.set.RowSet.{the_view}
-use Rattle.state_rows.proofs.Keeping.{reel-put}
+use Rattle.state_rows.proofs.RowLists.{reel-put}
 use Rattle.state_rows.proofs.set.RowSet.put_reel.Goals as goal
 
 pub returns : goal.returns

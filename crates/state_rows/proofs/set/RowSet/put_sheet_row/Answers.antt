@@ -4,7 +4,7 @@ use Rattle.state_tables.specs.declared.edit.RowEdit.TheVariants.{PutSheetRow}
 use Rattle.state_tables.specs.Edits.{with_edit}
 use Rattle.state_rows.specs.Kept.{tables_in}
 use Rattle.state_rows.specs.contracts.set.RowSet.{the_view}
-use Rattle.state_rows.proofs.Keeping.{sheet_row-put}
+use Rattle.state_rows.proofs.RowLists.{sheet_row-put}
 use Rattle.state_rows.proofs.set.RowSet.put_sheet_row.Goals as goal
 
 pub returns : goal.returns

@@ -1,7 +1,7 @@
 use Rattle.std.proofs.Common.{ap}
 use Rattle.desk_types.specs.Id.{by_name}
 use Rattle.state_rows.specs.Kept.{tables_in}
-use Rattle.state_rows.proofs.Keeping.{lists}
+use Rattle.state_rows.proofs.RowLists.{lists}
 use Rattle.state_rows.proofs.set.RowSet.reels.Goals as goal
 
 pub returns : goal.returns

@@ -1,4 +1,4 @@
 use Rattle.store_tests.proofs.tests.feeding.feed_thrice.Given as goal
 
 abbrev pub invariant-loop-pass : goal.invariant-loop-pass
-invariant-loop-pass g l = g.L.Line.Ready l.line
+invariant-loop-pass g l = g.L.Owner.Ready l.line

@@ -1,5 +1,5 @@
 use Rattle.std.proofs.Common.{refl}
-use Rattle.trace_lists.proofs.Keeping.{listed-still}
+use Rattle.trace_lists.proofs.KeptUnderNames.{listed-still}
 use Rattle.trace_lists.proofs.lists.TraceLists.reserve.Goals as goal
 
 pub returns-in_err-room_for_install : goal.returns-in_err-room_for_install

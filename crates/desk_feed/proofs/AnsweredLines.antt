@@ -1,0 +1,110 @@
+-- Lines that are answered one after another.
+use Rattle.std.proofs.Common.{◌≡◌, ◌∙◌, ◌+◌, ℕ, Bool, true, false, cond, List, [], ◌∷◌, ◌++◌, sym, ap, refl, subst, Option, append-nil, length, length-append, take, arith, count_by, Result, Err, Some, ◌<◌, ◌≤◌, ◌-◌, ◌==◌, get_or}
+use Rattle.std.specs.List.{flat_map}
+use Rattle.std.proofs.lemmas.Bool.{lt-ltb}
+use Rattle.std.proofs.lemmas.Grind.{flat_map-append, common_steps}
+use Rattle.std.proofs.lemmas.List.{length-take}
+use Rattle.std.specs.Io.KnownBytes.{Appends}
+use Rattle.std.proofs.KnownBytes.{Appends-trans}
+use Rattle.desk_types.specs.declared.rules.Rules.{Rules}
+use Rattle.desk_types.specs.History.{History}
+use Rattle.served.specs.declared.serving.ServeFault.{ServeFault}
+use Rattle.served.specs.declared.serving.ServeFault.TheVariants.{Write}
+use Rattle.served.specs.declared.serving.Served.{Served}
+use Rattle.desk_feed.specs.declared.inbox.TheConstants.{LONGEST_LINE}
+use Rattle.desk_feed.specs.declared.line.LineAnswer.TheVariants.{TooLong}
+use Rattle.desk_feed.specs.declared.message.Told.{Told}
+use Rattle.desk_feed.specs.LineAnswers.{AnswersRaw}
+use Rattle.desk_feed.specs.Lines.{is_empty, without_return}
+use Rattle.desk_feed.specs.Messages.{answer_to, list_after}
+use Rattle.desk_feed.specs.Stream.{Answered, line_answer, line_after, answers_to, after_lines, sent_line}
+
+-- whether an answer counts as refused
+abbrev pub is_refused : Told → Bool
+is_refused told = told.refused
+
+one_counted : (b : Bool) (n m : ℕ) (told : Told) → told.refused ≡ b → m ≡ cond b (n + 1) n → m ≡ n + count_by is_refused (told ∷ [])
+one_counted true n m told e h = grind (arith, common_steps, e, h)
+one_counted false n m told e h = grind (arith, common_steps, e, h)
+
+-- one line was answered
+pub one_answered : (rules : Rules) (greatest : ℕ) (mark : Bool) (H H' : History) (line : List ℕ) (out out' : Option (List ℕ)) (s s' : Served) (told : Told)
+    → told ≡ line_answer rules greatest mark H line → H' ≡ line_after rules greatest mark H line → Appends out out' (sent_line told)
+    → s'.answered ≡ s.answered + 1 → s'.refused ≡ cond told.refused (s.refused + 1) s.refused
+    → Answered rules greatest (line ∷ []) (mark ∷ []) H out s H' out' s'
+one_answered rules greatest mark H H' line out out' s s' told e after went answered refused =
+    record {
+      each = refl;
+      bytes = subst (Appends out out') (ap sent_line e ∙ sym (append-nil (sent_line (line_answer rules greatest mark H line)))) went;
+      history = after;
+      answered = answered;
+      refused = subst (λ (x : Told). s'.refused ≡ s.refused + count_by is_refused (x ∷ [])) e (one_counted told.refused s.refused s'.refused told refl refused);
+    }
+
+pub none_answered : (rules : Rules) (greatest : ℕ) (H : History) (out : Option (List ℕ)) (s : Served) → Appends out out [] → Answered rules greatest [] [] H out s H out s
+none_answered rules greatest H out s kept =
+    record { each = refl; bytes = kept; history = refl; answered = omega arith; refused = omega arith }
+
+answers_to-append : (rules : Rules) (greatest : ℕ) (ms ns : List Bool) (H : History) (ls ks : List (List ℕ)) → length ms ≡ length ls
+    → answers_to rules greatest (ms ++ ns) H (ls ++ ks) ≡ answers_to rules greatest ms H ls ++ answers_to rules greatest ns (after_lines rules greatest ms H ls) ks
+answers_to-append rules greatest [] ns H [] ks e = refl
+answers_to-append rules greatest [] ns H (l ∷ ls) ks e = absurd (omega (arith, e))
+answers_to-append rules greatest (m ∷ ms) ns H [] ks e = absurd (omega (arith, e))
+answers_to-append rules greatest (m ∷ ms) ns H (l ∷ ls) ks e =
+    ap (λ rs. line_answer rules greatest m H l ∷ rs) (answers_to-append rules greatest ms ns (line_after rules greatest m H l) ls ks (omega (arith, e)))
+
+after_lines-append : (rules : Rules) (greatest : ℕ) (ms ns : List Bool) (H : History) (ls ks : List (List ℕ)) → length ms ≡ length ls
+    → after_lines rules greatest (ms ++ ns) H (ls ++ ks) ≡ after_lines rules greatest ns (after_lines rules greatest ms H ls) ks
+after_lines-append rules greatest [] ns H [] ks e = refl
+after_lines-append rules greatest [] ns H (l ∷ ls) ks e = absurd (omega (arith, e))
+after_lines-append rules greatest (m ∷ ms) ns H [] ks e = absurd (omega (arith, e))
+after_lines-append rules greatest (m ∷ ms) ns H (l ∷ ls) ks e = after_lines-append rules greatest ms ns (line_after rules greatest m H l) ls ks (omega (arith, e))
+
+count_by-append : (p : Told → Bool) (xs ys : List Told) → count_by p (xs ++ ys) ≡ count_by p xs + count_by p ys
+count_by-append p [] ys = grind (arith, common_steps)
+count_by-append p (x ∷ xs) ys = grind (arith, common_steps, count_by-append p xs ys)
+
+-- lines, and then more, were answered
+pub answered_more : (rules : Rules) (greatest : ℕ) (ls ks : List (List ℕ)) (ms ns : List Bool) (H₀ H₁ H₂ : History) (out₀ out₁ out₂ : Option (List ℕ)) (s₀ s₁ s₂ : Served)
+    → Answered rules greatest ls ms H₀ out₀ s₀ H₁ out₁ s₁ → Answered rules greatest ks ns H₁ out₁ s₁ H₂ out₂ s₂
+    → Answered rules greatest (ls ++ ks) (ms ++ ns) H₀ out₀ s₀ H₂ out₂ s₂
+answered_more rules greatest ls ks ms ns H₀ H₁ H₂ out₀ out₁ out₂ s₀ s₁ s₂ a b =
+    let all : answers_to rules greatest (ms ++ ns) H₀ (ls ++ ks) ≡ answers_to rules greatest ms H₀ ls ++ answers_to rules greatest ns H₁ ks =
+    answers_to-append rules greatest ms ns H₀ ls ks a.each ∙ ap (λ H. answers_to rules greatest ms H₀ ls ++ answers_to rules greatest ns H ks) (sym a.history) in
+    record {
+      each = omega (arith, length-append ms ns, length-append ls ks, a.each, b.each);
+      bytes = subst (Appends out₀ out₂) (sym (ap (flat_map sent_line) all ∙ flat_map-append sent_line (answers_to rules greatest ms H₀ ls) (answers_to rules greatest ns H₁ ks)))
+          (Appends-trans out₀ out₁ out₂ _ _ a.bytes b.bytes);
+      history = b.history ∙ ap (λ H. after_lines rules greatest ns H ks) a.history ∙ sym (after_lines-append rules greatest ms ns H₀ ls ks a.each);
+      answered = omega (arith, a.answered, b.answered, length-append ls ks);
+      refused = omega (arith, a.refused, b.refused, ap (count_by is_refused) all, count_by-append is_refused (answers_to rules greatest ms H₀ ls) (answers_to rules greatest ns H₁ ks));
+    }
+
+-- a fault's count is the one that it was made with
+pub same_write : (a b : Served) → ◌≡◌ {A = Result Served ServeFault} (Err (Write a)) (Err (Write b)) → a ≡ b
+same_write a b e = cc
+
+-- ---- a line that is too long
+
+if_true : {A : Type 0} (b : Bool) (x y : A) → b ≡ true → x ≡ cond b x y
+if_true true x y e = refl
+if_true false x y e = absurd (cc)
+
+one_line : (line : List ℕ) → 0 < length line → cond (is_empty line) [] (line ∷ []) ≡ line ∷ []
+one_line [] long = absurd (omega arith)
+one_line (b ∷ line) long = refl
+
+-- it is told so, and the list stays
+pub told_too_long : (rules : Rules) (greatest : ℕ) (H : History) (raw : List ℕ) → LONGEST_LINE < length (without_return raw) → AnswersRaw rules greatest H raw (Some TooLong) H
+told_too_long rules greatest H raw long =
+    let line = without_return raw in
+    let is_long = lt-ltb LONGEST_LINE (length line) long in
+    (false, one_line line (omega arith), if_true _ _ (answer_to rules greatest H line) is_long, if_true _ _ (list_after rules greatest H line) is_long)
+
+-- without the carriage return it is at most one byte shorter
+pub one_shorter : (raw : List ℕ) → length raw ≤ length (without_return raw) + 1
+one_shorter raw = by (get_or raw (length raw - 1) 0 == 13)
+  where
+    by : (b : Bool) → length raw ≤ length (cond b (take (length raw - 1) raw) raw) + 1
+    by true = omega (arith, length-take (length raw - 1) raw)
+    by false = omega arith

@@ -1,0 +1,33 @@
+use Rattle.std.proofs.Common.{Bool, None, arith, ◌∙◌, subst}
+use Rattle.sqlite_wal.specs.Files.{image_at}
+use Rattle.sqlite.specs.Files.{file_state, over_files}
+use Rattle.sqlite.specs.State.{HasCleanDisk}
+use Rattle.desk_types.specs.declared.rules.Rules.TheVariants.{Two}
+use Rattle.line_schema.specs.Stands.{Stands}
+use Rattle.desk_file.proofs.FirstLists.{opened_begins}
+use Rattle.desk_file.specs.Refused.{IsFaultIn}
+use Rattle.desk_file.proofs.RefusedFiles.{fault_in, refused}
+use Rattle.desk_file.proofs.opening.kept_desk.Goals as goal
+
+pub returns-in-Ok-clause-begins : goal.returns-in-Ok-clause-begins
+returns-in-Ok-clause-begins g c = λ clean alone.
+    let conn = c.in_ok-conn.conn in
+    let before : HasCleanDisk (file_state conn) = omega (arith, c.in-Ok.ensures.leaves.clean, clean) in
+    let opened = c.in_ok-conn.ensures.opened before in
+    let L = c.in-Ok.ensures.stands.0 in
+    let begins = opened_begins (image_at g.T.Start) (file_state conn) (c.in_ok-conn.ensures.found before) opened.0 opened.1 None L.greatest L.history c.in-Ok.ensures.named
+    (c.in-Ok.ensures.stands.3 clean) alone in (
+      L.greatest,
+      L.history,
+      begins.0,
+      subst (λ (own : Bool). Stands over_files g.D.Desk.Stands g.D.Desk.kept_rules c.in-Ok.store (record { greatest = L.greatest; history = L.history; own = own }))
+          (c.in-Ok.ensures.stands.1 ∙ begins.1) c.in-Ok.ensures.stands.2,
+    )
+
+pub returns-in-Err-clause-refused : goal.returns-in-Err-clause-refused
+returns-in-Err-clause-refused g c =
+    let image = image_at g.T.Start in
+    let first = c.in_ok-conn in
+    let told = c.in-Err.ensures in
+    let stands = fault_in image first.conn c.in-Err.conn (λ _ _. ⊥) first.ensures.opened first.ensures.found told.unchanged told.survives Two c.in-Err.fault told.fault told.told in
+    refused image first.conn c.in-Err.conn (λ _ _. ⊥) first.ensures.opened first.ensures.found told.unchanged told.survives (IsFaultIn image Two) ⊥ c.in-Err.fault stands (λ none. absurd none)

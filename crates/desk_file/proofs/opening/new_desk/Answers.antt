@@ -1,0 +1,36 @@
+use Rattle.std.proofs.Common.{◌≡◌, Bool, [], Some, None, arith, subst}
+use Rattle.sqlite_wal.specs.Files.{image_at}
+use Rattle.sqlite.specs.Files.{file_state, over_files}
+use Rattle.sqlite.specs.State.{HasCleanDisk}
+use Rattle.line_schema.specs.Stands.{Stands}
+use Rattle.desk_file.proofs.FirstLists.{made_begins, no_table}
+use Rattle.desk_file.specs.Refused.{IsFaultFor, LeavesMade}
+use Rattle.desk_file.proofs.RefusedFiles.{refused, unmade}
+use Rattle.desk_file.proofs.opening.new_desk.Goals as goal
+
+pub returns-in-Ok-clause-begins : goal.returns-in-Ok-clause-begins
+returns-in-Ok-clause-begins g c = λ clean alone.
+    let conn = c.in_ok-conn.conn in
+    let before : HasCleanDisk (file_state conn) = omega (arith, c.in-Ok.ensures.leaves.clean, clean) in
+    let opened = c.in_ok-conn.ensures.opened before in
+    let begins = made_begins (image_at g.T.Start) (file_state conn) (c.in_ok-conn.ensures.found before) opened.0 opened.1 c.args.greatest c.in-Ok.ensures.nameless alone in (
+      begins.0,
+      subst (λ (own : Bool). Stands over_files g.D.Desk.Stands g.D.Desk.kept_rules c.in-Ok.store (record { greatest = c.args.greatest; history = []; own = own }))
+          begins.1 c.in-Ok.ensures.stands,
+    )
+
+pub returns-in-Ok-clause-alone : goal.returns-in-Ok-clause-alone
+returns-in-Ok-clause-alone g c = λ clean none trees left.
+    let conn = c.in_ok-conn.conn in
+    let before : HasCleanDisk (file_state conn) = omega (arith, c.in-Ok.ensures.leaves.clean, clean) in
+    let opened = c.in_ok-conn.ensures.opened before in
+    c.in-Ok.ensures.alone clean (no_table (image_at g.T.Start) (file_state conn) (c.in_ok-conn.ensures.found before) opened.0 opened.1 none) trees left
+
+pub returns-in-Err-clause-refused : goal.returns-in-Err-clause-refused
+returns-in-Err-clause-refused g c =
+    let image = image_at g.T.Start in
+    let made = Some c.args.greatest in
+    let first = c.in_ok-conn in
+    let told = c.in-Err.ensures in
+    let stands = unmade image first.conn c.in-Err.conn (LeavesMade made) first.ensures.opened first.ensures.found told.unchanged told.survives c.args.greatest c.in-Err.fault told.fault in
+    refused image first.conn c.in-Err.conn (LeavesMade made) first.ensures.opened first.ensures.found told.unchanged told.survives (IsFaultFor image made) (made ≡ None) c.in-Err.fault stands (λ none. absurd (cc))

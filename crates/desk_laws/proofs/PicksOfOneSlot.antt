@@ -1,0 +1,110 @@
+-- Each pick comes off the one slot on which its reel is live.
+use Rattle.std.proofs.Common.{◌≡◌, ℕ, ◌-◌, min, nat_lt, true, Option, Some, None, List, [], ◌∷◌, ◌++◌, find, refl, sym, ap, ◌∙◌, subst}
+use Rattle.std.specs.Prelude.{◌&&◌}
+use Rattle.std.specs.Option.{option_and_then, option_map, option_to_list}
+use Rattle.std.specs.List.{AllByRecursion}
+use Rattle.std.proofs.lemmas.Bool.{and_from, and_parts, or_left, or_right}
+use Rattle.std.proofs.lemmas.Map.Views.{Contains-from_any}
+use Rattle.desk_types.specs.declared.command.Command.{Command}
+use Rattle.desk_types.specs.declared.command.Command.TheVariants.{MaterialsInstalled, MaterialsScrapped, CountsTaken}
+use Rattle.desk_types.specs.declared.command.Entry.{Entry}
+use Rattle.desk_types.specs.declared.count.CountRow.{CountRow}
+use Rattle.desk_types.specs.declared.rules.Rules.TheVariants.{Two}
+use Rattle.desk_types.specs.declared.take.Pick.{Pick}
+use Rattle.desk_types.specs.declared.take.Purpose.TheVariants.{Placed, Rejected, Counted}
+use Rattle.desk_types.specs.Id.{Name, same}
+use Rattle.desk_types.specs.History.{History}
+use Rattle.desk_types.specs.Setup.{slot_on}
+use Rattle.desk_types.specs.Tape.{tape_of}
+use Rattle.desk_types.specs.Pieces.{pieces_picked, pieces_off, pick_for, install_picks, scrap_picks, count_picks, left_of, picks_of, live_on}
+use Rattle.desk_types.specs.Refusals.{counts_refusal, command_refusal}
+use Rattle.desk_types.specs.Judged.{IsJudged}
+use Rattle.desk_types.proofs.Keys.{same-refl, same-true}
+use Rattle.desk_laws.specs.Slots.{IsOnItsSlot}
+use Rattle.desk_laws.proofs.Accepted.{next-accepted}
+use Rattle.desk_laws.proofs.Distinct.{all-append}
+use Rattle.desk_laws.proofs.Lives.{picks-live, scrap-live}
+use Rattle.desk_laws.proofs.Mounts.{has, has-live_on, live-mounted}
+use Rattle.desk_laws.proofs.Picks.{all-off, countable}
+use Rattle.desk_laws.proofs.Places.{one-slot}
+use Rattle.desk_laws.proofs.InstalledPieces.{find-there}
+
+-- A live reel has pieces left.
+pub live-pieces : (H : History) (machine slot reel : Name) → has (live_on H machine slot) reel ≡ true → nat_lt 0 (left_of H reel) ≡ true
+live-pieces H machine slot reel live = (and_parts _ (has (tape_of H machine slot) reel) (sym (has-live_on H machine slot reel) ∙ live)).0
+
+-- a reel that is live on a slot is so on no other
+alone : (H : History) (m s machine slot reel : Name) → IsJudged Two H → has (live_on H m s) reel ≡ true → has (live_on H machine slot) reel ≡ true
+    → (same m machine && same s slot) ≡ true
+alone H m s machine slot reel judged here there =
+    let one = one-slot H m s machine slot reel judged (Contains-from_any same-true reel (live_on H m s) here) (Contains-from_any same-true reel (live_on H machine slot) there) in
+    and_from _ _ (ap (λ x. same x machine) one.0 ∙ same-refl machine) (ap (λ x. same x slot) one.1 ∙ same-refl slot)
+
+-- ---- installs
+
+-- the reel of a piece for a designator is live on no slot but the designator's
+pick-alone : (H : History) (slot_of : Name → Option Name) (machine board : Name) (before : List Pick) (d : Name) → IsJudged Two H
+    → AllByRecursion (IsOnItsSlot (live_on H)) (option_to_list (pick_for slot_of (live_on H machine) (left_of H) machine board before d))
+pick-alone H slot_of machine board before d judged = by (slot_of d)
+  where
+    pick : Name → Name → Pick
+    pick slot reel = record { reel = reel; quantity = 1; purpose = Placed board d machine slot }
+
+    found : (slot : Name) (reel : Option Name) → ((r : Name) → reel ≡ Some r → has (live_on H machine slot) r ≡ true)
+        → AllByRecursion (IsOnItsSlot (live_on H)) (option_to_list (option_map (pick slot) reel))
+    found slot None live = tt
+    found slot (Some r) live = (λ m s there. alone H machine slot m s r judged (live r refl) there, tt)
+
+    by : (slot : Option Name) → AllByRecursion (IsOnItsSlot (live_on H))
+        (option_to_list (option_and_then (λ s. option_map (pick s) (find (λ r. nat_lt (pieces_picked before r) (left_of H r)) (live_on H machine s))) slot))
+    by None = tt
+    by (Some slot) =
+        found slot (find (λ r. nat_lt (pieces_picked before r) (left_of H r)) (live_on H machine slot))
+        (λ r is. find-there (λ x. nat_lt (pieces_picked before x) (left_of H x)) (live_on H machine slot) r is)
+
+-- so are those of more designators
+install-alone : (H : History) (slot_of : Name → Option Name) (machine board : Name) (before : List Pick) (ds : List Name) → IsJudged Two H
+    → AllByRecursion (IsOnItsSlot (live_on H)) before → AllByRecursion (IsOnItsSlot (live_on H)) (install_picks slot_of (live_on H machine) (left_of H) machine board before ds)
+unfolding install_picks
+install-alone H slot_of machine board before [] judged all = all
+install-alone H slot_of machine board before (d ∷ ds) judged all =
+    install-alone H slot_of machine board (before ++ option_to_list (pick_for slot_of (live_on H machine) (left_of H) machine board before d)) ds judged
+    (all-append (IsOnItsSlot (live_on H)) before _ all (pick-alone H slot_of machine board before d judged))
+
+-- ---- scraps and counts
+
+-- the picks of a scrap come off reels that are live on its slot, and so on no other
+scrap-alone : (H : History) (m s : Name) (reels : List Name) (n : ℕ) → IsJudged Two H → ((r : Name) → has reels r ≡ true → has (live_on H m s) r ≡ true)
+    → AllByRecursion (IsOnItsSlot (live_on H)) (scrap_picks (left_of H) (Rejected m s) reels n)
+scrap-alone H m s [] n judged live = tt
+scrap-alone H m s (r ∷ rs) n judged live =
+    all-append (IsOnItsSlot (live_on H)) (pieces_off r (min n (left_of H r)) (Rejected m s)) _
+    (all-off (IsOnItsSlot (live_on H)) r _ (Rejected m s) (λ machine slot there. alone H m s machine slot r judged (live r (or_left (same r r) _ (same-refl r))) there))
+    (scrap-alone H m s rs (n - left_of H r) judged (λ x there. live x (or_right (same x r) _ there)))
+
+-- a reel that is counted is live on no slot
+count-alone : (H : History) (seen : List Name) (rows : List CountRow) → counts_refusal Two H seen rows ≡ None
+    → AllByRecursion (IsOnItsSlot (live_on H)) (count_picks (left_of H) rows)
+count-alone H seen [] none = tt
+count-alone H seen (row ∷ rows) none =
+    let tests = countable H seen row rows none in
+    all-append (IsOnItsSlot (live_on H)) (pieces_off row.reel (left_of H row.reel - row.quantity) Counted) _
+    (all-off (IsOnItsSlot (live_on H)) row.reel _ Counted (λ machine slot there. let mounted = live-mounted H machine slot row.reel there in let off = tests.0.not_mounted in cc))
+    (count-alone H (seen ++ row.reel ∷ []) rows tests.1)
+
+-- ---- any command
+
+-- the reels of all picks of an accepted command are so
+alone-by : (H : History) (minute : ℕ) (command : Command) → IsJudged Two H → command_refusal Two H minute command ≡ None
+    → AllByRecursion (IsOnItsSlot (live_on H)) (picks_of H command)
+unfolding command_refusal
+alone-by H minute (MaterialsInstalled machine board ds) judged accepted =
+    subst (AllByRecursion (IsOnItsSlot (live_on H))) (picks-live H (slot_on H machine) machine board ds) (install-alone H (slot_on H machine) machine board [] ds judged tt)
+alone-by H minute (MaterialsScrapped m s n) judged accepted =
+    subst (AllByRecursion (IsOnItsSlot (live_on H))) (scrap-live H (Rejected m s) m s n) (scrap-alone H m s (live_on H m s) n judged (λ r there. there))
+alone-by H minute (CountsTaken counts) judged accepted = count-alone H [] counts accepted
+alone-by H minute _ judged accepted = tt
+
+-- The reel of each pick of an accepted command is live on no slot but the one that the pick's pieces come off.
+pub picks-alone : (H : History) (e : Entry) → IsJudged Two (e ∷ H) → AllByRecursion (IsOnItsSlot (live_on H)) (picks_of H e.stamped.command)
+picks-alone H e (next, judged) = alone-by H e.effective e.stamped.command judged (next-accepted H e next)

@@ -1,0 +1,160 @@
+-- The pieces that commands take: whose they are, and how many.
+use Rattle.std.proofs.Common.{◌≡◌, ℕ, ◌+◌, ◌-◌, ◌*◌, ◌^◌, ◌≤◌, min, nat_lt, Bool, true, false, Option, Some, None, List, [], ◌∷◌, ◌++◌, length, refl, ap, arith}
+use Rattle.std.specs.Prelude.{is_some, if◌then◌else◌}
+use Rattle.std.specs.Option.{option_and_then, option_map, option_to_list}
+use Rattle.std.specs.List.{AllByRecursion, find}
+use Rattle.std.proofs.lemmas.Bool.{lt-ltb, ltb-true, ltb-false}
+use Rattle.std.proofs.lemmas.List.Sums.{sum_by-append}
+use Rattle.desk_types.specs.declared.command.Command.{Command}
+use Rattle.desk_types.specs.declared.command.Command.TheVariants.{MaterialsInstalled, MaterialsScrapped, CountsTaken}
+use Rattle.desk_types.specs.declared.command.Receipt.{Receipt}
+use Rattle.desk_types.specs.declared.count.CountRow.{CountRow}
+use Rattle.desk_types.specs.declared.number.TheConstants.{GREATEST_QUANTITY}
+use Rattle.desk_types.specs.declared.rules.Rules.TheVariants.{Two}
+use Rattle.desk_types.specs.declared.take.Pick.{Pick}
+use Rattle.desk_types.specs.declared.take.Purpose.{Purpose}
+use Rattle.desk_types.specs.declared.take.Purpose.TheVariants.{Placed, Rejected, Counted}
+use Rattle.desk_types.specs.Id.{Name}
+use Rattle.desk_types.specs.History.{History}
+use Rattle.desk_types.specs.Setup.{slot_on, receipt_of}
+use Rattle.desk_types.specs.Tape.{tape_of}
+use Rattle.desk_types.specs.Pieces.{left_of, pieces_picked, pieces_off, pick_for, install_picks, scrap_picks, count_picks, picks_of}
+use Rattle.desk_types.specs.Outcome.{pieces_of}
+use Rattle.desk_types.specs.Judged.{IsJudged}
+use Rattle.desk_laws.proofs.Balance.{unreceived-empty}
+use Rattle.desk_laws.proofs.Picks.{find-passes}
+use Rattle.entry_search.specs.Floor.{IsKnownReel}
+use Rattle.desk_laws.proofs.Ranges.{left-range}
+
+-- ---- whose they are
+
+-- each pick is of a reel that has pieces
+abbrev HaveSome : (Name → ℕ) → List Pick → Type 0
+HaveSome pieces picks = AllByRecursion (λ (p : Pick). nat_lt 0 (pieces p.reel) ≡ true) picks
+
+some-append : (pieces : Name → ℕ) (before after : List Pick) → HaveSome pieces before → HaveSome pieces after → HaveSome pieces (before ++ after)
+some-append pieces [] after first second = second
+some-append pieces (p ∷ ps) after (some, first) second = (some, some-append pieces ps after first second)
+
+off-some : (pieces : Name → ℕ) (reel : Name) (n : ℕ) (purpose : Purpose) → n ≤ pieces reel → HaveSome pieces (pieces_off reel n purpose)
+off-some pieces reel n purpose few = by (nat_lt 0 n) refl
+  where
+    by : (b : Bool) → nat_lt 0 n ≡ b
+        → HaveSome pieces (if◌then◌else◌ {A = List Pick} b (record { reel = reel; quantity = n; purpose = purpose } ∷ []) [])
+    by true is = let some = ltb-true 0 n is in (lt-ltb 0 (pieces reel) (omega (arith, some, few)), tt)
+    by false is = tt
+
+pick-some : (slot_of : Name → Option Name) (tape : Name → List Name) (pieces : Name → ℕ) (machine board : Name) (before : List Pick) (d : Name)
+    → HaveSome pieces (option_to_list (pick_for slot_of tape pieces machine board before d))
+pick-some slot_of tape pieces machine board before d = by (slot_of d)
+  where
+    test : Name → Bool
+    test reel = nat_lt (pieces_picked before reel) (pieces reel)
+
+    pick : Name → Name → Pick
+    pick slot reel = record { reel = reel; quantity = 1; purpose = Placed board d machine slot }
+
+    found : (slot : Name) (o : Option Name) → find (λ reel. nat_lt (pieces_picked before reel) (pieces reel)) (tape slot) ≡ o
+        → HaveSome pieces (option_to_list (option_map (λ reel. record { reel = reel; quantity = 1; purpose = Placed board d machine slot }) o))
+    found slot None is = tt
+    found slot (Some reel) is =
+        let more = ltb-true (pieces_picked before reel) (pieces reel) (find-passes (λ r. nat_lt (pieces_picked before r) (pieces r)) (tape slot) reel is) in
+        (lt-ltb 0 (pieces reel) (omega (arith, more)), tt)
+
+    by : (o : Option Name) → HaveSome pieces (option_to_list (option_and_then (λ slot. option_map (λ reel. record { reel = reel; quantity = 1; purpose = Placed board d machine slot })
+        (find (λ reel. nat_lt (pieces_picked before reel) (pieces reel)) (tape slot))) o))
+    by None = tt
+    by (Some slot) = found slot (find (λ reel. nat_lt (pieces_picked before reel) (pieces reel)) (tape slot)) refl
+
+install-some : (slot_of : Name → Option Name) (tape : Name → List Name) (pieces : Name → ℕ) (machine board : Name) (before : List Pick) (ds : List Name)
+    → HaveSome pieces before → HaveSome pieces (install_picks slot_of tape pieces machine board before ds)
+unfolding install_picks
+install-some slot_of tape pieces machine board before [] some = some
+install-some slot_of tape pieces machine board before (d ∷ ds) some =
+    install-some slot_of tape pieces machine board (before ++ option_to_list (pick_for slot_of tape pieces machine board before d)) ds
+    (some-append pieces before _ some (pick-some slot_of tape pieces machine board before d))
+
+min-le : (n m : ℕ) → min n m ≤ m
+min-le n m = omega arith
+
+scrap-some : (pieces : Name → ℕ) (purpose : Purpose) (tape : List Name) (n : ℕ) → HaveSome pieces (scrap_picks pieces purpose tape n)
+scrap-some pieces purpose [] n = tt
+scrap-some pieces purpose (r ∷ rs) n =
+    some-append pieces (pieces_off r (min n (pieces r)) purpose) _ (off-some pieces r (min n (pieces r)) purpose (min-le n (pieces r))) (scrap-some pieces purpose rs (n - pieces r))
+
+less-le : (m n : ℕ) → m - n ≤ m
+less-le m n = omega arith
+
+count-some : (pieces : Name → ℕ) (rows : List CountRow) → HaveSome pieces (count_picks pieces rows)
+count-some pieces [] = tt
+count-some pieces (row ∷ rows) =
+    some-append pieces (pieces_off row.reel (pieces row.reel - row.quantity) Counted) _
+    (off-some pieces row.reel (pieces row.reel - row.quantity) Counted (less-le (pieces row.reel) row.quantity)) (count-some pieces rows)
+
+picks-some : (H : History) (command : Command) → HaveSome (left_of H) (picks_of H command)
+picks-some H (MaterialsInstalled machine board ds) = install-some (slot_on H machine) (tape_of H machine) (left_of H) machine board [] ds tt
+picks-some H (MaterialsScrapped machine slot n) = scrap-some (left_of H) (Rejected machine slot) (tape_of H machine slot) n
+picks-some H (CountsTaken rows) = count-some (left_of H) rows
+picks-some H _ = tt
+
+-- a reel that has pieces was received
+some-known : (H : History) (reel : Name) → IsJudged Two H → nat_lt 0 (left_of H reel) ≡ true → IsKnownReel H reel
+some-known H reel judged some = by (receipt_of H reel) refl
+  where
+    by : (o : Option Receipt) → receipt_of H reel ≡ o → is_some (receipt_of H reel) ≡ true
+    by (Some receipt) is = ap is_some is
+    by None is = let none = ap (nat_lt 0) (unreceived-empty H reel judged is) in cc
+
+known : (H : History) (picks : List Pick) → IsJudged Two H → HaveSome (left_of H) picks → AllByRecursion (λ (p : Pick). IsKnownReel H p.reel) picks
+known H [] judged all = tt
+known H (p ∷ ps) judged (some, all) = (some-known H p.reel judged some, known H ps judged all)
+
+-- Each pick of a command is of a received reel.
+pub picks-known : (H : History) (command : Command) → IsJudged Two H → AllByRecursion (λ (p : Pick). IsKnownReel H p.reel) (picks_of H command)
+picks-known H command judged = known H (picks_of H command) judged (picks-some H command)
+
+-- ---- how many
+
+off-pieces : (reel : Name) (n : ℕ) (purpose : Purpose) → pieces_of (pieces_off reel n purpose) ≡ n
+off-pieces reel n purpose = by (nat_lt 0 n) refl
+  where
+    by : (b : Bool) → nat_lt 0 n ≡ b → pieces_of (if◌then◌else◌ {A = List Pick} b (record { reel = reel; quantity = n; purpose = purpose } ∷ []) []) ≡ n
+    by true is = omega arith
+    by false is = let none = ltb-false 0 n is in omega (arith, none)
+
+pieces-append : (before after : List Pick) → pieces_of (before ++ after) ≡ pieces_of before + pieces_of after
+pieces-append before after = sum_by-append (λ (p : Pick). p.quantity) before after
+
+-- a scrap takes no more than it names
+scrap-within : (pieces : Name → ℕ) (purpose : Purpose) (tape : List Name) (n : ℕ) → pieces_of (scrap_picks pieces purpose tape n) ≤ n
+scrap-within pieces purpose [] n = omega arith
+scrap-within pieces purpose (r ∷ rs) n =
+    let both = pieces-append (pieces_off r (min n (pieces r)) purpose) (scrap_picks pieces purpose rs (n - pieces r)) in
+    let first = off-pieces r (min n (pieces r)) purpose in
+    let rest = scrap-within pieces purpose rs (n - pieces r) in
+    omega (arith, both, first, rest)
+
+-- a count takes no more than its reels have
+count-within : (pieces : Name → ℕ) (rows : List CountRow) → ((r : Name) → pieces r ≤ GREATEST_QUANTITY)
+    → pieces_of (count_picks pieces rows) ≤ length rows * GREATEST_QUANTITY
+count-within pieces [] few = omega arith
+count-within pieces (row ∷ rows) few =
+    let both = pieces-append (pieces_off row.reel (pieces row.reel - row.quantity) Counted) (count_picks pieces rows) in
+    let first = off-pieces row.reel (pieces row.reel - row.quantity) Counted in
+    let rest = count-within pieces rows few in
+    omega (arith, both, first, rest, few row.reel)
+
+-- the greatest number of 64 bits
+abbrev most : ℕ
+most = 2 ^ 64 - 1
+
+-- what a scrap or a count takes fits into 64 bits
+pub scrap-fits : (H : History) (machine slot : Name) (n : ℕ) → n ≤ GREATEST_QUANTITY
+    → min (pieces_of (picks_of H (MaterialsScrapped machine slot n))) most ≡ pieces_of (picks_of H (MaterialsScrapped machine slot n))
+scrap-fits H machine slot n range =
+    let few = scrap-within (left_of H) (Rejected machine slot) (tape_of H machine slot) n in omega (arith, few, range)
+
+pub count-fits : (H : History) (rows : List CountRow) → IsJudged Two H → length rows ≤ 5000
+    → min (pieces_of (picks_of H (CountsTaken rows))) most ≡ pieces_of (picks_of H (CountsTaken rows))
+count-fits H rows judged range =
+    let few = count-within (left_of H) rows (λ r. left-range H r judged) in omega (arith, few, range)

@@ -1,0 +1,47 @@
+use Rattle.std.proofs.Common.{◌≡◌, ◌+◌, ◌-◌, List, [], ◌∷◌, ◌++◌, map, take, drop, sym, ap, subst, ◌∙◌, append_assoc}
+use Rattle.std.specs.Option.{option_or}
+use Rattle.std.proofs.lemmas.List.{map-append}
+use Rattle.desk_types.specs.declared.count.CountRow.{CountRow}
+use Rattle.desk_types.specs.declared.take.Purpose.TheVariants.{Counted}
+use Rattle.desk_types.specs.Id.{Name}
+use Rattle.desk_types.specs.Pieces.{left_of, count_picks, pieces_off}
+use Rattle.desk_types.specs.Refusals.{counts_refusal}
+use Rattle.desk_types.proofs.LoopSteps.{take-next, drop-next}
+use Rattle.setup_sheets.specs.Names.{HasSeen}
+use Rattle.judging.proofs.counts.picks_of_counts.Goals as goal
+
+pub returns-in-Err : goal.returns-in-Err
+returns-in-Err g c = λ H stands.
+    let rows = c.args.rows.now in
+    let i = c.loop-row.row-index in
+    let row = c.row-item.result in
+    let before : List Name = map (λ (r : CountRow). r.reel) (take i rows) in
+    let inv = c.loop-row.invariant H stands in
+    let here = rw c.in-Err.is at (c.in_ok-pieces.ensures H before stands inv.seen) in
+    sym inv.refusal
+    ∙ ap (counts_refusal c.args.rules H before) (drop-next rows i row c.loop-row-test.true c.row-item.is)
+    ∙ ap (λ o. option_or o (counts_refusal c.args.rules H (before ++ row.reel ∷ []) (drop (i + 1) rows))) here
+
+pub loop-row-preserved : goal.loop-row-preserved
+loop-row-preserved g c = λ H stands.
+    let rows = c.args.rows.now in
+    let i = c.loop-row.row-index in
+    let row = c.row-item.result in
+    let before : List Name = map (λ (r : CountRow). r.reel) (take i rows) in
+    let inv = c.loop-row.invariant H stands in
+    let here = rw c.in-Ok.is at (c.in_ok-pieces.ensures H before stands inv.seen) in
+    let rest = drop-next rows i row c.loop-row-test.true c.row-item.is in
+    let more : map (λ (r : CountRow). r.reel) (take (i + 1) rows) ≡ before ++ row.reel ∷ [] =
+    ap (map (λ (r : CountRow). r.reel)) (take-next rows i row c.loop-row-test.true c.row-item.is) ∙ map-append (λ (r : CountRow). r.reel) (take i rows) (row ∷ []) in
+    record {
+      seen = subst (HasSeen c.pieces_above.new.seen) (sym more) here.2;
+      refusal = ap (λ names. counts_refusal c.args.rules H names (drop (i + 1) rows)) more
+          ∙ ap (λ o. option_or o (counts_refusal c.args.rules H (before ++ row.reel ∷ []) (drop (i + 1) rows))) (sym here.0)
+          ∙ ap (counts_refusal c.args.rules H before) (sym rest)
+          ∙ inv.refusal;
+      picks = ap (λ ps. ps ++ count_picks (left_of H) (drop (i + 1) rows))
+          (c.in_ok-put_off-in-Ok.ensures ∙ ap (λ n. c.loop-row.picks.items ++ pieces_off row.reel n Counted) here.1)
+          ∙ append_assoc c.loop-row.picks.items (pieces_off row.reel (left_of H row.reel - row.quantity) Counted) (count_picks (left_of H) (drop (i + 1) rows))
+          ∙ ap (λ rs. c.loop-row.picks.items ++ count_picks (left_of H) rs) (sym rest)
+          ∙ inv.picks;
+    }

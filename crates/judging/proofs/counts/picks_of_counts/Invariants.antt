@@ -1,0 +1,15 @@
+use Rattle.std.proofs.Common.{◌≡◌, ◌++◌, [], map, take, drop}
+use Rattle.desk_types.specs.declared.count.CountRow.{CountRow}
+use Rattle.desk_types.specs.History.{History}
+use Rattle.desk_types.specs.Pieces.{left_of, count_picks}
+use Rattle.desk_types.specs.Refusals.{counts_refusal}
+use Rattle.setup_sheets.specs.Names.{HasSeen}
+use Rattle.judging.proofs.counts.picks_of_counts.Given as goal
+
+-- the rows so far have no fault and these picks: the refusal is that of the others, and the picks are these and those of the others
+abbrev pub invariant-loop-row : goal.invariant-loop-row
+invariant-loop-row g l = (H : History) → g.F.Facts.Stands l.facts H → record {
+  seen : HasSeen l.seen (map (λ (row : CountRow). row.reel) (take l.row-index l.rows));
+  refusal : counts_refusal l.rules H (map (λ (row : CountRow). row.reel) (take l.row-index l.rows)) (drop l.row-index l.rows) ≡ counts_refusal l.rules H [] l.rows;
+  picks : l.picks.items ++ count_picks (left_of H) (drop l.row-index l.rows) ≡ count_picks (left_of H) l.rows;
+}

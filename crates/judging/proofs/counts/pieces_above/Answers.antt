@@ -1,0 +1,23 @@
+use Rattle.std.proofs.Common.{◌≡◌, false, sym, ap, subst, ◌∙◌, arith}
+use Rattle.std.specs.Prelude.{is_none}
+use Rattle.desk_types.specs.Setup.{receipt_of}
+use Rattle.desk_types.specs.Pieces.{left_of, is_mounted}
+use Rattle.desk_types.specs.Refusals.{is_above}
+use Rattle.setup_sheets.proofs.SeenNames.{HasSeen-push, was-new}
+use Rattle.entry_search.specs.Life.{IsReelOf}
+use Rattle.judging.proofs.counts.pieces_above.Goals as goal
+
+pub returns : goal.returns
+returns g c = λ H before stands seen.
+    let reel = c.args.row.now.reel in
+    let is_reel = subst (IsReelOf H reel) c.in-Some.is (c.reel.ensures H stands) in
+    let known : is_none (receipt_of H reel) ≡ false = ap is_none is_reel.0.receipt.is in
+    let once = was-new c.args.seen.now before reel c.in_ok-insert.field-0 seen c.in_ok-insert.ensures.added c.if-not-branch.false in
+    let mounted : is_mounted H reel ≡ false = sym (c.is_mounted.ensures H stands) ∙ c.if-is_mounted.false in
+    let left : c.left_of-left.result ≡ left_of H reel = c.left_of-left.ensures H stands in
+    let counted : c.get-counted.result ≡ c.args.row.now.quantity = c.get-counted.ensures.value in
+    let above : is_above c.args.rules (left_of H reel) c.args.row.now.quantity ≡ false = rw (← left, ← counted) (sym c.is_above.ensures ∙ c.if-is_above.false) in (
+      rw (known, once, mounted, above),
+      omega (arith, left, counted),
+      HasSeen-push c.args.seen.now c.insert.new.self reel before seen c.in_ok-insert.ensures.updates.0,
+    )

@@ -1,0 +1,12 @@
+use Rattle.std.proofs.Common.{map, subst, sym, ap, ◌∙◌}
+use Rattle.std.specs.List.{AllByRecursion}
+use Rattle.desk_types.specs.declared.take.Pick.{Pick}
+use Rattle.desk_types.specs.Outcome.{take_of}
+use Rattle.entry_search.specs.Floor.{IsKnownReel}
+use Rattle.judging.proofs.PicksOfCommands.{picks-known}
+use Rattle.judging.proofs.judging.takes_by.Goals as goal
+
+pub returns : goal.returns
+returns g c = λ H stands are.
+    let known = subst (AllByRecursion (λ (p : Pick). IsKnownReel H p.reel)) (sym are) (picks-known H c.args.command.now (c.is_judged.ensures H stands)) in
+    c.in_ok-takes_for.ensures H stands known ∙ ap (map (take_of H c.args.minute)) are

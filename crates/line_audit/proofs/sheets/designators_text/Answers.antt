@@ -1,0 +1,10 @@
+use Rattle.std.proofs.Common.{◌≡◌, ◌∙◌, ◌∷◌, ◌++◌, [], ℕ, List, ap, get_or, take, drop, ◌-◌, length, rules, arith}
+use Rattle.std.specs.List.{flat_map}
+use Rattle.line_audit.proofs.Spaced.{join_parts}
+use Rattle.line_audit.proofs.sheets.designators_text.Goals as goal
+
+pub returns : goal.returns
+returns c =
+    let ds = c.args.designators.now in
+    let first : c.extend_from_slice.new.self.items ≡ get_or ds 0 [] = search rules in
+    c.in_ok-add_spaced.ensures ∙ ap (λ (xs : List ℕ). xs ++ flat_map (λ d. 32 ∷ d) (take (length ds - 1) (drop 1 ds))) first ∙ join_parts 32 ds [] (search (rules, arith))

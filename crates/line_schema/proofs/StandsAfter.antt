@@ -1,0 +1,252 @@
+-- For which list a store stands after a call.
+use Rattle.std.proofs.Common.{◌≡◌, ◌∙◌, ◌+◌, ◌<◌, ◌≤◌, inl, inr, refl, IsTrue, IfSome, IsSomeAnd, Option, Some, None, is_some, Result, Ok, Err, IfOk, OnOk, OnErr, List, [], map, length, false, true≢false, sym, ap, subst, arith}
+use Rattle.std.specs.Prelude.{⊤}
+use Rattle.std.specs.List.{IsDistinct}
+use Rattle.std.proofs.lemmas.Map.Keys.{IsDistinct-cons}
+use Rattle.sqlite_trees.specs.declared.store.Store.{Ghosts}
+use Rattle.sqlite_trees.specs.Tree.{Trees}
+use Rattle.sqlite.specs.Effect.{Database}
+use Rattle.sqlite.specs.State.{State, HasCleanDisk, KeepsCommit, Survives}
+use Rattle.sqlite.proofs.StateLemmas.{survives_weaker, survives_then}
+use Rattle.sqlite.specs.Held.{state}
+use Rattle.desk_types.specs.declared.change.Change.{Change}
+use Rattle.desk_types.specs.declared.command.Entry.{Entry}
+use Rattle.desk_types.specs.declared.command.Stamped.{Stamped}
+use Rattle.desk_types.specs.declared.rules.Rules.{Rules}
+use Rattle.desk_types.specs.declared.rules.Rules.TheVariants.{Two}
+use Rattle.desk_types.specs.Command.{IsStamped}
+use Rattle.desk_types.specs.Number.{IsMinute}
+use Rattle.desk_types.specs.Desk.{IsChange}
+use Rattle.desk_types.specs.History.{History, accept}
+use Rattle.desk_types.specs.Id.{same}
+use Rattle.desk_types.specs.Judged.{IsJudged, IsLawful}
+use Rattle.desk_types.specs.declared.answer.Reply.TheVariants.{Accepted, Refused}
+use Rattle.desk_types.specs.Outcome.{after_command, reply_to, change_of}
+use Rattle.std.specs.Option.{option_map_or}
+use Rattle.consistency.proofs.Judged.{consistent}
+use Rattle.desk_answers.specs.declared.answer.Answer.{Answer}
+use Rattle.desk_answers.specs.Commands.{earlier_answer, judged_answer}
+use Rattle.desk_answers.proofs.FirstTime.{first-uid}
+use Rattle.line_tables.specs.declared.edit.Edit.{Edit}
+use Rattle.line_tables.specs.Rows.{Tables, Holds, HoldsAt, AreNew, after_edits}
+use Rattle.line_tables.specs.Calls.{Edits, LeavesEdited}
+use Rattle.line_rows.specs.Rows.{ledger_tables}
+use Rattle.line_rows.proofs.Judgements.{next_is, stamped_is}
+use Rattle.line_schema.specs.declared.store.LineStore.{LineStore}
+use Rattle.line_schema.specs.declared.unavailable.Unavailable.{Unavailable as Fault}
+use Rattle.line_schema.specs.Stands.{Kept, Stands, StaysOpen, ShowsTables, with_command}
+use Rattle.trace_lists.specs.declared.lists.TraceLists.{TraceLists}
+use Rattle.trace_lists.specs.Lists.{IsListed}
+
+-- a desk that may have judged it stands for the list
+pub judged_for : {D : Type 0} (F : D → History → Type 0) (K : D → Rules) (o : Option D) (H : History) (change : Change)
+    → IsSomeAnd o (λ d. (G : History) → F d G → IsChange (K d) G change.stamped change) → IfSome o (λ d. F d H × (K d ≡ Two)) → IsChange Two H change.stamped change
+judged_for F K None H change h desk = absurd h
+judged_for F K (Some d) H change h desk = subst (λ (r : Rules). IsChange r H change.stamped change) desk.1 (h H desk.0)
+
+-- the desk that is there stands for the list
+pub stood_for : {D : Type 0} (F : D → History → Type 0) (K : D → Rules) (o : Option D) (d : D) (H : History) → o ≡ Some d → IfSome o (λ d. F d H × (K d ≡ Two)) → F d H
+stood_for {D} F K o d H is desk = (subst (λ (o : Option D). IfSome o (λ d. F d H × (K d ≡ Two))) is desk).0
+
+-- no UniqueID comes twice where there is none
+pub none_yet : IsDistinct same []
+unfolding IsDistinct
+none_yet = tt
+
+-- a list with a message that comes for the first time is lawful
+lawful_on : (greatest : _) (H : History) (s : Stamped) → IsLawful Two greatest H → IsJudged Two (accept H s) → earlier_answer H s ≡ None → length H < greatest → IsLawful Two greatest (accept H s)
+lawful_on greatest H s lawful judged none room = record {
+  judged = judged;
+  uids = IsDistinct-cons same s.uid (map (λ (e : Entry). e.stamped.uid) H) (first-uid H s none) lawful.uids;
+  numbers = omega (arith, room);
+}
+
+-- the list after a command that makes a change
+accepted_list : (rules : Rules) (H : History) (s : Stamped) (change : Change) → IsChange rules H s change → accept H change.stamped ≡ after_command rules H s
+accepted_list rules H s change is = ap (accept H) (stamped_is rules H s change is) ∙ sym (ap (λ o. option_map_or (λ _. H) o (accept H s)) is.accepted)
+
+pub first_as : (L : Kept) (s : Stamped) (change : Change) → IsChange Two L.history s change → earlier_answer L.history s ≡ None → earlier_answer L.history change.stamped ≡ None
+first_as L s change is none = subst (λ t. earlier_answer L.history t ≡ None) (sym (stamped_is Two L.history s change is)) none
+
+-- the answer to a command that makes a change
+pub answered_as : (H : History) (s : Stamped) (change : Change) (r : Result Answer Fault) → IsChange Two H s change → IfOk r (λ a. a ≡ judged_answer H change.stamped (Accepted change.detail)) → IfOk r (λ a. a ≡ judged_answer H s (reply_to Two H s))
+answered_as H s change (Ok a) is told = told ∙ ap (λ (c : Change). judged_answer H c.stamped (Accepted c.detail)) is.value ∙ sym (ap (λ o. judged_answer H s (option_map_or Refused o (Accepted (change_of H s).detail))) is.accepted)
+answered_as H s change (Err e) is told = tt
+
+-- ---- a connection after a call
+
+module _ {old new : State} (P : Trees → Type 0) (survives : Survives old new P) where
+  pub clean_before : HasCleanDisk new → HasCleanDisk old
+  clean_before clean = omega (arith, survives.clean, clean)
+
+  -- it stays open, or the disk fails
+  pub still_open : StaysOpen old → StaysOpen new
+  still_open was clean = elim (was (clean_before clean)) [
+    | inl was_open ↦ elim (survives.closes clean was_open) [ inl still ↦ inl still | inr more ↦ inr (omega (arith, more)) ]
+    | inr failed ↦ inr (omega (arith, survives.counts, failed))
+  ]
+
+-- what stands whatever the call answered
+pub err_still : {A E : Type 0} {P : Type 0} (r : Result A E) → P → OnErr r P
+err_still (Ok a) p = tt
+err_still (Err e) p = p
+
+module _ {S D : Type 0} (g : Ghosts S) (F : D → History → Type 0) (K : D → Rules) where
+  -- of tables that are not its own less is said
+  pub disowned : (store : LineStore S D) (L : Kept) → Stands g F K store L → Stands g F K store (record L { own = false })
+  disowned store L s = record {
+    greatest = s.greatest;
+    bound = s.bound;
+    count = s.count;
+    within = s.within;
+    judged = s.judged;
+    consistent = s.consistent;
+    desk = s.desk;
+    lists = s.lists;
+    beside = s.beside;
+    mode = s.mode;
+    stays_open = s.stays_open;
+    lawful = λ clean own. absurd (true≢false (sym own));
+    tables = λ clean own. absurd (true≢false (sym own));
+  }
+
+  -- the desk and the lists were made again
+  pub remade : {P : Trees → Type 0} (old new : LineStore S D) (d : D) (l : TraceLists) (H : History) → new.greatest ≡ old.greatest → new.count ≡ length H → new.desk ≡ Some d → new.lists ≡ Some l → new.conn.in_transaction ≡ false
+      → F d H → IsListed l H → K d ≡ Two → IsJudged Two H → Survives (state g old.conn) (state g new.conn) P
+      → (L : Kept) → Stands g F K old L → length H ≤ L.greatest → Stands g F K new (record { greatest = L.greatest; history = H; own = false })
+  remade {P} old new d l H greatest count desk lists mode stands listed rules judged survives L s within = record {
+    greatest = greatest ∙ s.greatest;
+    bound = s.bound;
+    count = count;
+    within = within;
+    judged = judged;
+    consistent = consistent Two _ judged;
+    desk = subst (λ (o : Option D). IfSome o (λ d. F d H × (K d ≡ Two))) (sym desk) (stands, rules);
+    lists = subst (λ (o : Option TraceLists). IfSome o (λ l. IsListed l H)) (sym lists) listed;
+    beside = ap is_some lists ∙ sym (ap is_some desk);
+    mode = mode;
+    stays_open = still_open P survives s.stays_open;
+    lawful = λ clean own. absurd (true≢false (sym own));
+    tables = λ clean own. absurd (true≢false (sym own));
+  }
+
+  -- and for the list that the store stood for
+  pub remade_same : {P : Trees → Type 0} (old new : LineStore S D) (d : D) (l : TraceLists) (L : Kept) → new.greatest ≡ old.greatest → new.count ≡ length L.history → new.desk ≡ Some d → new.lists ≡ Some l → new.conn.in_transaction ≡ false
+      → F d L.history → IsListed l L.history → K d ≡ Two
+      → Survives (state g old.conn) (state g new.conn) P → (HasCleanDisk (state g new.conn) → KeepsCommit (state g old.conn) (state g new.conn)) → Stands g F K old L → Stands g F K new L
+  remade_same {P} old new d l L greatest count desk lists mode stands listed rules survives kept s = record {
+    greatest = greatest ∙ s.greatest;
+    bound = s.bound;
+    count = count;
+    within = s.within;
+    judged = s.judged;
+    consistent = s.consistent;
+    desk = subst (λ (o : Option D). IfSome o (λ d. F d L.history × (K d ≡ Two))) (sym desk) (stands, rules);
+    lists = subst (λ (o : Option TraceLists). IfSome o (λ l. IsListed l L.history)) (sym lists) listed;
+    beside = ap is_some lists ∙ sym (ap is_some desk);
+    mode = mode;
+    stays_open = still_open P survives s.stays_open;
+    lawful = λ clean own. s.lawful (clean_before P survives clean) own;
+    tables = λ clean own is_open. subst (λ (db : Database). Holds db (ledger_tables L.greatest L.history)) (sym ((kept clean).committed is_open)) (s.tables (clean_before P survives clean) own ((kept clean).was_open is_open));
+  }
+
+  -- a call failed: memory was taken for the lists, and what is committed was let be
+  pub failed_on : {P : Trees → Type 0} (old new : LineStore S D) (before after : TraceLists) → old.lists ≡ Some before → new.lists ≡ Some after → ((H : History) → IsListed before H → IsListed after H)
+      → new.greatest ≡ old.greatest → new.count ≡ old.count → new.desk ≡ old.desk → new.conn.in_transaction ≡ false
+      → Survives (state g old.conn) (state g new.conn) P → (HasCleanDisk (state g new.conn) → KeepsCommit (state g old.conn) (state g new.conn))
+      → (L : Kept) → Stands g F K old L → Stands g F K new L
+  failed_on {P} old new before after was is listed greatest count desk mode survives kept L s = record {
+    greatest = greatest ∙ s.greatest;
+    bound = s.bound;
+    count = count ∙ s.count;
+    within = s.within;
+    judged = s.judged;
+    consistent = s.consistent;
+    desk = subst (λ (o : Option D). IfSome o (λ d. F d L.history × (K d ≡ Two))) (sym desk) s.desk;
+    lists = subst (λ (o : Option TraceLists). IfSome o (λ l. IsListed l L.history)) (sym is) (listed L.history (subst (λ (o : Option TraceLists). IfSome o (λ l. IsListed l L.history)) was s.lists));
+    beside = ap is_some is ∙ sym (ap is_some was) ∙ s.beside ∙ sym (ap is_some desk);
+    mode = mode;
+    stays_open = still_open P survives s.stays_open;
+    lawful = λ clean own. s.lawful (clean_before P survives clean) own;
+    tables = λ clean own is_open. subst (λ (db : Database). Holds db (ledger_tables L.greatest L.history)) (sym ((kept clean).committed is_open)) (s.tables (clean_before P survives clean) own ((kept clean).was_open is_open));
+  }
+
+  -- a change was committed
+  pub stands_on : {P : Trees → Type 0} (old new : LineStore S D) (L : Kept) (change : Change) (edits : List Edit) → Stands g F K old L → old.count < old.greatest
+      → IsChange Two L.history change.stamped change → IsStamped change.stamped → IsMinute change.minute
+      → new.count ≡ old.count + 1 → new.greatest ≡ old.greatest → new.conn.in_transaction ≡ false → IfSome new.desk (λ d. F d (accept L.history change.stamped) × (K d ≡ Two))
+      → IfSome new.lists (λ l. IsListed l (accept L.history change.stamped)) → is_some new.lists ≡ is_some new.desk
+      → after_edits edits (ledger_tables L.greatest L.history) ≡ ledger_tables L.greatest (accept L.history change.stamped) → AreNew edits (ledger_tables L.greatest L.history)
+      → Survives (state g old.conn) (state g new.conn) P → (HasCleanDisk (state g new.conn) → Edits edits (state g old.conn).committed (state g new.conn).committed)
+      → (HasCleanDisk (state g new.conn) → IsTrue (state g old.conn).is_open) → (HasCleanDisk (state g new.conn) → IsTrue L.own → earlier_answer L.history change.stamped ≡ None)
+      → Stands g F K new (with_command L change.stamped)
+  stands_on {P} old new L change edits s room is stamped minute count greatest mode desk lists beside after fresh survives done was_open first = record {
+    greatest = greatest ∙ s.greatest;
+    bound = s.bound;
+    count = omega (arith, count, s.count);
+    within = omega (arith, room, s.count, s.greatest);
+    judged = judged;
+    consistent = consistent Two _ judged;
+    desk = desk;
+    lists = lists;
+    beside = beside;
+    mode = mode;
+    stays_open = still_open P survives s.stays_open;
+    lawful = λ clean own. lawful_on L.greatest L.history change.stamped (s.lawful (clean_before P survives clean) own) judged (first clean own) (omega (arith, room, s.count, s.greatest));
+    tables = λ clean own is_open.
+        subst (Holds (state g new.conn).committed) after (done clean (ledger_tables L.greatest L.history) (s.tables (clean_before P survives clean) own (was_open clean)) fresh).1;
+  }
+    where
+      judged : IsJudged Two (accept L.history change.stamped)
+      judged = (next_is Two L.history change.stamped change stamped minute is, s.judged)
+
+  -- a call only read
+  pub read_on : {P : Trees → Type 0} (old new : LineStore S D) → new.greatest ≡ old.greatest → new.count ≡ old.count → new.desk ≡ old.desk → new.lists ≡ old.lists → (old.conn.in_transaction ≡ false → new.conn.in_transaction ≡ false)
+      → Survives (state g old.conn) (state g new.conn) P → (HasCleanDisk (state g new.conn) → KeepsCommit (state g old.conn) (state g new.conn)) → (L : Kept) → Stands g F K old L → Stands g F K new L
+  read_on {P} old new greatest count desk lists mode survives kept L s = record {
+    greatest = greatest ∙ s.greatest;
+    bound = s.bound;
+    count = count ∙ s.count;
+    within = s.within;
+    judged = s.judged;
+    consistent = s.consistent;
+    desk = subst (λ (o : Option D). IfSome o (λ d. F d L.history × (K d ≡ Two))) (sym desk) s.desk;
+    lists = subst (λ (o : Option TraceLists). IfSome o (λ l. IsListed l L.history)) (sym lists) s.lists;
+    beside = ap is_some lists ∙ s.beside ∙ sym (ap is_some desk);
+    mode = mode s.mode;
+    stays_open = still_open P survives s.stays_open;
+    lawful = λ clean own. s.lawful (clean_before P survives clean) own;
+    tables = λ clean own is_open. subst (λ (db : Database). Holds db (ledger_tables L.greatest L.history)) (sym ((kept clean).committed is_open)) (s.tables (clean_before P survives clean) own ((kept clean).was_open is_open));
+  }
+
+  -- every table is there, or the disk has failed
+  pub tables_there : (store : LineStore S D) (L : Kept) → Stands g F K store L → ShowsTables g store L
+  tables_there store L s clean own = elim (s.stays_open clean) [ inl is_open ↦ inl (s.tables clean own is_open) | inr failed ↦ inr failed ]
+
+  -- a call that may have accepted it
+  pub stands_either : (r : Result Answer Fault) (new : LineStore S D) (L M : Kept) → OnOk r (Stands g F K new M) → OnErr r (Stands g F K new L) → (N : Kept) × Stands g F K new N
+  stands_either (Ok a) new L M ok err = (M, ok)
+  stands_either (Err e) new L M ok err = (L, err)
+
+  pub accepted_as : (r : Result Answer Fault) (new : LineStore S D) (L : Kept) (s : Stamped) (change : Change) → IsChange Two L.history s change → OnOk r (Stands g F K new (with_command L change.stamped))
+      → OnOk r (Stands g F K new (record L { history = after_command Two L.history s }))
+  accepted_as (Ok a) new L s change is ok = subst (λ H. Stands g F K new (record L { history = H })) (accepted_list Two L.history s change is) ok
+  accepted_as (Err e) new L s change is ok = ok
+
+-- whatever a crash may leave: no fault is forgotten, and only a fault shuts the connection
+pub survives_still : (s : State) → Survives s s (λ _. ⊤)
+survives_still s = record { clean = omega arith; shield = λ h. h; counts = omega arith; limit = refl; closes = λ clean was. inl was; crash = λ clean trees left. inl left }
+
+pub survives_any : (old new : State) (P : Trees → Type 0) → Survives old new P → Survives old new (λ _. ⊤)
+survives_any old new P h = survives_weaker old new P (λ _. ⊤) (λ clean trees made. tt) h
+
+pub survives_both : (old mid new : State) (P Q : Trees → Type 0) → Survives old mid P → Survives mid new Q → Survives old new (λ _. ⊤)
+survives_both old mid new P Q one two = survives_then old mid new P Q (λ _. ⊤) (λ clean trees made. tt) (λ clean trees made. tt) one two
+
+-- what a crash may leave of edits, where the tables were those of the list
+module _ (old : State) (tables after : Tables) (edits : List Edit) (is : after_edits edits tables ≡ after) (new : AreNew edits tables) (holds : HasCleanDisk old → IsTrue old.is_open → Holds old.committed tables) where
+  pub left_on : HasCleanDisk old → (trees : Trees) → LeavesEdited edits old trees → HoldsAt after trees
+  left_on clean trees left = subst (λ t. HoldsAt t trees) is (left.holds tables (holds clean left.was_open) new).0
+
+  pub survives_on : (next : State) → Survives old next (LeavesEdited edits old) → Survives old next (HoldsAt after)
+  survives_on next h = survives_weaker old next _ _ (λ clean trees left. left_on (omega (arith, h.clean, clean)) trees left) h

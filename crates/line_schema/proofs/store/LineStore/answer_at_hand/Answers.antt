@@ -1,0 +1,30 @@
+use Rattle.std.proofs.Common.{true≢false, sym, rules, arith, ◌<◌}
+use Rattle.desk_types.specs.declared.rules.Rules.TheVariants.{Two}
+use Rattle.desk_types.specs.Desk.{IsChange}
+use Rattle.line_schema.proofs.ListsAfter.{accepted_leaves}
+use Rattle.line_schema.proofs.StandsAfter.{disowned, stands_either, accepted_as, answered_as, first_as}
+use Rattle.line_schema.proofs.store.LineStore.answer_at_hand.Goals as goal
+
+pub returns-in-Ok-clause-kept : goal.returns-in-Ok-clause-kept
+returns-in-Ok-clause-kept g c =
+    let stands = disowned g.S.Store g.D.Desk.Stands g.D.Desk.kept_rules _ c.requires.stands.0 c.requires.stands.1 in
+    stands_either g.S.Store g.D.Desk.Stands g.D.Desk.kept_rules c.commit_change.result c.commit_change.new.self _ _ (c.commit_change.ensures.ok _ stands (λ clean own. absurd (true≢false (sym own)))) (c.commit_change.ensures.err _ stands)
+
+pub returns-in-Ok-clause-answer : goal.returns-in-Ok-clause-answer
+returns-in-Ok-clause-answer g c L stands =
+    let is : IsChange Two L.history c.args.stamped.now c.in-Ok.change = search rules in
+    answered_as L.history c.args.stamped.now c.in-Ok.change c.commit_change.result is (c.commit_change.ensures.answer L stands)
+
+pub returns-in-Ok-clause-ok : goal.returns-in-Ok-clause-ok
+returns-in-Ok-clause-ok g c L stands first =
+    let s = c.args.stamped.now in
+    let is : IsChange Two L.history s c.in-Ok.change = search rules in
+    accepted_as g.S.Store g.D.Desk.Stands g.D.Desk.kept_rules c.commit_change.result c.commit_change.new.self L s c.in-Ok.change is
+    (c.commit_change.ensures.ok L stands (λ clean own. first_as L s c.in-Ok.change is (first clean own)))
+
+pub returns-in-Ok-clause-crash : goal.returns-in-Ok-clause-crash
+returns-in-Ok-clause-crash g c L stands clean own trees left =
+    let is : IsChange Two L.history c.args.stamped.now c.in-Ok.change = search rules in
+    let room : c.args.self.now.count < c.args.self.now.greatest = search rules in
+    let may = (c.commit_change.ensures.survives L stands own).crash clean trees left in
+    accepted_leaves L c.args.stamped.now c.in-Ok.change c.commit_change.result _ _ trees is (omega (arith, stands.count, stands.greatest, room)) (c.commit_change.ensures.answer L stands) (c.commit_change.ensures.alone L stands clean own) may left

@@ -1,0 +1,13 @@
+use Rattle.std.proofs.Common.{inl, inr, arith}
+use Rattle.sqlite.specs.State.{HasCleanDisk}
+use Rattle.sqlite.specs.Held.{state}
+use Rattle.line_schema.proofs.ListsAfter.{newly_weaker}
+use Rattle.line_schema.proofs.store.LineStore.answer_new.Goals as goal
+
+pub returns-clause-crash : goal.returns-clause-crash
+returns-clause-crash g c L stands clean own trees left =
+    let mid = c.ready.new.self in
+    let early : HasCleanDisk (state g.S.Store mid.conn) = omega (arith, c.answer_at_hand.ensures.survives.clean, clean) in
+    newly_weaker L c.args.stamped.now _ _ _ trees
+    (λ before. elim (c.ready.ensures.survives.crash early trees before) [ inl at_entry ↦ at_entry | inr none ↦ absurd none ])
+    (c.answer_at_hand.ensures.crash L (c.ready.ensures.stands L stands early own) clean own trees left)

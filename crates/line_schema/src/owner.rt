@@ -1,0 +1,27 @@
+//! A store answers the commands of a line.
+
+use crate::store::LineStore;
+use desk_answers::{Answer, Owner};
+use desk_types::{Desk, Stamped};
+use sqlite::Alter;
+
+/// The list by rules Two for which the store stands, whose tables are its own; it is trusted as long as
+/// the disk told the truth.
+impl<S: Alter, D: Desk + Drop> Owner for LineStore<S, D> {
+    ghost use Rattle.std.specs.Prelude.{◌≡◌, true};
+    ghost use Rattle.sqlite.specs.State.{HasCleanDisk};
+    ghost use Rattle.desk_types.specs.declared.rules.Rules.TheVariants.{Two};
+    ghost use Rattle.line_schema.specs.Stands.{Kept, Stands as StandsFor, state_of};
+
+    ghost Stands = { λ store L. (L.rules ≡ Two) × StandsFor S.Store D.Stands D.kept_rules store (record { greatest = L.greatest; history = L.history; own = true }) };
+
+    ghost Ready = { λ store. (L : Kept) × StandsFor S.Store D.Stands D.kept_rules store L };
+
+    ghost Trusts = { λ store. HasCleanDisk (state_of S.Store store) };
+
+    fn command(&mut self, stamped: &Stamped) -> Answer {
+        LineStore::command(self, stamped)
+    }
+
+    fn is_lawful(&self) {}
+}

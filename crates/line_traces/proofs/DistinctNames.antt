@@ -1,0 +1,191 @@
+-- The names that DISTINCT keeps are a set.
+use Rattle.std.proofs.Common.{◌≡◌, ◌∙◌, ◌≢◌, Bool, true, false, Some, List, [], ◌∷◌, ◌++◌, map, filter, cond, refl, sym, ap, ap₂, subst, Ordering, Less, Equal, Greater, is_eq, IsTrue}
+use Rattle.std.specs.Prelude.{◌||◌, if◌then◌else◌}
+use Rattle.std.specs.Option.{option_map, option_to_list}
+use Rattle.std.specs.List.{list_any, flat_map, AllByRecursion}
+use Rattle.std.specs.List.Sorted.{IsPermutation, IsStrictlySortedBy}
+use Rattle.std.specs.Map.{keys_of}
+use Rattle.std.specs.BTreeSet.{insert_key}
+use Rattle.std.specs.Ordering.{match_ordering, ordering_reverse, on}
+use Rattle.std.proofs.lemmas.Cmp.{nat_list_cmp_total, tied_itself}
+use Rattle.std.proofs.lemmas.List.Elements.{All-from_recursion, recursion_from_All}
+use Rattle.std.proofs.lemmas.List.Folds.{list_any-append}
+use Rattle.std.proofs.lemmas.List.Sorted.{All-permutation, list_any-IsPermutation, IsPermutation-sym}
+use Rattle.sqlite_trees.specs.Tree.{IsAscending}
+use Rattle.sqlite_keyed.proofs.ListLemmas.{all_weaker, all-map, map-map}
+use Rattle.sqlite.specs.declared.types.Value.TheVariants.{Text}
+use Rattle.sqlite.specs.Collation.TheVariants.{Binary}
+use Rattle.sqlite_value.specs.Order.{column, value_cmp}
+use Rattle.sqlite_value.specs.Keys.{collated_cmp}
+use Rattle.sqlite_value.proofs.OrderLemmas.{value_cmp-Text, then-Equal}
+use Rattle.sqlite_sql.specs.Group.{members, IsDistinctOf}
+use Rattle.sqlite.specs.Query.{Output}
+use Rattle.desk_types.specs.Id.{Name, same, by_name}
+use Rattle.desk_types.specs.Placements.{set_of}
+use Rattle.desk_types.proofs.Keys.{same-refl, same-sym, same-true, is_at-by_name}
+use Rattle.desk_laws.proofs.Mounts.{has}
+use Rattle.desk_laws.proofs.NameSets.{has-set}
+use Rattle.state_rows.specs.Kept.{row_at}
+use Rattle.line_tables.specs.StateRows.{has_text}
+use Rattle.line_traces.proofs.Columns.{equal-text, one-text}
+use Rattle.line_traces.proofs.RowsByKey.{rows-listed}
+
+-- ---- a set ascends
+
+all-put : (P : Name → Type 0) (names : List Name) (x : Name) → AllByRecursion P names → P x → AllByRecursion P (insert_key by_name names x)
+all-put P [] x all one = (one, tt)
+all-put P (y ∷ ys) x (first, all) one = by (by_name x y) (all-put P ys x all one)
+  where
+    by : (order : Ordering) → AllByRecursion P (insert_key by_name ys x) → AllByRecursion P (match_ordering order (x ∷ y ∷ ys) (y ∷ ys) (y ∷ insert_key by_name ys x))
+    by Less rest = (one, (first, all))
+    by Equal rest = (first, all)
+    by Greater rest = (first, rest)
+
+sorted-put : (names : List Name) (x : Name) → IsStrictlySortedBy by_name names → IsStrictlySortedBy by_name (insert_key by_name names x)
+unfolding IsStrictlySortedBy
+sorted-put [] x up = (tt, tt)
+sorted-put (y ∷ ys) x (first, up) = by (by_name x y) refl (sorted-put ys x up)
+  where
+    by : (order : Ordering) → by_name x y ≡ order → IsStrictlySortedBy by_name (insert_key by_name ys x)
+        → IsStrictlySortedBy by_name (match_ordering order (x ∷ y ∷ ys) (y ∷ ys) (y ∷ insert_key by_name ys x))
+    by Less is rest = ((is, all_weaker (λ z. by_name y z ≡ Less) (λ z. by_name x z ≡ Less) (λ z less. nat_list_cmp_total.trans x y z is less) ys first), (first, up))
+    by Equal is rest = (first, up)
+    by Greater is rest = (all-put (λ z. by_name y z ≡ Less) ys x first (nat_list_cmp_total.antisymm y x ∙ ap ordering_reverse is), rest)
+
+pub set-sorted : (names : List Name) → IsStrictlySortedBy by_name (set_of names)
+unfolding IsStrictlySortedBy
+set-sorted [] = tt
+set-sorted (x ∷ xs) = sorted-put (set_of xs) x (set-sorted xs)
+
+-- ---- the first elements of groups
+
+all-rest : {X : Type 0} (P : X → Type 0) (xs ys : List X) → AllByRecursion P (xs ++ ys) → AllByRecursion P xs × AllByRecursion P ys
+all-rest P [] ys all = (tt, all)
+all-rest P (x ∷ xs) ys (first, all) = let both = all-rest P xs ys all in ((first, both.0), both.1)
+
+-- a test that equal elements pass together, and all that pass are equal to x
+module _ {X : Type 0} (cmp : X → X → Ordering) (P : X → Type 0) (test : X → Bool) (x : X) (alike : (a b : X) → P a → P b → cmp a b ≡ Equal → test a ≡ test b)
+    (tied : (a b : X) → P a → P b → test a ≡ true → test b ≡ true → cmp a b ≡ Equal) (one : (a : X) → P a → test a ≡ true → a ≡ x) where
+  none-alike : (a : X) (ys : List X) → P a → test a ≡ false → AllByRecursion P ys → AllByRecursion (λ y. cmp a y ≡ Equal) ys → list_any test ys ≡ false
+  none-alike a [] is off all equal = refl
+  none-alike a (y ∷ ys) is off (first, all) (here, equal) = ap₂ (λ p q. p || q) (sym (alike a y is first here) ∙ off) (none-alike a ys is off all equal)
+
+  none-apart : (a : X) (gs : List (X × List X)) → P a → test a ≡ true → AllByRecursion P (flat_map members gs) → AllByRecursion (λ (h : X × List X). cmp a h.0 ≢ Equal) gs → filter test (map (λ (g : X × List X). g.0) gs) ≡ []
+  none-apart a [] is passes all apart = refl
+  none-apart a (g ∷ gs) is passes (first, all) (away, apart) = by (test g.0) refl (none-apart a gs is passes (all-rest P g.1 (flat_map members gs) all).1 apart)
+    where
+      by : (b : Bool) → test g.0 ≡ b → filter test (map (λ (h : X × List X). h.0) gs) ≡ [] → (if b then g.0 ∷ filter test (map (λ (h : X × List X). h.0) gs) else filter test (map (λ (h : X × List X). h.0) gs)) ≡ []
+      by true there rest = absurd (away (tied a g.0 is first passes there))
+      by false there rest = rest
+
+  firsts : (gs : List (X × List X)) → AllByRecursion P (flat_map members gs) → AllByRecursion (λ (g : X × List X). AllByRecursion (λ y. cmp g.0 y ≡ Equal) g.1) gs → IsAscending (λ g h. cmp g.0 h.0 ≢ Equal) gs
+      → filter test (map (λ (g : X × List X). g.0) gs) ≡ (if list_any test (flat_map members gs) then x ∷ [] else [])
+  firsts [] all equal apart = refl
+  firsts (g ∷ gs) (first, all) (here, equal) (away, apart) = by (test g.0) refl (firsts gs (all-rest P g.1 (flat_map members gs) all).1 equal apart)
+    where
+      more : List X
+      more = filter test (map (λ (h : X × List X). h.0) gs)
+
+      by : (b : Bool) → test g.0 ≡ b → more ≡ (if list_any test (flat_map members gs) then x ∷ [] else [])
+          → (if b then g.0 ∷ more else more) ≡ (if b || list_any test (g.1 ++ flat_map members gs) then x ∷ [] else [])
+      by true passes rest =
+          ap₂ (λ y ys. y ∷ ys) (one g.0 first passes) (none-apart g.0 gs first passes (all-rest P g.1 (flat_map members gs) all).1 away)
+      by false off rest =
+          rest ∙ ap (λ b. if b then x ∷ [] else []) (
+          sym (list_any-append test g.1 (flat_map members gs)
+          ∙ ap (λ b. b || list_any test (flat_map members gs)) (none-alike g.0 g.1 first off (all-rest P g.1 (flat_map members gs) all).0 here)))
+
+  -- of what passes one is kept, where there is some
+  pub one-kept : (all kept : List X) → AllByRecursion P all → IsDistinctOf cmp all kept → filter test kept ≡ (if list_any test all then x ∷ [] else [])
+  one-kept all kept are (groups, parts, is) =
+      ap (filter test) is
+      ∙ firsts groups (recursion_from_All P _ (All-permutation P all _ parts.same (All-from_recursion P all are))) parts.alike parts.apart
+      ∙ ap (λ b. if b then x ∷ [] else []) (sym (list_any-IsPermutation test all _ parts.same))
+
+  -- what is kept is of what was there
+  pub all-kept : (all kept : List X) → AllByRecursion P all → IsDistinctOf cmp all kept → AllByRecursion P kept
+  all-kept all kept are (groups, parts, is) =
+      subst (AllByRecursion P) (sym is) (heads groups (recursion_from_All P _ (All-permutation P all _ parts.same (All-from_recursion P all are))))
+    where
+      heads : (gs : List (X × List X)) → AllByRecursion P (flat_map members gs) → AllByRecursion P (map (λ (g : X × List X). g.0) gs)
+      heads [] all = tt
+      heads (g ∷ gs) (first, all) = (first, heads gs (all-rest P g.1 (flat_map members gs) all).1)
+
+-- ---- names
+
+-- a name as it is shown
+abbrev pub shown_name : Name → Output
+shown_name name = (Text name ∷ [], Text name ∷ [])
+
+-- the order of DISTINCT
+abbrev pub by_shown : Output → Output → Ordering
+by_shown = on (λ o. o.1) (collated_cmp (Binary ∷ []))
+
+pub by-shown : (a b : Name) → by_shown (shown_name a) (shown_name b) ≡ by_name a b
+by-shown a b = then-Equal (value_cmp (Text a) (Text b)) ∙ value_cmp-Text a b
+
+-- it shows this name
+abbrev shows : Name → Output → Bool
+shows name o = has_text 0 name o.1
+
+abbrev IsName : Output → Type 0
+IsName o = (name : Name) × (o ≡ shown_name name)
+
+equal-name : (a b : Name) → by_name a b ≡ Equal → a ≡ b
+equal-name a b is = same-true a b (sym (is_at-by_name a b) ∙ ap is_eq is)
+
+module _ (name : Name) where
+  one-name : (o : Output) → IsName o → shows name o ≡ true → o ≡ shown_name name
+  one-name o (n, is) passes = is ∙ ap shown_name (same-true n name (sym (equal-text n name) ∙ ap (shows name) (sym is) ∙ passes))
+
+  tied-names : (a b : Output) → IsName a → IsName b → shows name a ≡ true → shows name b ≡ true → by_shown a b ≡ Equal
+  tied-names a b is-a is-b first second =
+      ap₂ by_shown (one-name a is-a first) (one-name b is-b second) ∙ by-shown name name ∙ tied_itself nat_list_cmp_total name
+
+  alike-names : (a b : Output) → IsName a → IsName b → by_shown a b ≡ Equal → shows name a ≡ shows name b
+  alike-names a b (m, is-a) (n, is-b) equal =
+      let one = equal-name m n (sym (by-shown m n) ∙ sym (ap₂ by_shown is-a is-b) ∙ equal) in
+      ap (shows name) (is-a ∙ ap shown_name one ∙ sym is-b)
+
+any-shown : (names : List Name) (name : Name) → list_any (shows name) (map shown_name names) ≡ has names name
+any-shown [] name = refl
+any-shown (n ∷ names) name = ap₂ (λ a b. a || b) (equal-text n name ∙ same-sym n name) (any-shown names name)
+
+-- the entries of a set
+abbrev entries_of : List Name → List (Name × Unit {0})
+entries_of names = map (λ n. (n, tt)) names
+
+entry-found : (names : List Name) (name : Name) → option_to_list (option_map (λ (u : Unit {0}). shown_name name) (row_at by_name (entries_of names) name)) ≡ (if has names name then shown_name name ∷ [] else [])
+entry-found [] name = refl
+entry-found (n ∷ names) name = ap (λ b. option_to_list (option_map (λ (u : Unit {0}). shown_name name) (cond b (Some tt) (row_at by_name (entries_of names) name)))) (is_at-by_name name n) ∙ by (same name n) (entry-found names name)
+  where
+    by : (b : Bool) → option_to_list (option_map (λ (u : Unit {0}). shown_name name) (row_at by_name (entries_of names) name)) ≡ (if has names name then shown_name name ∷ [] else [])
+        → option_to_list (option_map (λ (u : Unit {0}). shown_name name) (cond b (Some tt) (row_at by_name (entries_of names) name))) ≡ (if b || has names name then shown_name name ∷ [] else [])
+    by true rest = refl
+    by false rest = rest
+
+keys-are : (names : List Name) → keys_of (entries_of names) ≡ names
+keys-are [] = refl
+keys-are (n ∷ names) = ap (λ l. n ∷ l) (keys-are names)
+
+-- What DISTINCT keeps of shown names is, in some order, the set of the names.
+pub kept-set : (names : List Name) (all kept : List Output) → IsPermutation all (map shown_name names) → IsDistinctOf by_shown all kept → IsPermutation kept (map shown_name (set_of names))
+kept-set names all kept are distinct =
+    subst (IsPermutation kept) (map-map (λ (e : Name × Unit {0}). shown_name e.0) (λ n. (n, tt)) (set_of names)) (
+    rows-listed by_name shows (λ k _. shown_name k) (λ k. is_at-by_name k k ∙ same-refl k) (λ k l is. same-true k l (sym (is_at-by_name k l) ∙ is)) apart (entries_of (set_of names)) kept
+    (subst (IsStrictlySortedBy by_name) (sym (keys-are (set_of names))) (set-sorted names)) found keyed)
+  where
+    apart : (k l : Name) (o : Output) → shows k o ≡ true → shows l o ≡ true → k ≡ l
+    apart k l o first second = one-text (column o.1 0) k l first second
+
+    every : AllByRecursion IsName all
+    every = recursion_from_All IsName all (All-permutation IsName _ all (IsPermutation-sym _ _ are) (All-from_recursion IsName _ (all-map IsName shown_name (λ n. (n, refl)) names)))
+
+    found : (k : Name) → filter (shows k) kept ≡ option_to_list (option_map (λ (u : Unit {0}). shown_name k) (row_at by_name (entries_of (set_of names)) k))
+    found k =
+        one-kept by_shown IsName (shows k) (shown_name k) (alike-names k) (tied-names k) (one-name k) all kept every distinct
+        ∙ ap (λ b. if b then shown_name k ∷ [] else []) (list_any-IsPermutation (shows k) all (map shown_name names) are ∙ any-shown names k ∙ sym (has-set names k))
+        ∙ sym (entry-found (set_of names) k)
+
+    keyed : AllByRecursion (λ o. (k : Name) × IsTrue (shows k o)) kept
+    keyed = all_weaker IsName _ (λ o named. (named.0, ap (shows named.0) named.1 ∙ equal-text named.0 named.0 ∙ same-refl named.0)) kept (all-kept by_shown IsName (shows []) (shown_name []) (alike-names []) (tied-names []) (one-name []) all kept every distinct)

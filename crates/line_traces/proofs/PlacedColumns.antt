@@ -1,0 +1,121 @@
+-- What a database tells of each placed piece: its reel's row, and its entry's minute.
+use Rattle.std.proofs.Common.{◌≡◌, ◌∙◌, ℕ, pos, Bool, true, false, Some, List, [], ◌∷◌, ◌++◌, map, filter, refl, sym, ap, ap₂, subst, arith, Ordering, Less, Equal, Greater, is_eq, nat_cmp}
+use Rattle.std.specs.Prelude.{◌&&◌}
+use Rattle.std.specs.Option.{option_map, option_to_list}
+use Rattle.std.specs.List.{AllByRecursion}
+use Rattle.std.specs.List.Sorted.{IsPermutation}
+use Rattle.std.specs.BTreeMap.{is_at}
+use Rattle.std.specs.Ordering.{ordering_then}
+use Rattle.std.proofs.lemmas.Cmp.{nat_cmp_total, tied_itself}
+use Rattle.std.proofs.lemmas.Bool.Decides.{nat_tests}
+use Rattle.std.proofs.lemmas.List.{append_assoc}
+use Rattle.std.proofs.lemmas.List.Elements.{recursion_from_All}
+use Rattle.sqlite.specs.declared.types.Value.TheVariants.{Int}
+use Rattle.sqlite_value.specs.Order.{Row, column}
+use Rattle.sqlite.specs.Effect.{Database}
+use Rattle.sqlite_keyed.proofs.ListLemmas.{all_weaker, map-map}
+use Rattle.desk_types.specs.declared.command.Entry.{Entry}
+use Rattle.desk_types.specs.declared.rules.Rules.TheVariants.{Two}
+use Rattle.desk_types.specs.History.{History, IsPrefix}
+use Rattle.desk_types.specs.Judged.{IsJudged}
+use Rattle.desk_types.specs.Setup.{receipt_of}
+use Rattle.desk_types.specs.View.{view_of}
+use Rattle.desk_types.specs.Placements.{Placement, placements_of}
+use Rattle.desk_laws.specs.Verified.{IsRightlyPlaced}
+use Rattle.desk_laws.proofs.InstalledPieces.{rightly-placed}
+use Rattle.desk_laws.proofs.ReelsLater.{receipt-prefix}
+use Rattle.state_tables.specs.declared.row.ReelRow.{ReelRow}
+use Rattle.state_tables.specs.declared.row.PlacementRow.{PlacementRow}
+use Rattle.state_tables.specs.Tables.{columns_of, placement_columns as columns_of_piece}
+use Rattle.state_rows.specs.Kept.{by_piece}
+use Rattle.state_rows.proofs.PlacedRows.{entry_of, piece_entries, pieces-found, pieces-ascend}
+use Rattle.line_tables.specs.Line as line
+use Rattle.line_tables.specs.Rows.{accepted_in}
+use Rattle.line_tables.specs.Calls.{has_number}
+use Rattle.line_tables.specs.StateRows.{has_text, has_int, has_piece, reel_columns, placement_columns, rows_in}
+use Rattle.line_traces.specs.Committed.{TellsMinute, HoldsList}
+use Rattle.line_traces.proofs.Columns.{one-int}
+use Rattle.line_traces.proofs.RowsByKey.{rows-listed}
+
+-- ---- the rows of all pieces
+
+-- a placement as a row of its table
+abbrev pub piece_row : Placement → Row
+piece_row p = placement_columns (columns_of_piece p)
+
+pub both : (a b : Bool) → (a && b) ≡ true → (a ≡ true) × (b ≡ true)
+both true b is = (refl, is)
+both false b is = cc
+
+one-piece : (k l : ℕ × ℕ) (row : Row) → has_piece k row ≡ true → has_piece l row ≡ true → k ≡ l
+one-piece k l row first second =
+    let a = both (has_int 0 k.0 row) (has_int 1 k.1 row) first in
+    let b = both (has_int 0 l.0 row) (has_int 1 l.1 row) second in
+    let number = one-int (column row 0) k.0 l.0 a.0 b.0 in
+    let place = one-int (column row 1) k.1 l.1 a.1 b.1 in
+    ap₂ (λ m n. (m, n)) number place
+
+pub itself : (k : ℕ × ℕ) → is_at (by_piece k) k ≡ true
+itself k = rw (tied_itself nat_cmp_total k.0, tied_itself nat_cmp_total k.1) refl
+
+one-number : (m n : ℕ) → nat_cmp m n ≡ Equal → m ≡ n
+one-number m n is = grind (arith, nat_tests)
+
+one-key : (k l : ℕ × ℕ) → is_at (by_piece k) l ≡ true → k ≡ l
+one-key k l is = by (nat_cmp k.0 l.0) (nat_cmp k.1 l.1) refl refl is
+  where
+    by : (a b : Ordering) → nat_cmp k.0 l.0 ≡ a → nat_cmp k.1 l.1 ≡ b → is_eq (ordering_then a b) ≡ true → k ≡ l
+    by Equal Equal number place here = ap₂ (λ m n. (m, n)) (one-number k.0 l.0 number) (one-number k.1 l.1 place)
+    by Equal Less number place here = cc
+    by Equal Greater number place here = cc
+    by Less b number place here = cc
+    by Greater b number place here = cc
+
+-- The rows of `placement` are the placements, in some order.
+pub pieces-listed : (db : Database) (H : History) → HoldsList db H → IsPermutation (rows_in line.placement db) (map piece_row (placements_of H))
+pieces-listed db H held =
+    subst (IsPermutation (rows_in line.placement db)) (map-map (λ (e : (ℕ × ℕ) × PlacementRow). placement_columns e.1) entry_of (placements_of H)) (
+    rows-listed by_piece has_piece (λ _ row. placement_columns row) itself one-key one-piece (piece_entries H) (rows_in line.placement db) (pieces-ascend H held.judged)
+    (λ key. held.state.placements.found key ∙ ap (λ o. option_to_list (option_map placement_columns o)) (sym (pieces-found H key)))
+    held.state.placements.keyed)
+
+-- ---- the reel and the entry of a piece
+
+-- its reel's row, and a row of its entry with its minute
+pub record IsKnown (db : Database) (p : Placement) : Type 0 where
+  pub reel : ReelRow
+  pub found : filter (has_text 0 p.reel) (rows_in line.reel db) ≡ reel_columns reel ∷ []
+  pub part : reel.part ≡ p.part
+  pub lot : reel.lot ≡ p.lot
+  pub entry : Row
+  pub only : filter (has_number p.number) (accepted_in db) ≡ entry ∷ []
+  pub minute : column entry 4 ≡ Int (pos p.effective)
+
+among : (P : Entry → Type 0) (later : List Entry) (e : Entry) (before : History) → AllByRecursion P (later ++ e ∷ before) → P e
+among P [] e before all = all.0
+among P (x ∷ later) e before all = among P later e before all.1
+
+-- the receipt of its reel, before its entry, is that of the list
+pub receipt-there : (H : History) → IsJudged Two H → (p : Placement) → (right : IsRightlyPlaced H p) → receipt_of H p.reel ≡ Some right.receipt
+receipt-there H judged p right =
+    let before : IsPrefix right.before H = (right.accepted.0 ++ right.entry ∷ [], right.accepted.1 ∙ sym (append_assoc right.accepted.0 (right.entry ∷ []) right.before)) in
+    receipt-prefix right.before H p.reel before judged (rw right.received refl) ∙ right.received
+
+known-one : (db : Database) (H : History) → HoldsList db H → (p : Placement) → IsRightlyPlaced H p → IsKnown db p
+known-one db H held p right =
+    let receipt = receipt-there H held.judged p right in
+    let told = among (TellsMinute db) right.accepted.0 right.entry right.before (subst (AllByRecursion (TellsMinute db)) right.accepted.1 (recursion_from_All (TellsMinute db) H held.minutes)) in
+    record {
+      reel = columns_of (view_of H p.reel right.receipt);
+      found = held.state.reels.found p.reel ∙ ap (λ o. option_to_list (option_map (λ (row : ReelRow). reel_columns row) (option_map columns_of (option_map (view_of H p.reel) o)))) receipt;
+      part = sym right.part;
+      lot = sym right.lot;
+      entry = told.row;
+      only = subst (λ n. filter (has_number n) (accepted_in db) ≡ told.row ∷ []) right.number told.only;
+      minute = told.minute ∙ ap (λ n. Int (pos n)) right.effective;
+    }
+
+-- Each placement has them.
+pub pieces-known : (db : Database) (H : History) → HoldsList db H → AllByRecursion (IsKnown db) (placements_of H)
+pieces-known db H held =
+    all_weaker (IsRightlyPlaced H) (IsKnown db) (known-one db H held) (placements_of H) (recursion_from_All (IsRightlyPlaced H) (placements_of H) (rightly-placed H held.judged))

@@ -1,0 +1,102 @@
+-- What two calls tell together.
+use Rattle.std.proofs.Common.{◌≡◌, ◌∙◌, Bool, true, false, Option, Some, None, List, [], ◌∷◌, map, refl, sym, ap, ap₂, subst}
+use Rattle.std.specs.Prelude.{if◌then◌else◌}
+use Rattle.sqlite_value.specs.Order.{Row}
+use Rattle.sqlite.specs.Effect.{Database}
+use Rattle.sqlite.specs.State.{State, KeepsCommit}
+use Rattle.desk_types.specs.Id.{Name}
+use Rattle.desk_types.specs.History.{History}
+use Rattle.trace_lists.specs.declared.lists.TraceLists.{TraceLists}
+use Rattle.line_tables.specs.Calls.{Reads}
+use Rattle.line_tables.specs.StateRows.{flag}
+use Rattle.line_traces.specs.declared.row.PlacedRow.{PlacedRow}
+use Rattle.line_traces.specs.Committed.{FindsOfList, placed_columns, name_row}
+use Rattle.line_traces.specs.Beside.{FindsBeside}
+use Rattle.line_tables.specs.Line.{IsOurs}
+
+-- ---- rows
+
+pub one-flag : (b c : Bool) → flag b ≡ flag c → b ≡ c
+one-flag true true is = refl
+one-flag false false is = refl
+one-flag true false is = cc
+one-flag false true is = cc
+
+-- what is shown of a piece tells the piece
+placed_columns-one : (p q : PlacedRow) → placed_columns p ≡ placed_columns q → p ≡ q
+placed_columns-one p q is =
+    let number : p.number ≡ q.number = cc in
+    let place : p.place ≡ q.place = cc in
+    let board : p.board ≡ q.board = cc in
+    let designator : p.designator ≡ q.designator = cc in
+    let part : p.part ≡ q.part = cc in
+    let lot : p.lot ≡ q.lot = cc in
+    let reel : p.reel ≡ q.reel = cc in
+    let machine : p.machine ≡ q.machine = cc in
+    let slot : p.slot ≡ q.slot = cc in
+    let effective : p.effective ≡ q.effective = cc in
+    let late : flag p.overdue ≡ flag q.overdue = cc in
+    let overdue = one-flag p.overdue q.overdue late in
+    λ j. record {
+      number = number j;
+      place = place j;
+      board = board j;
+      designator = designator j;
+      part = part j;
+      lot = lot j;
+      reel = reel j;
+      machine = machine j;
+      slot = slot j;
+      effective = effective j;
+      overdue = overdue j;
+    }
+
+placed_columns-name : (a b : Name) → name_row a ≡ name_row b → a ≡ b
+placed_columns-name a b is = cc
+
+pub all-placed_columns : {X Y : Type 0} (show : X → Y) → ((x y : X) → show x ≡ show y → x ≡ y) → (xs ys : List X) → map show xs ≡ map show ys → xs ≡ ys
+all-placed_columns show one [] [] is = refl
+all-placed_columns show one [] (y ∷ ys) is = cc
+all-placed_columns show one (x ∷ xs) [] is = cc
+all-placed_columns show one (x ∷ xs) (y ∷ ys) is =
+    let first : show x ≡ show y = cc in
+    let rest : map show xs ≡ map show ys = cc in
+    ap₂ (λ z zs. z ∷ zs) (one x y first) (all-placed_columns show one xs ys rest)
+
+-- ---- calls
+
+-- what is read after a call that leaves the commit was so before it
+pub reads-before : (old mid : State) → KeepsCommit old mid → (Is : Database → Type 0) → Reads mid Is → Reads old Is
+reads-before old mid kept Is reads = record {
+  was_open = kept.was_open reads.was_open;
+  are = λ schema. let same = kept.committed reads.was_open in subst Is same (reads.are (subst (λ (db : Database). IsOurs db.schema) (sym same) schema));
+}
+
+-- what the rows show
+placed_columns-told : {X : Type 0} (show : X → Row) → ((x y : X) → show x ≡ show y → x ≡ y) → (of : History → List X) (old : State) (rows : List Row) (found : List X) → FindsOfList (λ H. map show (of H)) old rows
+    → rows ≡ map show found → FindsOfList of old found
+placed_columns-told show one of old rows found told is = record { was_open = told.was_open; are = λ schema H held. all-placed_columns show one found (of H) (sym is ∙ told.are schema H held) }
+
+pub pieces-told : (of : History → List PlacedRow) (old : State) (rows : List Row) (pieces : List PlacedRow) → FindsOfList (λ H. map placed_columns (of H)) old rows → rows ≡ map placed_columns pieces → FindsOfList of old pieces
+pieces-told = placed_columns-told placed_columns placed_columns-one
+
+pub names-told : (of : History → List Name) (old : State) (rows : List Row) (names : List Name) → FindsOfList (λ H. map name_row (of H)) old rows → rows ≡ map name_row names → FindsOfList of old names
+names-told = placed_columns-told name_row placed_columns-name
+
+-- ---- beside a list
+
+module _ {D X : Type 0} (Stands : D → History → Type 0) (lists : Option TraceLists) (desk : Option D) (of : History → X) (old : State) where
+  -- what the tables alone tell
+  pub tells-beside : (found : X) → FindsOfList of old found → FindsBeside Stands lists desk of old found
+  tells-beside found told = record { was_open = told.was_open; are = λ schema H beside. told.are schema H beside.held }
+
+  -- what is there is told, where a test has held,
+  pub there-told : (test : History → Bool) (found : X) → FindsOfList test old true → FindsBeside Stands lists desk of old found → FindsBeside Stands lists desk (λ H. if test H then Some (of H) else None) old (Some found)
+  there-told test found holds told = record {
+    was_open = told.was_open;
+    are = λ schema H beside. ap Some (told.are schema H beside) ∙ ap (λ b. if b then Some (of H) else None) (holds.are schema H beside.held);
+  }
+
+  -- and none where it has not.
+  pub none-told : (test : History → Bool) → FindsOfList test old false → FindsBeside Stands lists desk (λ H. if test H then Some (of H) else None) old None
+  none-told test fails = record { was_open = fails.was_open; are = λ schema H beside. ap (λ b. if b then Some (of H) else None) (fails.are schema H beside.held) }

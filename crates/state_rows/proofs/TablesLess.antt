@@ -1,0 +1,171 @@
+-- The tables after a command that takes pieces.
+use Rattle.std.proofs.Common.{◌≡◌, ℕ, ◌+◌, ◌-◌, nat_lt, Bool, true, false, not, Option, Some, None, List, [], ◌∷◌, map, filter, refl, sym, ap, ◌∙◌, unwrap_or, arith, zero-add}
+use Rattle.std.specs.Prelude.{if◌then◌else◌, ◌==◌, ◌||◌}
+use Rattle.std.specs.Option.{option_or, option_map}
+use Rattle.std.proofs.lemmas.Bool.{and_parts, ltb-false, ne_eqb, ltb-true}
+use Rattle.std.proofs.lemmas.List.Sums.{sum_by-cons}
+use Rattle.desk_types.specs.declared.command.Command.{Command}
+use Rattle.desk_types.specs.declared.command.Receipt.{Receipt}
+use Rattle.desk_types.specs.declared.rules.Rules.TheVariants.{Two}
+use Rattle.desk_types.specs.declared.take.Pick.{Pick}
+use Rattle.desk_types.specs.Id.{Name, same}
+use Rattle.desk_types.specs.History.{History}
+use Rattle.desk_types.specs.Setup.{receipt_of}
+use Rattle.desk_types.specs.Pieces.{pieces_picked, picks_of, pieces_by, left_of, found_by, is_placed, is_mounted}
+use Rattle.desk_types.specs.FloorLife.{open_by, baked_by, since_after}
+use Rattle.desk_types.specs.Outcome.{take_of}
+use Rattle.desk_types.specs.View.{view_of}
+use Rattle.desk_types.specs.Judged.{IsJudged}
+use Rattle.desk_laws.proofs.Mounted.{mounted-is}
+use Rattle.state_tables.specs.declared.row.ReelRow.{ReelRow}
+use Rattle.state_tables.specs.declared.row.MountRow.{MountRow}
+use Rattle.state_tables.specs.declared.row.PlacementRow.{PlacementRow}
+use Rattle.state_tables.specs.Tables.{columns_of, reel_row, last_put, mount_row}
+use Rattle.state_rows.specs.After.{placed_in, scrapped_in, used_after, step_row}
+use Rattle.state_rows.specs.EditsOf.{pick_of, is_picked, less_row, picked_rows, is_spent}
+use Rattle.state_rows.proofs.ReelRows.{same-rows}
+use Rattle.state_rows.proofs.MountRows.{left_after, unreceived-unmounted}
+
+-- a take is its pick, and what is looked up
+pub picks-again : (H : History) (minute : ℕ) (picks : List Pick) → map pick_of (map (take_of H minute) picks) ≡ picks
+picks-again H minute [] = refl
+picks-again H minute (p ∷ ps) = ap (λ l. p ∷ l) (picks-again H minute ps)
+
+-- where neither holds, each does not
+neither : (a b : Bool) → (a || b) ≡ false → (a ≡ false) × (b ≡ false)
+neither true b is = cc
+neither false b is = (refl, is)
+
+-- off a reel that is not picked no piece comes
+pub unpicked : (picks : List Pick) (reel : Name) → is_picked picks reel ≡ false → pieces_picked picks reel ≡ 0
+unpicked [] reel none = refl
+unpicked (p ∷ ps) reel none =
+    let both = neither (same p.reel reel) (is_picked ps reel) none in
+    sum_by-cons (λ (x : Pick). if same x.reel reel then x.quantity else 0) p ps
+    ∙ ap (λ b. (if b then p.quantity else 0) + pieces_picked ps reel) both.0
+    ∙ zero-add (pieces_picked ps reel)
+    ∙ unpicked ps reel both.1
+
+-- nor is it picked among those that pass a test
+pub unpicked-some : (test : Pick → Bool) (picks : List Pick) (reel : Name) → is_picked picks reel ≡ false → is_picked (filter test picks) reel ≡ false
+unpicked-some test [] reel none = refl
+unpicked-some test (p ∷ ps) reel none =
+    let both = neither (same p.reel reel) (is_picked ps reel) none in by (test p) both.0 (unpicked-some test ps reel both.1)
+  where
+    by : (b : Bool) → same p.reel reel ≡ false → is_picked (filter test ps) reel ≡ false → is_picked (if b then p ∷ filter test ps else filter test ps) reel ≡ false
+    by true here rest = ap (λ c. c || is_picked (filter test ps) reel) here ∙ rest
+    by false here rest = rest
+
+-- ---- reels
+
+-- a command that says nothing of the reel's bag, of a bake or of its pieces, and finds none
+pub record OnlyTakes (reel : Name) (command : Command) : Type 0 where
+  pub out : open_by reel command ≡ None
+  pub baked : baked_by reel command ≡ None
+  pub told : pieces_by reel command ≡ None
+  pub finds : (left : ℕ) → found_by left reel command ≡ 0
+
+-- the row after it, where it has so many pieces placed, scrapped and left
+took-step : (minute : ℕ) (picks : List Pick) (reel : Name) (command : Command) (row took : ReelRow) → OnlyTakes reel command
+    → took ≡ record row { placed = took.placed; scrapped = took.scrapped; remaining = took.remaining }
+    → took.placed ≡ row.placed + placed_in picks reel → took.scrapped ≡ row.scrapped + scrapped_in picks reel → took.remaining ≡ row.remaining - pieces_picked picks reel
+    → took ≡ step_row minute picks reel command row
+took-step minute picks reel command row took only is placed scrapped remaining =
+    is
+    ∙ same-rows _ _ refl refl refl refl refl
+    (let none = only.finds row.remaining in omega (arith, none))
+    placed scrapped
+    (remaining ∙ sym (ap (λ o. unwrap_or o (row.remaining - pieces_picked picks reel)) only.told))
+    (sym (ap (λ o. used_after (unwrap_or o false) (open_by reel command) minute row.open_since row.used) only.baked ∙ ap (λ o. used_after false o minute row.open_since row.used) only.out))
+    (sym (ap (λ o. since_after o minute row.open_since) only.out))
+    (sym (ap (λ o. unwrap_or o row.baked) only.baked))
+
+-- the row of a reel off which the pieces come
+less-step : (minute : ℕ) (picks : List Pick) (reel : Name) (command : Command) (row : ReelRow) → row.reel ≡ reel → OnlyTakes reel command
+    → less_row picks row ≡ step_row minute picks reel command row
+less-step minute picks reel command row named only =
+    took-step minute picks reel command row (less_row picks row) only refl
+    (ap (λ r. row.placed + placed_in picks r) named) (ap (λ r. row.scrapped + scrapped_in picks r) named) (ap (λ r. row.remaining - pieces_picked picks r) named)
+
+-- the row of a reel that is not picked
+pub none-step : (minute : ℕ) (picks : List Pick) (reel : Name) (command : Command) (row : ReelRow) → is_picked picks reel ≡ false → OnlyTakes reel command
+    → row ≡ step_row minute picks reel command row
+none-step minute picks reel command row none only =
+    took-step minute picks reel command row row only refl
+    (let zero_of = unpicked _ reel (unpicked-some (λ (p : Pick). is_placed p.purpose) picks reel none) in omega (arith, zero_of))
+    (let zero_of = unpicked _ reel (unpicked-some (λ (p : Pick). not (is_placed p.purpose)) picks reel none) in omega (arith, zero_of))
+    (let zero_of = unpicked picks reel none in omega (arith, zero_of))
+
+-- The rows of the reels after a command that only takes pieces.
+pub reels-took : (H : History) (minute : ℕ) (picks : List Pick) (command : Command) (r : Name) → OnlyTakes r command
+    → option_or (picked_rows (reel_row H) picks r) (reel_row H r) ≡ option_map (step_row minute picks r command) (reel_row H r)
+reels-took H minute picks command r only = by (is_picked picks r) refl (receipt_of H r)
+  where
+    by : (b : Bool) → is_picked picks r ≡ b → (said : Option Receipt)
+        → option_or (if b then option_map (less_row picks) (option_map columns_of (option_map (view_of H r) said)) else None) (option_map columns_of (option_map (view_of H r) said))
+        ≡ option_map (step_row minute picks r command) (option_map columns_of (option_map (view_of H r) said))
+    by true is None = refl
+    by false is None = refl
+    by true is (Some receipt) = ap Some (less-step minute picks r command (columns_of (view_of H r receipt)) refl only)
+    by false is (Some receipt) = ap Some (none-step minute picks r command (columns_of (view_of H r receipt)) is only)
+
+-- ---- mounts
+
+-- what is nothing is not some
+none-some : (n : ℕ) → nat_lt 0 n ≡ not (n == 0)
+none-some n = by (nat_lt 0 n) refl
+  where
+    by : (b : Bool) → nat_lt 0 n ≡ b → b ≡ not (n == 0)
+    by true some = let more = ltb-true 0 n some in sym (ap not (ne_eqb n 0 (λ is. omega (arith, is, more))))
+    by false none = let few = ltb-false 0 n none in let is : n ≡ 0 = omega (arith, few) in sym (ap (λ k. not (k == 0)) is)
+
+-- The rows of the mounted reels after it: a spent one is on no slot.
+pub mounts-took : (H : History) (picks : List Pick) (command : Command) (r : Name) → IsJudged Two H → picks ≡ picks_of H command
+    → left_after H command r ≡ left_of H r - pieces_picked (picks_of H command) r
+    → (if is_spent (picked_rows (reel_row H) picks r) then None else mount_row H r)
+    ≡ (if nat_lt 0 (left_after H command r) then mount_row H r else None)
+mounts-took H picks command r judged taken after = by (is_mounted H r) refl
+  where
+    left : left_after H command r ≡ left_of H r - pieces_picked picks r
+    left = after ∙ ap (λ ps. left_of H r - pieces_picked ps r) (sym taken)
+
+    choose : (spent : Bool) (o : Option MountRow) → (if spent then None else o) ≡ (if not spent then o else None)
+    choose true o = refl
+    choose false o = refl
+
+    -- of a mounted reel
+    of : (b : Bool) → is_picked picks r ≡ b → is_mounted H r ≡ true → (said : Option Receipt) → receipt_of H r ≡ said
+        → (if is_spent (if b then option_map (less_row picks) (option_map columns_of (option_map (view_of H r) said)) else None) then None else mount_row H r)
+        ≡ (if nat_lt 0 (left_after H command r) then mount_row H r else None)
+    of b is mounted None none = let off = unreceived-unmounted H r judged none in cc
+    of true is mounted (Some receipt) got =
+        choose (left_of H r - pieces_picked picks r == 0) (mount_row H r)
+        ∙ ap (λ c. if c then mount_row H r else None) (sym (none-some (left_of H r - pieces_picked picks r)) ∙ ap (nat_lt 0) (sym left))
+    of false is mounted (Some receipt) got =
+        let some : nat_lt 0 (left_of H r) ≡ true = (and_parts _ _ (sym (mounted-is H r judged) ∙ mounted)).1 in
+        let zero_of = unpicked picks r is in
+        let all : left_after H command r ≡ left_of H r = omega (arith, left, zero_of) in
+        sym (ap (λ c. if c then mount_row H r else None) (ap (nat_lt 0) all ∙ some))
+
+    empty : (b c : Bool) → (o : Option MountRow) → o ≡ None → (if b then None else o) ≡ (if c then o else None)
+    empty true true o none = sym none
+    empty true false o none = refl
+    empty false true o none = refl
+    empty false false o none = none
+
+    by : (m : Bool) → is_mounted H r ≡ m
+        → (if is_spent (picked_rows (reel_row H) picks r) then None else mount_row H r)
+        ≡ (if nat_lt 0 (left_after H command r) then mount_row H r else None)
+    by true mounted = of (is_picked picks r) refl mounted (receipt_of H r) refl
+    by false off = empty _ _ (mount_row H r) (ap (λ b. if b then last_put H r else None) off)
+
+-- ---- placements
+
+-- The rows of the placed pieces after it, of one number.
+pub placements-took : (b : Bool) (new old : Option PlacementRow) → (b ≡ true → old ≡ None) → option_or (if b then new else None) old ≡ (if b then new else old)
+placements-took true new old none = ap (option_or new) (none refl) ∙ last new
+  where
+    last : (o : Option PlacementRow) → option_or o None ≡ o
+    last None = refl
+    last (Some x) = refl
+placements-took false new old none = refl
