@@ -1,8 +1,7 @@
 -- The numbers of the profile, computed.
 use Rattle.std.specs.Prelude.{◌≡◌, pos, length, Some, Ok, Err, refl}
 use Rattle.serde_json.specs.Read.{max_depth}
-use Rattle.desk_types.specs.declared.number.TheConstants.{GREATEST_QUANTITY}
-use Rattle.desk_types.specs.declared.level.TheConstants.{GREATEST_LABEL}
+use Rattle.desk_types.specs.declared.limits.TheConstants.{GREATEST_LABEL, GREATEST_QUANTITY}
 use Rattle.cfx_profile.specs.declared.fault.MessageFault.TheVariants.{BodyMember, OverLimit}
 use Rattle.cfx_profile.specs.declared.member.Member.TheVariants.{Quantity, LabelMinutes}
 use Rattle.cfx_profile.specs.Forms.{at_most, from_1_to}

@@ -2,7 +2,7 @@
 use Rattle.std.proofs.Common.{◌≡◌, ◌∙◌, refl, sym, ap, ℕ, suc, cond, Bool, true, false, Option, Some, None, ok_or, Result, Ok, Err, List, [], ◌∷◌, length, inl, inr}
 use Rattle.std.specs.Prelude.{nat_le, ◌==◌}
 use Rattle.serde_json.specs.Data.{Data, Members, object}
-use Rattle.desk_types.specs.declared.list.TheConstants.{LONGEST_LIST}
+use Rattle.desk_types.specs.declared.limits.TheConstants.{LONGEST_LIST}
 use Rattle.desk_types.specs.declared.level.Level.{Level}
 use Rattle.desk_types.specs.declared.level.Level.TheVariants.{Six}
 use Rattle.cfx_profile.specs.declared.fault.MessageFault.{MessageFault}

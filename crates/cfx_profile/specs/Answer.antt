@@ -12,6 +12,12 @@ use Rattle.cfx_profile.specs.Member.{member_text}
 abbrev pub unavailable : Data
 unavailable = object (member (codes "Answer") (string (codes "Unavailable")) no_members)
 
+-- nothing of this kind is found
+abbrev pub not_found : List ℕ → Data
+not_found kind =
+    object (member (codes "Answer") (string (codes "NotFound"))
+    (member (codes "Kind") (string kind) no_members))
+
 -- a fault of the message as a whole
 abbrev pub faulty : List ℕ → Data
 faulty fault =

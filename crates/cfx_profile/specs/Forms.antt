@@ -3,10 +3,7 @@ use Rattle.std.specs.Prelude.{ℕ, ◌-◌, nat_lt, nat_le, ◌==◌, Bool, not,
 use Rattle.std.specs.List.{list_all}
 use Rattle.serde_json.specs.Data.{Data}
 use Rattle.serde_json.specs.Find.{get, as_str, as_number, as_u64}
-use Rattle.desk_types.specs.declared.id.TheConstants.{LONGEST_ID}
-use Rattle.desk_types.specs.declared.designator.TheConstants.{LONGEST_DESIGNATOR}
-use Rattle.desk_types.specs.declared.number.TheConstants.{GREATEST_QUANTITY}
-use Rattle.desk_types.specs.declared.level.TheConstants.{GREATEST_LABEL}
+use Rattle.desk_types.specs.declared.limits.TheConstants.{GREATEST_LABEL, GREATEST_QUANTITY, LONGEST_DESIGNATOR, LONGEST_ID}
 use Rattle.desk_types.specs.declared.level.Level.{Level}
 use Rattle.desk_types.specs.declared.level.Level.TheVariants.{Six}
 use Rattle.desk_types.specs.Designator.{is_designator_byte}

@@ -2,7 +2,7 @@
 use Rattle.std.specs.Prelude.{nat_le, ◌==◌, if◌then◌else◌, option_map, option_and_then, ok_or, Result, Ok, Err, List, [], ◌∷◌, length}
 use Rattle.serde_json.specs.Data.{Data, Items, no_items, item}
 use Rattle.serde_json.specs.Find.{get, as_array, as_object}
-use Rattle.desk_types.specs.declared.list.TheConstants.{LONGEST_LIST}
+use Rattle.desk_types.specs.declared.limits.TheConstants.{LONGEST_LIST}
 use Rattle.cfx_profile.specs.declared.fault.MessageFault.{MessageFault}
 use Rattle.cfx_profile.specs.declared.fault.MessageFault.TheVariants.{BodyMember, OverLimit}
 use Rattle.cfx_profile.specs.declared.member.Member.{Member}

@@ -22,3 +22,7 @@ IsAnswer L s answer = answer ≡ command_answer L.rules L.greatest L.history s
 abbrev pub ledger_after : Ledger → Stamped → Answer → Ledger
 ledger_after L s Unavailable = L
 ledger_after L s answer = record L { history = command_after L.rules L.greatest L.history s }
+
+-- What holds of each list for which an owner stood, where what it keeps the list in told the truth: by the same rules and greatest number it stands for a list that the fact tells.
+abbrev pub ForLists : {S : Type 0} → (S → Ledger → Type 0) → (S → Type 0) → S → S → (Ledger → History → Type 0) → Type 0
+ForLists Stands Trusts old new Fact = (G : Ledger) → Stands old G → Trusts new → (H : History) × Stands new (record G { history = H }) × Fact G H

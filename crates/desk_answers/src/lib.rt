@@ -3,7 +3,9 @@
 #![tactic(auto)]
 
 mod answer;
+mod law;
 mod owner;
 
 pub use answer::{Answer, accepted_text};
+pub use law::same_messages_are_equal;
 pub use owner::Owner;

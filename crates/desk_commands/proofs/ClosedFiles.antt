@@ -18,8 +18,8 @@ use Rattle.desk_types.specs.History.{History}
 use Rattle.desk_answers.specs.Ledger.{Ledger}
 use Rattle.line_tables.specs.Calls.{LeavesMigrated}
 use Rattle.line_rows.specs.Rows.{ledger_tables}
-use Rattle.line_opening.specs.declared.fault.OpenFault.{OpenFault}
-use Rattle.line_opening.specs.declared.fault.OpenFault.TheVariants.{NotADesk, Unavailable}
+use Rattle.line_schema.specs.declared.fault.OpenFault.{OpenFault}
+use Rattle.line_schema.specs.declared.fault.OpenFault.TheVariants.{NotADesk, Unavailable}
 use Rattle.desk_file.specs.Files.{IsFoundIn}
 use Rattle.desk_file.specs.Refused.{IsFaultFor, IsFaultIn, IsRefused, LeavesMade}
 use Rattle.desk_commands.specs.declared.left.Left.{Left}

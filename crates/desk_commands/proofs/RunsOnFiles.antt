@@ -8,13 +8,12 @@ use Rattle.sqlite.specs.State.{HasCleanDisk}
 use Rattle.sqlite.specs.Files.{over_files}
 use Rattle.desk_types.specs.declared.rules.Rules.TheVariants.{Two}
 use Rattle.desk_types.specs.History.{History}
-use Rattle.desk_answers.specs.Ledger.{Ledger}
+use Rattle.desk_answers.specs.Ledger.{Ledger, ForLists}
 use Rattle.feeder_state.specs.declared.desk.StateDesk.{StateDesk}
 use Rattle.feeder_state.specs.contracts.desk.StateDeskDesk.TheImpl.{ghosts as state}
 use Rattle.line_schema.specs.declared.store.LineStore.{LineStore}
 use Rattle.line_schema.specs.Stands.{Kept, Stands, state_of}
 use Rattle.desk_file.specs.Files.{Begins, HasLineAlone}
-use Rattle.desk_feed.specs.Owners.{ForLists}
 use Rattle.desk_runs.specs.Runs.{StaysSame}
 use Rattle.http_answers.specs.declared.gateway.Gateway.{Gateway}
 use Rattle.gateway_http.specs.declared.store.ReportedStore.{ReportedStore}

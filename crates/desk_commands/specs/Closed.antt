@@ -14,14 +14,14 @@ use Rattle.sqlite.specs.Held.{Held}
 use Rattle.desk_types.specs.declared.rules.Rules.TheVariants.{One, Two}
 use Rattle.desk_types.specs.History.{History}
 use Rattle.desk_types.specs.Judged.{IsLawful}
-use Rattle.consistency.specs.Consistent.{IsConsistent}
+use Rattle.desk_laws.specs.Consistent.{IsConsistent}
 use Rattle.desk_answers.specs.Ledger.{Ledger}
 use Rattle.feeder_state.specs.declared.desk.StateDesk.{StateDesk}
 use Rattle.feeder_state.specs.contracts.desk.StateDeskDesk.TheImpl.{ghosts as state}
 use Rattle.line_tables.specs.Rows.{Tables}
 use Rattle.line_rows.specs.Rows.{ledger_tables}
-use Rattle.line_opening.specs.declared.fault.OpenFault.{OpenFault}
-use Rattle.line_opening.specs.declared.fault.OpenFault.TheVariants.{NotADesk, NotBlank, Unavailable}
+use Rattle.line_schema.specs.declared.fault.OpenFault.{OpenFault}
+use Rattle.line_schema.specs.declared.fault.OpenFault.TheVariants.{NotADesk, NotBlank, Unavailable}
 use Rattle.line_schema.specs.declared.store.LineStore.{LineStore}
 use Rattle.line_schema.specs.Stands.{conn_of}
 use Rattle.desk_file.specs.Files.{Begins, Closes, Copies, HasLineAlone, IsFoundIn, IsOfOne, IsWhole, KeepsTables, Leaves}

@@ -10,14 +10,14 @@ use Rattle.desk_types.specs.History.{History}
 use Rattle.desk_types.specs.Judged.{IsLawful}
 use Rattle.desk_answers.specs.Ledger.{Ledger}
 use Rattle.feeder_state.specs.contracts.desk.StateDeskDesk.TheImpl.{ghosts as state}
-use Rattle.line_opening.specs.declared.fault.OpenFault.{OpenFault}
-use Rattle.line_opening.specs.Opening.{fault_text}
+use Rattle.line_schema.specs.declared.fault.OpenFault.{OpenFault}
+use Rattle.line_schema.specs.Opening.{fault_text}
 use Rattle.line_schema.specs.Stands.{Kept, Stands, state_of}
 use Rattle.desk_file.specs.Files.{Begins, HasLineAlone, MigratedFrom}
 use Rattle.desk_file.specs.Refused.{RefusesMigration, RefusesRun}
-use Rattle.desk_runs.specs.Told.{unavailable_line}
 use Rattle.http_answers.specs.Requests.{request_rule}
-use Rattle.http_listener.specs.Connections.{ConnectedEach, Ended}
+use Rattle.desk_runs.specs.Told.{unavailable_line}
+use Rattle.desk_runs.specs.Connections.{ConnectedEach, Ended}
 use Rattle.gateway_http.specs.Reports.{report_of}
 use Rattle.desk_commands.specs.declared.left.Left.{Left}
 use Rattle.desk_commands.specs.declared.left.Left.TheVariants.{Desk, Migrated, Refused}

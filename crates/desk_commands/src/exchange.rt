@@ -2,16 +2,15 @@
 
 ghost use Rattle.std.specs.Prelude.{◌≡◌, ◌⊎◌, ◌+◌, ◌^◌, ◌<◌, ◌≤◌, true, false, None, Some};
 ghost use Rattle.std.specs.Io.KnownBytes.{IsAtEnd};
-ghost use Rattle.desk_types.specs.declared.desk.TheConstants.{MOST_ENTRIES};
+ghost use Rattle.desk_types.specs.declared.limits.TheConstants.{MOST_ENTRIES, MOST_READS};
 ghost use Rattle.desk_types.specs.History.{History};
-ghost use Rattle.consistency.specs.Consistent.{IsConsistent};
+ghost use Rattle.desk_laws.specs.Consistent.{IsConsistent};
 ghost use Rattle.desk_types.specs.Wire.{inner_of, reads_of, failures_of};
-ghost use Rattle.line_opening.specs.declared.fault.OpenFault.TheVariants.{Unavailable};
+ghost use Rattle.line_schema.specs.declared.fault.OpenFault.TheVariants.{Unavailable};
 ghost use Rattle.desk_feed.specs.Stream.{LeavesNone};
 ghost use Rattle.served.specs.declared.serving.Served.{Served};
 ghost use Rattle.served.specs.declared.serving.ServeFault.{ServeFault};
 ghost use Rattle.served.specs.declared.serving.ServeFault.TheVariants.{Read as ReadFault, Write as WriteFault};
-ghost use Rattle.served.specs.declared.serving.TheConstants.{MOST_READS};
 ghost use Rattle.served.specs.Counts.{none_served};
 ghost use Rattle.served.specs.Shown.{FailsNever, IsShown};
 ghost use Rattle.desk_runs.specs.Runs.{AnswersAll, AnswersImport, AnswersUpTo, CutsImport, StaysSame};

@@ -2,14 +2,14 @@
 
 ghost use Rattle.std.specs.Prelude.{◌≡◌, ◌≢◌, ◌⊎◌, ◌+◌, ◌^◌, ◌<◌, ◌≤◌, None, Some, List};
 ghost use Rattle.std.specs.Io.KnownBytes.{Appends};
-ghost use Rattle.desk_types.specs.declared.desk.TheConstants.{MOST_ENTRIES};
+ghost use Rattle.desk_types.specs.declared.limits.TheConstants.{MOST_ENTRIES};
 ghost use Rattle.desk_types.specs.Wire.{inner_of, failures_of};
 ghost use Rattle.served.specs.declared.serving.ServeFault.TheVariants.{Write as WriteFault};
 ghost use Rattle.served.specs.Counts.{none_served};
 ghost use Rattle.served.specs.Sent.{SendsFront};
-ghost use Rattle.http_listener.specs.Connections.{Ended, TellsConnections};
 ghost use Rattle.http_stream.specs.Answers.{Told, code_of};
 ghost use Rattle.gateway_http.specs.Reports.{report_of};
+ghost use Rattle.desk_runs.specs.Connections.{Ended, TellsConnections};
 ghost use Rattle.desk_runs.specs.Runs.{AnswersReport};
 ghost use Rattle.desk_runs.specs.Told.{fault_line, report_output, TellsEnd, TellsLine};
 ghost use Rattle.desk_commands.specs.declared.left.Left.TheVariants.{Nothing};

@@ -11,7 +11,7 @@ use Rattle.desk_types.specs.History.{History}
 use Rattle.served.specs.declared.serving.ServeFault.{ServeFault}
 use Rattle.served.specs.declared.serving.ServeFault.TheVariants.{Write}
 use Rattle.served.specs.declared.serving.Served.{Served}
-use Rattle.desk_feed.specs.declared.inbox.TheConstants.{LONGEST_LINE}
+use Rattle.desk_types.specs.declared.limits.TheConstants.{LONGEST_INPUT}
 use Rattle.desk_feed.specs.declared.line.LineAnswer.TheVariants.{TooLong}
 use Rattle.desk_feed.specs.declared.message.Told.{Told}
 use Rattle.desk_feed.specs.LineAnswers.{AnswersRaw}
@@ -95,10 +95,10 @@ one_line [] long = absurd (omega arith)
 one_line (b ∷ line) long = refl
 
 -- it is told so, and the list stays
-pub told_too_long : (rules : Rules) (greatest : ℕ) (H : History) (raw : List ℕ) → LONGEST_LINE < length (without_return raw) → AnswersRaw rules greatest H raw (Some TooLong) H
+pub told_too_long : (rules : Rules) (greatest : ℕ) (H : History) (raw : List ℕ) → LONGEST_INPUT < length (without_return raw) → AnswersRaw rules greatest H raw (Some TooLong) H
 told_too_long rules greatest H raw long =
     let line = without_return raw in
-    let is_long = lt-ltb LONGEST_LINE (length line) long in
+    let is_long = lt-ltb LONGEST_INPUT (length line) long in
     (false, one_line line (omega arith), if_true _ _ (answer_to rules greatest H line) is_long, if_true _ _ (list_after rules greatest H line) is_long)
 
 -- without the carriage return it is at most one byte shorter

@@ -9,7 +9,7 @@ use Rattle.desk_types.specs.History.{History}
 use Rattle.desk_types.specs.Outcome.{after_command}
 use Rattle.desk_answers.specs.declared.answer.Answer.{Answer}
 use Rattle.desk_answers.specs.Commands.{earlier_answer, is_full}
-use Rattle.desk_feed.specs.declared.inbox.TheConstants.{LONGEST_LINE}
+use Rattle.desk_types.specs.declared.limits.TheConstants.{LONGEST_INPUT}
 use Rattle.desk_feed.specs.Messages.{after_heard, list_after}
 use Rattle.desk_feed.specs.Repeats.{is_again, repeats, is_repeat, without_repeats, after_all}
 use Rattle.desk_feed.specs.Stream.{line_after}
@@ -31,7 +31,7 @@ short_leaves false again H after is leaves = leaves is
 -- a repeat leaves the list
 pub repeat_leaves : (rules : Rules) (greatest : ℕ) (H : History) (line : List ℕ) → is_repeat H line ≡ true → line_after rules greatest false H line ≡ H
 repeat_leaves rules greatest H line again =
-    short_leaves (nat_lt LONGEST_LINE (length line)) (repeats H (said_in line)) H (list_after rules greatest H line) again (heard_leaves rules greatest H (said_in line))
+    short_leaves (nat_lt LONGEST_INPUT (length line)) (repeats H (said_in line)) H (list_after rules greatest H line) again (heard_leaves rules greatest H (said_in line))
 
 line_more : (rules : Rules) (greatest : ℕ) (H after : History) (line : List ℕ) (lines fewer more : List (List ℕ)) (again : Bool) → line_after rules greatest false H line ≡ after
     → (again ≡ true → after ≡ H) → after_all rules greatest H lines ≡ after_all rules greatest H fewer → after_all rules greatest after lines ≡ after_all rules greatest after more

@@ -3,7 +3,8 @@ use Rattle.std.specs.Prelude.{◌≡◌, ℕ, ◌+◌, ◌-◌, ◌*◌, ◌<◌
 use Rattle.std.specs.Io.KnownBytes.{prepend_known, Consumes, IsAtEnd}
 use Rattle.desk_feed.specs.Lines.{is_feed, is_empty, without_return, lines_of}
 use Rattle.desk_feed.specs.declared.inbox.Inbox.{Inbox}
-use Rattle.desk_feed.specs.declared.inbox.TheConstants.{BLOCK, LONGEST_RAW}
+use Rattle.desk_types.specs.declared.limits.TheConstants.{BLOCK}
+use Rattle.desk_feed.specs.declared.inbox.TheConstants.{LONGEST_RAW}
 use Rattle.desk_feed.specs.declared.inbox.RawLine.{RawLine}
 use Rattle.desk_feed.specs.declared.inbox.RawLine.TheVariants.{Whole, Over, NoMemory, NoMemoryReturn}
 

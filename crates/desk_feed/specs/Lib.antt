@@ -2,6 +2,5 @@ pub mod Inbox
 pub mod LineAnswers
 pub mod Lines
 pub mod Messages
-pub mod Owners
 pub mod Repeats
 pub mod Stream

@@ -9,7 +9,7 @@ use Rattle.desk_types.specs.History.{History}
 use Rattle.desk_answers.specs.declared.answer.Answer.{Answer}
 use Rattle.desk_answers.specs.declared.answer.Answer.TheVariants.{Accepted}
 use Rattle.desk_answers.specs.Commands.{earlier_answer}
-use Rattle.desk_feed.specs.declared.inbox.TheConstants.{LONGEST_LINE}
+use Rattle.desk_types.specs.declared.limits.TheConstants.{LONGEST_INPUT}
 use Rattle.desk_feed.specs.Stream.{after_lines, line_after}
 
 -- the answer by an earlier entry is its first answer once more
@@ -24,7 +24,7 @@ repeats H _ = false
 
 -- the line is such a message
 abbrev pub is_repeat : History → List ℕ → Bool
-is_repeat H line = if nat_lt LONGEST_LINE (length line) then false else repeats H (said_in line)
+is_repeat H line = if nat_lt LONGEST_INPUT (length line) then false else repeats H (said_in line)
 
 -- the lines without those that were accepted before, by a line before them or in the list to begin with
 abbrev pub without_repeats : Rules → ℕ → History → List (List ℕ) → List (List ℕ)

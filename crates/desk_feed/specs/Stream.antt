@@ -9,7 +9,7 @@ use Rattle.desk_types.specs.History.{History}
 use Rattle.served.specs.declared.serving.Served.{Served}
 use Rattle.served.specs.declared.serving.ServeFault.{ServeFault}
 use Rattle.served.specs.declared.serving.ServeFault.TheVariants.{Read, Write, TooManyReads}
-use Rattle.desk_feed.specs.declared.inbox.TheConstants.{LONGEST_LINE}
+use Rattle.desk_types.specs.declared.limits.TheConstants.{LONGEST_INPUT}
 use Rattle.desk_feed.specs.declared.message.Told.{Told}
 use Rattle.desk_feed.specs.Lines.{lines_of, ended_lines}
 use Rattle.desk_feed.specs.Messages.{answer_to, list_after}
@@ -25,12 +25,12 @@ too_long_text = compact_text (faulty (codes "LineTooLong"))
 -- the answer to a line after H: Unavailable where it is marked, LineTooLong where it is longer than the longest line, and else as the message that it is
 abbrev pub line_answer : Rules → ℕ → Bool → History → List ℕ → Told
 line_answer rules greatest true H line = record { text = unavailable_text; refused = true }
-line_answer rules greatest false H line = if nat_lt LONGEST_LINE (length line) then record { text = too_long_text; refused = true } else answer_to rules greatest H line
+line_answer rules greatest false H line = if nat_lt LONGEST_INPUT (length line) then record { text = too_long_text; refused = true } else answer_to rules greatest H line
 
 -- the list after the line: only a message changes it
 abbrev pub line_after : Rules → ℕ → Bool → History → List ℕ → History
 line_after rules greatest true H line = H
-line_after rules greatest false H line = if nat_lt LONGEST_LINE (length line) then H else list_after rules greatest H line
+line_after rules greatest false H line = if nat_lt LONGEST_INPUT (length line) then H else list_after rules greatest H line
 
 -- ---- lines one after the other
 

@@ -14,8 +14,8 @@ ghost use Rattle.desk_feed.specs.Stream.{AnsweredAll, AnsweredFront, AnsweredInt
 use crate::inbox::{Inbox, InboxFault, RawLine, Taken};
 use crate::line::answer_line;
 use desk_answers::Owner;
-use desk_types::Wire;
-use served::{MOST_READS, ServeFault, Served, WriteFailed, send_line};
+use desk_types::{MOST_READS, Wire};
+use served::{ServeFault, Served, WriteFailed, send_line};
 use std::alloc::Global;
 use std::io::{Read, Write};
 

@@ -6,18 +6,12 @@ ghost use Rattle.desk_types.specs.Wire.{inner_of, reads_of, failures_of};
 ghost use Rattle.desk_feed.specs.Inbox.{IsInbox, source, fuel, HasNoFeed, IsFirstFeed, HoldsLine, TakesLine};
 ghost use Rattle.desk_feed.specs.Lines.{without_return};
 
-use desk_types::Wire;
+use desk_types::{BLOCK, LONGEST_INPUT, Wire};
 use std::alloc::Global;
 use std::io::Read;
 
-/// The most bytes of a line, without its line feed and the carriage return that is dropped.
-pub const LONGEST_LINE: usize = 1_048_576;
-
 /// The most bytes that are kept of a line: with its carriage return.
-pub const LONGEST_RAW: usize = LONGEST_LINE + 1;
-
-/// How many bytes one read may give.
-pub const BLOCK: usize = 65_536;
+pub const LONGEST_RAW: usize = LONGEST_INPUT + 1;
 
 /// The block that was read last, and which of its bytes are still to be given.
 #[derive(Drop)]

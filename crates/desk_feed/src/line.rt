@@ -8,10 +8,11 @@ ghost use Rattle.desk_feed.specs.LineAnswers.{line_told, AnswersRaw};
 ghost use Rattle.desk_feed.specs.Lines.{lines_in, without_return};
 ghost use Rattle.desk_feed.specs.Stream.{too_long_text};
 
-use crate::inbox::{LONGEST_LINE, RawLine, without_return};
+use crate::inbox::{RawLine, without_return};
 use crate::message::{Told, answer_message};
 use cfx_profile::unavailable_text;
 use desk_answers::Owner;
+use desk_types::LONGEST_INPUT;
 use std::alloc::Global;
 
 /// What one line is answered.
@@ -70,7 +71,7 @@ pub fn answer_line<L: Owner>(alloc: Global, owner: &mut L, raw: RawLine) -> Opti
         RawLine::Over => Some(LineAnswer::TooLong),
         RawLine::Whole(bytes) => {
             let bytes = without_return(&bytes);
-            let too_long = bytes.len() > LONGEST_LINE;
+            let too_long = bytes.len() > LONGEST_INPUT;
             if bytes.is_empty() {
                 None
             } else if too_long {

@@ -15,9 +15,9 @@ use Rattle.desk_types.specs.declared.rules.Rules.{Rules}
 use Rattle.desk_types.specs.declared.rules.Rules.TheVariants.{Two}
 use Rattle.line_tables.specs.Calls.{Reads}
 use Rattle.line_tables.specs.Names.{has_name, has_state, is_accepted, is_version}
-use Rattle.line_opening.specs.declared.fault.OpenFault.{OpenFault}
-use Rattle.line_opening.specs.declared.fault.OpenFault.TheVariants.{NotADesk, OtherVersion, NotLawful, TableDiffers, NotBlank, Unavailable}
-use Rattle.line_opening.specs.Opening.{IsFaultBy, IsNamedBy, IsNoDeskBy, IsToldBy}
+use Rattle.line_schema.specs.declared.fault.OpenFault.{OpenFault}
+use Rattle.line_schema.specs.declared.fault.OpenFault.TheVariants.{NotADesk, OtherVersion, NotLawful, TableDiffers, NotBlank, Unavailable}
+use Rattle.line_schema.specs.Opening.{IsFaultBy, IsNamedBy, IsNoDeskBy, IsToldBy}
 use Rattle.desk_file.specs.declared.refusal.Refusal.{Refusal}
 use Rattle.desk_file.specs.Files.{IsFoundIn}
 use Rattle.desk_file.specs.Refused.{IsFaultFor, IsFaultIn, IsRefused, IsUnchangedSince, LeavesMade, RefusesRun, idle_state}

@@ -14,9 +14,9 @@ use Rattle.desk_types.specs.declared.rules.Rules.{Rules}
 use Rattle.desk_types.specs.declared.rules.Rules.TheVariants.{One, Two}
 use Rattle.line_tables.specs.Calls.{LeavesBlank, LeavesMigrated}
 use Rattle.line_tables.specs.Names.{has_name}
-use Rattle.line_opening.specs.declared.fault.OpenFault.{OpenFault}
-use Rattle.line_opening.specs.declared.fault.OpenFault.TheVariants.{NotADesk, NotBlank, Unavailable}
-use Rattle.line_opening.specs.Opening.{IsFaultBy, IsToldBy}
+use Rattle.line_schema.specs.declared.fault.OpenFault.{OpenFault}
+use Rattle.line_schema.specs.declared.fault.OpenFault.TheVariants.{NotADesk, NotBlank, Unavailable}
+use Rattle.line_schema.specs.Opening.{IsFaultBy, IsToldBy}
 use Rattle.desk_file.specs.declared.refusal.Refusal.{Refusal}
 use Rattle.desk_file.specs.Files.{IsFoundIn}
 

@@ -10,7 +10,7 @@ use Rattle.desk_types.specs.declared.command.Command.{Command}
 use Rattle.desk_types.specs.declared.command.Command.TheVariants as command
 use Rattle.imports.specs.declared.fault.ImportFault.{ImportFault}
 use Rattle.imports.specs.declared.fault.ImportFault.TheVariants.{OverLimit}
-use Rattle.imports.specs.declared.file.TheConstants.{LONGEST_FILE}
+use Rattle.desk_types.specs.declared.limits.TheConstants.{LONGEST_INPUT}
 use Rattle.imports.specs.File.{Record, records_of, rows_of, file_rows, setup_said, counts_said}
 use Rattle.desk_import.specs.declared.options.Content.{Content}
 use Rattle.desk_import.specs.declared.options.Content.TheVariants.{Sheet, Counts}
@@ -20,43 +20,43 @@ use Rattle.desk_import.specs.Import.{rows_said, stamped_by, command_said, IsSaid
 
 -- ---- what is read
 
-known_front : (file : Option (List ℕ)) (bytes : List ℕ) → IfSome (option_map (take (suc LONGEST_FILE)) file) (λ xs. bytes ≡ xs) → IsRead file bytes
+known_front : (file : Option (List ℕ)) (bytes : List ℕ) → IfSome (option_map (take (suc LONGEST_INPUT)) file) (λ xs. bytes ≡ xs) → IsRead file bytes
 known_front None bytes all = tt
 known_front (Some xs) bytes all = all
 
 -- what the reader of the first bytes of a file gave to its end is read
 pub is_read : {R : Type 0} (remaining : R → Option (List ℕ)) (t : Take R) (opened : R) (file : Option (List ℕ)) (old new : List ℕ)
-    → take_limit t ≡ suc LONGEST_FILE → take_inner t ≡ opened → remaining opened ≡ file → old ≡ []
+    → take_limit t ≡ suc LONGEST_INPUT → take_inner t ≡ opened → remaining opened ≡ file → old ≡ []
     → IfSome (take_remaining remaining t) (λ xs. new ≡ old ++ xs) → IsRead file new
 is_read remaining t opened file old new limit inner is empty gave =
-    let first : take_remaining remaining t ≡ option_map (take (suc LONGEST_FILE)) file =
+    let first : take_remaining remaining t ≡ option_map (take (suc LONGEST_INPUT)) file =
     ap₂ (λ (n : ℕ) (o : Option (List ℕ)). option_map (take n) o) limit (ap remaining inner ∙ is) in
     let all : IfSome (take_remaining remaining t) (λ xs. new ≡ xs) = subst (λ (l : List ℕ). IfSome (take_remaining remaining t) (λ xs. new ≡ l ++ xs)) empty gave in
     known_front file new (subst (λ (o : Option (List ℕ)). IfSome o (λ xs. new ≡ xs)) first all)
 
 -- ---- what it says
 
-over : {X : Type 0} (is_header : Record → Bool) (reading : ℕ → Record → Result X ImportFault) (bytes : List ℕ) → nat_le (length bytes) LONGEST_FILE ≡ false
+over : {X : Type 0} (is_header : Record → Bool) (reading : ℕ → Record → Result X ImportFault) (bytes : List ℕ) → nat_le (length bytes) LONGEST_INPUT ≡ false
     → file_rows is_header reading bytes ≡ Err OverLimit
 unfolding file_rows
 over is_header reading bytes long = ap (λ (b : Bool). cond b (rows_of is_header reading (records_of bytes)) (Err OverLimit)) long
 
-both_over : (content : Content) (a b : List ℕ) → nat_le (length a) LONGEST_FILE ≡ false → nat_le (length b) LONGEST_FILE ≡ false → rows_said content a ≡ rows_said content b
+both_over : (content : Content) (a b : List ℕ) → nat_le (length a) LONGEST_INPUT ≡ false → nat_le (length b) LONGEST_INPUT ≡ false → rows_said content a ≡ rows_said content b
 unfolding setup_said counts_said
 both_over (Sheet product machine) a b x y = ap (λ r. r >>= (λ rows. Ok (command.SheetDefined product machine rows))) (over _ _ a x ∙ sym (over _ _ b y))
 both_over Counts a b x y = ap (λ r. r >>= (λ counts. Ok (command.CountsTaken counts))) (over _ _ a x ∙ sym (over _ _ b y))
 
-front_rows : (content : Content) (all : List ℕ) (short : Bool) → nat_le (length all) LONGEST_FILE ≡ short → rows_said content (take (suc LONGEST_FILE) all) ≡ rows_said content all
-front_rows content all true is = ap (rows_said content) (take_all (suc LONGEST_FILE) all (omega (arith, leb-true (length all) LONGEST_FILE is)))
+front_rows : (content : Content) (all : List ℕ) (short : Bool) → nat_le (length all) LONGEST_INPUT ≡ short → rows_said content (take (suc LONGEST_INPUT) all) ≡ rows_said content all
+front_rows content all true is = ap (rows_said content) (take_all (suc LONGEST_INPUT) all (omega (arith, leb-true (length all) LONGEST_INPUT is)))
 front_rows content all false is =
-    let long : suc LONGEST_FILE ≤ length all = omega (arith, leb-false (length all) LONGEST_FILE is) in
-    let front : length (take (suc LONGEST_FILE) all) ≡ suc LONGEST_FILE = length-take-le (suc LONGEST_FILE) all long in
-    both_over content (take (suc LONGEST_FILE) all) all (lt-leb (length (take (suc LONGEST_FILE) all)) LONGEST_FILE (omega (arith, front))) is
+    let long : suc LONGEST_INPUT ≤ length all = omega (arith, leb-false (length all) LONGEST_INPUT is) in
+    let front : length (take (suc LONGEST_INPUT) all) ≡ suc LONGEST_INPUT = length-take-le (suc LONGEST_INPUT) all long in
+    both_over content (take (suc LONGEST_INPUT) all) all (lt-leb (length (take (suc LONGEST_INPUT) all)) LONGEST_INPUT (omega (arith, front))) is
 
-front_command : (import : Import) (all : List ℕ) → command_said import (take (suc LONGEST_FILE) all) ≡ command_said import all
+front_command : (import : Import) (all : List ℕ) → command_said import (take (suc LONGEST_INPUT) all) ≡ command_said import all
 unfolding command_said
 front_command import all =
-    ap (λ (r : Result Command ImportFault). r >>= (λ command. Ok (stamped_by import command))) (front_rows import.content all (nat_le (length all) LONGEST_FILE) refl)
+    ap (λ (r : Result Command ImportFault). r >>= (λ command. Ok (stamped_by import command))) (front_rows import.content all (nat_le (length all) LONGEST_INPUT) refl)
 
 -- the bytes that are read say what the whole file says
 pub said_by_all : (import : Import) (file : Option (List ℕ)) (bytes : List ℕ) → IsRead file bytes → IsSaidBy import file (command_said import bytes)

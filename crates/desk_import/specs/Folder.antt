@@ -4,11 +4,11 @@ use Rattle.std.specs.declared.io.ErrorKind.{ErrorKind}
 use Rattle.std.specs.declared.io.ErrorKind.TheVariants.{OutOfMemory}
 use Rattle.desk_import.specs.declared.reading.Unread.{Unread}
 use Rattle.desk_import.specs.declared.reading.Unread.TheVariants.{Failed, NoMemory}
-use Rattle.imports.specs.declared.file.TheConstants.{LONGEST_FILE}
+use Rattle.desk_types.specs.declared.limits.TheConstants.{LONGEST_INPUT}
 
 -- the first 1,048,577 bytes of the file, where it is known: one more than it may have
 abbrev pub IsRead : Option (List ℕ) → List ℕ → Type 0
-IsRead file bytes = IfSome file (λ all. bytes ≡ take (suc LONGEST_FILE) all)
+IsRead file bytes = IfSome file (λ all. bytes ≡ take (suc LONGEST_INPUT) all)
 
 -- why a file is not read, by the kind of the error: memory was refused, or it can't be opened or read
 abbrev pub unread_by : ErrorKind → Unread

@@ -2,8 +2,7 @@
 
 ghost use Rattle.std.specs.Prelude.{◌≡◌, ◌+◌, ◌^◌, ◌<◌, IfOk, OnOk, OnErr};
 ghost use Rattle.desk_types.specs.Wire.{inner_of, failures_of};
-ghost use Rattle.desk_answers.specs.Ledger.{Ledger};
-ghost use Rattle.desk_feed.specs.Owners.{ForLists};
+ghost use Rattle.desk_answers.specs.Ledger.{Ledger, ForLists};
 ghost use Rattle.desk_import.specs.Import.{after_said, answer_said, command_said, IsAnswered, IsCutOff};
 
 use crate::options::Import;

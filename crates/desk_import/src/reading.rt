@@ -3,13 +3,13 @@
 ghost use Rattle.std.specs.Prelude.{IfOk};
 ghost use Rattle.desk_import.specs.Folder.{IsRead};
 
-use imports::LONGEST_FILE;
+use desk_types::LONGEST_INPUT;
 use std::alloc::Global;
 use std::io;
 use std::io::{ErrorKind, Read};
 
 /// The most bytes that are read of a file: one more than it may have.
-const MOST_READ: u64 = LONGEST_FILE as u64 + 1;
+const MOST_READ: u64 = LONGEST_INPUT as u64 + 1;
 
 /// Where files are read from.
 pub trait Folder {

@@ -18,6 +18,7 @@ use Rattle.desk_types.specs.FloorLife.{open_by, is_expired, is_unbaked}
 use Rattle.desk_types.specs.Refusals.{first_refusal, receipt_refusal, opening_refusal, closing_refusal, mounting_refusal, is_wrong_part, command_refusal, is_too_far_ahead, refusal_of}
 use Rattle.desk_types.specs.Judged.{IsNext}
 use Rattle.desk_types.proofs.Keys.{same-true}
+use Rattle.desk_types.proofs.Tests.{if-some}
 
 -- ---- tests
 
@@ -119,10 +120,6 @@ mountable H minute machine slot reel slot_test none =
 not-some : {X : Type 0} (o : Option X) → is_some o ≡ false → o ≡ None
 not-some None is = refl
 not-some (Some x) is = cc
-
-if-some : {X : Type 0} (b : Bool) (x y : X) → (if b then Some x else None) ≡ Some y → b ≡ true
-if-some true x y is = refl
-if-some false x y is = cc
 
 not-both : {X Y P : Type 0} (b : Bool) (x : X) (y z : Y) → (if b then Some x else None) ≡ None → (if b then Some y else None) ≡ Some z → P
 not-both true x y z none is = cc

@@ -10,6 +10,7 @@ use Rattle.std.proofs.lemmas.List.Folds.{list_any-append}
 use Rattle.desk_types.specs.declared.command.Command.{Command}
 use Rattle.desk_types.specs.declared.command.Command.TheVariants.{MaterialsInstalled, MaterialsScrapped, CountsTaken}
 use Rattle.desk_types.specs.declared.command.Entry.{Entry}
+use Rattle.desk_types.specs.declared.placement.Placement.{Placement}
 use Rattle.desk_types.specs.declared.rules.Rules.TheVariants.{Two}
 use Rattle.desk_types.specs.declared.take.Pick.{Pick}
 use Rattle.desk_types.specs.declared.take.Purpose.{Purpose}
@@ -24,7 +25,7 @@ use Rattle.desk_types.specs.Work.{places, is_placed_on}
 use Rattle.desk_types.specs.Refusals.{command_refusal}
 use Rattle.desk_types.specs.Outcome.{take_of}
 use Rattle.desk_types.specs.Judged.{IsJudged}
-use Rattle.desk_types.specs.Placements.{Placement, entry_takes, takes_of, placement_of, placements_of}
+use Rattle.desk_types.specs.Placements.{entry_takes, takes_of, placement_of, placements_of}
 use Rattle.desk_types.proofs.Keys.{same-sym}
 use Rattle.desk_laws.proofs.Accepted.{next-accepted}
 use Rattle.desk_laws.proofs.Distinct.{distinct-join}

@@ -10,6 +10,7 @@ use Rattle.desk_types.specs.declared.command.Command.TheVariants.{MaterialsInsta
 use Rattle.desk_types.specs.declared.command.Entry.{Entry}
 use Rattle.desk_types.specs.declared.command.Receipt.{Receipt}
 use Rattle.desk_types.specs.declared.count.CountRow.{CountRow}
+use Rattle.desk_types.specs.declared.placement.Placement.{Placement}
 use Rattle.desk_types.specs.declared.rules.Rules.TheVariants.{Two}
 use Rattle.desk_types.specs.declared.take.Pick.{Pick}
 use Rattle.desk_types.specs.declared.take.Purpose.{Purpose}
@@ -21,7 +22,7 @@ use Rattle.desk_types.specs.Tape.{tape_of}
 use Rattle.desk_types.specs.Pieces.{pieces_off, pick_for, install_picks, scrap_picks, count_picks, left_of, is_placed, picks_of}
 use Rattle.desk_types.specs.Outcome.{take_of}
 use Rattle.desk_types.specs.Judged.{IsJudged}
-use Rattle.desk_types.specs.Placements.{Placement, entry_takes, takes_of, placement_of, placements_of}
+use Rattle.desk_types.specs.Placements.{entry_takes, takes_of, placement_of, placements_of}
 use Rattle.desk_types.proofs.Keys.{same-refl}
 use Rattle.desk_laws.specs.Verified.{next_reel, IsRightlyPlaced}
 use Rattle.desk_laws.proofs.Accepted.{next-accepted}

@@ -8,6 +8,7 @@ pub mod Exposures
 pub mod GrowingTapes
 pub mod InstalledPieces
 pub mod Installs
+pub mod JudgedLists
 pub mod Judgements
 pub mod Lives
 pub mod Lookups

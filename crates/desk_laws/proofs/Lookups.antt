@@ -10,6 +10,7 @@ use Rattle.std.proofs.lemmas.Map.Views.{Contains-from_any, list_any-from_Contain
 use Rattle.desk_types.specs.declared.command.Command.{Command}
 use Rattle.desk_types.specs.declared.command.Command.TheVariants.{MaterialsLoaded, WorkStarted, WorkCompleted}
 use Rattle.desk_types.specs.declared.command.Entry.{Entry}
+use Rattle.desk_types.specs.declared.placement.Placement.{Placement}
 use Rattle.desk_types.specs.declared.rules.Rules.TheVariants.{Two}
 use Rattle.desk_types.specs.Id.{Name, same}
 use Rattle.desk_types.specs.Pair.{same_pair}
@@ -18,7 +19,7 @@ use Rattle.desk_types.specs.Tape.{tape_of}
 use Rattle.desk_types.specs.Pieces.{live_on, first, is_live_where_loaded, is_mounted}
 use Rattle.desk_types.specs.Work.{work_by, in_work_on, is_in_work_on, is_in_work_where_started, is_in_work, is_placed_on}
 use Rattle.desk_types.specs.Judged.{IsJudged}
-use Rattle.desk_types.specs.Placements.{Placement, placements_of}
+use Rattle.desk_types.specs.Placements.{placements_of}
 use Rattle.desk_types.specs.View.{slot_by, loaded_slots}
 use Rattle.desk_types.proofs.Keys.{same-refl, same-true}
 use Rattle.desk_laws.proofs.Designators.{spots_of, spot-placed}

@@ -10,16 +10,13 @@ use Rattle.std.specs.Ordering.{match_ordering}
 use Rattle.std.specs.declared.cmp.Ordering.{Ordering}
 use Rattle.std.specs.declared.cmp.Ordering.TheVariants.{Less, Equal, Greater}
 use Rattle.std.proofs.lemmas.Map.Views.{Contains-from_any, list_any-from_Contains}
+use Rattle.desk_types.specs.declared.placement.Placement.{Placement}
 use Rattle.desk_types.specs.Id.{Name, same, by_name}
 use Rattle.desk_types.specs.History.{History}
-use Rattle.desk_types.specs.Placements.{Placement, placements_of, set_of, lots_of, boards_of}
+use Rattle.desk_types.specs.Placements.{placements_of, set_of, lots_of, boards_of}
 use Rattle.desk_types.proofs.Keys.{same-sym, same-true, is_at-by_name, list_any-same}
+use Rattle.desk_types.proofs.Tests.{swap-or}
 use Rattle.desk_laws.proofs.Mounts.{has}
-
-swap-or : (a b c : Bool) → (a || (b || c)) ≡ (b || (a || c))
-swap-or true true c = refl
-swap-or true false c = refl
-swap-or false b c = refl
 
 -- a name that is put into a set
 has-insert : (names : List Name) (name other : Name) → has (insert_key by_name names name) other ≡ (same other name || has names other)

@@ -4,10 +4,11 @@ use Rattle.std.proofs.lemmas.List.{append_assoc, append-nil}
 use Rattle.std.proofs.lemmas.List.Elements.{filter_map-append}
 use Rattle.desk_types.specs.declared.command.Entry.{Entry}
 use Rattle.desk_types.specs.declared.command.Stamped.{Stamped}
+use Rattle.desk_types.specs.declared.placement.Placement.{Placement}
 use Rattle.desk_types.specs.declared.rules.Rules.{Rules}
 use Rattle.desk_types.specs.History.{History, IsPrefix}
 use Rattle.desk_types.specs.Outcome.{reply_to, after_command, replies_to, after_commands}
-use Rattle.desk_types.specs.Placements.{EntryTake, Placement, entry_takes, takes_of, placement_of, placements_of}
+use Rattle.desk_types.specs.Placements.{EntryTake, entry_takes, takes_of, placement_of, placements_of}
 
 -- The replies to two runs in turn are those to the first, and those to the second on the list that the first left.
 pub replies-append : (rules : Rules) (H : History) (first second : List Stamped) → replies_to rules H (first ++ second) ≡ replies_to rules H first ++ replies_to rules (after_commands rules H first) second

@@ -12,6 +12,7 @@ use Rattle.desk_types.specs.declared.answer.Refusal.TheVariants.{SlotEmpty, Reel
 use Rattle.desk_types.specs.declared.command.Command.TheVariants.{MaterialsInstalled, MaterialsScrapped}
 use Rattle.desk_types.specs.declared.command.Entry.{Entry}
 use Rattle.desk_types.specs.declared.command.Stamped.{Stamped}
+use Rattle.desk_types.specs.declared.placement.Placement.{Placement}
 use Rattle.desk_types.specs.declared.rules.Rules.TheVariants.{Two}
 use Rattle.desk_types.specs.declared.take.Pick.{Pick}
 use Rattle.desk_types.specs.declared.take.Purpose.{Purpose}
@@ -21,7 +22,7 @@ use Rattle.desk_types.specs.History.{History, effective_minute, entry_of, accept
 use Rattle.desk_types.specs.Tape.{tape_of}
 use Rattle.desk_types.specs.Pieces.{pieces_off, scrap_picks, left_of, live_on, picks_of}
 use Rattle.desk_types.specs.Outcome.{reels_of, pieces_of, take_of, detail_of}
-use Rattle.desk_types.specs.Placements.{Placement, entry_takes, takes_of, placement_of, placements_of}
+use Rattle.desk_types.specs.Placements.{entry_takes, takes_of, placement_of, placements_of}
 use Rattle.desk_types.specs.Refusals.{is_vacant, scrap_refusal, command_refusal, refusal_of}
 use Rattle.desk_laws.specs.Whole.{spot_of, spots_from, spots_named}
 use Rattle.desk_laws.proofs.Accepted.{none-holds, command-accepted}

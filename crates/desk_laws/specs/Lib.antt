@@ -1,3 +1,4 @@
+pub mod Consistent
 pub mod Place
 pub mod Slots
 pub mod TapeOrder

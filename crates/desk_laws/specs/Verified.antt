@@ -5,6 +5,7 @@ use Rattle.desk_types.specs.declared.command.Command.{Command}
 use Rattle.desk_types.specs.declared.command.Command.TheVariants.{MaterialsLoaded, MaterialsSpliced, MaterialsInstalled}
 use Rattle.desk_types.specs.declared.command.Entry.{Entry}
 use Rattle.desk_types.specs.declared.command.Receipt.{Receipt}
+use Rattle.desk_types.specs.declared.placement.Placement.{Placement}
 use Rattle.desk_types.specs.declared.sheet.SheetRow.{SheetRow}
 use Rattle.desk_types.specs.declared.take.Pick.{Pick}
 use Rattle.desk_types.specs.Id.{Name, same}
@@ -13,7 +14,6 @@ use Rattle.desk_types.specs.Setup.{is_allowed, row_on, slot_on, receipt_of}
 use Rattle.desk_types.specs.Tape.{tape_of}
 use Rattle.desk_types.specs.Pieces.{pieces_picked, left_of, picks_of}
 use Rattle.desk_types.specs.FloorLife.{is_unbaked, is_expired}
-use Rattle.desk_types.specs.Placements.{Placement}
 
 -- whether the command loads or splices the reel onto the slot
 abbrev pub mounts : Name → Name → Name → Command → Bool

@@ -1,8 +1,8 @@
 -- What it means that an install is placed whole.
 use Rattle.std.specs.Prelude.{ℕ, List, map}
 use Rattle.std.specs.List.{enumerate_from}
+use Rattle.desk_types.specs.declared.placement.Placement.{Placement}
 use Rattle.desk_types.specs.Id.{Name}
-use Rattle.desk_types.specs.Placements.{Placement}
 
 -- where a piece goes, and its place in the message
 pub record Spot : Type 0 where

@@ -1,4 +1,4 @@
-//! What the laws say of every desk. It is for proofs, and does nothing when it runs.
+//! What the laws say of every desk.
 
 ghost use Rattle.std.specs.Prelude.{◌≡◌, ◌+◌, ◌↔◌, All, Contains};
 ghost use Rattle.std.specs.List.{IsDistinct};

@@ -1,4 +1,5 @@
-//! Laws of the lists that a desk can come to have: what the definitions mean, as theorems.
+//! For proofs alone: nothing of it runs. Laws of the lists that a desk can come to have: what the
+//! definitions mean, as theorems.
 //!
 //! Each law is a public function with an empty body, whose contract says the law. They hold of every
 //! list that is judged by either rules, so of every list for which a desk stands; where a law holds of
@@ -6,6 +7,7 @@
 //! use as well; those are stated for rules Two, by which each judged list is judged.
 #![tactic(auto)]
 
+mod consistent;
 mod desks;
 mod pieces;
 mod placements;
@@ -15,6 +17,7 @@ mod slots;
 mod time;
 mod traces;
 
+pub use consistent::judged_lists_are_consistent;
 pub use desks::desk_is_consistent;
 pub use pieces::{
     counts_are_exact, mounted_reels_gain_nothing, nothing_is_found_by_rules_one, pieces_balance,

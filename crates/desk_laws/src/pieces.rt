@@ -1,4 +1,4 @@
-//! Laws of pieces. They are for proofs, and do nothing when they run.
+//! Laws of pieces.
 
 ghost use Rattle.std.specs.Prelude.{◌≡◌, ℕ, ◌+◌, true, is_some, None, List, All};
 ghost use Rattle.desk_types.specs.declared.command.Command.TheVariants.{MaterialsScrapped, CountsTaken};

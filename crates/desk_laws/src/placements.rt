@@ -1,4 +1,4 @@
-//! Laws of placements. They are for proofs, and do nothing when they run.
+//! Laws of placements.
 
 ghost use Rattle.std.specs.Prelude.{◌≡◌, None, List, ◌++◌, map, All};
 ghost use Rattle.std.specs.List.{IsDistinct};
@@ -6,6 +6,7 @@ ghost use Rattle.desk_types.specs.declared.answer.Detail.TheVariants.{Reels};
 ghost use Rattle.desk_types.specs.declared.answer.Reply.TheVariants.{Accepted};
 ghost use Rattle.desk_types.specs.declared.command.Command.TheVariants.{MaterialsInstalled};
 ghost use Rattle.desk_types.specs.declared.command.Stamped.{Stamped};
+ghost use Rattle.desk_types.specs.declared.placement.Placement.{Placement};
 ghost use Rattle.desk_types.specs.declared.rules.Rules.{Rules};
 ghost use Rattle.desk_types.specs.Id.{Name, same};
 ghost use Rattle.desk_types.specs.Pair.{same_pair};
@@ -13,7 +14,7 @@ ghost use Rattle.desk_types.specs.History.{History, IsPrefix, accept};
 ghost use Rattle.desk_types.specs.Judged.{IsJudged};
 ghost use Rattle.desk_types.specs.Refusals.{refusal_of};
 ghost use Rattle.desk_types.specs.Outcome.{reply_to};
-ghost use Rattle.desk_types.specs.Placements.{Placement, placements_of};
+ghost use Rattle.desk_types.specs.Placements.{placements_of};
 ghost use Rattle.desk_laws.specs.Verified.{IsRightlyPlaced};
 ghost use Rattle.desk_laws.specs.Whole.{spot_of, spots_named};
 

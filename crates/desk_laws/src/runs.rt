@@ -1,4 +1,4 @@
-//! Laws of runs. They are for proofs, and do nothing when they run.
+//! Laws of runs.
 
 ghost use Rattle.std.specs.Prelude.{◌≡◌, ◌≢◌, ℕ, None, List, ◌++◌};
 ghost use Rattle.desk_types.specs.declared.command.Command.TheVariants.{CountsTaken};

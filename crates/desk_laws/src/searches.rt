@@ -1,6 +1,7 @@
-//! Laws of what is looked up in a list. They are for proofs, and do nothing when they run.
+//! Laws of what is looked up in a list.
 
 ghost use Rattle.std.specs.Prelude.{◌≡◌, ◌≢◌, ◌↔◌, true, Some, [], Any, Contains};
+ghost use Rattle.desk_types.specs.declared.placement.Placement.{Placement};
 ghost use Rattle.desk_types.specs.declared.rules.Rules.{Rules};
 ghost use Rattle.desk_types.specs.Id.{Name};
 ghost use Rattle.desk_types.specs.History.{History};
@@ -8,7 +9,7 @@ ghost use Rattle.desk_types.specs.Tape.{tape_of};
 ghost use Rattle.desk_types.specs.Pieces.{live_on, is_mounted};
 ghost use Rattle.desk_types.specs.Work.{in_work_on, is_in_work, is_placed_on};
 ghost use Rattle.desk_types.specs.Judged.{IsJudged};
-ghost use Rattle.desk_types.specs.Placements.{Placement, placements_of};
+ghost use Rattle.desk_types.specs.Placements.{placements_of};
 ghost use Rattle.desk_types.specs.View.{loaded_slots};
 
 /// Four definitions look only at the commands that can matter. What they find is the plain rule: a reel

@@ -1,4 +1,4 @@
-//! Laws of slots. They are for proofs, and do nothing when they run.
+//! Laws of slots.
 
 ghost use Rattle.std.specs.Prelude.{◌≡◌, false, List, ◌++◌, All, Contains};
 ghost use Rattle.std.specs.List.{IsDistinct};

@@ -1,4 +1,4 @@
-//! Laws of time. They are for proofs, and do nothing when they run.
+//! Laws of time.
 
 ghost use Rattle.std.specs.Prelude.{◌≡◌, ◌≢◌, ℕ, ◌+◌, ◌-◌, ◌≤◌, true, false, Some, is_some, List, ◌∷◌, ◌++◌, All};
 ghost use Rattle.desk_types.specs.declared.command.Command.TheVariants.{ReelBaked};

@@ -1,4 +1,4 @@
-//! Laws of the two traces. They are for proofs, and do nothing when they run.
+//! Laws of the two traces.
 
 ghost use Rattle.std.specs.Prelude.{◌↔◌, Contains};
 ghost use Rattle.desk_types.specs.Id.{Name};

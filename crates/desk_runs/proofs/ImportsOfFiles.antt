@@ -2,8 +2,7 @@
 use Rattle.std.proofs.Common.{ℕ, List, Option, Result}
 use Rattle.desk_types.specs.declared.command.Stamped.{Stamped}
 use Rattle.desk_types.specs.History.{History}
-use Rattle.desk_answers.specs.Ledger.{Ledger}
-use Rattle.desk_feed.specs.Owners.{ForLists}
+use Rattle.desk_answers.specs.Ledger.{Ledger, ForLists}
 use Rattle.imports.specs.declared.fault.ImportFault.{ImportFault}
 use Rattle.desk_import.specs.declared.options.Import.{Import}
 use Rattle.desk_import.specs.Folder.{IsRead}

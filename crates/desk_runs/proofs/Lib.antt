@@ -1,2 +1,4 @@
+pub mod ConnectionLines
 pub mod ImportsOfFiles
+pub mod ListsAfter
 pub mod Questions

@@ -1,7 +1,6 @@
 -- A question to an owner of a list.
 use Rattle.std.proofs.Common.{refl}
-use Rattle.desk_answers.specs.Ledger.{Ledger}
-use Rattle.desk_feed.specs.Owners.{ForLists}
+use Rattle.desk_answers.specs.Ledger.{Ledger, ForLists}
 use Rattle.desk_runs.specs.Runs.{StaysSame}
 
 -- what is told of a list that stays

@@ -7,16 +7,16 @@ ghost use Rattle.served.specs.declared.serving.ServeFault.TheVariants.{Read as R
 ghost use Rattle.served.specs.Counts.{none_served};
 ghost use Rattle.served.specs.Sent.{SendsFront};
 ghost use Rattle.http_answers.specs.Gateways.{owner_of};
-ghost use Rattle.http_listener.specs.Connections.{ConnectedEach, Ended, TellsConnections};
 ghost use Rattle.http_stream.specs.Answers.{Told, code_of, response_told};
-ghost use Rattle.http_stream.specs.Stream.{ForLists};
+ghost use Rattle.desk_answers.specs.Ledger.{ForLists};
+ghost use Rattle.desk_runs.specs.Connections.{ConnectedEach, Ended, TellsConnections};
 ghost use Rattle.desk_runs.specs.Runs.{AnswersReport};
 ghost use Rattle.desk_runs.specs.Told.{fault_line, report_output, TellsEnd, TellsLine};
 
 use crate::exit::{Exit, tell_line};
+use crate::serving::serve_listener;
 use desk_types::Wire;
 use http_answers::{Gateway, ReportedOwner};
-use http_listener::serve_listener;
 use http_stream::{Handler, Kind, Response};
 use served::{WriteFailed, send, send_line};
 use std::alloc::Global;

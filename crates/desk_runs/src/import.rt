@@ -4,7 +4,7 @@ ghost use Rattle.std.specs.Prelude.{◌≡◌, ◌⊎◌, ◌+◌, ◌^◌, ◌<
 ghost use Rattle.desk_types.specs.Wire.{failures_of};
 ghost use Rattle.served.specs.declared.serving.ServeFault.TheVariants.{Read as ReadFault, Write as WriteFault};
 ghost use Rattle.served.specs.Counts.{none_served};
-ghost use Rattle.desk_feed.specs.Owners.{ForLists};
+ghost use Rattle.desk_answers.specs.Ledger.{ForLists};
 ghost use Rattle.desk_runs.specs.Runs.{AnswersImport, CutsImport, StaysSame};
 ghost use Rattle.desk_runs.specs.Told.{fault_line, unavailable_line, TellsLine};
 

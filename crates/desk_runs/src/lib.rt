@@ -1,17 +1,19 @@
 //! What each command does at an open desk, and what a run tells of it.
 //!
 //! `specs/Told.antt` has the lines that are told, `specs/Runs.antt` what is answered by the list of a
-//! desk. Nothing here knows in what the desk is kept.
+//! desk, `specs/Connections.antt` what connections leave. Nothing here knows in what the desk is kept.
 #![tactic(auto)]
 
 mod exit;
 mod gateway;
 mod import;
 mod lines;
+mod serving;
 mod texts;
 
 pub use exit::{Exit, bad_option, tell, tell_failure, tell_line, unavailable};
 pub use gateway::{serve_port, tell_report};
 pub use import::import_rows;
 pub use lines::feed_lines;
+pub use serving::serve_listener;
 pub use texts::{send_text, tell_lawful};

@@ -6,9 +6,9 @@ ghost use Rattle.desk_types.specs.Wire.{inner_of, reads_of, failures_of};
 ghost use Rattle.desk_feed.specs.Stream.{LeavesNone};
 ghost use Rattle.served.specs.declared.serving.Served.{Served};
 ghost use Rattle.served.specs.declared.serving.ServeFault.{ServeFault};
-ghost use Rattle.served.specs.declared.serving.TheConstants.{MOST_READS};
+ghost use Rattle.desk_types.specs.declared.limits.TheConstants.{MOST_READS};
 ghost use Rattle.served.specs.Shown.{FailsNever, IsShown};
-ghost use Rattle.desk_feed.specs.Owners.{ForLists};
+ghost use Rattle.desk_answers.specs.Ledger.{ForLists};
 ghost use Rattle.desk_runs.specs.Runs.{AnswersAll, AnswersUpTo};
 ghost use Rattle.desk_runs.specs.Told.{fault_line, TellsLine};
 

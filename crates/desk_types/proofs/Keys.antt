@@ -10,6 +10,7 @@ use Rattle.std.specs.declared.cmp.Ordering.{Ordering}
 use Rattle.std.specs.declared.cmp.Ordering.TheVariants.{Less, Equal, Greater}
 use Rattle.desk_types.specs.Id.{Name, same, by_name}
 use Rattle.desk_types.specs.Pair.{same_pair, by_pair}
+use Rattle.desk_types.proofs.Tests.{and-both}
 
 pub same-refl : (a : Name) → same a a ≡ true
 same-refl a = nat_list_eq_equiv.refl a
@@ -24,7 +25,7 @@ same-true a b = (bytes_decides a b).0
 pub is_at-by_name : (k q : Name) → is_at (by_name k) q ≡ same k q
 is_at-by_name k q = sym (texts_ties k q)
 
-is_eq-ordering_then : (a b : Ordering) → is_eq (ordering_then a b) ≡ (is_eq a && is_eq b)
+pub is_eq-ordering_then : (a b : Ordering) → is_eq (ordering_then a b) ≡ (is_eq a && is_eq b)
 is_eq-ordering_then Less b = refl
 is_eq-ordering_then Equal b = refl
 is_eq-ordering_then Greater b = refl
@@ -77,10 +78,6 @@ name-changed x y old step k was is q = by (same k q) refl
     by : (b : Bool) → same k q ≡ b → cond b y (old q) ≡ cond b (step (old q)) (old q)
     by true one = sym is ∙ ap step (sym was ∙ ap old (same-true k q one))
     by false one = refl
-
-and-both : (a b : Bool) → (a && b) ≡ true → (a ≡ true) × (b ≡ true)
-and-both true b is = (refl, is)
-and-both false b is = cc
 
 -- The same of pairs.
 pub pair-changed : {X : Type 0} (x y : X) (old : Name → Name → X) (step : X → X) (k : Name × Name) → old k.0 k.1 ≡ x → step x ≡ y → (a b : Name)

@@ -1,6 +1,5 @@
 pub mod Ascii
 pub mod BothRules
-pub mod ConstantRows
 pub mod CountRows
 pub mod EightBytes
 pub mod Exposure
@@ -9,10 +8,12 @@ pub mod Keys
 pub mod Lives
 pub mod LoopSteps
 pub mod Minutes
+pub mod Numerals
 pub mod PieceRows
 pub mod ReelCommands
 pub mod RowsCommon
 pub mod SetupRows
+pub mod Tests
 pub mod TraceRows
 pub mod ViewRows
 pub mod WorkRows

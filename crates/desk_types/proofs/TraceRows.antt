@@ -6,6 +6,7 @@ use Rattle.desk_types.specs.declared.answer.Reply.TheVariants.{Accepted, Refused
 use Rattle.desk_types.specs.declared.command.Command.TheVariants.{PartDefined, SheetDefined, ProductSelected, MaterialsLoaded, MaterialsSpliced, MaterialsUnloaded, WorkStarted, WorkCompleted, MaterialsInstalled}
 use Rattle.desk_types.specs.declared.command.Stamped.{Stamped}
 use Rattle.desk_types.specs.declared.level.Level.TheVariants.{FiveA}
+use Rattle.desk_types.specs.declared.placement.Placement.{Placement}
 use Rattle.desk_types.specs.Id.{Name}
 use Rattle.desk_types.specs.declared.rules.Rules.TheVariants.{Two}
 use Rattle.desk_types.specs.History.{History}
@@ -14,7 +15,7 @@ use Rattle.desk_types.specs.Pieces.{install_picks, left_of, live_on}
 use Rattle.desk_types.specs.FloorLife.{is_out_at, exposure_of}
 use Rattle.desk_types.specs.Refusals.{part_refusal, sheet_refusal, definition_refusal, selection_refusal, receipt_refusal, mounting_refusal, unload_refusal, start_refusal, completion_refusal, install_refusal, command_refusal, refusal_of}
 use Rattle.desk_types.specs.Outcome.{replies_to, after_commands}
-use Rattle.desk_types.specs.Placements.{takes_of, Placement, placements_of, overdue_of, lots_of, boards_of}
+use Rattle.desk_types.specs.Placements.{takes_of, placements_of, overdue_of, lots_of, boards_of}
 use Rattle.desk_types.proofs.RowsCommon.{P, L, L1, L2, PR, M, S1, S2, K1, K2, K3, B1, B2, R1, R2, R3, R4, R5, at, said, sheet_row, received, received_at, base, base_replies}
 
 -- a piece of part P, placed from slot 1 of machine M by the entry of this number, in this place of its message
@@ -24,11 +25,11 @@ piece number place board designator reel lot effective overdue = record {
   place = place;
   board = board;
   designator = designator;
-  machine = M;
-  slot = S1;
-  reel = reel;
   part = P;
   lot = lot;
+  reel = reel;
+  machine = M;
+  slot = S1;
   effective = effective;
   overdue = overdue;
 }

@@ -1,6 +1,6 @@
 -- How long the lists of a command are.
 use Rattle.std.specs.Prelude.{ℕ, ◌≤◌}
-use Rattle.desk_types.specs.declared.list.TheConstants.{LONGEST_LIST}
+use Rattle.desk_types.specs.declared.limits.TheConstants.{LONGEST_LIST}
 
 -- 1 to 5,000 elements
 abbrev pub IsListLength : ℕ → Type 0

@@ -2,7 +2,7 @@
 use Rattle.std.specs.Prelude.{ℕ, ◌≤◌, ◌<◌, ◌==◌, ◌||◌, Bool, List, length, take}
 use Rattle.std.specs.List.{AllPass}
 use Rattle.std.specs.Char.{is_ascii_alphanumeric}
-use Rattle.desk_types.specs.declared.designator.TheConstants.{LONGEST_DESIGNATOR}
+use Rattle.desk_types.specs.declared.limits.TheConstants.{LONGEST_DESIGNATOR}
 use Rattle.desk_types.specs.Fixed.{IsPadded}
 
 -- a letter, a digit, `_`, `.` or `-` of ASCII

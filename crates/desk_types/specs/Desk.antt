@@ -4,7 +4,7 @@ use Rattle.desk_types.specs.declared.change.Change.{Change}
 use Rattle.desk_types.specs.declared.command.Stamped.{Stamped}
 use Rattle.desk_types.specs.declared.desk.JudgeFault.{JudgeFault}
 use Rattle.desk_types.specs.declared.desk.JudgeFault.TheVariants.{Refused, NoMemory}
-use Rattle.desk_types.specs.declared.desk.TheConstants.{MOST_ENTRIES}
+use Rattle.desk_types.specs.declared.limits.TheConstants.{MOST_ENTRIES}
 use Rattle.desk_types.specs.declared.rules.Rules.{Rules}
 use Rattle.desk_types.specs.History.{History}
 use Rattle.desk_types.specs.Refusals.{refusal_of}

@@ -3,7 +3,7 @@ use Rattle.std.specs.Prelude.{◌≢◌, ℕ, ◌-◌, ◌≤◌, ◌<◌, ◌==
 use Rattle.std.specs.Cmp.Lexicographic.{pointwise, slice_cmp}
 use Rattle.std.specs.Ordering.{nat_cmp}
 use Rattle.std.specs.declared.cmp.Ordering.{Ordering}
-use Rattle.desk_types.specs.declared.id.TheConstants.{LONGEST_ID}
+use Rattle.desk_types.specs.declared.limits.TheConstants.{LONGEST_ID}
 use Rattle.desk_types.specs.Fixed.{IsPadded}
 
 -- A name as contracts see it: its bytes.

@@ -2,7 +2,7 @@
 use Rattle.std.specs.Prelude.{◌≡◌, ℕ, ◌≤◌, Option, Some, None, List, [], ◌∷◌, codes, find}
 use Rattle.desk_types.specs.declared.level.Level.{Level}
 use Rattle.desk_types.specs.declared.level.Level.TheVariants.{One, Two, TwoA, Three, Four, Five, FiveA, Six}
-use Rattle.desk_types.specs.declared.level.TheConstants.{GREATEST_LABEL}
+use Rattle.desk_types.specs.declared.limits.TheConstants.{GREATEST_LABEL}
 use Rattle.desk_types.specs.Id.{same}
 
 -- the text of a level

@@ -1,7 +1,9 @@
+pub mod Boards
 pub mod Bounds
 pub mod Command
 pub mod Designator
 pub mod Desk
+pub mod Edits
 pub mod Fixed
 pub mod FloorLife
 pub mod Free
@@ -17,7 +19,9 @@ pub mod Pieces
 pub mod Placements
 pub mod Refusals
 pub mod Setup
+pub mod Tables
 pub mod Tape
+pub mod TraceDetail
 pub mod View
 pub mod Wire
 pub mod Work

@@ -1,6 +1,6 @@
 -- Minutes and pieces.
 use Rattle.std.specs.Prelude.{ℕ, ◌≤◌}
-use Rattle.desk_types.specs.declared.number.TheConstants.{GREATEST_MINUTE, GREATEST_QUANTITY}
+use Rattle.desk_types.specs.declared.limits.TheConstants.{GREATEST_MINUTE, GREATEST_QUANTITY}
 
 -- minutes from 1970 to the end of the year 9999
 abbrev pub IsMinute : ℕ → Type 0

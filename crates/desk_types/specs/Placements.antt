@@ -1,8 +1,9 @@
 -- Traces: which piece was placed where, and from which reel and lot.
-use Rattle.std.specs.Prelude.{ℕ, Bool, Option, Some, None, List, [], ◌∷◌, ◌++◌, map}
+use Rattle.std.specs.Prelude.{ℕ, Option, Some, None, List, [], ◌∷◌, ◌++◌, map}
 use Rattle.std.specs.List.{filter, filter_map, enumerate_from}
 use Rattle.std.specs.BTreeSet.{insert_key}
 use Rattle.desk_types.specs.declared.command.Entry.{Entry}
+use Rattle.desk_types.specs.declared.placement.Placement.{Placement}
 use Rattle.desk_types.specs.declared.take.Purpose.{Purpose}
 use Rattle.desk_types.specs.declared.take.Purpose.TheVariants.{Placed}
 use Rattle.desk_types.specs.declared.take.Take.{Take}
@@ -33,20 +34,6 @@ takes_of (e ∷ H) = takes_of H ++ entry_takes H e
 
 -- ---- placements
 
--- One piece on a board: placed by the entry of this number, in this place of its message.
-pub record Placement : Type 0 where
-  pub number : ℕ
-  pub place : ℕ
-  pub board : Name
-  pub designator : Name
-  pub machine : Name
-  pub slot : Name
-  pub reel : Name
-  pub part : Name
-  pub lot : Name
-  pub effective : ℕ
-  pub overdue : Bool
-
 -- a take as a placement, where its piece was placed
 abbrev pub placement_of : EntryTake → Option Placement
 placement_of t = placed t.take.purpose
@@ -57,11 +44,11 @@ placement_of t = placed t.take.purpose
       place = t.place;
       board = board;
       designator = designator;
-      machine = machine;
-      slot = slot;
-      reel = t.take.reel;
       part = t.take.part;
       lot = t.take.lot;
+      reel = t.take.reel;
+      machine = machine;
+      slot = slot;
       effective = t.effective;
       overdue = t.take.overdue;
     })

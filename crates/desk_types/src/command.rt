@@ -7,9 +7,6 @@ use crate::number::{Minute, Quantity};
 use crate::sheet::{Designators, SheetRows};
 use std::alloc::AllocError;
 
-/// How many minutes the own minute of a command may stand above the desk minute: two weeks.
-pub const FURTHEST_AHEAD: u64 = 20_160;
-
 /// What a message asks of the desk: this project's profile of seventeen messages, each in the
 /// envelope after IPC-CFX.
 #[derive(Debug, PartialEq, Eq, Drop)]

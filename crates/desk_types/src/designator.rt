@@ -4,13 +4,11 @@ ghost use Rattle.std.specs.Prelude.{◌≡◌, ℕ, ◌≤◌, ◌<◌, ◌↔�
 ghost use Rattle.desk_types.specs.Designator.{IsDesignator, is_designator_byte};
 
 use crate::fixed::{order, with_zeros};
+use crate::limits::LONGEST_DESIGNATOR;
 use std::alloc::AllocError;
 use std::cmp::Ordering;
 use std::fmt;
 use std::marker::Model;
-
-/// The most bytes of a designator.
-pub const LONGEST_DESIGNATOR: usize = 16;
 
 /// A place on a board, as `R17`: 1 to 16 ASCII letters, digits, `_`, `.` and `-`.
 ///
@@ -25,7 +23,7 @@ impl Model for Designator {
     ghost use Rattle.std.specs.Prelude.{List, ℕ, take, length};
     ghost use Rattle.desk_types.specs.Fixed.{with_zeros, IsPadded};
     ghost use Rattle.desk_types.specs.Designator.{IsDesignatorInside};
-    ghost use Rattle.desk_types.specs.declared.designator.TheConstants.{LONGEST_DESIGNATOR};
+    ghost use Rattle.desk_types.specs.declared.limits.TheConstants.{LONGEST_DESIGNATOR};
 
     ghost Value = { List ℕ };
 

@@ -17,9 +17,6 @@ use crate::sheet::SheetRows;
 use crate::view::{Mounts, ReelView, ReelViews};
 use std::alloc::{AllocError, Global};
 
-/// The most commands that a desk is ever asked to accept.
-pub const MOST_ENTRIES: u64 = 1_000_000_000;
-
 /// Why a command came to no change.
 #[derive(Clone, Copy, Debug, PartialEq, Eq)]
 pub enum JudgeFault {

@@ -5,13 +5,11 @@ ghost use Rattle.desk_types.specs.Id.{IsId};
 
 use crate::designator::Designator;
 use crate::fixed::{order, with_zeros};
+use crate::limits::LONGEST_ID;
 use std::alloc::AllocError;
 use std::cmp::Ordering;
 use std::fmt;
 use std::marker::Model;
-
-/// The most bytes of an id.
-pub const LONGEST_ID: usize = 64;
 
 /// A name: 1 to 64 bytes from `0x20` to `0x7E` with no space at either end.
 ///
@@ -26,7 +24,7 @@ impl Model for Id {
     ghost use Rattle.std.specs.Prelude.{List, ℕ, take, length};
     ghost use Rattle.desk_types.specs.Fixed.{with_zeros, IsPadded};
     ghost use Rattle.desk_types.specs.Id.{IsIdInside};
-    ghost use Rattle.desk_types.specs.declared.id.TheConstants.{LONGEST_ID};
+    ghost use Rattle.desk_types.specs.declared.limits.TheConstants.{LONGEST_ID};
 
     ghost Value = { List ℕ };
 

@@ -4,10 +4,8 @@ ghost use Rattle.std.specs.Prelude.{◌≡◌, SomeIff, Some, None, IfSome, IsSo
 ghost use Rattle.desk_types.specs.Id.{same};
 ghost use Rattle.desk_types.specs.Level.{text_of, limit_of, IsLabel, LevelWithLabel, level_of};
 
+use crate::limits::GREATEST_LABEL;
 use std::marker::Model;
-
-/// The longest floor life in minutes that a level 6 label can give.
-pub const GREATEST_LABEL: u64 = 525_600;
 
 /// A moisture sensitivity level, after the idea of J-STD-033. The limits are this project's own
 /// profile.

@@ -5,37 +5,54 @@
 #![tactic(auto)]
 
 mod answer;
+mod boards;
 mod change;
 mod command;
 mod count;
 mod designator;
 mod desk;
+mod edit;
 mod fixed;
 mod front;
 mod id;
 mod level;
+mod limits;
 mod list;
 mod number;
+mod placement;
 mod range;
+mod row;
 mod rules;
 mod sheet;
 mod take;
+mod trace_detail;
 mod view;
 mod wire;
 
 pub use answer::{Detail, Refusal, Replies, Reply};
+pub use boards::Boards;
 pub use change::{Change, Takes};
-pub use command::{Command, Entry, FURTHEST_AHEAD, Receipt, Stamped};
+pub use command::{Command, Entry, Receipt, Stamped};
 pub use count::{CountRow, Counts};
-pub use designator::{Designator, LONGEST_DESIGNATOR};
-pub use desk::{Desk, JudgeFault, MOST_ENTRIES, run};
+pub use designator::Designator;
+pub use desk::{Desk, JudgeFault, run};
+pub use edit::{RowEdit, RowEdits};
 pub use front::{Front, FrontReel, Fronts, Life};
-pub use id::{Id, LONGEST_ID};
-pub use level::{GREATEST_LABEL, Level, Moisture};
-pub use list::{Bounded, IdList, LONGEST_LIST, Listing, Text};
-pub use number::{CountedQuantity, GREATEST_MINUTE, GREATEST_QUANTITY, Minute, Quantity};
+pub use id::Id;
+pub use level::{Level, Moisture};
+pub use limits::{
+    BLOCK, FURTHEST_AHEAD, GREATEST_LABEL, GREATEST_MINUTE, GREATEST_QUANTITY, HEAD_LIMIT,
+    LONGEST_DESIGNATOR, LONGEST_ID, LONGEST_INPUT, LONGEST_LIST, MOST_BOARDS, MOST_CONNECTIONS,
+    MOST_DIGITS, MOST_ENTRIES, MOST_HEADERS, MOST_PORT, MOST_READS, ONE_WRITE, PAGE_SIZE,
+    limits_fit_one_another, limits_have_their_numbers,
+};
+pub use list::{Bounded, IdList, Listing, Text};
+pub use number::{CountedQuantity, Minute, Quantity};
+pub use placement::Placement;
+pub use row::{BoardRow, MountRow, PlacementRow, ReelRow};
 pub use rules::Rules;
 pub use sheet::{Designators, SheetRow, SheetRows};
 pub use take::{Pick, Purpose, Take};
+pub use trace_detail::TraceDetail;
 pub use view::{Left, Mount, Mounts, ReelView, ReelViews};
 pub use wire::Wire;

@@ -4,11 +4,9 @@ ghost use Rattle.std.specs.Prelude.{◌≡◌, length, SomeIff};
 ghost use Rattle.desk_types.specs.Bounds.{IsListLength};
 
 use crate::id::Id;
+use crate::limits::LONGEST_LIST;
 use std::alloc::AllocError;
 use std::marker::Model;
-
-/// The most rows of a sheet, counts of a message, and designators of a row or an install.
-pub const LONGEST_LIST: usize = 5000;
 
 /// A list of any length.
 #[derive(Debug, Drop)]

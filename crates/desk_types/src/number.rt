@@ -3,13 +3,8 @@
 ghost use Rattle.std.specs.Prelude.{◌≡◌, ◌≤◌, SomeIff};
 ghost use Rattle.desk_types.specs.Number.{IsMinute, IsQuantity, IsCountedQuantity};
 
+use crate::limits::{GREATEST_MINUTE, GREATEST_QUANTITY};
 use std::marker::Model;
-
-/// The last minute of the year 9999, counted from 1970-01-01T00:00Z.
-pub const GREATEST_MINUTE: u64 = 4_223_371_679;
-
-/// The most pieces of a receipt, a scrap or a count.
-pub const GREATEST_QUANTITY: u64 = 10_000_000;
 
 /// Whole minutes since 1970-01-01T00:00Z, up to the end of the year 9999.
 #[derive(Clone, Copy, Debug, PartialEq, Eq, PartialOrd, Ord)]

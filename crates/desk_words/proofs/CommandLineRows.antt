@@ -7,8 +7,7 @@ use Rattle.clap.specs.declared.builder.value_parser.ValueParser.TheVariants as v
 use Rattle.clap.specs.declared.error.kind.ErrorKind.TheVariants.{DisplayHelp, DisplayVersion, MissingSubcommand, MissingRequiredArgument, InvalidSubcommand, InvalidValue, ArgumentConflict, UnknownArgument}
 use Rattle.clap.proofs.OnLiterals.{clap_on_literals}
 use Rattle.clap.proofs.ValueTestLemmas.{accepts-Accepts, Accepts-accepts}
-use Rattle.desk_types.specs.declared.desk.TheConstants.{MOST_ENTRIES}
-use Rattle.desk_words.specs.declared.command_line.TheConstants.{MOST_PORT, MOST_CONNECTIONS}
+use Rattle.desk_types.specs.declared.limits.TheConstants.{MOST_CONNECTIONS, MOST_ENTRIES, MOST_PORT}
 use Rattle.desk_words.specs.CommandLine.{AsksForAudit, AsksForFeed, AsksForMigration, AsksForNothing, AsksForReport, AsksForServing, IsGreatest, named_by, told_of}
 
 abbrev rows_in : List (List ℕ) → List Row

@@ -1,3 +1,2 @@
 pub mod CommandLineRows
-pub mod ConstantRows
 pub mod OneCommand

@@ -12,14 +12,8 @@ ghost use Rattle.desk_words.specs.CommandLine.{audit_shape, bare, commands, coun
 use clap::error::ErrorKind;
 use clap::{Arg, ArgMatches};
 use desk_import::{BadOption, Import, counts_import, setup_import};
-use desk_types::MOST_ENTRIES;
+use desk_types::{MOST_CONNECTIONS, MOST_ENTRIES, MOST_PORT};
 use std::alloc::{AllocError, Global};
-
-/// The greatest port.
-pub const MOST_PORT: u32 = 65_535;
-
-/// The most connections that one run serves.
-pub const MOST_CONNECTIONS: u32 = 1_000_000;
 
 /// What the words of a command line ask for.
 #[derive(Drop)]

@@ -6,4 +6,4 @@
 
 mod command_line;
 
-pub use command_line::{Asked, MOST_CONNECTIONS, MOST_PORT, read_words};
+pub use command_line::{Asked, read_words};

@@ -10,7 +10,7 @@ use Rattle.desk_types.specs.declared.command.Command.{Command}
 use Rattle.desk_types.specs.declared.command.Command.TheVariants.{PartDefined, AlternateAllowed, SheetDefined, ProductSelected, ReelReceived, ReelOpened, ReelSealed, ReelBaked, MaterialsLoaded, MaterialsSpliced, MaterialsUnloaded, WorkStarted, WorkCompleted, MaterialsInstalled, MaterialsScrapped, CountsTaken, ClockSet}
 use Rattle.desk_types.specs.declared.command.Receipt.{Receipt}
 use Rattle.desk_types.specs.declared.command.Stamped.{Stamped}
-use Rattle.desk_types.specs.declared.command.TheConstants.{FURTHEST_AHEAD}
+use Rattle.desk_types.specs.declared.limits.TheConstants.{FURTHEST_AHEAD}
 use Rattle.desk_types.specs.declared.count.CountRow.{CountRow}
 use Rattle.desk_types.specs.declared.level.Level.{Level}
 use Rattle.desk_types.specs.declared.rules.Rules.{Rules}

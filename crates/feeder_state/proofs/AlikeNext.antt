@@ -12,7 +12,7 @@ use Rattle.desk_types.specs.declared.command.Command.TheVariants.{ReelReceived, 
 use Rattle.desk_types.specs.declared.command.Entry.{Entry}
 use Rattle.desk_types.specs.declared.command.Receipt.{Receipt}
 use Rattle.desk_types.specs.declared.command.Stamped.{Stamped}
-use Rattle.desk_types.specs.declared.number.TheConstants.{GREATEST_MINUTE}
+use Rattle.desk_types.specs.declared.limits.TheConstants.{GREATEST_MINUTE}
 use Rattle.desk_types.specs.declared.rules.Rules.{Rules}
 use Rattle.desk_types.specs.declared.rules.Rules.TheVariants.{Two}
 use Rattle.desk_types.specs.Command.{IsStamped}
@@ -29,6 +29,7 @@ use Rattle.desk_types.specs.Judged.{IsJudged}
 use Rattle.desk_types.proofs.BothRules.{judged-by-two}
 use Rattle.desk_types.proofs.Exposure.{exposure-after, exposure-anew, exposure-untouched}
 use Rattle.desk_types.proofs.ReelCommands.{IsQuiet-open, IsQuiet-untouched, IsQuiet-seal, is_baked-quiet, exposure_starts-quiet}
+use Rattle.desk_types.proofs.Tests.{if-some}
 use Rattle.desk_laws.specs.Place.{mounted_after}
 use Rattle.desk_laws.specs.Working.{in_work_after}
 use Rattle.desk_laws.proofs.Accepted.{received-once}
@@ -50,10 +51,6 @@ use Rattle.feeder_state.proofs.AlikeLists.{AreAlike, mark, marks_of, effective-a
 use Rattle.feeder_state.proofs.FloorTells.{absent-left, absent-mounted}
 
 -- ---- floor life, one entry more
-
-if-some : {X : Type 0} (b : Bool) (x y : X) → (if b then Some x else None) ≡ Some y → b ≡ true
-if-some true x y is = refl
-if-some false x y is = cc
 
 opens : {P : Type 0} (b : Bool) → (if b then Some true else None) ≡ Some false → P
 opens true is = cc

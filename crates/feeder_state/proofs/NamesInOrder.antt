@@ -14,6 +14,7 @@ use Rattle.std.proofs.lemmas.Map.Lookups.{CmpEqualImpliesEq}
 use Rattle.desk_types.specs.Id.{Name, same}
 use Rattle.desk_types.specs.Free.{in_order}
 use Rattle.desk_types.proofs.Keys.{same-refl, same-true}
+use Rattle.desk_types.proofs.Tests.{swap-or}
 use Rattle.desk_laws.proofs.Mounts.{has, has-filter}
 
 -- ---- what holds of all names
@@ -29,11 +30,6 @@ all-at P (x ∷ xs) r (first, all) there = by (same r x) refl there (all-at P xs
 all-map : (P Q : Name → Type 0) → ((r : Name) → P r → Q r) → (names : List Name) → AllByRecursion P names → AllByRecursion Q names
 all-map P Q step [] all = tt
 all-map P Q step (x ∷ xs) (first, all) = (step x first, all-map P Q step xs all)
-
-swap-or : (a b c : Bool) → (a || (b || c)) ≡ (b || (a || c))
-swap-or true true c = refl
-swap-or true false c = refl
-swap-or false b c = refl
 
 twice-or : (a b : Bool) → (a || (a || b)) ≡ (a || b)
 twice-or true b = refl

@@ -7,18 +7,19 @@ use Rattle.std.specs.List.{list_any}
 use Rattle.std.proofs.lemmas.Bool.{or_left, or_right}
 use Rattle.std.proofs.lemmas.Cmp.{nat_cmp_total, on_total, then_total}
 use Rattle.std.specs.declared.cmp.Ordering.{Ordering}
+use Rattle.desk_types.specs.declared.placement.Placement.{Placement}
 use Rattle.desk_types.specs.declared.rules.Rules.TheVariants.{Two}
 use Rattle.desk_types.specs.Id.{Name, same}
 use Rattle.desk_types.specs.Pair.{same_pair}
 use Rattle.desk_types.specs.History.{History}
 use Rattle.desk_types.specs.Judged.{IsJudged}
-use Rattle.desk_types.specs.Placements.{Placement, placements_of}
+use Rattle.desk_types.specs.Placements.{placements_of}
 use Rattle.desk_types.specs.Work.{is_placed_on}
 use Rattle.desk_laws.proofs.Designators.{spots_of, spot-placed}
 use Rattle.desk_laws.proofs.Mounted.{iff}
-use Rattle.state_tables.specs.declared.row.PlacementRow.{PlacementRow}
+use Rattle.desk_types.specs.declared.row.PlacementRow.{PlacementRow}
 use Rattle.state_rows.specs.Kept.{by_piece, row_at, Lists}
-use Rattle.state_tables.specs.Tables.{placement_row}
+use Rattle.desk_types.specs.Tables.{placement_row}
 use Rattle.state_rows.proofs.PlacedRows.{entry_of, piece_entries, pieces-listed}
 use Rattle.feeder_state.proofs.FilledMaps.{AreOf, each-of}
 

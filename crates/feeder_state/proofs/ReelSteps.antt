@@ -10,7 +10,7 @@ use Rattle.desk_types.specs.declared.command.Command.TheVariants.{ReelReceived, 
 use Rattle.desk_types.specs.declared.command.Entry.{Entry}
 use Rattle.desk_types.specs.declared.command.Receipt.{Receipt}
 use Rattle.desk_types.specs.declared.count.CountRow.{CountRow}
-use Rattle.desk_types.specs.declared.desk.TheConstants.{MOST_ENTRIES}
+use Rattle.desk_types.specs.declared.limits.TheConstants.{MOST_ENTRIES}
 use Rattle.desk_types.specs.declared.rules.Rules.TheVariants.{Two}
 use Rattle.desk_types.specs.declared.take.Take.{Take}
 use Rattle.desk_types.specs.Id.{Name}

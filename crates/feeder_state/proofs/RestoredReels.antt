@@ -10,7 +10,7 @@ use Rattle.desk_types.specs.declared.command.Command.TheVariants.{ReelReceived}
 use Rattle.desk_types.specs.declared.command.Receipt.{Receipt}
 use Rattle.desk_types.specs.declared.level.Level.{Level}
 use Rattle.desk_types.specs.declared.level.Level.TheVariants.{Six}
-use Rattle.desk_types.specs.declared.level.TheConstants.{GREATEST_LABEL}
+use Rattle.desk_types.specs.declared.limits.TheConstants.{GREATEST_LABEL}
 use Rattle.desk_types.specs.declared.rules.Rules.TheVariants.{Two}
 use Rattle.desk_types.specs.Command.{IsCommand}
 use Rattle.desk_types.specs.Level.{IsLabel}
@@ -29,8 +29,8 @@ use Rattle.desk_laws.proofs.Lookups.{mounted-live}
 use Rattle.desk_laws.proofs.Judgements.{by-desk_minute}
 use Rattle.desk_laws.proofs.Mounted.{mounted-is}
 use Rattle.desk_laws.proofs.Openings.{starts-by}
-use Rattle.state_tables.specs.declared.row.ReelRow.{ReelRow}
-use Rattle.state_tables.specs.Tables.{Tables, columns_of, reel_row, last_put, mount_row}
+use Rattle.desk_types.specs.declared.row.ReelRow.{ReelRow}
+use Rattle.desk_types.specs.Tables.{Tables, columns_of, reel_row, last_put, mount_row}
 use Rattle.state_rows.proofs.Exposed.{since-by}
 use Rattle.state_rows.proofs.MountedRows.{live-mount}
 use Rattle.state_rows.specs.Kept.{KeptRows, tables_in, row_at}

@@ -13,7 +13,7 @@ use Rattle.std.proofs.lemmas.Bool.{eqb-true, eq-eqb, ne_eqb, ltb-true, ltb-false
 use Rattle.std.proofs.lemmas.Cmp.{nat_cmp_total, nat_list_cmp_total, on_total, then_total}
 use Rattle.desk_types.specs.declared.command.Command.{Command}
 use Rattle.desk_types.specs.declared.command.Command.TheVariants.{SheetDefined}
-use Rattle.desk_types.specs.declared.list.TheConstants.{LONGEST_LIST}
+use Rattle.desk_types.specs.declared.limits.TheConstants.{LONGEST_LIST}
 use Rattle.desk_types.specs.declared.sheet.SheetRow.{SheetRow}
 use Rattle.desk_types.specs.Bounds.{IsListLength}
 use Rattle.desk_types.specs.Command.{IsCommand}
@@ -24,9 +24,10 @@ use Rattle.desk_types.specs.Judged.{IsJudged}
 use Rattle.desk_types.specs.Setup.{sheet_by, sheet_of}
 use Rattle.desk_types.specs.View.{defines_on, has_sheet}
 use Rattle.desk_types.proofs.Keys.{same-refl, same-sym, same-true}
+use Rattle.desk_types.proofs.Tests.{and-both}
 use Rattle.desk_laws.proofs.Mounted.{iff}
 use Rattle.state_rows.specs.Kept.{by_sheet_place, row_at, Lists}
-use Rattle.state_tables.specs.Tables.{at_place, sheet_row}
+use Rattle.desk_types.specs.Tables.{at_place, sheet_row}
 use Rattle.state_rows.proofs.RowLists.{is_at-by_sheet_place}
 use Rattle.state_rows.proofs.PlacementRows.{at_place-before}
 use Rattle.feeder_state.specs.Restored.{sheet_in}
@@ -52,10 +53,6 @@ placed-rows product machine (e ∷ es) = by (same e.0.0 product && same e.0.1 ma
         ≡ cons_option (if b then Some e.1 else None) (rows_in product machine es)
     by true rest = ap (λ rows. e.1 ∷ rows) rest
     by false rest = rest
-
-pub and-both : (a b : Bool) → (a && b) ≡ true → (a ≡ true) × (b ≡ true)
-and-both true b is = (refl, is)
-and-both false b is = cc
 
 -- Where the keys are in order, so are the places of a sheet.
 placed-ordered : (product machine : Name) (es : List ((Name × Name × ℕ) × SheetRow)) → IsStrictlySortedBy by_sheet_place (keys_of es)

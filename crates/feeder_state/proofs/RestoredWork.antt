@@ -12,9 +12,9 @@ use Rattle.desk_types.specs.History.{History}
 use Rattle.desk_types.specs.Judged.{IsJudged}
 use Rattle.desk_types.specs.Work.{in_work_on, is_in_work, product_of}
 use Rattle.desk_types.proofs.Keys.{is_at-by_name, same-sym, same-true, same-refl}
-use Rattle.state_tables.specs.declared.row.BoardRow.{BoardRow}
+use Rattle.desk_types.specs.declared.row.BoardRow.{BoardRow}
 use Rattle.state_rows.specs.Kept.{row_at}
-use Rattle.state_tables.specs.Tables.{board_row, work_machine}
+use Rattle.desk_types.specs.Tables.{board_row, work_machine}
 use Rattle.state_rows.proofs.DesksOfRows.{machine_in, work-on_row, in_work-row}
 use Rattle.feeder_state.proofs.FilledMaps.{AreOf, others}
 

@@ -3,7 +3,7 @@ use Rattle.std.specs.Prelude.{◌≡◌, ℕ, ◌+◌, ◌≤◌, Bool, true, fa
 use Rattle.desk_types.specs.declared.command.Command.{Command}
 use Rattle.desk_types.specs.declared.command.Command.TheVariants.{MaterialsInstalled, MaterialsScrapped, CountsTaken}
 use Rattle.desk_types.specs.declared.command.Entry.{Entry}
-use Rattle.desk_types.specs.declared.desk.TheConstants.{MOST_ENTRIES}
+use Rattle.desk_types.specs.declared.limits.TheConstants.{MOST_ENTRIES}
 use Rattle.desk_types.specs.declared.rules.Rules.TheVariants.{Two}
 use Rattle.desk_types.specs.declared.take.Take.{Take}
 use Rattle.desk_types.specs.History.{History}

@@ -3,13 +3,13 @@ use Rattle.std.specs.Prelude.{◌≡◌, ◌+◌, nat_lt, ◌&&◌, Option, Some
 use Rattle.std.specs.BTreeMap as tree
 use Rattle.std.specs.BTreeMap.{BTreeMap}
 use Rattle.std.specs.declared.cmp.Ordering.{Ordering}
-use Rattle.desk_types.specs.declared.list.TheConstants.{LONGEST_LIST}
+use Rattle.desk_types.specs.declared.limits.TheConstants.{LONGEST_LIST}
 use Rattle.desk_types.specs.declared.sheet.SheetRow.{SheetRow}
 use Rattle.desk_types.specs.declared.rules.Rules.TheVariants.{Two}
 use Rattle.desk_types.specs.History.{History}
 use Rattle.desk_types.specs.Judged.{IsJudged}
 use Rattle.state_rows.specs.Kept.{KeptRows, tables_in}
-use Rattle.state_tables.specs.Tables.{tables_of}
+use Rattle.desk_types.specs.Tables.{tables_of}
 
 -- The rows are those of the list, which a desk of rules Two can come to have.
 pub record AreRowsOf (H : History) (rows : KeptRows) : Type 0 where

@@ -1,7 +1,7 @@
 -- Pieces that go off reels, or are found on them.
 use Rattle.std.specs.Prelude.{◌≡◌, ℕ, ◌+◌, ◌-◌, ◌<◌, ◌^◌, max, ⊤, false, Option, Some, None, List, [], ◌∷◌, if◌then◌else◌}
 use Rattle.desk_types.specs.declared.count.CountRow.{CountRow}
-use Rattle.desk_types.specs.declared.number.TheConstants.{GREATEST_QUANTITY}
+use Rattle.desk_types.specs.declared.limits.TheConstants.{GREATEST_QUANTITY}
 use Rattle.desk_types.specs.Id.{Name, same}
 use Rattle.desk_types.specs.History.{History}
 use Rattle.reels.specs.Reel.{StandsFor}

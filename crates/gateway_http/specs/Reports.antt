@@ -2,9 +2,9 @@
 use Rattle.std.specs.Prelude.{Some}
 use Rattle.http_answers.specs.Requests.{Reports}
 use Rattle.http_routes.specs.declared.asked.Report.TheVariants.{BoardTrace, LotTrace, ReelCard, SlotList, KitList, OverdueList}
-use Rattle.list_texts.specs.Card.{reel_card}
-use Rattle.list_texts.specs.Kit.{kit_list}
-use Rattle.list_texts.specs.Slots.{slot_list}
+use Rattle.report_texts.specs.Card.{reel_card}
+use Rattle.report_texts.specs.Kit.{kit_list}
+use Rattle.report_texts.specs.Slots.{slot_list}
 use Rattle.trace_reports.specs.Reports.{board_trace, lot_trace, overdue_list}
 
 -- the text of each report of a list, where there is one; there always is an overdue list

@@ -1,7 +1,7 @@
 //! A store with its reports.
 
 ghost use Rattle.std.specs.Prelude.{◌≡◌, Option, List, ℕ, IfOk};
-ghost use Rattle.trace_reports.specs.declared.fault.Kind.{Kind};
+ghost use Rattle.report_texts.specs.declared.kind.Kind.{Kind};
 ghost use Rattle.trace_reports.specs.Reports.{Answers};
 ghost use Rattle.gateway_http.specs.Stores.{store_of};
 

@@ -3,11 +3,10 @@ use Rattle.std.specs.Prelude.{◌≡◌, ℕ, List, [], ◌∷◌, Option, Resul
 use Rattle.desk_types.specs.declared.command.Stamped.{Stamped}
 use Rattle.desk_types.specs.History.{History}
 use Rattle.desk_answers.specs.declared.answer.Answer.{Answer}
-use Rattle.desk_answers.specs.Ledger.{Ledger, IsAnswer, ledger_after}
+use Rattle.desk_answers.specs.Ledger.{Ledger, IsAnswer, ledger_after, ForLists}
 use Rattle.served.specs.declared.serving.Served.{Served}
 use Rattle.served.specs.declared.serving.ServeFault.{ServeFault}
 use Rattle.served.specs.declared.serving.ServeFault.TheVariants.{Read, Write, TooManyReads}
-use Rattle.desk_feed.specs.Owners.{ForLists}
 use Rattle.desk_feed.specs.Stream as lines
 use Rattle.http_stream.specs.Answers.{Told}
 use Rattle.http_stream.specs.Stream as requests

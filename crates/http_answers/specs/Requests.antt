@@ -1,6 +1,5 @@
 -- What a request is answered by the list of the commands accepted before it, and the list after it.
-use Rattle.std.specs.Prelude.{ℕ, List, Option, Some, None, Result, Ok, Err, codes}
-use Rattle.serde_json.specs.Written.{compact_text}
+use Rattle.std.specs.Prelude.{ℕ, List, Option, Some, None, Result, Ok, Err}
 use Rattle.cfx_profile.specs.Answer.{ignored_text}
 use Rattle.cfx_profile.specs.Answer as message
 use Rattle.cfx_profile.specs.Message.{said_in}
@@ -13,7 +12,6 @@ use Rattle.desk_types.specs.History.{History}
 use Rattle.desk_types.specs.declared.command.Command.{Command}
 use Rattle.desk_types.specs.declared.command.Stamped.{Stamped}
 use Rattle.desk_types.specs.declared.rules.Rules.{Rules}
-use Rattle.http_routes.specs.Answer.{not_found}
 use Rattle.http_routes.specs.Answer as request
 use Rattle.http_routes.specs.Asked.{asked_of}
 use Rattle.http_routes.specs.declared.asked.Asked.{Asked}
@@ -22,7 +20,7 @@ use Rattle.http_routes.specs.declared.asked.Report.{Report}
 use Rattle.http_routes.specs.declared.asked.Report.TheVariants as report
 use Rattle.http_routes.specs.declared.asked.Stamp.{Stamp}
 use Rattle.http_routes.specs.declared.fault.AskFault.{AskFault}
-use Rattle.http_stream.specs.Answers.{Told}
+use Rattle.http_stream.specs.Answers.{Told, unavailable}
 use Rattle.http_stream.specs.Cut.{Request}
 use Rattle.http_stream.specs.Stream.{Outcome, Rule}
 use Rattle.http_stream.specs.declared.response.Kind.TheVariants.{Json, Csv}
@@ -31,6 +29,9 @@ use Rattle.http_stream.specs.declared.response.Status.TheVariants as status
 use Rattle.imports.specs.Answer as file
 use Rattle.imports.specs.File.{setup_said, counts_said}
 use Rattle.imports.specs.declared.fault.ImportFault.{ImportFault}
+use Rattle.report_texts.specs.NotFound.{not_found_text}
+use Rattle.report_texts.specs.declared.kind.Kind.{Kind}
+use Rattle.report_texts.specs.declared.kind.Kind.TheVariants.{Board, Lot, Reel, Machine, Sheet}
 use Rattle.http_answers.specs.Statuses.{command_status, message_fault_status, import_fault_status, request_fault_status}
 
 -- ---- reports
@@ -39,18 +40,14 @@ use Rattle.http_answers.specs.Statuses.{command_status, message_fault_status, im
 abbrev pub Reports : Type 0
 Reports = Report → History → Option (List ℕ)
 
--- what isn't found; there is an overdue list of each line
-abbrev pub kind_word : Report → List ℕ
-kind_word (report.BoardTrace board detail) = codes "Board"
-kind_word (report.LotTrace lot detail) = codes "Lot"
-kind_word (report.ReelCard reel) = codes "Reel"
-kind_word (report.SlotList machine) = codes "Machine"
-kind_word (report.KitList product machine boards) = codes "Sheet"
-kind_word report.OverdueList = codes "Line"
-
--- the text of the answer where it isn't found
-unfoldable pub not_found_text : Report → List ℕ
-not_found_text asked_of = compact_text (not_found (kind_word asked_of))
+-- what a report is about; none of the overdue list, which each line has
+abbrev pub kind_of : Report → Option Kind
+kind_of (report.BoardTrace board detail) = Some Board
+kind_of (report.LotTrace lot detail) = Some Lot
+kind_of (report.ReelCard reel) = Some Reel
+kind_of (report.SlotList machine) = Some Machine
+kind_of (report.KitList product machine boards) = Some Sheet
+kind_of report.OverdueList = None
 
 -- ---- answers
 
@@ -58,10 +55,15 @@ not_found_text asked_of = compact_text (not_found (kind_word asked_of))
 abbrev pub json : Status → List ℕ → Told
 json s text = record { status = s; kind = Json; body = text }
 
--- a report, or that it isn't found
+-- that none of the kind is found
+abbrev pub none_told : Option Kind → Told
+none_told (Some kind) = json status.NotFound (not_found_text kind)
+none_told None = unavailable
+
+-- a report, or that what it is about isn't found
 abbrev pub report_told : Report → Option (List ℕ) → Told
 report_told asked_of (Some text) = record { status = status.Ok; kind = Csv; body = text }
-report_told asked_of None = json status.NotFound (not_found_text asked_of)
+report_told asked_of None = none_told (kind_of asked_of)
 
 -- an answer that leaves the list
 abbrev pub outcome_leaving : Ledger → Told → Outcome

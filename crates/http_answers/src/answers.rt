@@ -1,27 +1,25 @@
 //! What each request is answered.
 
-ghost use Rattle.std.specs.Prelude.{◌≡◌, false, IfOk};
-ghost use Rattle.serde_json.specs.View.{view};
-ghost use Rattle.serde_json.specs.Written.{has_float};
+ghost use Rattle.std.specs.Prelude.{◌≡◌, IfOk};
 ghost use Rattle.cfx_profile.specs.Message.{said_in};
-ghost use Rattle.http_routes.specs.Answer.{not_found, fault_text};
+ghost use Rattle.http_routes.specs.Answer.{fault_text};
 ghost use Rattle.http_routes.specs.Asked.{asked_of};
 ghost use Rattle.http_stream.specs.Answers.{response_told};
 ghost use Rattle.imports.specs.File.{setup_said, counts_said};
 ghost use Rattle.http_answers.specs.Gateways.{Meets};
-ghost use Rattle.http_answers.specs.Requests.{kind_word, not_found_text, json, report_told, outcome_leaving, command_outcome, message_outcome, stamped_by, file_outcome, asked_outcome};
+ghost use Rattle.http_answers.specs.Requests.{kind_of, none_told, json, report_told, outcome_leaving, command_outcome, message_outcome, stamped_by, file_outcome, asked_outcome};
 ghost use Rattle.http_answers.specs.Statuses.{request_fault_status};
 
 use crate::reported::{ReportedOwner, Unavailable};
 use crate::statuses::{import_fault_status, message_fault_status, request_fault_status};
 use cfx_profile::{MessageFault, Said, ignored_text, read_message};
 use desk_answers::{Answer, Owner};
-use desk_types::{Command, Id, Listing, Stamped, Text};
+use desk_types::{Command, Id, Stamped, Text};
 use http_routes::{AskFault, Asked, Report, RouteTable, Stamp};
 use http_stream::{Body, Kind, Response, Status};
 use imports::{ImportFault, read_counts, read_setup};
-use serde_json::{Value, json};
-use std::alloc::{AllocError, Global};
+use report_texts::not_found_text;
+use std::alloc::Global;
 
 /// An answer in JSON.
 fn json(status: Status, text: Text) -> Response
@@ -177,36 +175,30 @@ fn answer_report<L: ReportedOwner>(
             kind: Kind::Csv,
             body: Body::Made(text),
         }),
-        None => Ok(json(Status::NotFound, not_found_text(alloc, report)?)),
+        None => answer_none(alloc, report),
     }
 }
 
-/// The text of the answer where a report is not found, as `{"Answer":"NotFound","Kind":"Lot"}`.
-#[tactic(auto, unfolding(crate::specs::Requests::not_found_text))]
-fn not_found_text(alloc: Global, report: Report) -> Result<Text, AllocError>
-    ensures { IfOk result (λ text. text ≡ not_found_text report) }
+/// The answer where what a report is about is not found.
+fn answer_none(alloc: Global, report: Report) -> Result<Response, Unavailable>
+    ensures { IfOk result (λ response. response_told response ≡ none_told (kind_of report)) }
 {
-    let answer = not_found(alloc, kind_word(report))?;
-    Ok(Listing::new(answer.to_string(alloc)?.into_bytes()))
+    match kind_of(report) {
+        Some(kind) => Ok(json(Status::NotFound, not_found_text(alloc, kind)?)),
+        None => Err(Unavailable),
+    }
 }
 
-fn not_found(alloc: Global, kind: &str) -> Result<Value, AllocError>
-    ensures value { IfOk result (λ answer. view answer ≡ not_found kind.now) }
-    ensures whole { IfOk result (λ answer. has_float (view answer) ≡ false) }
-{
-    json!(in alloc; {"Answer": "NotFound", "Kind": kind})
-}
-
-/// What is not found.
-fn kind_word(report: Report) -> &'static str
-    ensures { result.now ≡ kind_word report }
+/// What a report is about; none of the overdue list, which each line has.
+fn kind_of(report: Report) -> Option<report_texts::Kind>
+    ensures { result ≡ kind_of report }
 {
     match report {
-        Report::BoardTrace { .. } => "Board",
-        Report::LotTrace { .. } => "Lot",
-        Report::ReelCard { .. } => "Reel",
-        Report::SlotList { .. } => "Machine",
-        Report::KitList { .. } => "Sheet",
-        Report::OverdueList => "Line",
+        Report::BoardTrace { .. } => Some(report_texts::Kind::Board),
+        Report::LotTrace { .. } => Some(report_texts::Kind::Lot),
+        Report::ReelCard { .. } => Some(report_texts::Kind::Reel),
+        Report::SlotList { .. } => Some(report_texts::Kind::Machine),
+        Report::KitList { .. } => Some(report_texts::Kind::Sheet),
+        Report::OverdueList => None,
     }
 }

@@ -1,4 +1,3 @@
 pub mod Cuts
 pub mod Literals
 pub mod NoText
-pub mod Numerals

@@ -1,17 +1,11 @@
 -- The answers to requests that ask nothing: one compact JSON object each, its members in byte order of their names.
 use Rattle.std.specs.Prelude.{ℕ, List, codes}
-use Rattle.serde_json.specs.Data.{Data, string, object, member, no_members}
+use Rattle.serde_json.specs.Data.{Data}
 use Rattle.serde_json.specs.Written.{compact_text}
-use Rattle.cfx_profile.specs.Answer.{faulty, faulty_at, unavailable}
+use Rattle.cfx_profile.specs.Answer.{faulty, faulty_at, not_found, unavailable}
 use Rattle.http_routes.specs.declared.fault.AskFault.{AskFault}
 use Rattle.http_routes.specs.declared.fault.AskFault.TheVariants.{NoPath, BadMethod, BadQuery, NoMemory}
 use Rattle.http_routes.specs.Parameter.{parameter_text}
-
--- nothing of this kind is found
-abbrev pub not_found : List ℕ → Data
-not_found kind =
-    object (member (codes "Answer") (string (codes "NotFound"))
-    (member (codes "Kind") (string kind) no_members))
 
 -- the answer to a fault of what is asked
 abbrev pub fault_answer : AskFault → Data

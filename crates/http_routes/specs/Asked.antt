@@ -5,7 +5,7 @@ use Rattle.cfx_profile.specs.Fault.{◌>>=◌}
 use Rattle.cfx_profile.specs.Forms.{id_of}
 use Rattle.cfx_profile.specs.Minute.{minute_of}
 use Rattle.desk_types.specs.Id.{Name, same}
-use Rattle.trace_texts.specs.declared.detail.TraceDetail.{TraceDetail}
+use Rattle.desk_types.specs.declared.trace_detail.TraceDetail.{TraceDetail}
 use Rattle.http_routes.specs.declared.asked.Asked.{Asked}
 use Rattle.http_routes.specs.declared.asked.Asked.TheVariants as asks
 use Rattle.http_routes.specs.declared.asked.Report.TheVariants as report

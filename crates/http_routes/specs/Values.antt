@@ -4,9 +4,9 @@ use Rattle.std.specs.Char.{is_ascii_digit}
 use Rattle.std.specs.List.{list_all}
 use Rattle.std.specs.Option.{option_and_then}
 use Rattle.std.specs.Str.Parse.{digits_value}
-use Rattle.list_texts.specs.declared.boards.TheConstants.{MOST_BOARDS}
-use Rattle.trace_texts.specs.declared.detail.TraceDetail.{TraceDetail}
-use Rattle.trace_texts.specs.Reports as trace
+use Rattle.desk_types.specs.declared.limits.TheConstants.{MOST_BOARDS}
+use Rattle.desk_types.specs.declared.trace_detail.TraceDetail.{TraceDetail}
+use Rattle.desk_types.specs.TraceDetail.{trace_detail_of}
 
 -- 1 to so many digits
 abbrev pub is_numeral : ℕ → List ℕ → Bool
@@ -18,7 +18,7 @@ number_of most_digits text = if is_numeral most_digits text then Some (digits_va
 
 -- one digit, 1 to 4
 abbrev pub detail_of : List ℕ → Option TraceDetail
-detail_of text = option_and_then trace.detail_of (number_of 1 text)
+detail_of text = option_and_then trace_detail_of (number_of 1 text)
 
 -- a kit is for 1 to 100,000 boards
 abbrev pub kit_boards : ℕ → Option ℕ

@@ -13,11 +13,9 @@ use crate::query::value_of;
 use crate::routes::{Route, RouteTable};
 use crate::values::{boards_of, detail_of};
 use cfx_profile::read_minute;
-use desk_types::{Id, Minute};
-use list_texts::Boards;
+use desk_types::{Boards, Id, Minute, TraceDetail};
 use std::alloc::Global;
 use std::borrow::CowStr;
-use trace_texts::TraceDetail;
 
 /// What stands on the command of a file, as the envelope's members on that of a message.
 #[derive(Clone, Copy, Debug, PartialEq, Eq)]

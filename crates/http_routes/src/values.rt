@@ -5,8 +5,7 @@ ghost use Rattle.std.specs.Char.{is_ascii_digit};
 ghost use Rattle.std.specs.List.{list_all};
 ghost use Rattle.http_routes.specs.Values.{is_numeral, number_of, detail_of, boards_of};
 
-use list_texts::Boards;
-use trace_texts::TraceDetail;
+use desk_types::{Boards, TraceDetail};
 
 /// The detail that a text is: one digit.
 pub fn detail_of(text: &str) -> Option<TraceDetail>

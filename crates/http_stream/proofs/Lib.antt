@@ -1,5 +1,4 @@
 pub mod AnsweredPortions
-pub mod ConstantRows
 pub mod HandlersOfPortions
 pub mod Headers
 pub mod Letters

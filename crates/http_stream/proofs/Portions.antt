@@ -8,7 +8,7 @@ use Rattle.httparse.specs.Grammar.{RequestHead, ReadsRequest, HasNoRequest, Neve
 use Rattle.httparse.specs.Spans.{RequestOverflows, RequestExceeds}
 use Rattle.http_stream.specs.declared.head.Head.{Head}
 use Rattle.http_stream.specs.declared.head.LengthFault.{LengthFault}
-use Rattle.http_stream.specs.declared.head.TheConstants.{HEAD_LIMIT, MOST_HEADERS}
+use Rattle.desk_types.specs.declared.limits.TheConstants.{HEAD_LIMIT, MOST_HEADERS}
 use Rattle.http_stream.specs.Heads.{window, TakesHead, IsBadHead, IsUnfinished}
 use Rattle.http_stream.specs.Looks.{IsHeadOf}
 use Rattle.http_stream.specs.Inbox.{ReadsFewer}

@@ -5,7 +5,7 @@ use Rattle.std.proofs.Math.Seq.{take-append-add, take-append_seam}
 use Rattle.httparse.specs.Grammar.{RequestHead, ReadsRequest, print_request}
 use Rattle.httparse.proofs.GrammarLemmas.{request_unique}
 use Rattle.http_stream.specs.declared.head.LengthFault.{LengthFault}
-use Rattle.http_stream.specs.declared.head.TheConstants.{HEAD_LIMIT}
+use Rattle.desk_types.specs.declared.limits.TheConstants.{HEAD_LIMIT}
 use Rattle.http_stream.specs.Heads.{window, TakesHead, IsBadHead, IsUnfinished, headers_of, body_length, closes}
 use Rattle.http_stream.specs.Cut.{Request, Portion, whole, bad_head, head_too_large, unread, starved, IsPortion, IsCut, EndsInside, is_last}
 use Rattle.http_stream.specs.Unique.{IsOpen, is_starved, IsOnePortion, NoneStarved, IsClear}

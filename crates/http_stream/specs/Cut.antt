@@ -3,7 +3,7 @@ use Rattle.std.specs.Prelude.{◌≡◌, ◌<◌, ◌≤◌, ◌⊎◌, ℕ, Boo
 use Rattle.std.specs.Str.{bytes_eq}
 use Rattle.httparse.specs.Grammar.{RequestHead}
 use Rattle.std.specs.Io.KnownBytes.{Consumes}
-use Rattle.http_stream.specs.declared.head.TheConstants.{HEAD_LIMIT}
+use Rattle.desk_types.specs.declared.limits.TheConstants.{HEAD_LIMIT}
 use Rattle.http_stream.specs.declared.head.LengthFault.{LengthFault}
 use Rattle.http_stream.specs.Heads.{window, TakesHead, IsBadHead, IsUnfinished, headers_of, body_length, closes}
 

@@ -6,7 +6,7 @@ use Rattle.std.specs.Str.{str_eq_ignore_ascii_case, bytes_eq}
 use Rattle.std.specs.Str.Parse.{digits_value}
 use Rattle.httparse.specs.Grammar.{RequestHead, ReadsRequest, HasNoRequest, NeverHasRequest, MayBecomeRequest, print_request, trim_ows}
 use Rattle.httparse.specs.Spans.{name_and_value, RequestOverflows, RequestExceeds}
-use Rattle.http_stream.specs.declared.head.TheConstants.{HEAD_LIMIT, MOST_HEADERS, MOST_BODY}
+use Rattle.desk_types.specs.declared.limits.TheConstants.{HEAD_LIMIT, LONGEST_INPUT, MOST_HEADERS}
 use Rattle.http_stream.specs.declared.head.LengthFault.{LengthFault}
 use Rattle.http_stream.specs.declared.head.LengthFault.TheVariants.{LengthRequired, BadLength, BodyTooLarge}
 
@@ -45,7 +45,7 @@ is_length value = nat_lt 0 (length value) && nat_le (length value) 19 && list_al
 
 -- the length that a value of Content-Length gives
 abbrev pub length_in : List ℕ → Result ℕ LengthFault
-length_in value = if is_length value then (if nat_lt MOST_BODY (digits_value 10 value) then Err BodyTooLarge else Ok (digits_value 10 value)) else Err BadLength
+length_in value = if is_length value then (if nat_lt LONGEST_INPUT (digits_value 10 value) then Err BodyTooLarge else Ok (digits_value 10 value)) else Err BadLength
 
 -- the length that the values of Transfer-Encoding and those of Content-Length give; a POST must have a length, and without one any other method has no body
 abbrev pub length_by : Bool → List (List ℕ) → List (List ℕ) → Result ℕ LengthFault

@@ -3,14 +3,13 @@ use Rattle.std.specs.Prelude.{◌≡◌, ℕ, ◌+◌, ◌-◌, ◌*◌, ◌<◌
 use Rattle.std.specs.List.{slice_range}
 use Rattle.std.specs.Io.KnownBytes.{prepend_known, Consumes, Keeps, IsAtEnd}
 use Rattle.httparse.specs.Grammar.{RequestHead}
-use Rattle.http_stream.specs.declared.head.TheConstants.{HEAD_LIMIT}
+use Rattle.desk_types.specs.declared.limits.TheConstants.{BLOCK, HEAD_LIMIT}
 use Rattle.http_stream.specs.declared.inbox.Inbox.{Inbox}
 use Rattle.http_stream.specs.declared.inbox.Seen.{Seen}
 use Rattle.http_stream.specs.declared.inbox.Front.{Front}
 use Rattle.http_stream.specs.declared.inbox.Front.TheVariants as front
 use Rattle.http_stream.specs.declared.inbox.BodyTaken.{BodyTaken}
 use Rattle.http_stream.specs.declared.inbox.BodyTaken.TheVariants as body
-use Rattle.http_stream.specs.declared.inbox.TheConstants.{BLOCK}
 use Rattle.http_stream.specs.Heads.{window, IsBadHead, IsUnfinished}
 use Rattle.http_stream.specs.Looks.{IsHeadOf}
 

@@ -3,7 +3,7 @@ use Rattle.std.specs.Prelude.{◌≡◌, ◌<◌, ◌≤◌, ℕ, Bool, ◌&&◌
 use Rattle.std.specs.Str.{str_eq_ignore_ascii_case}
 use Rattle.httparse.specs.Grammar.{RequestHead, ReadsRequest, print_request}
 use Rattle.httparse.specs.Spans.{span_bytes, IsWithin}
-use Rattle.http_stream.specs.declared.head.TheConstants.{MOST_HEADERS}
+use Rattle.desk_types.specs.declared.limits.TheConstants.{MOST_HEADERS}
 use Rattle.http_stream.specs.declared.head.Head.{Head}
 use Rattle.http_stream.specs.declared.head.Values.{Values}
 use Rattle.http_stream.specs.declared.head.Values.TheVariants as values

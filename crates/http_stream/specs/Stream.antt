@@ -2,7 +2,6 @@
 use Rattle.std.specs.Prelude.{◌≡◌, ℕ, ◌+◌, Bool, true, false, not, List, [], ◌∷◌, length, Option, Some, IfSome, count_by}
 use Rattle.std.specs.List.{flat_map}
 use Rattle.std.specs.Io.KnownBytes.{Appends}
-use Rattle.desk_answers.specs.Ledger.{Ledger}
 use Rattle.desk_types.specs.History.{History}
 use Rattle.desk_types.specs.declared.rules.Rules.{Rules}
 use Rattle.served.specs.Counts.{none_served}
@@ -103,10 +102,6 @@ AnsweredInto rule input H out H' out' served = (ps : List Portion) × (marks : L
 -- the rule of a handler by the rules and the greatest number of its list
 abbrev pub RuleBy : Type 0
 RuleBy = Rules → ℕ → Rule
-
--- What holds of each list for which a handler stood, where what it keeps the list in told the truth: by the same rules and greatest number it stands for a list that the fact tells.
-abbrev pub ForLists : {S : Type 0} → (S → Ledger → Type 0) → (S → Type 0) → S → S → (Ledger → History → Type 0) → Type 0
-ForLists Stands Trusts old new Fact = (G : Ledger) → Stands old G → Trusts new → (H : History) × Stands new (record G { history = H }) × Fact G H
 
 -- the request is answered so, as some mark says
 abbrev pub AnswersRequest : Rule → Request → History → Told → History → Type 0

@@ -8,18 +8,15 @@ ghost use Rattle.http_stream.specs.Answers.{type_line, allow_line, close_line, h
 
 use crate::reply::Reply;
 use crate::response::{Allow, Kind, Status};
-use desk_types::Wire;
+use desk_types::{ONE_WRITE, Wire};
 use itoa::Buffer;
 use served::{WriteFailed, send};
 use std::io::Write;
 
-/// The bytes that go out in one write: the head of an answer, and its body where it fits.
-const BLOCK: usize = 4096;
-
 /// The bytes of an answer so far.
 #[derive(Drop)]
 struct Letter {
-    block: [u8; BLOCK],
+    block: [u8; ONE_WRITE],
     end: usize,
 }
 
@@ -48,14 +45,14 @@ impl Letter {
         ensures { result.end ≡ 0 }
     {
         Letter {
-            block: [0; BLOCK],
+            block: [0; ONE_WRITE],
             end: 0,
         }
     }
 
     /// Joins a text to its end.
     fn put(&mut self, text: &[u8])
-        requires room { self.old.end + length text.now ≤ BLOCK }
+        requires room { self.old.end + length text.now ≤ ONE_WRITE }
         ensures bytes { take self.new.end self.new.block ≡ take self.old.end self.old.block ++ text.now }
         ensures end { self.new.end ≡ self.old.end + length text.now }
     {
@@ -67,7 +64,7 @@ impl Letter {
     fn put_head(&mut self, reply: &Reply, closes: bool)
         requires empty { self.old.end ≡ 0 }
         ensures bytes { take self.new.end self.new.block ≡ head_bytes closes (reply_told reply.now) }
-        ensures short { self.new.end ≤ BLOCK }
+        ensures short { self.new.end ≤ ONE_WRITE }
     {
         let mut digits = Buffer::new();
         self.put(reply.status().line().as_bytes());
@@ -82,14 +79,14 @@ impl Letter {
 
     /// Writes what is there and a body: in one write where both fit, which is most of the speed.
     fn send_with<W: Write>(&mut self, wire: &mut Wire<W>, body: &[u8]) -> Result<(), WriteFailed>
-        requires short { self.old.end ≤ BLOCK }
+        requires short { self.old.end ≤ ONE_WRITE }
         requires few_failures { failures_of wire.old < 2 ^ 63 }
         ensures ok { OnOk result (Appends (W.contents (inner_of wire.old)) (W.contents (inner_of wire.new)) (take self.old.end self.old.block ++ body.now)) }
         ensures kept { OnOk result (failures_of wire.new ≡ failures_of wire.old) }
         ensures failed { OnErr result (failures_of wire.new ≡ failures_of wire.old + 1) }
         ensures front { OnErr result (SendsFront (W.contents (inner_of wire.old)) (W.contents (inner_of wire.new)) (take self.old.end self.old.block ++ body.now)) }
     {
-        if body.len() <= BLOCK - self.end {
+        if body.len() <= ONE_WRITE - self.end {
             self.put(body);
             return send(wire, &self.block[..self.end]);
         }

@@ -10,17 +10,9 @@ ghost use Rattle.httparse.specs.Spans.{IsHeaderWithin, IsWithin, header_bytes, s
 ghost use Rattle.http_stream.specs.Heads.{IsBadHead, IsUnfinished, values_of, is_length, length_in, body_length, has_close, closes};
 ghost use Rattle.http_stream.specs.Looks.{IsHeadOf, HasValues, after_header, closes_by};
 
+use desk_types::{LONGEST_INPUT, MOST_HEADERS};
 use httparse::Status;
 use httparse::spans::{EMPTY_HEADER_SPAN, HeaderSpan, Span, parse_request};
-
-/// The most bytes of a head: so many of what is left of a stream are looked at for one.
-pub const HEAD_LIMIT: usize = 16_384;
-
-/// The most header lines of a head, as many as httparse is given room for.
-pub const MOST_HEADERS: usize = 64;
-
-/// The most bytes of a body.
-pub const MOST_BODY: usize = 1_048_576;
 
 /// Why a body isn't read.
 #[derive(Clone, Copy, Debug, PartialEq, Eq, Drop)]
@@ -147,7 +139,7 @@ fn length_in(value: &[u8]) -> Result<usize, LengthFault>
         return Err(LengthFault::BadLength);
     }
     let length = capped_value(value);
-    if length > MOST_BODY {
+    if length > LONGEST_INPUT {
         Err(LengthFault::BodyTooLarge)
     } else {
         Ok(length)
@@ -174,11 +166,11 @@ fn all_digits(value: &[u8]) -> bool
 /// overflow, whatever their number.
 fn capped_value(digits: &[u8]) -> usize
     requires digits { All (λ b. (48 ≤ b) × (b ≤ 57)) digits.now }
-    ensures { result ≡ min (digits_value 10 digits.now) (MOST_BODY + 1) }
+    ensures { result ≡ min (digits_value 10 digits.now) (LONGEST_INPUT + 1) }
 {
     let mut value: usize = 0;
     for digit in digits {
-        value = (value * 10 + usize::from(*digit - b'0')).min(MOST_BODY + 1);
+        value = (value * 10 + usize::from(*digit - b'0')).min(LONGEST_INPUT + 1);
     }
     value
 }

@@ -6,14 +6,10 @@ ghost use Rattle.desk_types.specs.Wire.{inner_of, reads_of, failures_of};
 ghost use Rattle.http_stream.specs.Cut.{ReadsInside};
 ghost use Rattle.http_stream.specs.Inbox.{IsInbox, pending_bytes, source, fuel, IsFront, ReadsFewer, TakesBody};
 
-use crate::head::{Glance, HEAD_LIMIT, Head, look};
-use desk_types::Wire;
+use crate::head::{Glance, Head, look};
+use desk_types::{BLOCK, HEAD_LIMIT, Wire};
 use std::alloc::Global;
 use std::io::Read;
-
-/// How many bytes one read of a head may give, and how many are kept of what was read: more than
-/// a head may have.
-pub const BLOCK: usize = 65_536;
 
 /// The bytes that were read last, and which of them are still to be given.
 #[derive(Drop)]

@@ -15,7 +15,7 @@ mod reply;
 mod response;
 mod serving;
 
-pub use head::{HEAD_LIMIT, LengthFault, MOST_BODY, MOST_HEADERS};
+pub use head::LengthFault;
 pub use law::{bytes_decide, repeats_act_once};
 pub use response::{Allow, Body, Kind, Response, Status};
 pub use serving::{Handler, serve};

@@ -6,24 +6,25 @@ ghost use Rattle.served.specs.Shown.{FailsNever, IsShown};
 ghost use Rattle.http_stream.specs.Answers.{reply_told};
 ghost use Rattle.http_stream.specs.Cut.{is_head, is_last};
 ghost use Rattle.http_stream.specs.Portions.{IsTaken, portion_of};
-ghost use Rattle.http_stream.specs.Stream.{AnsweredAll, AnsweredFront, AnsweredInto, Breaks, ForLists, Serves, AnswersPortion, has_body};
+ghost use Rattle.desk_answers.specs.Ledger.{ForLists};
+ghost use Rattle.http_stream.specs.Stream.{AnsweredAll, AnsweredFront, AnsweredInto, Breaks, Serves, AnswersPortion, has_body};
 
 use crate::answer::send_answer;
 use crate::inbox::{Inbox, InboxFault};
 use crate::portion::{Taken, method_of, take_portion, target_of};
 use crate::reply::Reply;
 use crate::response::Response;
-use desk_types::Wire;
-use served::{MOST_READS, ServeFault, Served, WriteFailed};
+use desk_types::{MOST_READS, Wire};
+use served::{ServeFault, Served, WriteFailed};
 use std::alloc::Global;
 use std::io::{Read, Write};
 
 /// What answers whole requests, by a list that it keeps and may change.
 pub trait Handler {
     ghost use Rattle.std.specs.Prelude.{◌≡◌};
-    ghost use Rattle.desk_answers.specs.Ledger.{Ledger};
+    ghost use Rattle.desk_answers.specs.Ledger.{Ledger, ForLists};
     ghost use Rattle.http_stream.specs.Answers.{response_told};
-    ghost use Rattle.http_stream.specs.Stream.{ForLists, RuleBy, AnswersRequest};
+    ghost use Rattle.http_stream.specs.Stream.{RuleBy, AnswersRequest};
 
     /// The rule by which it answers after each list, by the rules and the greatest number.
     ghost rule: { RuleBy };

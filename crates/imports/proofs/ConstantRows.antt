@@ -1,13 +1,12 @@
 -- The numbers of the rules, computed.
 use Rattle.std.specs.Prelude.{◌≡◌, Some, None, [], ◌∷◌, codes, refl}
-use Rattle.imports.specs.declared.file.TheConstants.{LONGEST_FILE}
 use Rattle.imports.specs.declared.records.TheConstants.{MOST_RECORDS}
 use Rattle.imports.specs.declared.rows.TheConstants.{FIRST_ROW, LAST_ROW}
 use Rattle.imports.specs.File.{quantity_of, designators_of}
 
--- bytes of a file, and its records: the header, 5,000 rows, and one more
-pub files_have_their_lengths : (LONGEST_FILE ≡ 1048576) × (MOST_RECORDS ≡ 5002)
-files_have_their_lengths = (refl, refl)
+-- records: the header, 5,000 rows, and one more
+pub most_records : MOST_RECORDS ≡ 5002
+most_records = refl
 
 -- lines
 pub rows_have_their_lines : (FIRST_ROW ≡ 2) × (LAST_ROW ≡ 5001)

@@ -2,5 +2,5 @@ pub mod ConstantRows
 pub mod EachRow
 pub mod FileRows
 pub mod FirstRecords
-pub mod Numerals
+mod LaterRecords
 pub mod SaidByFile

@@ -22,18 +22,16 @@ use Rattle.desk_types.specs.Command.{IsListOf, IsSheetRow, IsCountRow}
 use Rattle.desk_types.specs.Designator.{IsDesignator, is_designator_byte}
 use Rattle.desk_types.specs.Id.{Name, IsId}
 use Rattle.desk_types.specs.declared.count.CountRow.{CountRow}
-use Rattle.desk_types.specs.declared.list.TheConstants.{LONGEST_LIST}
-use Rattle.desk_types.specs.declared.number.TheConstants.{GREATEST_QUANTITY}
+use Rattle.desk_types.specs.declared.limits.TheConstants.{GREATEST_QUANTITY, LONGEST_INPUT, LONGEST_LIST}
 use Rattle.desk_types.specs.declared.sheet.SheetRow.{SheetRow}
 use Rattle.cfx_profile.specs.Forms.{is_designator, id_of, designator_of}
 use Rattle.cfx_profile.proofs.Names.{id_of-read, designator_of-read}
 use Rattle.imports.specs.declared.fault.ImportFault.{ImportFault}
-use Rattle.imports.specs.declared.file.TheConstants.{LONGEST_FILE}
 use Rattle.imports.specs.declared.records.TheConstants.{MOST_RECORDS}
 use Rattle.imports.specs.declared.rows.TheConstants.{LAST_ROW, FIRST_ROW}
 use Rattle.imports.specs.File.{Record, two_texts, three_texts, words_of, is_number, designators_of, quantity_of, is_setup_header, is_counts_header, sheet_row, count_row, records_of, each, some_rows, file_rows, setup_said, counts_said}
 use Rattle.imports.specs.Written.{records_text, sheet_header, sheet_fields, counts_header, count_fields, SheetsAreSaid, CountsAreSaid}
-use Rattle.imports.proofs.Numerals.{own}
+use Rattle.desk_types.proofs.Numerals.{own}
 
 -- ---- records
 
@@ -149,7 +147,7 @@ file_read : {X : Type 0} (is_header : Record → Bool) (reading : ℕ → Record
     → is_header header ≡ true → IsLong header → ((x : X) → IsLong (fields x))
     → ((rest : List ℕ) → strip_bom (row_text default_writer header ++ rest) ≡ row_text default_writer header ++ rest)
     → ((line : ℕ) (x : X) → Fits x → reading line (fields x) ≡ Ok x)
-    → (xs : List X) → IsListOf Fits xs → length (records_text (header ∷ map fields xs)) ≤ LONGEST_FILE
+    → (xs : List X) → IsListOf Fits xs → length (records_text (header ∷ map fields xs)) ≤ LONGEST_INPUT
     → file_rows is_header reading (records_text (header ∷ map fields xs)) ≡ Ok xs
 unfolding file_rows
 file_read is_header reading header fields Fits is_one long longs unmarked read xs is short =
@@ -158,7 +156,7 @@ file_read is_header reading header fields Fits is_one long longs unmarked read x
     let count = length-map xs fields in
     let records : records_of text ≡ header ∷ map fields xs =
     ap (records_from default_config MOST_RECORDS st.StartRecord) (unmarked _) ∙ read_back MOST_RECORDS (header ∷ map fields xs) all_long (omega (arith, count, is.count.1)) in
-    let fits : nat_le (length text) LONGEST_FILE ≡ true = grind (arith, nat_tests) in
+    let fits : nat_le (length text) LONGEST_INPUT ≡ true = grind (arith, nat_tests) in
     rw (fits, records, is_one, each_read reading fields Fits read FIRST_ROW xs is.each (omega (arith, is.count.1))) (some_read xs is.count.0)
 
 counts_unmarked : (rest : List ℕ) → strip_bom (row_text default_writer counts_header ++ rest) ≡ row_text default_writer counts_header ++ rest

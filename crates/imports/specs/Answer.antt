@@ -2,14 +2,9 @@
 use Rattle.std.specs.Prelude.{ℕ, List, codes}
 use Rattle.serde_json.specs.Data.{Data, unsigned, string, number, object, member, no_members}
 use Rattle.serde_json.specs.Written.{compact_text}
+use Rattle.cfx_profile.specs.Answer.{faulty, unavailable}
 use Rattle.imports.specs.declared.fault.ImportFault.{ImportFault}
 use Rattle.imports.specs.declared.fault.ImportFault.TheVariants.{BadHeader, BadRow, BadField, OverLimit, NoMemory}
-
--- a fault of the file as a whole
-abbrev pub faulty : List ℕ → Data
-faulty fault =
-    object (member (codes "Answer") (string (codes "Faulty"))
-    (member (codes "Fault") (string fault) no_members))
 
 -- a fault of one record
 abbrev pub faulty_row : ℕ → Data
@@ -25,10 +20,6 @@ faulty_field line column =
     (member (codes "Column") (number (unsigned column))
     (member (codes "Fault") (string (codes "BadField"))
     (member (codes "Line") (number (unsigned line)) no_members))))
-
--- memory was refused
-abbrev pub unavailable : Data
-unavailable = object (member (codes "Answer") (string (codes "Unavailable")) no_members)
 
 -- the answer to a fault
 abbrev pub fault_answer : ImportFault → Data

@@ -14,12 +14,9 @@ use Rattle.desk_types.specs.declared.command.Command.{Command}
 use Rattle.desk_types.specs.declared.command.Command.TheVariants as command
 use Rattle.desk_types.specs.declared.count.CountRow.{CountRow}
 use Rattle.desk_types.specs.declared.sheet.SheetRow.{SheetRow}
-use Rattle.desk_types.specs.declared.list.TheConstants.{LONGEST_LIST}
-use Rattle.desk_types.specs.declared.number.TheConstants.{GREATEST_QUANTITY}
+use Rattle.desk_types.specs.declared.limits.TheConstants.{GREATEST_QUANTITY, LONGEST_INPUT, LONGEST_LIST, MOST_DIGITS}
 use Rattle.imports.specs.declared.fault.ImportFault.{ImportFault}
 use Rattle.imports.specs.declared.fault.ImportFault.TheVariants.{BadHeader, BadRow, BadField, OverLimit}
-use Rattle.imports.specs.declared.fields.TheConstants.{MOST_DIGITS}
-use Rattle.imports.specs.declared.file.TheConstants.{LONGEST_FILE}
 use Rattle.imports.specs.declared.records.TheConstants.{MOST_RECORDS}
 use Rattle.imports.specs.declared.rows.TheConstants.{FIRST_ROW, LAST_ROW}
 
@@ -122,7 +119,7 @@ rows_of is_header reading (first ∷ rest) = if is_header first then each readin
 
 -- the rows of a file, which is at most 1,048,576 bytes long
 unfoldable pub file_rows : {X : Type 0} → (Record → Bool) → (ℕ → Record → Result X ImportFault) → List ℕ → Result (List X) ImportFault
-file_rows is_header reading bytes = if nat_le (length bytes) LONGEST_FILE then rows_of is_header reading (records_of bytes) else Err OverLimit
+file_rows is_header reading bytes = if nat_le (length bytes) LONGEST_INPUT then rows_of is_header reading (records_of bytes) else Err OverLimit
 
 -- what a setup file says: the sheet of this product on this machine
 unfoldable pub setup_said : Name → Name → List ℕ → Result Command ImportFault

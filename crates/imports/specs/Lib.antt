@@ -1,4 +1,5 @@
 pub mod Answer
 pub mod Fault
 pub mod File
+pub mod FirstRecords
 pub mod Written

@@ -7,7 +7,7 @@ use Rattle.desk_types.specs.Id.{Name}
 use Rattle.desk_types.specs.declared.command.Command.TheVariants.{SheetDefined, CountsTaken}
 use Rattle.desk_types.specs.declared.count.CountRow.{CountRow}
 use Rattle.desk_types.specs.declared.sheet.SheetRow.{SheetRow}
-use Rattle.imports.specs.declared.file.TheConstants.{LONGEST_FILE}
+use Rattle.desk_types.specs.declared.limits.TheConstants.{LONGEST_INPUT}
 use Rattle.imports.specs.File.{Record, setup_said, counts_said}
 
 -- the records, each with its line feed; a field with a comma, a quote or an end of line stands between quotes
@@ -42,10 +42,10 @@ counts_text counts = records_text (counts_header ∷ map count_fields counts)
 abbrev pub SheetsAreSaid : Type 0
 SheetsAreSaid =
     (product machine : Name) (rows : List SheetRow) → IsCommand (SheetDefined product machine rows)
-    → length (setup_text rows) ≤ LONGEST_FILE → setup_said product machine (setup_text rows) ≡ Ok (SheetDefined product machine rows)
+    → length (setup_text rows) ≤ LONGEST_INPUT → setup_said product machine (setup_text rows) ≡ Ok (SheetDefined product machine rows)
 
 -- all counts are said by their file
 abbrev pub CountsAreSaid : Type 0
 CountsAreSaid =
     (counts : List CountRow) → IsCommand (CountsTaken counts)
-    → length (counts_text counts) ≤ LONGEST_FILE → counts_said (counts_text counts) ≡ Ok (CountsTaken counts)
+    → length (counts_text counts) ≤ LONGEST_INPUT → counts_said (counts_text counts) ≡ Ok (CountsTaken counts)

@@ -3,7 +3,8 @@
 ghost use Rattle.std.specs.Prelude.{◌≡◌, IfOk, false};
 ghost use Rattle.serde_json.specs.View.{view};
 ghost use Rattle.serde_json.specs.Written.{compact_text, has_float};
-ghost use Rattle.imports.specs.Answer.{faulty, faulty_row, faulty_field, fault_answer, fault_text};
+ghost use Rattle.cfx_profile.specs.Answer.{faulty};
+ghost use Rattle.imports.specs.Answer.{faulty_row, faulty_field, fault_answer, fault_text};
 
 use crate::fault::ImportFault;
 use desk_types::{Listing, Text};

@@ -8,11 +8,8 @@ ghost use Rattle.cfx_profile.specs.Forms.{id_of, designator_of};
 ghost use Rattle.imports.specs.File.{field, text_of, is_number, quantity_of, designators_of};
 
 use csv::ByteRecord;
-use desk_types::{Bounded, CountedQuantity, Designator, Designators, Id};
+use desk_types::{Bounded, CountedQuantity, Designator, Designators, Id, MOST_DIGITS};
 use std::alloc::{AllocError, Global};
-
-/// The most digits of a quantity.
-pub const MOST_DIGITS: usize = 8;
 
 /// The field of a record at a place, from 0; no bytes where it has none.
 pub fn field(row: &ByteRecord, place: usize) -> &[u8]

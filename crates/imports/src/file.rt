@@ -6,11 +6,8 @@ ghost use Rattle.imports.specs.File.{file_rows, setup_said, counts_said};
 use crate::fault::ImportFault;
 use crate::records::first_records;
 use crate::rows::{Row, rows_of};
-use desk_types::{Bounded, Command, Id};
+use desk_types::{Bounded, Command, Id, LONGEST_INPUT};
 use std::alloc::Global;
-
-/// The most bytes of a file.
-pub const LONGEST_FILE: usize = 1_048_576;
 
 /// The sheet of a product on a machine that a setup file says.
 ///
@@ -50,7 +47,7 @@ pub fn read_counts(alloc: Global, bytes: &[u8]) -> Result<Command, ImportFault>
 fn file_rows<T: Row>(alloc: Global, bytes: &[u8]) -> Result<Bounded<T>, ImportFault>
     ensures { IsSaid (file_rows T.header T.said bytes.now) result }
 {
-    if bytes.len() > LONGEST_FILE {
+    if bytes.len() > LONGEST_INPUT {
         return Err(ImportFault::OverLimit);
     }
     let records = first_records(alloc, bytes)?;

@@ -1,5 +1,6 @@
-//! A law over what files say. It is for proofs, and does nothing when it runs.
+//! Laws of what files say. They are for proofs, and do nothing when they run.
 
+ghost use Rattle.imports.specs.FirstRecords.{SetupsByTheirFront, CountsByTheirFront};
 ghost use Rattle.imports.specs.Written.{SheetsAreSaid, CountsAreSaid};
 
 /// Each command that is a sheet or a count, with its names, numbers and lists in their ranges, is said
@@ -7,4 +8,11 @@ ghost use Rattle.imports.specs.Written.{SheetsAreSaid, CountsAreSaid};
 pub fn commands_are_said()
     ensures sheets { SheetsAreSaid }
     ensures counts { CountsAreSaid }
+{}
+
+/// The first 5,002 records of a file decide what it says: it is the same, rows or first fault,
+/// however many records more are read.
+pub fn first_records_decide()
+    ensures setups { SetupsByTheirFront }
+    ensures counts { CountsByTheirFront }
 {}

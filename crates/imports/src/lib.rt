@@ -13,5 +13,5 @@ mod records;
 mod rows;
 
 pub use fault::ImportFault;
-pub use file::{LONGEST_FILE, read_counts, read_setup};
-pub use law::commands_are_said;
+pub use file::{read_counts, read_setup};
+pub use law::{commands_are_said, first_records_decide};

@@ -2,7 +2,7 @@
 
 ghost use Rattle.std.specs.Prelude.{◌≡◌, ◌≤◌, length, map, IfOk, OnOk, ◌++◌, ◌∷◌, [], option_map};
 ghost use Rattle.csv.specs.Records.{fields_of};
-ghost use Rattle.desk_types.specs.declared.list.TheConstants.{LONGEST_LIST};
+ghost use Rattle.desk_types.specs.declared.limits.TheConstants.{LONGEST_LIST};
 ghost use Rattle.imports.specs.Fault.{IsSaid};
 ghost use Rattle.imports.specs.File.{each, rows_of, two_texts, three_texts};
 

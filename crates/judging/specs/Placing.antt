@@ -9,8 +9,12 @@ use Rattle.desk_types.specs.declared.answer.Refusal.{Refusal}
 use Rattle.desk_types.specs.declared.take.Pick.{Pick}
 use Rattle.desk_types.specs.declared.take.Purpose.TheVariants.{Placed}
 use Rattle.desk_types.specs.Id.{Name, same, by_name}
-use Rattle.desk_types.specs.Pieces.{pieces_picked, pick_for}
+use Rattle.desk_types.specs.History.{History}
+use Rattle.desk_types.specs.Setup.{slot_on}
+use Rattle.desk_types.specs.Tape.{tape_of}
+use Rattle.desk_types.specs.Pieces.{pieces_picked, pick_for, left_of, live_on}
 use Rattle.desk_types.specs.Refusals.{designator_refusal}
+use Rattle.desk_types.specs.Work.{is_placed_on}
 use Rattle.setup_sheets.specs.Names.{HasSeen}
 use Rattle.judging.specs.declared.placing.Feed.{Feed}
 use Rattle.judging.specs.declared.placing.Given.{Given}
@@ -64,17 +68,54 @@ IsFeeding live pieces reels picks feeds = (slot : Name) → IsFed pieces (live s
 abbrev pub IsOnePiece : Option Name → Pick → Type 0
 IsOnePiece reel p = (reel ≡ Some p.reel) × (p.quantity ≡ 1)
 
--- the piece as a pick for a designator
-abbrev pub pick_of : Name → Name → Name → Feeder → Pick
-pick_of machine board d piece = record { reel = piece.reel; quantity = 1; purpose = Placed board d machine piece.slot }
+-- where an install looks: a machine and a board, the slot of a designator, the tape of a slot, its live reels and those that the facts tell,
+-- the pieces of a reel, and whether a designator is placed on the board
+pub record Bench : Type 0 where
+  pub machine : Name
+  pub board : Name
+  pub slot_of : Name → Option Name
+  pub tape : Name → List Name
+  pub live : Name → List Name
+  pub reels : Name → List Name
+  pub pieces : Name → ℕ
+  pub placed : Name → Bool
 
--- what came of one designator, after these picks and these designators
-abbrev pub IsPlacing : (Name → Option Name) → (Name → List Name) → (Name → ℕ) → (Name → Bool) → (Name → List Name) → (Name → List Name) → Name → Name → List Pick → List Name
-    → Name → Result Feeder Refusal → BTreeMap Name Feed → BTreeSet Name → Type 0
-IsPlacing slot_of tape pieces placed live reels machine board picks before d (Ok piece) feeds seen =
-    (designator_refusal d (slot_of d) (list_any (same d) before) (placed d) (pick_for slot_of tape pieces machine board picks d) ≡ None)
-    × (pick_for slot_of tape pieces machine board picks d ≡ Some (pick_of machine board d piece))
-    × IsFeeding live pieces reels (picks ++ pick_of machine board d piece ∷ []) feeds
-    × HasSeen seen (before ++ d ∷ [])
-IsPlacing slot_of tape pieces placed live reels machine board picks before d (Err r) feeds seen =
-    designator_refusal d (slot_of d) (list_any (same d) before) (placed d) (pick_for slot_of tape pieces machine board picks d) ≡ Some r
+-- the bench after H, where the facts tell these reels of a machine's slots
+abbrev pub bench_of : (Name → Name → List Name) → History → Name → Name → Bench
+bench_of reels H machine board = record {
+  machine = machine;
+  board = board;
+  slot_of = slot_on H machine;
+  tape = tape_of H machine;
+  live = live_on H machine;
+  reels = reels machine;
+  pieces = left_of H;
+  placed = is_placed_on H board;
+}
+
+-- what an install has done before a designator
+pub record Before : Type 0 where
+  pub picks : List Pick
+  pub designators : List Name
+
+-- the pick for a designator
+abbrev pub next_pick : Bench → Before → Name → Option Pick
+next_pick bench before d = pick_for bench.slot_of bench.tape bench.pieces bench.machine bench.board before.picks d
+
+-- what is wrong with it
+abbrev pub next_refusal : Bench → Before → Name → Option Refusal
+next_refusal bench before d =
+    designator_refusal d (bench.slot_of d) (list_any (same d) before.designators) (bench.placed d) (next_pick bench before d)
+
+-- the piece as a pick for a designator
+abbrev pub pick_of : Bench → Name → Feeder → Pick
+pick_of bench d piece = record { reel = piece.reel; quantity = 1; purpose = Placed bench.board d bench.machine piece.slot }
+
+-- what came of one designator
+abbrev pub IsPlacing : Bench → Before → Name → Result Feeder Refusal → BTreeMap Name Feed → BTreeSet Name → Type 0
+IsPlacing bench before d (Ok piece) feeds seen =
+    (next_refusal bench before d ≡ None)
+    × (next_pick bench before d ≡ Some (pick_of bench d piece))
+    × IsFeeding bench.live bench.pieces bench.reels (before.picks ++ pick_of bench d piece ∷ []) feeds
+    × HasSeen seen (before.designators ++ d ∷ [])
+IsPlacing bench before d (Err r) feeds seen = next_refusal bench before d ≡ Some r

@@ -14,7 +14,7 @@ ghost use Rattle.desk_types.specs.Work.{is_placed_on};
 ghost use Rattle.setup_sheets.specs.Names.{HasSeen};
 ghost use Rattle.judging.specs.declared.placing.Feed.{Feed as Feeding};
 ghost use Rattle.judging.specs.Facts.{ArePlacedOn};
-ghost use Rattle.judging.specs.Placing.{IsPicked, IsPlacing, IsFeeding, IsOnePiece, feed_at, one_less, given_by, live_past};
+ghost use Rattle.judging.specs.Placing.{IsPicked, Before, IsPlacing, IsFeeding, IsOnePiece, bench_of, feed_at, one_less, given_by, live_past};
 
 use crate::facts::Facts;
 use desk_types::{Designator, Id, Listing, Pick, Purpose, Refusal};
@@ -188,10 +188,9 @@ fn place<F: Facts>(
 ) -> Result<Result<Feeder, Refusal>, AllocError>
     requires look_ups { (H : History) → F.Stands facts.now H → IsSome sheet → option_copied sheet ≡ sheet_on H machine.now }
     requires names { (H : History) → F.Stands facts.now H → IfSome placed (λ names. ArePlacedOn H board.now names.now) }
-    ensures { (H : History) (picks : List Picking) (before : List Name) → F.Stands facts.now H
-        → IsFeeding (live_on H machine.now) (left_of H) (F.reels_on facts.now machine.now) picks feeds.old → HasSeen seen.old before
-        → IfOk result (λ placing. IsPlacing (slot_on H machine.now) (tape_of H machine.now) (left_of H) (is_placed_on H board.now)
-        (live_on H machine.now) (F.reels_on facts.now machine.now) machine.now board.now picks before designator.now placing feeds.new seen.new) }
+    ensures { (H : History) (before : Before) → F.Stands facts.now H
+        → IsFeeding (live_on H machine.now) (left_of H) (F.reels_on facts.now machine.now) before.picks feeds.old → HasSeen seen.old before.designators
+        → IfOk result (λ placing. IsPlacing (bench_of (F.reels_on facts.now) H machine.now board.now) before designator.now placing feeds.new seen.new) }
 {
     let name = Id::from(*designator);
     let Some(slot) = slot_for(facts, sheet, machine, designator) else {

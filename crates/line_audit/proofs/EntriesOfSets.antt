@@ -8,16 +8,15 @@ use Rattle.std.proofs.lemmas.Map.Keys.{sorted_head, sorted_tail}
 use Rattle.state_rows.specs.Kept.{has_key, row_at, by_sheet_place, by_since, since_is, Lists, ListsKeys, ListsMounts}
 use Rattle.line_tables.specs.StateRows.{unit_if}
 use Rattle.std.specs.Ordering.{ordering_then}
-use Rattle.std.proofs.lemmas.Bool.{eqb-true}
+use Rattle.std.proofs.lemmas.Bool.{and_parts, eqb-true}
 use Rattle.std.proofs.lemmas.Cmp.{tied_itself, nat_cmp_total, nat_list_cmp_total}
 use Rattle.std.proofs.lemmas.List.Elements.{recursion_from_All}
 use Rattle.desk_types.specs.Id.{Name, same, by_name}
 use Rattle.desk_types.specs.Pair.{by_pair}
 use Rattle.desk_types.proofs.Keys.{same-true, is_at-by_name, is_at-by_pair}
-use Rattle.state_tables.specs.declared.row.MountRow.{MountRow}
+use Rattle.desk_types.specs.declared.row.MountRow.{MountRow}
 use Rattle.state_rows.proofs.RowLists.{is_at-by_sheet_place}
 use Rattle.line_audit.specs.Alone.{Listed, IsNew, AreApart, IsNamed}
-use Rattle.line_audit.proofs.Keys.{both}
 use Rattle.line_audit.proofs.SameRows.{some_same}
 
 less_equal : ◌≡◌ {A = Ordering} Less Equal → ⊥
@@ -96,15 +95,15 @@ pair_tied : (k : Name × Name) → by_pair k k ≡ Equal
 pair_tied k = ap₂ ordering_then (name_tied k.0) (name_tied k.1)
 
 pair_same : (k q : Name × Name) → is_at (by_pair k) q ≡ true → k ≡ q
-pair_same k q h = let p = both _ _ (sym (is_at-by_pair k q) ∙ h) in ap₂ (λ (a b : Name). (a, b)) (same-true k.0 q.0 p.0) (same-true k.1 q.1 p.1)
+pair_same k q h = let p = and_parts _ _ (sym (is_at-by_pair k q) ∙ h) in ap₂ (λ (a b : Name). (a, b)) (same-true k.0 q.0 p.0) (same-true k.1 q.1 p.1)
 
 sheet_tied : (k : Name × Name × ℕ) → by_sheet_place k k ≡ Equal
 sheet_tied k = ap₂ ordering_then (pair_tied (k.0, k.1)) (tied_itself nat_cmp_total k.2)
 
 sheet_same : (k q : Name × Name × ℕ) → is_at (by_sheet_place k) q ≡ true → k ≡ q
 sheet_same k q h =
-    let p = both _ _ (sym (is_at-by_sheet_place k q) ∙ h) in
-    let r = both _ _ p.0 in
+    let p = and_parts _ _ (sym (is_at-by_sheet_place k q) ∙ h) in
+    let r = and_parts _ _ p.0 in
     ap₂ (λ (a : Name) (b : Name × ℕ). (a, b.0, b.1)) (same-true k.0 q.0 r.0) (ap₂ (λ (a : Name) (n : ℕ). (a, n)) (same-true k.1 q.1 r.1) (eqb-true k.2 q.2 p.1))
 
 pub names_listed : {R : Type 0} (es : List (Name × R)) (f : Name → Option R) → Lists by_name es f → Listed es f

@@ -1,11 +1,9 @@
 pub mod EntriesOfSets
-pub mod Keys
 pub mod LookUpsByKey
 pub mod MatchedEntries
 pub mod Members
 pub mod PlacementsAsExpected
 pub mod PlacementsFound
 pub mod SameRows
-pub mod Spaced
 pub mod Texts
 pub mod Verdicts

@@ -1,37 +1,23 @@
 -- Whether the placements are the expected ones.
-use Rattle.std.proofs.Common.{◌≡◌, ◌∙◌, ◌&&◌, ◌==◌, ℕ, pos, Bool, true, false, is_eq, Some, Option, List, [], ◌∷◌, ◌++◌, length, refl, sym, ap, ap₂, subst}
+use Rattle.std.proofs.Common.{◌≡◌, ◌∙◌, ◌&&◌, ◌==◌, ℕ, Bool, true, false, Option, List, [], ◌∷◌, ◌++◌, length, refl, sym, ap, ap₂, subst}
 use Rattle.std.specs.List.{AllByRecursion}
-use Rattle.std.proofs.lemmas.Bool.{eqb-true, eq-eqb}
-use Rattle.std.proofs.lemmas.Cmp.{tied_itself}
+use Rattle.std.proofs.lemmas.Bool.{and_parts, eqb-true, eq-eqb}
 use Rattle.sqlite_keyed.proofs.ListLemmas.{all-append}
-use Rattle.sqlite.specs.declared.types.Value.TheVariants.{Int}
-use Rattle.sqlite_value.proofs.OrderLemmas.{value_cmp_total}
-use Rattle.sqlite_schema.specs.Rules.{equal}
-use Rattle.sqlite_sql.specs.Ops.{binary, is_true, from_truth}
-use Rattle.sqlite.specs.Collation.TheVariants.{Binary}
 use Rattle.sqlite.specs.Effect.{Database}
 use Rattle.sqlite.specs.State.{State, KeepsCommit}
-use Rattle.state_tables.specs.declared.row.PlacementRow.{PlacementRow}
+use Rattle.desk_types.specs.declared.row.PlacementRow.{PlacementRow}
 use Rattle.line_tables.specs.Line as line
 use Rattle.line_tables.specs.Line.{IsOurs}
 use Rattle.line_tables.specs.StateRows.{rows_in, has_piece, placement_columns}
+use Rattle.line_tables.proofs.Keyed.{one_piece, own_int}
 use Rattle.line_audit.specs.Alone.{Counts, Decides, AreAlone}
 use Rattle.line_audit.specs.Audit.{Pieces, AreByPiece, ArePlaced, HasPlacements, IsExpected}
 use Rattle.line_audit.proofs.SameRows.{same_rows}
-use Rattle.line_audit.proofs.Keys.{both, one_piece}
 use Rattle.line_audit.proofs.Members.{AreTrue, alone_by_count}
-
-pub truth_told : (b : Bool) → is_true (from_truth (Some b)) ≡ b
-truth_told true = refl
-truth_told false = refl
-
-equals_itself : (n : ℕ) → equal Binary (Int (pos n)) (Int (pos n)) ≡ true
-unfolding binary
-equals_itself n = truth_told _ ∙ ap is_eq (tied_itself value_cmp_total (Int (pos n)))
 
 -- a row has its own number and place
 pub piece_true : (p : PlacementRow) → has_piece (p.number, p.place) (placement_columns p) ≡ true
-piece_true p = ap₂ (λ a b. a && b) (equals_itself p.number) (equals_itself p.place)
+piece_true p = ap₂ (λ a b. a && b) (own_int p.number) (own_int p.place)
 
 pieces_true : (es : Pieces) → AreByPiece es → AreTrue has_piece (λ _ row. placement_columns row) one_piece es
 pieces_true [] h = tt
@@ -46,7 +32,7 @@ same_placements old all count n es f expected counted = record {
       let placed = expected.placed counted.was_open schema in
       let same = same_rows has_piece (λ _ row. placement_columns row) one_piece f es rows expected.listed in (
         λ is.
-            let p = both all (n == count) is in
+            let p = and_parts all (n == count) is in
             let as_many : length es ≡ length rows = expected.counted ∙ sym (eqb-true n count p.1) ∙ counted.are schema in
             same.0 (alone_by_count has_piece (λ _ row. placement_columns row) one_piece es expected.listed.distinct (pieces_true es expected.pieces) rows (placed.here p.0) as_many, as_many),
         λ are.
@@ -81,7 +67,7 @@ right P (x ∷ xs) ys h = right P xs ys h.1
 -- what was learnt of some entries and of others, told of all
 pub placed_both : (db : Database) (a b : Bool) (xs ys : Pieces) → ArePlaced db a xs → ArePlaced db b ys → ArePlaced db (a && b) (xs ++ ys)
 placed_both db a b xs ys x y = record {
-  here = λ is. let p = both a b is in all-append _ xs ys (x.here p.0) (y.here p.1);
+  here = λ is. let p = and_parts a b is in all-append _ xs ys (x.here p.0) (y.here p.1);
   missing = λ is alone. go a refl is alone;
 }
   where

@@ -1,49 +1,34 @@
 -- Placements that are looked up, and those that are shown.
-use Rattle.std.proofs.Common.{◌≡◌, ◌∙◌, ◌⊎◌, ◌&&◌, inl, inr, ℕ, ◌+◌, ◌<◌, IsTrue, Bool, true, false, is_eq, List, [], ◌∷◌, ◌++◌, codes, length, map, filter, take, get_or, if◌then◌else◌, refl, sym, ap, ap₂, subst, arith, true≢false}
-use Rattle.std.specs.List.{AllByRecursion, flat_map, list_all}
+use Rattle.std.proofs.Common.{◌≡◌, ◌∙◌, ◌⊎◌, ◌&&◌, inl, inr, ℕ, ◌+◌, ◌<◌, IsTrue, Bool, true, false, List, [], ◌∷◌, codes, length, map, filter, take, get_or, if◌then◌else◌, refl, sym, ap, ap₂, subst, arith, true≢false}
+use Rattle.std.specs.List.{AllByRecursion}
 use Rattle.std.specs.List.Sorted.{IsPermutation}
-use Rattle.std.proofs.lemmas.Cmp.{tied_itself}
 use Rattle.std.proofs.lemmas.List.Elements.{All-from_recursion, recursion_from_All}
 use Rattle.std.proofs.lemmas.List.Sorted.{All-permutation}
-use Rattle.sqlite_keyed.proofs.ListLemmas.{all_weaker}
 use Rattle.sqlite_rules.specs.Lists.{Has}
-use Rattle.sqlite.specs.declared.types.Value.TheVariants.{Text}
 use Rattle.sqlite_value.specs.Order.{Row}
-use Rattle.sqlite_value.proofs.OrderLemmas.{value_cmp_total}
-use Rattle.sqlite_schema.specs.Rules.{equal}
-use Rattle.sqlite_sql.specs.Ops.{binary}
 use Rattle.sqlite.specs.Collation.TheVariants.{Binary}
 use Rattle.sqlite_sql.specs.declared.ops.BinaryOp.TheVariants.{Compare}
 use Rattle.sqlite_sql.specs.declared.ops.CompareOp.TheVariants.{Ge, Lt}
-use Rattle.sqlite.specs.Term.{Term, col, op2, holds}
-use Rattle.sqlite.specs.Query.{Query, output, Output}
+use Rattle.sqlite.specs.Term.{Term, col, op2}
 use Rattle.sqlite.specs.Listing.{understood}
 use Rattle.sqlite_tied.specs.Compute.{everything}
 use Rattle.sqlite_trees.specs.declared.store.Store.{Ghosts}
 use Rattle.sqlite.specs.Effect.{Database}
 use Rattle.sqlite.specs.Held.{Held, state}
 use Rattle.sqlite.specs.Program.{overlay}
-use Rattle.state_tables.specs.declared.row.PlacementRow.{PlacementRow}
+use Rattle.desk_types.specs.declared.row.PlacementRow.{PlacementRow}
 use Rattle.line_tables.specs.Line as line
 use Rattle.line_tables.specs.Calls.{Selects, Reads}
 use Rattle.line_tables.specs.StateRows.{rows_in, columns, has_text, has_piece, placement_columns}
 use Rattle.line_tables.proofs.FindTexts.{IsSelect, rows_from}
 use Rattle.line_tables.proofs.Finds.{answer_of, rows_answer, shown_of}
+use Rattle.line_tables.proofs.Keyed.{own_text}
+use Rattle.line_tables.proofs.Between.{placement_places, shown-in}
 use Rattle.line_audit.specs.Alone.{AreAlone}
 use Rattle.line_audit.specs.Audit.{ArePlaced, piece_of}
 use Rattle.line_audit.specs.Placed.{has_placement, AreHere}
-use Rattle.line_audit.proofs.PlacementsAsExpected.{truth_told}
 
 -- ---- rows that a query shows are in its table
-
-shown_in : (q : Query) (params : Row) (columns : Row → Row) → ((r : Row) → (output q (params ∷ r ∷ [])).1 ≡ columns r) → (rows : List Row) → AllByRecursion (Has (map columns rows)) (shown_of q params rows)
-shown_in q params columns out [] = tt
-shown_in q params columns out (r ∷ rs) = go (list_all (holds (params ∷ r ∷ [])) q.filter) (all_weaker (Has (map columns rs)) (Has (map columns (r ∷ rs))) (λ x h. inr h) (shown_of q params rs) (shown_in q params columns out rs))
-  where
-    go : (b : Bool) → AllByRecursion (Has (map columns (r ∷ rs))) (shown_of q params rs)
-        → AllByRecursion (Has (map columns (r ∷ rs))) (map (λ (o : Output). o.1) (map (output q) ((if b then (params ∷ r ∷ []) ∷ [] else []) ++ flat_map (λ r. if list_all (holds (params ∷ r ∷ [])) q.filter then (params ∷ r ∷ []) ∷ [] else []) rs)))
-    go true more = (inl (out r), more)
-    go false more = more
 
 abbrev select_run : List ℕ
 select_run = codes "SELECT number, place, board, designator, machine, slot, reel, overdue FROM placement WHERE rowid >= ?1 AND rowid < ?2"
@@ -51,10 +36,7 @@ select_run = codes "SELECT number, place, board, designator, machine, slot, reel
 abbrev run_test : List Term
 run_test = op2 (Compare Ge Binary) (col 1 0) (col 0 0) ∷ op2 (Compare Lt Binary) (col 1 0) (col 0 1) ∷ []
 
-abbrev run_places : List Term
-run_places = col 1 1 ∷ col 1 2 ∷ col 1 3 ∷ col 1 4 ∷ col 1 5 ∷ col 1 6 ∷ col 1 7 ∷ col 1 8 ∷ []
-
-run_is : IsSelect select_run (rows_from 17 run_test run_places) (codes "number" ∷ codes "place" ∷ codes "board" ∷ codes "designator" ∷ codes "machine" ∷ codes "slot" ∷ codes "reel" ∷ codes "overdue" ∷ [])
+run_is : IsSelect select_run (rows_from 17 run_test placement_places) (codes "number" ∷ codes "place" ∷ codes "board" ∷ codes "designator" ∷ codes "machine" ∷ codes "slot" ∷ codes "reel" ∷ codes "overdue" ∷ [])
 unfolding understood everything
 run_is rules indexed = inl (refl, refl, (refl, refl))
 
@@ -67,19 +49,15 @@ pub run_here : {S : Type 0} (g : Ghosts S) (old : Held S) (params : Row) (shown 
 run_here g old params shown ps b h same = record {
   was_open = h.was_open;
   are = λ schema is.
-      let q = rows_from 17 run_test run_places in
+      let q = rows_from 17 run_test placement_places in
       let db = (state g old).committed in
-      let rows : IsPermutation (shown_of q params (db.trees 17)) shown = rows_answer 17 run_test run_places (overlay db.trees []) params shown (answer_of g select_run q _ run_is params old shown h schema) in
-      let inside = shown_in q params (columns line.placement) (λ r. refl) (db.trees 17) in
+      let rows : IsPermutation (shown_of q params (db.trees 17)) shown = rows_answer 17 run_test placement_places (overlay db.trees []) params shown (answer_of g select_run q _ run_is params old shown h schema) in
+      let inside = shown-in q params (columns line.placement) (λ r. refl) (db.trees 17) in
       let all = recursion_from_All (Has (rows_in line.placement db)) shown (All-permutation (Has (rows_in line.placement db)) _ shown rows (All-from_recursion _ _ inside)) in
       here_of db ps (subst (AllByRecursion (Has (rows_in line.placement db))) (same is) all);
 }
 
 -- ---- rows that are looked up
-
-text_itself : (t : List ℕ) → equal Binary (Text t) (Text t) ≡ true
-unfolding binary
-text_itself t = truth_told _ ∙ ap is_eq (tied_itself value_cmp_total (Text t))
 
 alone_in : (test : Row → Bool) (rows : List Row) (x : Row) → filter test rows ≡ x ∷ [] → Has rows x
 alone_in test [] x h = absurd (let n = ap length h in omega (arith, n))
@@ -116,8 +94,8 @@ module _ (first second : Row → Bool) where
 -- the one row of its number and its place is the one that is looked up
 pub looked_alone : (p : PlacementRow) (rows : List Row) → filter (has_piece (p.number, p.place)) rows ≡ placement_columns p ∷ [] → filter (has_placement p) rows ≡ placement_columns p ∷ []
 looked_alone p rows h =
-    alone_too (has_text 2 p.board) (λ row. has_text 3 p.designator row && has_piece (p.number, p.place) row) rows (placement_columns p) (text_itself p.board)
-    (alone_too (has_text 3 p.designator) (has_piece (p.number, p.place)) rows (placement_columns p) (text_itself p.designator) h)
+    alone_too (has_text 2 p.board) (λ row. has_text 3 p.designator row && has_piece (p.number, p.place) row) rows (placement_columns p) (own_text p.board)
+    (alone_too (has_text 3 p.designator) (has_piece (p.number, p.place)) rows (placement_columns p) (own_text p.designator) h)
 
 pub looked_here : (db : Database) (p : PlacementRow) → filter (has_placement p) (rows_in line.placement db) ≡ placement_columns p ∷ [] → Has (rows_in line.placement db) (placement_columns p)
 looked_here db p h = alone_in (has_placement p) (rows_in line.placement db) (placement_columns p) h

@@ -12,7 +12,7 @@ use Rattle.sqlite_value.specs.Order.{Row}
 use Rattle.sqlite_trees.specs.declared.store.Store.{Ghosts}
 use Rattle.sqlite.specs.Held.{Held, state}
 use Rattle.desk_types.specs.Id.{Name}
-use Rattle.state_tables.specs.declared.row.PlacementRow.{PlacementRow}
+use Rattle.desk_types.specs.declared.row.PlacementRow.{PlacementRow}
 use Rattle.line_tables.specs.Line as line
 use Rattle.line_tables.specs.Line.{tree_in}
 use Rattle.line_tables.specs.Calls.{Selects}
@@ -20,6 +20,7 @@ use Rattle.line_tables.specs.declared.reading.TheConstants.{MOST_COUNTED}
 use Rattle.line_tables.specs.StateRows.{columns, has_text, has_int, has_pair, has_sheet_place}
 use Rattle.line_tables.proofs.FindTexts.{IsSelect, IsSelectBy, rows_from, count_from}
 use Rattle.line_tables.proofs.Finds.{and_true}
+use Rattle.line_tables.proofs.Between.{placement_places}
 use Rattle.line_tables.proofs.Numbers.{finds_count}
 use Rattle.line_audit.specs.Alone.{ShowsOnly, FindsAlone, Counts}
 use Rattle.line_audit.specs.Placed.{has_placement}
@@ -144,9 +145,6 @@ select_placement = codes "SELECT number, place, board, designator, machine, slot
 
 abbrev placement_test : List Term
 placement_test = is_param 3 0 ∷ is_param 4 1 ∷ is_param 1 2 ∷ is_param 2 3 ∷ []
-
-abbrev placement_places : List Term
-placement_places = col 1 1 ∷ col 1 2 ∷ col 1 3 ∷ col 1 4 ∷ col 1 5 ∷ col 1 6 ∷ col 1 7 ∷ col 1 8 ∷ []
 
 placement_is : IsSelect select_placement (rows_from 17 placement_test placement_places) (codes "number" ∷ codes "place" ∷ codes "board" ∷ codes "designator" ∷ codes "machine" ∷ codes "slot" ∷ codes "reel" ∷ codes "overdue" ∷ [])
 unfolding understood everything

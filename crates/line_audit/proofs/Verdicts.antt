@@ -7,7 +7,7 @@ use Rattle.sqlite.specs.Effect.{Database}
 use Rattle.desk_types.specs.declared.rules.Rules.{Rules}
 use Rattle.desk_types.specs.declared.rules.Rules.TheVariants.{One, Two}
 use Rattle.desk_types.specs.Id.{Name}
-use Rattle.state_tables.specs.Tables.{Tables as StateTables}
+use Rattle.desk_types.specs.Tables.{Tables as StateTables}
 use Rattle.line_tables.specs.StateRows.{HoldsStateBy, HoldsFoundBy}
 use Rattle.line_audit.specs.Audit.{state_tables, found_table, HoldsTable}
 

@@ -1,6 +1,7 @@
 -- Rows that are looked up by their keys.
 use Rattle.std.specs.Prelude.{◌≡◌, ◌↔◌, ◌⊎◌, ◌+◌, ⊤, ℕ, length, Bool, true, IsTrue, Option, Some, List, [], ◌∷◌, map, filter}
 use Rattle.std.specs.List.{AllByRecursion}
+use Rattle.std.specs.Iterator.{AlwaysYields}
 use Rattle.sqlite_value.specs.declared.value.ValueRef.{ValueRef}
 use Rattle.sqlite_value.specs.Value.{owned}
 use Rattle.sqlite_value.specs.Order.{Row}
@@ -10,7 +11,7 @@ use Rattle.sqlite.specs.Held.{Held}
 use Rattle.sqlite.specs.State.{State}
 use Rattle.sqlite.specs.Effect.{Database}
 use Rattle.line_tables.specs.Calls.{Selects, Reads}
-use Rattle.line_tables.specs.StateRows.{rows_in}
+use Rattle.line_tables.specs.StateRows.{AreRows, rows_in}
 
 -- the values that are lent
 abbrev pub values_of : List ValueRef → Row
@@ -23,6 +24,10 @@ ShowsOnly g sql params old row b = (rows : List Row) × Selects g sql params old
 -- of what is committed, this is the one row that passes the test
 abbrev pub FindsAlone : Table → (Row → Bool) → Row → State → Bool → Type 0
 FindsAlone table has row old b = Reads old (λ db. IsTrue b ↔ (filter has (rows_in table db) ≡ row ∷ []))
+
+-- so is the row of this entry, a key and what is kept of it
+abbrev pub FindsEntry : {K R : Type 0} → Table → (K → Row → Bool) → (K → R → Row) → K × R → State → Bool → Type 0
+FindsEntry table has columns e = FindsAlone table (has e.0) (columns e.0 e.1)
 
 -- of what is committed, the table has so many rows
 abbrev pub Counts : Table → State → ℕ → Type 0
@@ -63,3 +68,8 @@ pub record Listed {K R : Type 0} (es : List (K × R)) (f : K → Option R) : Typ
 -- a row has at most one key
 abbrev pub HasOneKey : {K : Type 0} → (K → Row → Bool) → Type 0
 HasOneKey has = (k l : _) (row : Row) → has k row ≡ true → has l row ≡ true → k ≡ l
+
+-- whether the table has just the rows that the iterator yields, whatever map they list
+abbrev pub DecidesRows : {I A K R : Type 0} → (I → Option A → I → Type 0) → (A → K × R) → I → Table → (K → Row → Bool) → (K → R → Row) → State → Bool → Type 0
+DecidesRows {K = K} {R = R} steps entry from table has columns old b = (es : List (K × R)) → AlwaysYields steps entry from es → (f : K → Option R) → Listed es f → HasOneKey has
+    → Decides (λ db. AreRows has columns (rows_in table db) f) old b

@@ -4,7 +4,7 @@ use Rattle.std.specs.List.{AllByRecursion}
 use Rattle.sqlite_rules.specs.Lists.{Has}
 use Rattle.sqlite.specs.Effect.{Database}
 use Rattle.sqlite_value.specs.Order.{Row}
-use Rattle.state_tables.specs.declared.row.PlacementRow.{PlacementRow}
+use Rattle.desk_types.specs.declared.row.PlacementRow.{PlacementRow}
 use Rattle.line_tables.specs.Line as line
 use Rattle.line_tables.specs.StateRows.{has_text, has_piece, rows_in, placement_columns}
 

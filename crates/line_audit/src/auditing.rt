@@ -3,7 +3,7 @@
 ghost use Rattle.std.specs.Prelude.{◌≡◌, ◌<◌, ℕ, Option, false, IfOk, length};
 ghost use Rattle.sqlite.specs.State.{HasCleanDisk, Survives, KeepsCommit};
 ghost use Rattle.sqlite.specs.Held.{state};
-ghost use Rattle.state_tables.specs.declared.row.PlacementRow.{PlacementRow as PlacedRow};
+ghost use Rattle.desk_types.specs.declared.row.PlacementRow.{PlacementRow};
 ghost use Rattle.state_rows.specs.Kept.{tables_in};
 ghost use Rattle.line_tables.specs.Calls.{Reads};
 ghost use Rattle.line_audit.specs.Alone.{Decides};
@@ -48,7 +48,7 @@ pub fn audit<S: Alter>(
     rows: &RowSet,
     placed: Placed,
 ) -> Result<Option<StateTable>, Error>
-    ensures verdict { HasCleanDisk (state S.Store conn.new) → IfOk result (λ verdict. (f : ℕ × ℕ → Option PlacedRow) → (es : Pieces) → IsExpected (state S.Store conn.old) placed.all placed.count es f → Reads (state S.Store conn.old) (λ db. IsVerdict (state_tables rules) db (with_placements f (tables_in rows.now)) verdict)) }
+    ensures verdict { HasCleanDisk (state S.Store conn.new) → IfOk result (λ verdict. (f : ℕ × ℕ → Option PlacementRow) → (es : Pieces) → IsExpected (state S.Store conn.old) placed.all placed.count es f → Reads (state S.Store conn.old) (λ db. IsVerdict (state_tables rules) db (with_placements f (tables_in rows.now)) verdict)) }
     ensures kept { HasCleanDisk (state S.Store conn.new) → KeepsCommit (state S.Store conn.old) (state S.Store conn.new) }
     ensures mode { conn.old.in_transaction ≡ false → conn.new.in_transaction ≡ false }
     ensures survives { Survives (state S.Store conn.old) (state S.Store conn.new) (λ _. ⊥) }
@@ -68,7 +68,7 @@ fn audit_tables<S: Alter>(
     tables: &[StateTable],
 ) -> Result<Option<StateTable>, Error>
     requires some { 0 < length tables.now }
-    ensures verdict { HasCleanDisk (state S.Store conn.new) → IfOk result (λ verdict. (f : ℕ × ℕ → Option PlacedRow) → (es : Pieces) → IsExpected (state S.Store conn.old) placed.all placed.count es f → Reads (state S.Store conn.old) (λ db. IsVerdict tables.now db (with_placements f (tables_in rows.now)) verdict)) }
+    ensures verdict { HasCleanDisk (state S.Store conn.new) → IfOk result (λ verdict. (f : ℕ × ℕ → Option PlacementRow) → (es : Pieces) → IsExpected (state S.Store conn.old) placed.all placed.count es f → Reads (state S.Store conn.old) (λ db. IsVerdict tables.now db (with_placements f (tables_in rows.now)) verdict)) }
     ensures kept { HasCleanDisk (state S.Store conn.new) → KeepsCommit (state S.Store conn.old) (state S.Store conn.new) }
     ensures mode { conn.old.in_transaction ≡ false → conn.new.in_transaction ≡ false }
     ensures survives { Survives (state S.Store conn.old) (state S.Store conn.new) (λ _. ⊥) }
@@ -89,7 +89,7 @@ fn is_same<S: Alter>(
     placed: Placed,
     table: StateTable,
 ) -> Result<bool, Error>
-    ensures same { HasCleanDisk (state S.Store conn.new) → IfOk result (λ b. (f : ℕ × ℕ → Option PlacedRow) → (es : Pieces) → IsExpected (state S.Store conn.old) placed.all placed.count es f → Decides (λ db. HoldsTable db (with_placements f (tables_in rows.now)) table) (state S.Store conn.old) b) }
+    ensures same { HasCleanDisk (state S.Store conn.new) → IfOk result (λ b. (f : ℕ × ℕ → Option PlacementRow) → (es : Pieces) → IsExpected (state S.Store conn.old) placed.all placed.count es f → Decides (λ db. HoldsTable db (with_placements f (tables_in rows.now)) table) (state S.Store conn.old) b) }
     ensures kept { HasCleanDisk (state S.Store conn.new) → KeepsCommit (state S.Store conn.old) (state S.Store conn.new) }
     ensures mode { conn.old.in_transaction ≡ false → conn.new.in_transaction ≡ false }
     ensures survives { Survives (state S.Store conn.old) (state S.Store conn.new) (λ _. ⊥) }
@@ -109,7 +109,7 @@ fn is_same<S: Alter>(
 
 /// Whether `placement` has the expected rows: each was found, and there are so many.
 fn are_placements<S: Alter>(conn: &mut Connection<S>, placed: Placed) -> Result<bool, Error>
-    ensures same { HasCleanDisk (state S.Store conn.new) → IfOk result (λ b. (f : ℕ × ℕ → Option PlacedRow) → (es : Pieces) → IsExpected (state S.Store conn.old) placed.all placed.count es f → Decides (λ db. HasPlacements db f) (state S.Store conn.old) b) }
+    ensures same { HasCleanDisk (state S.Store conn.new) → IfOk result (λ b. (f : ℕ × ℕ → Option PlacementRow) → (es : Pieces) → IsExpected (state S.Store conn.old) placed.all placed.count es f → Decides (λ db. HasPlacements db f) (state S.Store conn.old) b) }
     ensures kept { HasCleanDisk (state S.Store conn.new) → KeepsCommit (state S.Store conn.old) (state S.Store conn.new) }
     ensures mode { conn.old.in_transaction ≡ false → conn.new.in_transaction ≡ false }
     ensures survives { Survives (state S.Store conn.old) (state S.Store conn.new) (λ _. ⊥) }

@@ -1,15 +1,15 @@
 //! The tables `reel`, `mount` and `board`.
 
-use crate::entry::Entry;
+use crate::expected::ExpectedRow;
 use crate::shown::shows_only;
-use crate::values::{level, number, since, text, text_or_empty, yes_or_no};
-use desk_types::Id;
+use crate::values::{level, text, text_or_empty, yes_or_no};
+use desk_types::{BoardRow, Id, MountRow, ReelRow};
+use line_tables::values::{int, since};
 use sqlite::{Alter, Connection, Error};
-use state_tables::{BoardRow, MountRow, ReelRow};
 use std::alloc::Global;
 
 /// A reel.
-impl<'a> Entry for (&'a Id, &'a ReelRow) {
+impl<'a> ExpectedRow for (&'a Id, &'a ReelRow) {
     ghost use Rattle.line_tables.specs.StateRows.{has_text, reel_columns};
     ghost use Rattle.line_audit.specs.declared.table.StateTable.TheVariants.{Reel};
 
@@ -36,13 +36,13 @@ impl<'a> Entry for (&'a Id, &'a ReelRow) {
                 text(&row.part),
                 text(&row.lot),
                 level(row.level),
-                number(row.label)?,
-                number(row.received)?,
-                number(row.placed)?,
-                number(row.scrapped)?,
-                number(row.remaining)?,
-                number(row.used)?,
-                since(row.open_since)?,
+                int(row.label)?,
+                int(row.received)?,
+                int(row.placed)?,
+                int(row.scrapped)?,
+                int(row.remaining)?,
+                int(row.used)?,
+                since(row.open_since),
                 yes_or_no(row.baked),
             ],
         )
@@ -50,7 +50,7 @@ impl<'a> Entry for (&'a Id, &'a ReelRow) {
 }
 
 /// A mounted reel. The set has it by its number too.
-impl<'a> Entry for (&'a (u64, Id), &'a MountRow) {
+impl<'a> ExpectedRow for (&'a (u64, Id), &'a MountRow) {
     ghost use Rattle.line_tables.specs.StateRows.{has_text, mount_columns};
     ghost use Rattle.line_audit.specs.declared.table.StateTable.TheVariants.{Mount};
 
@@ -73,7 +73,7 @@ impl<'a> Entry for (&'a (u64, Id), &'a MountRow) {
             "SELECT since, machine, slot, reel FROM mount WHERE reel = ?1",
             &[text(&at.1)],
             &[
-                number(row.since)?,
+                int(row.since)?,
                 text(&row.machine),
                 text(&row.slot),
                 text(&row.reel),
@@ -83,7 +83,7 @@ impl<'a> Entry for (&'a (u64, Id), &'a MountRow) {
 }
 
 /// A board.
-impl<'a> Entry for (&'a Id, &'a BoardRow) {
+impl<'a> ExpectedRow for (&'a Id, &'a BoardRow) {
     ghost use Rattle.line_tables.specs.StateRows.{board_columns, has_text};
     ghost use Rattle.line_audit.specs.declared.table.StateTable.TheVariants.{Board};
 

@@ -3,7 +3,7 @@
 
 mod auditing;
 mod compared;
-mod entry;
+mod expected;
 mod floor;
 mod pieces;
 mod placed;

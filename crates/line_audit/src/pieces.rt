@@ -1,14 +1,15 @@
 //! The table `found`.
 
-use crate::entry::Entry;
+use crate::expected::ExpectedRow;
 use crate::shown::shows_only;
-use crate::values::{number, text};
+use crate::values::text;
 use desk_types::Id;
+use line_tables::values::int;
 use sqlite::{Alter, Connection, Error};
 use std::alloc::Global;
 
 /// A reel, with the pieces that counts found on it.
-impl<'a> Entry for (&'a Id, &'a u64) {
+impl<'a> ExpectedRow for (&'a Id, &'a u64) {
     ghost use Rattle.std.specs.Prelude.{ℕ};
     ghost use Rattle.line_tables.specs.StateRows.{found_columns, has_text};
     ghost use Rattle.line_audit.specs.declared.table.StateTable.TheVariants.{Found};
@@ -31,7 +32,7 @@ impl<'a> Entry for (&'a Id, &'a u64) {
             conn,
             "SELECT reel, pieces FROM found WHERE reel = ?1",
             &[text(reel)],
-            &[text(reel), number(*pieces)?],
+            &[text(reel), int(*pieces)?],
         )
     }
 }

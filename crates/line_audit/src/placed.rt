@@ -9,9 +9,10 @@ ghost use Rattle.line_audit.specs.Alone.{FindsAlone};
 ghost use Rattle.line_audit.specs.Placed.{has_placement};
 
 use crate::shown::shows_only;
-use crate::values::{designator, number, text, yes_or_no};
+use crate::values::{designator, text, yes_or_no};
+use desk_types::PlacementRow;
+use line_tables::values::int;
 use sqlite::{Alter, Connection, Error};
-use state_tables::PlacementRow;
 
 /// Whether the row is the one of its board, its designator, its number and its place. It is looked up
 /// by the index on board and designator.
@@ -27,12 +28,12 @@ pub fn has_placement<S: Alter>(conn: &mut Connection<S>, row: &PlacementRow) -> 
         &[
             text(&row.board),
             designator(&row.designator),
-            number(row.number)?,
-            number(row.place)?,
+            int(row.number)?,
+            int(row.place)?,
         ],
         &[
-            number(row.number)?,
-            number(row.place)?,
+            int(row.number)?,
+            int(row.place)?,
             text(&row.board),
             designator(&row.designator),
             text(&row.machine),

@@ -9,10 +9,11 @@ ghost use Rattle.line_audit.specs.Audit.{ArePlaced, piece_of};
 ghost use Rattle.line_audit.specs.Placed.{AreHere};
 
 use crate::placed::has_placement;
-use crate::values::{designator, is_row, number, text, yes_or_no};
+use crate::values::{designator, is_row, text, yes_or_no};
+use desk_types::PlacementRow;
 use line_tables::select::select;
+use line_tables::values::int;
 use sqlite::{Alter, Connection, Error, Row};
-use state_tables::PlacementRow;
 
 /// Whether each of the rows, all of this number, is in the table. In a file of ours their rowids go by
 /// number and place, so one query shows them; in any other each is looked up.
@@ -48,7 +49,7 @@ fn are_in_a_row<S: Alter>(
     let shown = select(
         conn,
         "SELECT number, place, board, designator, machine, slot, reel, overdue FROM placement WHERE rowid >= ?1 AND rowid < ?2",
-        &[number(first)?, number(first.saturating_add(65_536))?],
+        &[int(first)?, int(first.saturating_add(65_536))?],
     )?;
     are_rows(shown.as_slice(), rows)
 }
@@ -73,8 +74,8 @@ fn is_placement(shown: &Row, row: &PlacementRow) -> Result<bool, Error>
     Ok(is_row(
         shown,
         &[
-            number(row.number)?,
-            number(row.place)?,
+            int(row.number)?,
+            int(row.place)?,
             text(&row.board),
             designator(&row.designator),
             text(&row.machine),

@@ -1,6 +1,6 @@
 //! The tables `part`, `alternate` and `selected`.
 
-use crate::entry::Entry;
+use crate::expected::ExpectedRow;
 use crate::shown::shows_only;
 use crate::values::text;
 use desk_types::Id;
@@ -8,7 +8,7 @@ use sqlite::{Alter, Connection, Error};
 use std::alloc::Global;
 
 /// A part.
-impl<'a> Entry for &'a Id {
+impl<'a> ExpectedRow for &'a Id {
     ghost use Rattle.line_tables.specs.StateRows.{has_text, part_columns};
     ghost use Rattle.line_audit.specs.declared.table.StateTable.TheVariants.{Part};
 
@@ -35,7 +35,7 @@ impl<'a> Entry for &'a Id {
 }
 
 /// A part, and one that may stand in its place.
-impl<'a> Entry for &'a (Id, Id) {
+impl<'a> ExpectedRow for &'a (Id, Id) {
     ghost use Rattle.line_tables.specs.StateRows.{alternate_columns, has_pair};
     ghost use Rattle.line_audit.specs.declared.table.StateTable.TheVariants.{Alternate};
 
@@ -63,7 +63,7 @@ impl<'a> Entry for &'a (Id, Id) {
 }
 
 /// A machine, with its selected product.
-impl<'a> Entry for (&'a Id, &'a Id) {
+impl<'a> ExpectedRow for (&'a Id, &'a Id) {
     ghost use Rattle.line_tables.specs.StateRows.{has_text, selected_columns};
     ghost use Rattle.line_audit.specs.declared.table.StateTable.TheVariants.{Selected};
 

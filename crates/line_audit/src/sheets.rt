@@ -1,18 +1,16 @@
 //! The table `sheet_row`.
 
-ghost use Rattle.std.specs.Prelude.{◌≡◌, ◌∷◌, ◌++◌, IfOk, OnOk};
-ghost use Rattle.std.specs.List.{flat_map, join_with_byte};
-
-use crate::entry::Entry;
+use crate::expected::ExpectedRow;
 use crate::shown::shows_only;
-use crate::values::{number, text};
-use desk_types::{Designator, Id, SheetRow};
+use crate::values::text;
+use desk_types::{Id, SheetRow};
+use line_tables::values::{designators_text, int};
 use sqlite::types::ValueRef;
 use sqlite::{Alter, Connection, Error};
-use std::alloc::{AllocError, Global};
+use std::alloc::Global;
 
 /// A row of a sheet, with its product, its machine and its place from 1.
-impl<'a> Entry for (&'a (Id, Id, u64), &'a SheetRow) {
+impl<'a> ExpectedRow for (&'a (Id, Id, u64), &'a SheetRow) {
     ghost use Rattle.line_tables.specs.StateRows.{has_sheet_place, sheet_columns};
     ghost use Rattle.line_audit.specs.declared.table.StateTable.TheVariants.{SheetRow as SheetRows};
 
@@ -34,39 +32,15 @@ impl<'a> Entry for (&'a (Id, Id, u64), &'a SheetRow) {
         shows_only(
             conn,
             "SELECT product, machine, place, slot, part, designators FROM sheet_row WHERE product = ?1 AND machine = ?2 AND place = ?3",
-            &[text(&at.0), text(&at.1), number(at.2)?],
+            &[text(&at.0), text(&at.1), int(at.2)?],
             &[
                 text(&at.0),
                 text(&at.1),
-                number(at.2)?,
+                int(at.2)?,
                 text(&row.slot),
                 text(&row.part),
                 ValueRef::Text(designators.as_slice()),
             ],
         )
     }
-}
-
-/// The designators with one space between each two.
-fn designators_text(alloc: Global, designators: &[Designator]) -> Result<Vec<u8>, AllocError>
-    ensures { IfOk result (λ bytes. bytes.items ≡ join_with_byte 0x20 designators.now) }
-{
-    let mut bytes = Vec::new(alloc);
-    let [first, others @ ..] = designators else {
-        return Ok(bytes);
-    };
-    bytes.extend_from_slice(first.as_bytes())?;
-    add_spaced(&mut bytes, others)?;
-    Ok(bytes)
-}
-
-/// Adds each designator with a space before it.
-fn add_spaced(bytes: &mut Vec<u8>, designators: &[Designator]) -> Result<(), AllocError>
-    ensures { OnOk result (bytes.new.items ≡ bytes.old.items ++ flat_map (λ d. 0x20 ∷ d) designators.now) }
-{
-    for designator in designators {
-        bytes.push(b' ')?;
-        bytes.extend_from_slice(designator.as_bytes())?;
-    }
-    Ok(())
 }

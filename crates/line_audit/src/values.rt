@@ -1,15 +1,16 @@
 //! Values of rows, as they are bound and compared.
 
-ghost use Rattle.std.specs.Prelude.{◌≡◌, ◌↔◌, [], pos, IsTrue, IfOk, unwrap_or};
+ghost use Rattle.std.specs.Prelude.{◌≡◌, ◌↔◌, [], IsTrue, unwrap_or};
 ghost use Rattle.sqlite.specs.declared.types.Value.TheVariants.{Int, Text};
 ghost use Rattle.sqlite_value.specs.Value.{owned};
 ghost use Rattle.desk_types.specs.Level.{text_of};
-ghost use Rattle.line_tables.specs.StateRows.{flag, since_or_none};
+ghost use Rattle.line_tables.specs.StateRows.{flag};
 ghost use Rattle.line_audit.specs.Alone.{values_of};
 
-use desk_types::{Designator, Id, Level, Minute};
+use desk_types::{Designator, Id, Level};
+use line_tables::values::or_empty;
+use sqlite::Row;
 use sqlite::types::ValueRef;
-use sqlite::{Error, Row};
 use sqlite_value::order::is_same;
 
 /// A name as text.
@@ -23,10 +24,7 @@ pub fn text(id: &Id) -> ValueRef<'_>
 pub fn text_or_empty(id: &Option<Id>) -> ValueRef<'_>
     ensures { owned result ≡ Text (unwrap_or id.now []) }
 {
-    match id {
-        Some(id) => text(id),
-        None => ValueRef::Text(&[]),
-    }
+    ValueRef::Text(or_empty(id).as_bytes())
 }
 
 /// A designator as text.
@@ -43,31 +41,11 @@ pub fn level(level: Level) -> ValueRef<'static>
     ValueRef::Text(level.as_str().as_bytes())
 }
 
-/// A number, where an integer of SQL can be so great.
-pub fn number(n: u64) -> Result<ValueRef<'static>, Error>
-    ensures { IfOk result (λ v. owned v ≡ Int (pos n)) }
-{
-    match i64::try_from(n) {
-        Ok(n) => Ok(ValueRef::Int(n)),
-        Err(_) => Err(Error::IntegralValueOutOfRange(0)),
-    }
-}
-
 /// Yes or no as 1 or 0.
 pub fn yes_or_no(b: bool) -> ValueRef<'static>
     ensures { owned result ≡ Int (flag b) }
 {
     ValueRef::Int(i64::from(b))
-}
-
-/// The minute since which a reel is out of its bag, or -1.
-pub fn since(minute: Option<Minute>) -> Result<ValueRef<'static>, Error>
-    ensures { IfOk result (λ v. owned v ≡ Int (since_or_none minute)) }
-{
-    match minute {
-        Some(minute) => number(minute.get()),
-        None => Ok(ValueRef::Int(-1)),
-    }
 }
 
 /// Whether the row has just these values.

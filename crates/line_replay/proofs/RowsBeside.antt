@@ -11,11 +11,11 @@ use Rattle.desk_types.specs.declared.command.Entry.{Entry}
 use Rattle.desk_types.specs.History.{History}
 use Rattle.desk_types.specs.Placements.{takes_of}
 use Rattle.desk_types.proofs.LoopSteps.{take-next}
-use Rattle.state_tables.specs.declared.edit.RowEdit.{RowEdit}
-use Rattle.state_tables.specs.declared.edit.RowEdit.TheVariants.{TakeSheetRow, TakeMount, PutPart, PutAlternate, PutSheetRow, PutSelected, PutReel, PutMount, PutBoard, PutPlacement, PutFound}
-use Rattle.state_tables.specs.declared.row.PlacementRow.{PlacementRow}
-use Rattle.state_tables.specs.Tables.{Tables, tables_of as state_of, placement_row}
-use Rattle.state_tables.specs.Edits.{with_edit, with_edits, IsNew, AreNew}
+use Rattle.desk_types.specs.declared.edit.RowEdit.{RowEdit}
+use Rattle.desk_types.specs.declared.edit.RowEdit.TheVariants.{TakeSheetRow, TakeMount, PutPart, PutAlternate, PutSheetRow, PutSelected, PutReel, PutMount, PutBoard, PutPlacement, PutFound}
+use Rattle.desk_types.specs.declared.row.PlacementRow.{PlacementRow}
+use Rattle.desk_types.specs.Tables.{Tables, tables_of as state_of, placement_row}
+use Rattle.desk_types.specs.Edits.{with_edit, with_edits, IsNew, AreNew}
 use Rattle.state_rows.specs.Kept.{but_placements}
 use Rattle.line_tables.specs.Line.{IsOurs}
 use Rattle.line_tables.specs.Line as line

@@ -4,11 +4,11 @@ use Rattle.std.specs.List.{filter_map}
 use Rattle.sqlite.specs.Effect.{Database}
 use Rattle.sqlite.specs.State.{State}
 use Rattle.desk_types.specs.History.{History}
-use Rattle.state_tables.specs.declared.edit.RowEdit.{RowEdit}
-use Rattle.state_tables.specs.declared.edit.RowEdit.TheVariants.{PutPlacement}
-use Rattle.state_tables.specs.declared.row.PlacementRow.{PlacementRow}
-use Rattle.state_tables.specs.Tables.{tables_of as state_of, placement_row}
-use Rattle.state_tables.specs.Edits.{with_edits}
+use Rattle.desk_types.specs.declared.edit.RowEdit.{RowEdit}
+use Rattle.desk_types.specs.declared.edit.RowEdit.TheVariants.{PutPlacement}
+use Rattle.desk_types.specs.declared.row.PlacementRow.{PlacementRow}
+use Rattle.desk_types.specs.Tables.{tables_of as state_of, placement_row}
+use Rattle.desk_types.specs.Edits.{with_edits}
 use Rattle.state_rows.specs.Kept.{tables_in, but_placements}
 use Rattle.line_tables.specs.Line.{IsOurs}
 use Rattle.line_tables.specs.Calls.{Reads}

@@ -17,7 +17,7 @@ use Rattle.line_replay.specs.Listed.{IsAt, AreAt, StopsAt, AreRowsOf}
 use Rattle.line_replay.specs.declared.beside.Beside.{Beside}
 use Rattle.line_replay.specs.Beside.{IsBeside, Adds}
 use Rattle.line_rows.specs.Judging.{GoesOn, Lead}
-use Rattle.state_tables.specs.declared.edit.RowEdit.{RowEdit}
+use Rattle.desk_types.specs.declared.edit.RowEdit.{RowEdit}
 use Rattle.trace_lists.specs.declared.lists.TraceLists.{TraceLists}
 use Rattle.trace_lists.specs.Lists.{IsListed}
 

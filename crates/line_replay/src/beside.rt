@@ -8,10 +8,10 @@ ghost use Rattle.line_replay.specs.declared.fault.ReplayFault.TheVariants.{Unava
 ghost use Rattle.line_replay.specs.Beside.{IsBeside, Adds, HoldsAsRead, ArePlacedToo, placement_by, placements_by};
 
 use crate::fault::ReplayFault;
+use desk_types::{PlacementRow, RowEdit};
 use line_audit::{Placed, has_placements};
 use sqlite::{Alter, Connection};
 use state_rows::RowSet;
-use state_tables::{PlacementRow, RowEdit};
 use std::alloc::{AllocError, Global};
 
 /// The rows of the state tables that a list makes. Placements are not kept: each entry's are looked

@@ -6,7 +6,7 @@ ghost use Rattle.sqlite.specs.State.{HasCleanDisk, Survives, KeepsCommit};
 ghost use Rattle.sqlite.specs.Effect.{Database};
 ghost use Rattle.sqlite.specs.Held.{state};
 ghost use Rattle.desk_types.specs.declared.command.Entry.{Entry};
-ghost use Rattle.desk_types.specs.declared.desk.TheConstants.{MOST_ENTRIES};
+ghost use Rattle.desk_types.specs.declared.limits.TheConstants.{MOST_ENTRIES};
 ghost use Rattle.desk_types.specs.declared.rules.Rules.{Rules};
 ghost use Rattle.desk_types.specs.Desk.{HasRoom};
 ghost use Rattle.desk_types.specs.History.{History};
@@ -20,11 +20,10 @@ ghost use Rattle.trace_lists.specs.Lists.{IsListed};
 
 use crate::beside::Beside;
 use crate::fault::ReplayFault;
-use desk_types::Desk;
+use desk_types::{Desk, RowEdits};
 use line_rows::{RowFault, Taken, accept_row};
 use line_tables::{count, is_repeat, least_number, row_at};
 use sqlite::{Alter, Connection, Row};
-use state_tables::RowEdits;
 use std::alloc::Global;
 use trace_lists::TraceLists;
 

@@ -10,9 +10,9 @@ use Rattle.line_tables.specs.declared.edit.Accepted.{Accepted}
 use Rattle.line_tables.specs.declared.edit.Edit.{Edit}
 use Rattle.line_tables.specs.declared.edit.Edit.TheVariants.{PutAccepted, EditRow}
 use Rattle.line_tables.specs.Rows.{Tables, after_edits, AreNew, columns_of}
-use Rattle.state_tables.specs.declared.edit.RowEdit.{RowEdit}
-use Rattle.state_tables.specs.Tables.{Tables as StateTables, tables_of as state_of}
-use Rattle.state_tables.specs.Edits.{with_edit, with_edits, AreNew as AreNewRows}
+use Rattle.desk_types.specs.declared.edit.RowEdit.{RowEdit}
+use Rattle.desk_types.specs.Tables.{Tables as StateTables, tables_of as state_of}
+use Rattle.desk_types.specs.Edits.{with_edit, with_edits, AreNew as AreNewRows}
 use Rattle.line_rows.specs.Rows.{columns, rows_of, ledger_tables}
 use Rattle.line_rows.proofs.Judgements.{row_is}
 

@@ -8,9 +8,9 @@ use Rattle.desk_types.specs.declared.rules.Rules.{Rules}
 use Rattle.desk_types.specs.History.{History}
 use Rattle.desk_types.specs.Judged.{IsNext}
 use Rattle.stored_texts.specs.StoredText.{stored_text}
-use Rattle.state_tables.specs.declared.edit.RowEdit.{RowEdit}
-use Rattle.state_tables.specs.Tables.{tables_of as state_of}
-use Rattle.state_tables.specs.Edits.{with_edits, AreNew}
+use Rattle.desk_types.specs.declared.edit.RowEdit.{RowEdit}
+use Rattle.desk_types.specs.Tables.{tables_of as state_of}
+use Rattle.desk_types.specs.Edits.{with_edits, AreNew}
 use Rattle.line_rows.specs.Rows.{entry_row}
 
 -- the row has seven columns, and keeps this message

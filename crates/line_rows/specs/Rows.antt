@@ -8,7 +8,7 @@ use Rattle.desk_types.specs.History.{History}
 use Rattle.stored_texts.specs.StoredText.{stored_text}
 use Rattle.desk_answers.specs.Commands.{first_text}
 use Rattle.line_tables.specs.Rows.{Tables}
-use Rattle.state_tables.specs.Tables.{tables_of as state_of}
+use Rattle.desk_types.specs.Tables.{tables_of as state_of}
 
 -- the columns of a message: its number, the message with its command's stored text, the minute at which it takes effect, and the text of its answer
 abbrev pub columns : ℕ → Stamped → ℕ → List ℕ → Row

@@ -12,10 +12,9 @@ ghost use Rattle.line_rows.specs.Rows.{ledger_tables};
 use crate::fault::NoRow;
 use crate::kept::row_of;
 use desk_answers::accepted_text;
-use desk_types::{Change, Desk, Text};
+use desk_types::{Change, Desk, RowEdits, Text};
 use line_tables::{Accepted, Edit};
 use state_rows::rows_of;
-use state_tables::RowEdits;
 use std::alloc::{AllocError, Global};
 
 /// The text of an answer, and the edits of the tables that are committed before it goes out.

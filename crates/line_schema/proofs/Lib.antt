@@ -1,4 +1,6 @@
 pub mod ListsAfter
 pub mod Lookup
+pub mod ReadOfCommitted
 pub mod StandsAfter
 pub mod TracesOfLists
+pub mod Versions

@@ -23,7 +23,7 @@ use Rattle.desk_types.specs.Judged.{IsJudged, IsLawful}
 use Rattle.desk_types.specs.declared.answer.Reply.TheVariants.{Accepted, Refused}
 use Rattle.desk_types.specs.Outcome.{after_command, reply_to, change_of}
 use Rattle.std.specs.Option.{option_map_or}
-use Rattle.consistency.proofs.Judged.{consistent}
+use Rattle.desk_laws.proofs.JudgedLists.{consistent}
 use Rattle.desk_answers.specs.declared.answer.Answer.{Answer}
 use Rattle.desk_answers.specs.Commands.{earlier_answer, judged_answer}
 use Rattle.desk_answers.proofs.FirstTime.{first-uid}

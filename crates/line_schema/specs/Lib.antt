@@ -1,4 +1,4 @@
+pub mod Opening
 pub mod Stands
-pub use Rattle.line_opening.specs.Opening
 pub mod Traces
-pub use Rattle.line_opening.specs.Versions
+pub mod Versions

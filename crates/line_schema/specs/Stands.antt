@@ -5,13 +5,13 @@ use Rattle.sqlite_trees.specs.Tree.{Trees}
 use Rattle.sqlite.specs.State.{State, HasCleanDisk}
 use Rattle.sqlite.specs.Held.{Held, state}
 use Rattle.desk_types.specs.declared.command.Stamped.{Stamped}
-use Rattle.desk_types.specs.declared.desk.TheConstants.{MOST_ENTRIES}
+use Rattle.desk_types.specs.declared.limits.TheConstants.{MOST_ENTRIES}
 use Rattle.desk_types.specs.declared.rules.Rules.{Rules}
 use Rattle.desk_types.specs.declared.rules.Rules.TheVariants.{Two}
 use Rattle.desk_types.specs.History.{History, accept}
 use Rattle.desk_types.specs.Judged.{IsJudged, IsLawful}
 use Rattle.desk_types.specs.Refusals.{refusal_of}
-use Rattle.consistency.specs.Consistent.{IsConsistent}
+use Rattle.desk_laws.specs.Consistent.{IsConsistent}
 use Rattle.desk_answers.specs.declared.answer.Answer.{Answer}
 use Rattle.desk_answers.specs.declared.answer.Answer.TheVariants.{Accepted, Unavailable}
 use Rattle.desk_answers.specs.Commands.{earlier_answer}

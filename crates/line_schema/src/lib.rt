@@ -1,16 +1,18 @@
 //! The desk of a line, whose accepted commands are kept in tables.
 #![tactic(auto)]
 
+mod fault;
 mod memory;
+mod opening;
 mod owner;
 mod settling;
 mod store;
 mod unavailable;
 
 pub use desk_answers::Answer;
+pub use fault::OpenFault;
 pub use line_audit::StateTable;
-pub use line_opening::OpenFault;
-pub use line_traces::{PlacedRow, PlacedRows};
+pub use line_traces::PlacedRows;
 pub use memory::in_memory;
 pub use store::LineStore;
 pub use unavailable::Unavailable;

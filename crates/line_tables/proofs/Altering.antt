@@ -14,9 +14,9 @@ use Rattle.desk_types.specs.Placements.{takes_of}
 use Rattle.desk_types.specs.Pieces.{found_of}
 use Rattle.desk_types.specs.declared.rules.Rules.{Rules}
 use Rattle.desk_types.specs.declared.rules.Rules.TheVariants.{One, Two}
-use Rattle.state_tables.specs.declared.edit.RowEdit.{RowEdit}
-use Rattle.state_tables.specs.Tables.{Tables as StateTables}
-use Rattle.state_tables.specs.Edits.{with_edit as state_with, IsNew as IsNewRow}
+use Rattle.desk_types.specs.declared.edit.RowEdit.{RowEdit}
+use Rattle.desk_types.specs.Tables.{Tables as StateTables}
+use Rattle.desk_types.specs.Edits.{with_edit as state_with, IsNew as IsNewRow}
 use Rattle.line_tables.specs.Line.{schema_of, schema_tables, tree_in, version, accepted, part, alternate, sheet_row, selected, reel, mount, board, placement, found, found_by, found_tree}
 use Rattle.line_tables.specs.StateRows.{AreRows, rows_in, kept_in, columns, HoldsState, HoldsParts, HoldsAlternates, HoldsSheets, HoldsSelected, HoldsReels, HoldsMounts, HoldsBoards, HoldsPlacements, HoldsFound}
 use Rattle.line_tables.specs.Rowids.{AreApart, AreAllApart, changed_tables}

@@ -25,7 +25,7 @@ use Rattle.line_tables.proofs.FindTexts.{IsSelect, rows_from}
 use Rattle.line_tables.proofs.Finds.{answer_of, rows_answer, shown_of}
 
 -- what a query shows of the rows that pass is in the table
-shown-in : (q : Query) (params : Row) (columns : Row → Row) → ((r : Row) → (output q (params ∷ r ∷ [])).1 ≡ columns r) → (rows : List Row) → AllByRecursion (Has (map columns rows)) (shown_of q params rows)
+pub shown-in : (q : Query) (params : Row) (columns : Row → Row) → ((r : Row) → (output q (params ∷ r ∷ [])).1 ≡ columns r) → (rows : List Row) → AllByRecursion (Has (map columns rows)) (shown_of q params rows)
 shown-in q params columns out [] = tt
 shown-in q params columns out (r ∷ rs) = by (list_all (holds (params ∷ r ∷ [])) q.filter) (all_weaker (Has (map columns rs)) (Has (map columns (r ∷ rs))) (λ x h. inr h) (shown_of q params rs) (shown-in q params columns out rs))
   where
@@ -40,7 +40,8 @@ select_between = codes "SELECT number, place, board, designator, machine, slot, 
 abbrev between_test : List Term
 between_test = op2 (Compare Ge Binary) (col 1 0) (col 0 0) ∷ op2 (Compare Le Binary) (col 1 0) (col 0 1) ∷ []
 
-abbrev placement_places : List Term
+-- the columns of a placement
+abbrev pub placement_places : List Term
 placement_places = col 1 1 ∷ col 1 2 ∷ col 1 3 ∷ col 1 4 ∷ col 1 5 ∷ col 1 6 ∷ col 1 7 ∷ col 1 8 ∷ []
 
 select_between_is : IsSelect select_between (rows_from 17 between_test placement_places) (codes "number" ∷ codes "place" ∷ codes "board" ∷ codes "designator" ∷ codes "machine" ∷ codes "slot" ∷ codes "reel" ∷ codes "overdue" ∷ [])

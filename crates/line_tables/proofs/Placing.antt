@@ -11,7 +11,7 @@ use Rattle.sqlite.specs.Rowids.TheVariants.{Chosen}
 use Rattle.sqlite_rules.specs.Edit.{numbered, with_rowid, put_all, are_fresh}
 use Rattle.sqlite_trees.specs.Tree.{put_row}
 use Rattle.sqlite.specs.State.{State}
-use Rattle.state_tables.specs.declared.row.PlacementRow.{PlacementRow}
+use Rattle.desk_types.specs.declared.row.PlacementRow.{PlacementRow}
 use Rattle.desk_types.specs.declared.rules.Rules.TheVariants.{Two}
 use Rattle.line_tables.specs.Line.{schema_of, placement}
 use Rattle.line_tables.specs.Rowids.{placement_id}

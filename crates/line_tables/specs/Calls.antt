@@ -21,7 +21,7 @@ use Rattle.sqlite.specs.State.{State, Shows, Shown, Executes}
 use Rattle.line_tables.specs.declared.edit.Accepted.{Accepted}
 use Rattle.line_tables.specs.declared.edit.Edit.{Edit}
 use Rattle.line_tables.specs.declared.edit.Edit.TheVariants.{EditRow}
-use Rattle.state_tables.specs.declared.edit.RowEdit.{RowEdit}
+use Rattle.desk_types.specs.declared.edit.RowEdit.{RowEdit}
 use Rattle.line_tables.specs.declared.version.Version.{Version}
 use Rattle.sqlite_catalog.specs.Change.{KeepsRows}
 use Rattle.desk_types.specs.declared.rules.Rules.TheVariants.{One, Two}

@@ -3,8 +3,8 @@ use Rattle.std.specs.Prelude.{◌≡◌, pos, List, ◌∷◌, map}
 use Rattle.std.specs.List.{flat_map}
 use Rattle.sqlite.specs.declared.types.Value.TheVariants.{Int}
 use Rattle.sqlite_value.specs.Order.{Row}
-use Rattle.state_tables.specs.declared.edit.RowEdit.TheVariants.{PutPlacement}
-use Rattle.state_tables.specs.declared.row.PlacementRow.{PlacementRow}
+use Rattle.desk_types.specs.declared.edit.RowEdit.TheVariants.{PutPlacement}
+use Rattle.desk_types.specs.declared.row.PlacementRow.{PlacementRow}
 use Rattle.line_tables.specs.declared.edit.Edit.{Edit}
 use Rattle.line_tables.specs.declared.edit.Edit.TheVariants.{EditRow}
 use Rattle.line_tables.specs.Rowids.{placement_id}

@@ -14,11 +14,11 @@ use Rattle.desk_types.specs.Id.{Name}
 use Rattle.desk_types.specs.Level.{text_of}
 use Rattle.desk_types.specs.declared.rules.Rules.{Rules}
 use Rattle.desk_types.specs.declared.rules.Rules.TheVariants.{One, Two}
-use Rattle.state_tables.specs.declared.row.ReelRow.{ReelRow}
-use Rattle.state_tables.specs.declared.row.MountRow.{MountRow}
-use Rattle.state_tables.specs.declared.row.BoardRow.{BoardRow}
-use Rattle.state_tables.specs.declared.row.PlacementRow.{PlacementRow}
-use Rattle.state_tables.specs.Tables.{Tables as StateTables}
+use Rattle.desk_types.specs.declared.row.ReelRow.{ReelRow}
+use Rattle.desk_types.specs.declared.row.MountRow.{MountRow}
+use Rattle.desk_types.specs.declared.row.BoardRow.{BoardRow}
+use Rattle.desk_types.specs.declared.row.PlacementRow.{PlacementRow}
+use Rattle.desk_types.specs.Tables.{Tables as StateTables}
 use Rattle.line_tables.specs.Line as line
 
 -- ---- the columns of a row, in their order

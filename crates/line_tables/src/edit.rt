@@ -1,6 +1,6 @@
 //! What is written into the tables.
 
-use state_tables::RowEdit;
+use desk_types::RowEdit;
 
 /// A row of `accepted`.
 #[derive(Debug, Drop)]

@@ -3,15 +3,14 @@
 ghost use Rattle.std.specs.Prelude.{◌≡◌, OnOk};
 ghost use Rattle.sqlite.specs.State.{HasCleanDisk, Survives, KeepsCommit};
 ghost use Rattle.sqlite.specs.Held.{state};
-ghost use Rattle.state_tables.specs.declared.edit.RowEdit.TheVariants as RowEdit;
+ghost use Rattle.desk_types.specs.declared.edit.RowEdit.TheVariants as RowEdit;
 ghost use Rattle.line_tables.specs.Calls.{WritesRow};
 
 use crate::statement::{change_or_put, run};
 use crate::values::{int, or_empty, since};
-use desk_types::Id;
+use desk_types::{BoardRow, Id, MountRow, ReelRow};
 use sqlite::types::ToSql;
 use sqlite::{Alter, Error, Transaction, params};
-use state_tables::{BoardRow, MountRow, ReelRow};
 
 /// A reel's row is changed in its place, since placements refer to it. Two rows of one reel are an
 /// error.

@@ -15,7 +15,7 @@ pub mod select;
 mod setup;
 mod shown;
 mod statement;
-mod values;
+pub mod values;
 mod version;
 mod writing;
 

@@ -4,8 +4,8 @@ ghost use Rattle.std.specs.Prelude.{◌≡◌, OnOk, ◌++◌, IfOk, IfSome, Lis
 ghost use Rattle.std.specs.List.{flat_map};
 ghost use Rattle.sqlite.specs.State.{HasCleanDisk, Survives, KeepsCommit};
 ghost use Rattle.sqlite.specs.Held.{state};
-ghost use Rattle.state_tables.specs.declared.edit.RowEdit.TheVariants as RowEdit;
-ghost use Rattle.state_tables.specs.declared.row.PlacementRow.{PlacementRow};
+ghost use Rattle.desk_types.specs.declared.edit.RowEdit.TheVariants as RowEdit;
+ghost use Rattle.desk_types.specs.declared.row.PlacementRow.{PlacementRow};
 ghost use Rattle.sqlite.specs.Values.{bound};
 ghost use Rattle.line_tables.specs.Placing.{placement_edit, placement_kept, ArePlacing};
 ghost use Rattle.line_tables.specs.Calls.{Writes, WritesRow};
@@ -13,10 +13,9 @@ ghost use Rattle.line_tables.specs.Calls.{Writes, WritesRow};
 use crate::edit::Edit;
 use crate::statement::{change_or_put, run};
 use crate::values::{int, placement_id};
-use desk_types::Id;
+use desk_types::{Id, PlacementRow, RowEdit};
 use sqlite::types::{ToSql, ValueRef};
 use sqlite::{Alter, Error, Transaction, params};
-use state_tables::{PlacementRow, RowEdit};
 use std::alloc::Global;
 
 /// A placed piece, where no row has its number and place, nor its board and designator. Its reel has a row.

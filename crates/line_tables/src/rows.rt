@@ -8,8 +8,8 @@ ghost use Rattle.line_tables.specs.Calls.{WritesRow};
 use crate::floor::{put_board, put_mount, put_reel, take_mount};
 use crate::pieces::{put_found, put_placement};
 use crate::setup::{put_alternate, put_part, put_selected, put_sheet_row, take_sheet_row};
+use desk_types::RowEdit;
 use sqlite::{Alter, Error, Transaction};
-use state_tables::RowEdit;
 use std::alloc::Global;
 
 /// Makes one edit.

@@ -17,9 +17,10 @@ use Rattle.sqlite.specs.Effect.{Database}
 use Rattle.sqlite_sql.proofs.QueryLemmas.{output_cmp_total}
 use Rattle.sqlite_trees.specs.declared.store.Store.{Ghosts}
 use Rattle.sqlite.specs.Held.{Held, state}
+use Rattle.desk_types.specs.declared.placement.Placement.{Placement}
 use Rattle.desk_types.specs.Id.{Name, same, by_name}
 use Rattle.desk_types.specs.History.{History}
-use Rattle.desk_types.specs.Placements.{Placement, placements_of, boards_of}
+use Rattle.desk_types.specs.Placements.{placements_of, boards_of}
 use Rattle.line_tables.specs.Line as line
 use Rattle.line_tables.specs.Calls.{Selects}
 use Rattle.line_tables.specs.StateRows.{columns, rows_in, reel_columns, has_text}

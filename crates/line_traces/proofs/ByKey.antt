@@ -1,20 +1,19 @@
 -- The pieces of a list by their keys.
 use Rattle.std.proofs.Common.{◌≡◌, ◌∙◌, ◌==◌, ◌&&◌, Bool, true, false, Some, List, [], ◌∷◌, map, filter, find, refl, sym, ap, ap₂, true≢false, is_eq}
-use Rattle.std.specs.Option.{option_map}
 use Rattle.std.specs.List.{AllByRecursion}
 use Rattle.std.specs.List.Sorted.{IsStrictlySortedBy}
 use Rattle.std.specs.Map.{keys_of}
 use Rattle.std.proofs.lemmas.Bool.{eqb-true, eq-eqb}
 use Rattle.sqlite_keyed.proofs.ListLemmas.{all_both, all-filter}
+use Rattle.desk_types.specs.declared.placement.Placement.{Placement}
 use Rattle.desk_types.specs.declared.rules.Rules.TheVariants.{Two}
 use Rattle.desk_types.specs.History.{History}
 use Rattle.desk_types.specs.Judged.{IsJudged}
-use Rattle.desk_types.specs.Placements.{Placement, placements_of}
+use Rattle.desk_types.specs.Placements.{placements_of}
 use Rattle.state_rows.specs.Kept.{by_piece}
 use Rattle.state_rows.proofs.PlacedRows.{entry_of, pieces-ascend}
 use Rattle.trace_lists.specs.Lists.{Key, keys_where}
-use Rattle.line_traces.specs.declared.row.PlacedRow.{PlacedRow}
-use Rattle.line_traces.specs.Pieces.{placed_row, pieces_where, piece_at}
+use Rattle.line_traces.specs.Pieces.{pieces_where, piece_at}
 use Rattle.line_traces.proofs.PlacedColumns.{both, itself}
 use Rattle.line_traces.proofs.FoundPieces.{IsBefore, before-all}
 use Rattle.line_traces.proofs.TwoCalls.{all-placed_columns}
@@ -56,10 +55,10 @@ by-keys : (H : History) → IsJudged Two H → (test : Placement → Bool) → m
 by-keys H judged test =
     among (filter test (placements_of H)) (all-filter (λ p. find (has_key (its_key p)) (placements_of H) ≡ Some p) test (placements_of H) (each-found (placements_of H) (pieces-ascend H judged)))
   where
-    among : (ps : List Placement) → AllByRecursion (λ p. find (has_key (its_key p)) (placements_of H) ≡ Some p) ps → map (piece_at H) (map its_key ps) ≡ map Some (map placed_row ps)
+    among : (ps : List Placement) → AllByRecursion (λ p. find (has_key (its_key p)) (placements_of H) ≡ Some p) ps → map (piece_at H) (map its_key ps) ≡ map Some ps
     among [] all = refl
-    among (p ∷ ps) (first, all) = ap₂ (λ x xs. x ∷ xs) (ap (option_map placed_row) first) (among ps all)
+    among (p ∷ ps) (first, all) = ap₂ (λ x xs. x ∷ xs) first (among ps all)
 
 -- The pieces with the keys of those that pass are the pieces that pass.
-pub listed-pieces : (H : History) → IsJudged Two H → (test : Placement → Bool) (keys : List Key) (pieces : List PlacedRow) → keys ≡ keys_where test H → map Some pieces ≡ map (piece_at H) keys → pieces ≡ pieces_where test H
+pub listed-pieces : (H : History) → IsJudged Two H → (test : Placement → Bool) (keys : List Key) (pieces : List Placement) → keys ≡ keys_where test H → map Some pieces ≡ map (piece_at H) keys → pieces ≡ pieces_where test H
 listed-pieces H judged test keys pieces are told = all-placed_columns Some (λ x y is. cc) pieces (pieces_where test H) (told ∙ ap (map (piece_at H)) are ∙ by-keys H judged test)

@@ -10,14 +10,15 @@ use Rattle.std.proofs.lemmas.List.Elements.{recursion_from_All}
 use Rattle.std.proofs.lemmas.List.Folds.{list_any-append}
 use Rattle.std.proofs.lemmas.Map.Views.{Contains-from_any, list_any-from_Contains}
 use Rattle.sqlite_trees.proofs.ListLemmas.{filter_none}
-use Rattle.sqlite_keyed.proofs.ListLemmas.{map-map, all_weaker}
+use Rattle.sqlite_keyed.proofs.ListLemmas.{all_weaker}
 use Rattle.desk_types.specs.declared.command.Command.TheVariants.{MaterialsInstalled}
 use Rattle.desk_types.specs.declared.command.Entry.{Entry}
+use Rattle.desk_types.specs.declared.placement.Placement.{Placement}
 use Rattle.desk_types.specs.declared.rules.Rules.TheVariants.{Two}
 use Rattle.desk_types.specs.Id.{Name, same}
 use Rattle.desk_types.specs.History.{History, IsPrefix}
 use Rattle.desk_types.specs.Judged.{IsJudged}
-use Rattle.desk_types.specs.Placements.{Placement, placements_of, set_of, boards_of}
+use Rattle.desk_types.specs.Placements.{placements_of, set_of, boards_of}
 use Rattle.desk_types.specs.Refusals.{command_refusal, install_refusal}
 use Rattle.desk_types.specs.Work.{in_work_on, is_in_work_on}
 use Rattle.desk_types.proofs.Keys.{same-refl, same-true}
@@ -28,8 +29,7 @@ use Rattle.desk_laws.proofs.Mounts.{has}
 use Rattle.desk_laws.proofs.NameSets.{has-set, traces-agree}
 use Rattle.desk_laws.proofs.InstalledPieces.{rightly-placed}
 use Rattle.desk_laws.proofs.BoardsInWork.{work-product}
-use Rattle.line_traces.specs.declared.row.PlacedRow.{PlacedRow}
-use Rattle.line_traces.specs.Pieces.{placed_row, pieces_on, is_board, is_lot, board_trace, lot_board_names, receives, starts, AreConverse}
+use Rattle.line_traces.specs.Pieces.{pieces_on, is_board, is_lot, board_trace, lot_board_names, receives, starts, AreConverse}
 use Rattle.line_traces.proofs.StartedAndReceived.{board-started, receipt-lot}
 
 -- ---- every list
@@ -40,8 +40,8 @@ only-there true x y is = cc
 only-there false x y is = cc
 
 -- the lot is among the lots of the pieces on the board where the board is among the boards of the lot
-abbrev AreOne : List PlacedRow → Name → List Name → Name → Type 0
-AreOne pieces lot boards board = Contains (map (λ (p : PlacedRow). p.lot) pieces) lot ↔ Contains boards board
+abbrev AreOne : List Placement → Name → List Name → Name → Type 0
+AreOne pieces lot boards board = Contains (map (λ (p : Placement). p.lot) pieces) lot ↔ Contains boards board
 
 all-converse : (H : History) (board lot : Name) → AreOne (pieces_on H board) lot (boards_of H lot) board
 all-converse H board lot = (
@@ -52,14 +52,11 @@ all-converse H board lot = (
     lots : List Name
     lots = map (λ (p : Placement). p.lot) (filter (λ p. same p.board board) (placements_of H))
 
-    agree : has (map (λ (p : PlacedRow). p.lot) (pieces_on H board)) lot ≡ has (boards_of H lot) board
-    agree =
-        ap (λ l. has l lot) (map-map (λ (p : PlacedRow). p.lot) placed_row (filter (λ p. same p.board board) (placements_of H)))
-        ∙ sym (has-set lots lot)
-        ∙ traces-agree H board lot
+    agree : has (map (λ (p : Placement). p.lot) (pieces_on H board)) lot ≡ has (boards_of H lot) board
+    agree = sym (has-set lots lot) ∙ traces-agree H board lot
 
-pub rows-converse : (H : History) (board lot : Name) (pieces : List PlacedRow) (boards : List Name) → board_trace H board ≡ Some pieces → lot_board_names H lot ≡ Some boards
-    → Contains (map (λ (p : PlacedRow). p.lot) pieces) lot ↔ Contains boards board
+pub rows-converse : (H : History) (board lot : Name) (pieces : List Placement) (boards : List Name) → board_trace H board ≡ Some pieces → lot_board_names H lot ≡ Some boards
+    → Contains (map (λ (p : Placement). p.lot) pieces) lot ↔ Contains boards board
 rows-converse H board lot pieces boards told names =
     rw (only-there (is_board H board) (pieces_on H board) pieces told, only-there (is_lot H lot) (boards_of H lot) boards names) (all-converse H board lot)
 
@@ -118,6 +115,6 @@ told-all false xs none = sym (none refl)
 pub told-converse : (H : History) (board lot : Name) → IsJudged Two H → AreConverse board (board_trace H board) lot (lot_board_names H lot)
 told-converse H board lot judged =
     rw (
-      told-all (is_board H board) (pieces_on H board) (λ no. ap (map placed_row) (none-named H judged (λ p. p.board) (is_board H) (λ p right. (known H judged p right).0) board no)),
+      told-all (is_board H board) (pieces_on H board) (λ no. none-named H judged (λ p. p.board) (is_board H) (λ p right. (known H judged p right).0) board no),
       told-all (is_lot H lot) (boards_of H lot) (λ no. ap (λ ps. set_of (map (λ (p : Placement). p.board) ps)) (none-named H judged (λ p. p.lot) (is_lot H) (λ p right. (known H judged p right).1) lot no)),
     ) (all-converse H board lot)

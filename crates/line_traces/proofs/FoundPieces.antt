@@ -23,10 +23,11 @@ use Rattle.sqlite.specs.Effect.{Database}
 use Rattle.sqlite_sql.proofs.QueryLemmas.{output_cmp_total}
 use Rattle.sqlite_trees.specs.declared.store.Store.{Ghosts}
 use Rattle.sqlite.specs.Held.{Held, state}
+use Rattle.desk_types.specs.declared.placement.Placement.{Placement}
 use Rattle.desk_types.specs.Id.{Name, same}
 use Rattle.desk_types.specs.History.{History}
-use Rattle.desk_types.specs.Placements.{Placement, placements_of}
-use Rattle.state_tables.specs.declared.row.ReelRow.{ReelRow}
+use Rattle.desk_types.specs.Placements.{placements_of, overdue_of}
+use Rattle.desk_types.specs.declared.row.ReelRow.{ReelRow}
 use Rattle.state_rows.specs.Kept.{by_piece}
 use Rattle.state_rows.proofs.PlacedRows.{entry_of, pieces-ascend}
 use Rattle.line_tables.specs.Line as line
@@ -35,7 +36,7 @@ use Rattle.line_tables.specs.Calls.{Selects}
 use Rattle.line_tables.specs.StateRows.{columns, rows_in, reel_columns, has_text}
 use Rattle.line_tables.proofs.FindTexts.{IsSelect}
 use Rattle.line_tables.proofs.Finds.{answer_of, and_true}
-use Rattle.line_traces.specs.Pieces.{placed_row, pieces_where, pieces_on, pieces_of_lot, overdue_pieces}
+use Rattle.line_traces.specs.Pieces.{pieces_where, pieces_on, pieces_of_lot}
 use Rattle.line_traces.specs.Committed.{HoldsList, FindsOfList, placed_columns}
 use Rattle.line_traces.proofs.Columns.{equal-text, equal-flag}
 use Rattle.line_traces.proofs.Joins.{joined, join, join-one, join-by, map-join, found-of}
@@ -59,7 +60,7 @@ shown_of_rows r p a = (
 )
 
 abbrev shown_piece : Placement → Output
-shown_piece p = (Int (pos p.number) ∷ Int (pos p.place) ∷ [], placed_columns (placed_row p))
+shown_piece p = (Int (pos p.number) ∷ Int (pos p.place) ∷ [], placed_columns p)
 
 -- ---- order
 
@@ -120,7 +121,7 @@ module _ (test : Term) where
           ascending-map (λ x y. output_cmp q x y ≡ Less) shown_piece ps (ascending_weaker IsBefore _ shown-before ps (ascending-filter IsBefore wanted (placements_of H) (in-order (placements_of H) (pieces-ascend H held.judged)))) in
           let ordered : a.ordered ≡ map shown_piece ps =
           sorted_unique (output_cmp q) (output_cmp_total q) (map shown_piece ps) a.ordered up (IsPermutation-trans _ _ _ (IsPermutation-sym _ _ listed) a.same) a.sorted in
-          a.shown ∙ ap (map (λ (o : Output). o.1)) ordered ∙ map-map (λ (o : Output). o.1) shown_piece ps ∙ sym (map-map placed_columns placed_row ps)
+          a.shown ∙ ap (map (λ (o : Output). o.1)) ordered ∙ map-map (λ (o : Output). o.1) shown_piece ps
 
       pub finds-pieces : {S : Type 0} (g : Ghosts S) (sql : List ℕ) (names : List (List ℕ)) → IsSelect sql (pieces_query test) names → (old : Held S) (rows : List Row) → Selects g sql params old rows
           → FindsOfList (λ H. map placed_columns (pieces_where wanted H)) (state g old) rows
@@ -140,5 +141,5 @@ module _ {S : Type 0} (g : Ghosts S) (old : Held S) (rows : List Row) where
   finds-of_lot lot =
       finds-pieces of_lot (Text lot ∷ []) (λ r p. has_text 2 lot r) (λ r p a. refl) (λ p. same p.lot lot) (λ p r its. equal-text r.lot lot ∙ ap (λ n. same n lot) its) g select_of_lot _ select_of_lot_is old rows
 
-  pub finds-overdue : Selects g select_overdue [] old rows → FindsOfList (λ H. map placed_columns (overdue_pieces H)) (state g old) rows
+  pub finds-overdue : Selects g select_overdue [] old rows → FindsOfList (λ H. map placed_columns (overdue_of H)) (state g old) rows
   finds-overdue = finds-pieces is_overdue [] (λ r p. equal Binary (column p 7) (Int (pos 1))) (λ r p a. refl) (λ p. p.overdue) (λ p r its. equal-flag p.overdue) g select_overdue _ select_overdue_is old rows

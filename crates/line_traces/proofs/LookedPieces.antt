@@ -1,25 +1,24 @@
 -- What the lists tell of pieces that were looked up.
-use Rattle.std.proofs.Common.{◌≡◌, ◌∙◌, ℕ, zero, suc, ◌+◌, ◌<◌, Bool, ◌++◌, Option, Some, List, [], ◌∷◌, length, map, filter, take, get_or, sym, ap, ap₂, append_assoc, arith}
+use Rattle.std.proofs.Common.{◌≡◌, ◌∙◌, ℕ, zero, suc, ◌+◌, ◌<◌, Bool, ◌++◌, Option, Some, List, [], ◌∷◌, length, map, take, get_or, sym, ap, ap₂, append_assoc, arith}
 use Rattle.std.specs.List.{AllByRecursion}
 use Rattle.std.proofs.lemmas.List.{map-append}
-use Rattle.sqlite_keyed.proofs.ListLemmas.{map-map}
 use Rattle.sqlite.specs.State.{State}
-use Rattle.desk_types.specs.Id.{Name, same}
+use Rattle.desk_types.specs.declared.placement.Placement.{Placement}
+use Rattle.desk_types.specs.Id.{Name}
 use Rattle.desk_types.specs.History.{History}
-use Rattle.desk_types.specs.Placements.{Placement, placements_of, set_of, boards_of}
+use Rattle.desk_types.specs.Placements.{set_of, boards_of}
 use Rattle.desk_types.proofs.LoopSteps.{take-next}
 use Rattle.trace_lists.specs.declared.lists.PieceKey.{PieceKey}
 use Rattle.trace_lists.specs.declared.lists.TraceLists.{TraceLists}
 use Rattle.trace_lists.specs.Lists.{IsListed, Key, key_of, keys_where}
-use Rattle.line_traces.specs.declared.row.PlacedRow.{PlacedRow}
-use Rattle.line_traces.specs.Pieces.{placed_row, pieces_where, pieces_of_lot, piece_at}
+use Rattle.line_traces.specs.Pieces.{pieces_where, pieces_of_lot, piece_at}
 use Rattle.line_traces.specs.Beside.{FindsBeside}
 use Rattle.line_traces.proofs.ByKey.{listed-pieces}
 
 -- ---- one run after the other
 
 -- the pieces of a run are added to those before it
-pub run-added : (P : Key → Option PlacedRow) (before after all : List (Option PlacedRow)) (left run rest : List PieceKey) → left ≡ run ++ rest → after ≡ before ++ map P (map key_of run) → before ++ map P (map key_of left) ≡ all
+pub run-added : (P : Key → Option Placement) (before after all : List (Option Placement)) (left run rest : List PieceKey) → left ≡ run ++ rest → after ≡ before ++ map P (map key_of run) → before ++ map P (map key_of left) ≡ all
     → after ++ map P (map key_of rest) ≡ all
 run-added P before after all left run rest is added told =
     ap (λ l. l ++ map P (map key_of rest)) added
@@ -34,12 +33,12 @@ all-got P (x ∷ xs) zero d all within = all.0
 all-got P (x ∷ xs) (suc i) d all within = all-got P xs i d all.1 (omega (arith, within))
 
 -- one piece more
-pub one-added : (P : Key → Option PlacedRow) (before : List (Option PlacedRow)) (pieces new : List PlacedRow) (keys : List PieceKey) (i : ℕ) (key : PieceKey) (piece : PlacedRow) → i < length keys → key ≡ get_or keys i key → new ≡ pieces ++ piece ∷ []
+pub one-added : (P : Key → Option Placement) (before : List (Option Placement)) (pieces new : List Placement) (keys : List PieceKey) (i : ℕ) (key : PieceKey) (piece : Placement) → i < length keys → key ≡ get_or keys i key → new ≡ pieces ++ piece ∷ []
     → P (key_of key) ≡ Some piece → map Some pieces ≡ before ++ map P (map key_of (take i keys)) → map Some new ≡ before ++ map P (map key_of (take (i + 1) keys))
 one-added P before pieces new keys i key piece within is added told so_far =
     ap (map Some) added
     ∙ map-append Some pieces (piece ∷ [])
-    ∙ ap₂ (λ (l : List (Option PlacedRow)) (o : Option PlacedRow). l ++ o ∷ []) so_far (sym told)
+    ∙ ap₂ (λ (l : List (Option Placement)) (o : Option Placement). l ++ o ∷ []) so_far (sym told)
     ∙ append_assoc before (map P (map key_of (take i keys))) (P (key_of key) ∷ [])
     ∙ ap (λ l. before ++ l) (
     sym (map-append P (map key_of (take i keys)) (key_of key ∷ []))
@@ -49,7 +48,7 @@ one-added P before pieces new keys i key piece within is added told so_far =
 
 module _ {D : Type 0} (Stands : D → History → Type 0) (lists : TraceLists) (desk : D) (old : State) where
   -- The pieces with the keys that the lists give are those that pass.
-  pub listed-told : (test : Placement → Bool) (keys : List Key) → ((H : History) → IsListed lists H → keys ≡ keys_where test H) → (pieces : List PlacedRow)
+  pub listed-told : (test : Placement → Bool) (keys : List Key) → ((H : History) → IsListed lists H → keys ≡ keys_where test H) → (pieces : List Placement)
       → FindsBeside Stands (Some lists) (Some desk) (λ H. map (piece_at H) keys) old (map Some pieces) → FindsBeside Stands (Some lists) (Some desk) (pieces_where test) old pieces
   listed-told test keys are pieces told = record {
     was_open = told.was_open;
@@ -57,12 +56,11 @@ module _ {D : Type 0} (Stands : D → History → Type 0) (lists : TraceLists) (
   }
 
   -- The boards of the pieces of the lot are those of the lot.
-  pub boards-told : (lot : Name) (pieces : List PlacedRow) (boards : List Name) → boards ≡ set_of (map (λ (p : PlacedRow). p.board) pieces) → FindsBeside Stands (Some lists) (Some desk) (λ H. pieces_of_lot H lot) old pieces
+  pub boards-told : (lot : Name) (pieces : List Placement) (boards : List Name) → boards ≡ set_of (map (λ (p : Placement). p.board) pieces) → FindsBeside Stands (Some lists) (Some desk) (λ H. pieces_of_lot H lot) old pieces
       → FindsBeside Stands (Some lists) (Some desk) (λ H. boards_of H lot) old boards
   boards-told lot pieces boards is told = record {
     was_open = told.was_open;
     are = λ schema H beside.
         is
-        ∙ ap (λ ps. set_of (map (λ (p : PlacedRow). p.board) ps)) (told.are schema H beside)
-        ∙ ap set_of (map-map (λ (p : PlacedRow). p.board) placed_row (filter (λ (p : Placement). same p.lot lot) (placements_of H)));
+        ∙ ap (λ ps. set_of (map (λ (p : Placement). p.board) ps)) (told.are schema H beside);
   }

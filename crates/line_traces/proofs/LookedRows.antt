@@ -10,21 +10,21 @@ use Rattle.sqlite_rules.specs.Lists.{Has}
 use Rattle.sqlite_rules.proofs.ListLemmas.{has_kept}
 use Rattle.sqlite.specs.Effect.{Database}
 use Rattle.desk_types.specs.declared.command.Entry.{Entry}
+use Rattle.desk_types.specs.declared.placement.Placement.{Placement}
 use Rattle.desk_types.specs.declared.rules.Rules.TheVariants.{Two}
 use Rattle.desk_types.specs.declared.view.ReelView.{ReelView}
 use Rattle.desk_types.specs.History.{History}
 use Rattle.desk_types.specs.Judged.{IsJudged}
 use Rattle.desk_types.specs.View.{view_of, reel_view}
-use Rattle.desk_types.specs.Placements.{Placement, placements_of}
+use Rattle.desk_types.specs.Placements.{placements_of}
 use Rattle.desk_laws.specs.Verified.{IsRightlyPlaced}
 use Rattle.desk_laws.proofs.InstalledPieces.{rightly-placed}
-use Rattle.state_tables.specs.declared.row.PlacementRow.{PlacementRow}
-use Rattle.state_tables.specs.Tables.{placement_row, placement_columns as columns_of_piece}
+use Rattle.desk_types.specs.declared.row.PlacementRow.{PlacementRow}
+use Rattle.desk_types.specs.Tables.{placement_row, placement_columns as columns_of_piece}
 use Rattle.line_tables.specs.Line as line
 use Rattle.line_tables.specs.StateRows.{flag, has_piece, placement_columns, rows_in}
 use Rattle.trace_lists.specs.Lists.{minute_of}
-use Rattle.line_traces.specs.declared.row.PlacedRow.{PlacedRow}
-use Rattle.line_traces.specs.Pieces.{placed_row, piece_at}
+use Rattle.line_traces.specs.Pieces.{piece_at}
 use Rattle.line_traces.specs.Committed.{HoldsList}
 use Rattle.line_traces.proofs.ByKey.{has_key}
 use Rattle.line_traces.proofs.Columns.{equal-itself}
@@ -104,7 +104,7 @@ minute-there H judged p right =
 -- ---- the piece
 
 -- a row of the table, with its reel's part and lot and its entry's minute
-abbrev pub piece_with : PlacementRow → ReelView → ℕ → PlacedRow
+abbrev pub piece_with : PlacementRow → ReelView → ℕ → Placement
 piece_with row reel effective = record {
   number = row.number;
   place = row.place;
@@ -120,7 +120,7 @@ piece_with row reel effective = record {
 }
 
 one-piece : (H : History) → IsJudged Two H → (p : Placement) → IsRightlyPlaced H p → (row : PlacementRow) → columns_of_piece p ≡ row → (reel : ReelView) → Some reel ≡ reel_view H row.reel
-    → (effective : ℕ) → Some effective ≡ minute_of H row.number → placed_row p ≡ piece_with row reel effective
+    → (effective : ℕ) → Some effective ≡ minute_of H row.number → p ≡ piece_with row reel effective
 one-piece H judged p right row is reel seen effective at =
     let view : reel_view H row.reel ≡ Some (view_of H p.reel right.receipt) =
     ap (λ (r : PlacementRow). reel_view H r.reel) (sym is) ∙ ap (option_map (view_of H p.reel)) (receipt-there H judged p right) in
@@ -155,4 +155,4 @@ row-tells db H held row here reel seen effective at = by (find (has_key (row.num
         let columns : Some (columns_of_piece p) ≡ Some row = sym (ap (option_map columns_of_piece) is) ∙ there in
         let its : columns_of_piece p ≡ row = cc in
         let right = found-all (IsRightlyPlaced H) (has_key (row.number, row.place)) (placements_of H) p (recursion_from_All (IsRightlyPlaced H) (placements_of H) (rightly-placed H held.judged)) is in
-        ap (option_map placed_row) is ∙ ap Some (one-piece H held.judged p right row its reel seen effective at)
+        is ∙ ap Some (one-piece H held.judged p right row its reel seen effective at)

@@ -16,7 +16,7 @@ use Rattle.desk_types.specs.declared.command.Entry.{Entry}
 use Rattle.desk_types.specs.declared.rules.Rules.TheVariants.{Two}
 use Rattle.desk_types.specs.History.{History}
 use Rattle.desk_types.specs.Judged.{IsJudged}
-use Rattle.state_tables.specs.Tables.{tables_of}
+use Rattle.desk_types.specs.Tables.{tables_of}
 use Rattle.line_tables.specs.Rows.{accepted_in}
 use Rattle.line_tables.specs.Calls.{has_number}
 use Rattle.line_tables.specs.StateRows.{HoldsState}

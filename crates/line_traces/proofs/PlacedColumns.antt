@@ -15,18 +15,19 @@ use Rattle.sqlite_value.specs.Order.{Row, column}
 use Rattle.sqlite.specs.Effect.{Database}
 use Rattle.sqlite_keyed.proofs.ListLemmas.{all_weaker, map-map}
 use Rattle.desk_types.specs.declared.command.Entry.{Entry}
+use Rattle.desk_types.specs.declared.placement.Placement.{Placement}
 use Rattle.desk_types.specs.declared.rules.Rules.TheVariants.{Two}
 use Rattle.desk_types.specs.History.{History, IsPrefix}
 use Rattle.desk_types.specs.Judged.{IsJudged}
 use Rattle.desk_types.specs.Setup.{receipt_of}
 use Rattle.desk_types.specs.View.{view_of}
-use Rattle.desk_types.specs.Placements.{Placement, placements_of}
+use Rattle.desk_types.specs.Placements.{placements_of}
 use Rattle.desk_laws.specs.Verified.{IsRightlyPlaced}
 use Rattle.desk_laws.proofs.InstalledPieces.{rightly-placed}
 use Rattle.desk_laws.proofs.ReelsLater.{receipt-prefix}
-use Rattle.state_tables.specs.declared.row.ReelRow.{ReelRow}
-use Rattle.state_tables.specs.declared.row.PlacementRow.{PlacementRow}
-use Rattle.state_tables.specs.Tables.{columns_of, placement_columns as columns_of_piece}
+use Rattle.desk_types.specs.declared.row.ReelRow.{ReelRow}
+use Rattle.desk_types.specs.declared.row.PlacementRow.{PlacementRow}
+use Rattle.desk_types.specs.Tables.{columns_of, placement_columns as columns_of_piece}
 use Rattle.state_rows.specs.Kept.{by_piece}
 use Rattle.state_rows.proofs.PlacedRows.{entry_of, piece_entries, pieces-found, pieces-ascend}
 use Rattle.line_tables.specs.Line as line

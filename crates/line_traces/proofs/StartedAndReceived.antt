@@ -22,8 +22,8 @@ use Rattle.desk_laws.proofs.Accepted.{next-accepted}
 use Rattle.desk_laws.proofs.Mounted.{iff}
 use Rattle.desk_laws.proofs.ReelsLater.{receipt-prefix}
 use Rattle.desk_laws.proofs.BoardsInWork.{startable}
-use Rattle.state_tables.specs.declared.row.ReelRow.{ReelRow}
-use Rattle.state_tables.specs.Tables.{columns_of, work_machine}
+use Rattle.desk_types.specs.declared.row.ReelRow.{ReelRow}
+use Rattle.desk_types.specs.Tables.{columns_of, work_machine}
 use Rattle.line_tables.specs.Line as line
 use Rattle.line_tables.specs.StateRows.{has_text, reel_columns, board_columns, rows_in}
 use Rattle.line_traces.specs.Pieces.{starts, is_board, receives, is_lot}

@@ -4,12 +4,12 @@ use Rattle.std.specs.Prelude.{if◌then◌else◌}
 use Rattle.sqlite_value.specs.Order.{Row}
 use Rattle.sqlite.specs.Effect.{Database}
 use Rattle.sqlite.specs.State.{State, KeepsCommit}
+use Rattle.desk_types.specs.declared.placement.Placement.{Placement}
 use Rattle.desk_types.specs.Id.{Name}
 use Rattle.desk_types.specs.History.{History}
 use Rattle.trace_lists.specs.declared.lists.TraceLists.{TraceLists}
 use Rattle.line_tables.specs.Calls.{Reads}
 use Rattle.line_tables.specs.StateRows.{flag}
-use Rattle.line_traces.specs.declared.row.PlacedRow.{PlacedRow}
 use Rattle.line_traces.specs.Committed.{FindsOfList, placed_columns, name_row}
 use Rattle.line_traces.specs.Beside.{FindsBeside}
 use Rattle.line_tables.specs.Line.{IsOurs}
@@ -23,7 +23,7 @@ one-flag true false is = cc
 one-flag false true is = cc
 
 -- what is shown of a piece tells the piece
-placed_columns-one : (p q : PlacedRow) → placed_columns p ≡ placed_columns q → p ≡ q
+placed_columns-one : (p q : Placement) → placed_columns p ≡ placed_columns q → p ≡ q
 placed_columns-one p q is =
     let number : p.number ≡ q.number = cc in
     let place : p.place ≡ q.place = cc in
@@ -77,7 +77,7 @@ placed_columns-told : {X : Type 0} (show : X → Row) → ((x y : X) → show x 
     → rows ≡ map show found → FindsOfList of old found
 placed_columns-told show one of old rows found told is = record { was_open = told.was_open; are = λ schema H held. all-placed_columns show one found (of H) (sym is ∙ told.are schema H held) }
 
-pub pieces-told : (of : History → List PlacedRow) (old : State) (rows : List Row) (pieces : List PlacedRow) → FindsOfList (λ H. map placed_columns (of H)) old rows → rows ≡ map placed_columns pieces → FindsOfList of old pieces
+pub pieces-told : (of : History → List Placement) (old : State) (rows : List Row) (pieces : List Placement) → FindsOfList (λ H. map placed_columns (of H)) old rows → rows ≡ map placed_columns pieces → FindsOfList of old pieces
 pieces-told = placed_columns-told placed_columns placed_columns-one
 
 pub names-told : (of : History → List Name) (old : State) (rows : List Row) (names : List Name) → FindsOfList (λ H. map name_row (of H)) old rows → rows ≡ map name_row names → FindsOfList of old names

@@ -2,11 +2,11 @@
 use Rattle.std.specs.Prelude.{◌≡◌, Option, Some, IfSome, List, ◌++◌, map}
 use Rattle.sqlite.specs.Effect.{Database}
 use Rattle.sqlite.specs.State.{State}
+use Rattle.desk_types.specs.declared.placement.Placement.{Placement}
 use Rattle.desk_types.specs.History.{History}
 use Rattle.trace_lists.specs.declared.lists.TraceLists.{TraceLists}
 use Rattle.trace_lists.specs.Lists.{IsListed, Key}
 use Rattle.line_tables.specs.Calls.{Reads}
-use Rattle.line_traces.specs.declared.row.PlacedRow.{PlacedRow}
 use Rattle.line_traces.specs.Pieces.{piece_at}
 use Rattle.line_traces.specs.Committed.{HoldsList}
 
@@ -21,5 +21,5 @@ abbrev pub FindsBeside : {D X : Type 0} → (D → History → Type 0) → Optio
 FindsBeside Stands lists desk of old found = Reads old (λ db. (H : History) → HoldsBeside Stands lists desk db H → found ≡ of H)
 
 -- the pieces that were added are those with these keys
-abbrev pub AddsPieces : History → List Key → List PlacedRow → List PlacedRow → Type 0
+abbrev pub AddsPieces : History → List Key → List Placement → List Placement → Type 0
 AddsPieces H keys before after = map Some after ≡ map Some before ++ map (piece_at H) keys

@@ -5,15 +5,15 @@ use Rattle.sqlite_value.specs.Order.{Row, column}
 use Rattle.sqlite.specs.Effect.{Database}
 use Rattle.sqlite.specs.State.{State}
 use Rattle.desk_types.specs.declared.command.Entry.{Entry}
+use Rattle.desk_types.specs.declared.placement.Placement.{Placement}
 use Rattle.desk_types.specs.declared.rules.Rules.TheVariants.{Two}
 use Rattle.desk_types.specs.Id.{Name}
 use Rattle.desk_types.specs.History.{History}
 use Rattle.desk_types.specs.Judged.{IsJudged}
-use Rattle.state_tables.specs.Tables.{tables_of}
+use Rattle.desk_types.specs.Tables.{tables_of}
 use Rattle.line_tables.specs.Rows.{accepted_in}
 use Rattle.line_tables.specs.Calls.{Reads, has_number}
 use Rattle.line_tables.specs.StateRows.{HoldsState, flag}
-use Rattle.line_traces.specs.declared.row.PlacedRow.{PlacedRow}
 
 -- one row of `accepted` has the entry's number, and it has the entry's effective minute
 pub record TellsMinute (db : Database) (e : Entry) : Type 0 where
@@ -32,7 +32,7 @@ abbrev pub FindsOfList : {X : Type 0} → (History → X) → State → X → Ty
 FindsOfList of old found = Reads old (λ db. (H : History) → HoldsList db H → found ≡ of H)
 
 -- the columns that a query shows of a placed piece
-abbrev pub placed_columns : PlacedRow → Row
+abbrev pub placed_columns : Placement → Row
 placed_columns p =
     Int (pos p.number) ∷ Int (pos p.place) ∷ Text p.board ∷ Text p.designator ∷ Text p.part ∷ Text p.lot ∷ Text p.reel ∷ Text p.machine ∷ Text p.slot ∷ Int (pos p.effective)
     ∷ Int (flag p.overdue) ∷ []

@@ -1,53 +1,32 @@
 -- The placed pieces of a list as the calls tell them.
 use Rattle.std.specs.Prelude.{◌↔◌, ◌==◌, ◌&&◌, Bool, false, Contains, Option, Some, None, List, [], map, if◌then◌else◌, unwrap_or}
-use Rattle.std.specs.Option.{option_map}
 use Rattle.std.specs.List.{filter, find, list_any}
 use Rattle.desk_types.specs.declared.command.Command.{Command}
 use Rattle.desk_types.specs.declared.command.Command.TheVariants.{ReelReceived, WorkStarted}
 use Rattle.desk_types.specs.declared.command.Entry.{Entry}
+use Rattle.desk_types.specs.declared.placement.Placement.{Placement}
 use Rattle.desk_types.specs.Id.{Name, same}
 use Rattle.desk_types.specs.History.{History}
-use Rattle.desk_types.specs.Placements.{Placement, placements_of, overdue_of, boards_of}
+use Rattle.desk_types.specs.Placements.{placements_of, boards_of}
 use Rattle.trace_lists.specs.Lists.{Key}
-use Rattle.line_traces.specs.declared.row.PlacedRow.{PlacedRow}
 
--- ---- rows
-
--- a placement as a row
-abbrev pub placed_row : Placement → PlacedRow
-placed_row p = record {
-  number = p.number;
-  place = p.place;
-  board = p.board;
-  designator = p.designator;
-  part = p.part;
-  lot = p.lot;
-  reel = p.reel;
-  machine = p.machine;
-  slot = p.slot;
-  effective = p.effective;
-  overdue = p.overdue;
-}
+-- ---- pieces
 
 -- the pieces that pass a test, by number and then by place
-abbrev pub pieces_where : (Placement → Bool) → History → List PlacedRow
-pieces_where test H = map placed_row (filter test (placements_of H))
+abbrev pub pieces_where : (Placement → Bool) → History → List Placement
+pieces_where test H = filter test (placements_of H)
 
 -- the pieces on the board
-abbrev pub pieces_on : History → Name → List PlacedRow
+abbrev pub pieces_on : History → Name → List Placement
 pieces_on H board = pieces_where (λ p. same p.board board) H
 
 -- the pieces of the lot
-abbrev pub pieces_of_lot : History → Name → List PlacedRow
+abbrev pub pieces_of_lot : History → Name → List Placement
 pieces_of_lot H lot = pieces_where (λ p. same p.lot lot) H
 
--- the pieces of reels whose floor life was used up
-abbrev pub overdue_pieces : History → List PlacedRow
-overdue_pieces H = map placed_row (overdue_of H)
-
 -- the piece with this key: the number of its entry, and its place in the message
-abbrev pub piece_at : History → Key → Option PlacedRow
-piece_at H key = option_map placed_row (find (λ (p : Placement). p.number == key.0 && p.place == key.1) (placements_of H))
+abbrev pub piece_at : History → Key → Option Placement
+piece_at H key = find (λ (p : Placement). p.number == key.0 && p.place == key.1) (placements_of H)
 
 -- ---- names
 
@@ -72,11 +51,11 @@ is_lot H lot = list_any (λ (e : Entry). receives lot e.stamped.command) H
 -- ---- traces
 
 -- the pieces on a board that was started
-abbrev pub board_trace : History → Name → Option (List PlacedRow)
+abbrev pub board_trace : History → Name → Option (List Placement)
 board_trace H board = if is_board H board then Some (pieces_on H board) else None
 
 -- the pieces of a lot of which a reel was received
-abbrev pub lot_trace : History → Name → Option (List PlacedRow)
+abbrev pub lot_trace : History → Name → Option (List Placement)
 lot_trace H lot = if is_lot H lot then Some (pieces_of_lot H lot) else None
 
 -- the boards that hold a piece of such a lot
@@ -84,5 +63,5 @@ abbrev pub lot_board_names : History → Name → Option (List Name)
 lot_board_names H lot = if is_lot H lot then Some (boards_of H lot) else None
 
 -- What is told of a board and what is told of a lot agree: the lot is among the lots of the board's pieces exactly where the board is among the lot's boards. A board that was not started has no piece, and a lot that was not received is on no board.
-abbrev pub AreConverse : Name → Option (List PlacedRow) → Name → Option (List Name) → Type 0
-AreConverse board pieces lot boards = Contains (map (λ (p : PlacedRow). p.lot) (unwrap_or pieces [])) lot ↔ Contains (unwrap_or boards []) board
+abbrev pub AreConverse : Name → Option (List Placement) → Name → Option (List Name) → Type 0
+AreConverse board pieces lot boards = Contains (map (λ (p : Placement). p.lot) (unwrap_or pieces [])) lot ↔ Contains (unwrap_or boards []) board

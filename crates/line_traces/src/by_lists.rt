@@ -6,16 +6,16 @@ ghost use Rattle.sqlite.specs.declared.error.Error.TheVariants as Error;
 ghost use Rattle.sqlite.specs.declared.error.ErrorCode.TheVariants as code;
 ghost use Rattle.sqlite.specs.State.{HasCleanDisk, Survives, KeepsCommit};
 ghost use Rattle.sqlite.specs.Held.{state};
-ghost use Rattle.desk_types.specs.Placements.{boards_of, set_of};
+ghost use Rattle.desk_types.specs.declared.placement.Placement.{Placement};
+ghost use Rattle.desk_types.specs.Placements.{overdue_of, boards_of, set_of};
 ghost use Rattle.trace_lists.specs.Lists.{key_of, keys_of_install, keys_of_installs};
-ghost use Rattle.line_traces.specs.declared.row.PlacedRow.{PlacedRow};
-ghost use Rattle.line_traces.specs.Pieces.{pieces_on, pieces_of_lot, overdue_pieces};
+ghost use Rattle.line_traces.specs.Pieces.{pieces_on, pieces_of_lot};
 ghost use Rattle.line_traces.specs.Beside.{FindsBeside};
 
 use crate::looked::pieces_at;
 use crate::pieces::{board_pieces, lot_names, lot_pieces, overdue};
-use crate::row::{PlacedRow, PlacedRows};
-use desk_types::{Desk, Id, IdList, Listing};
+use crate::row::PlacedRows;
+use desk_types::{Desk, Id, IdList, Listing, Placement};
 use sqlite::{Alter, Connection, Error};
 use std::alloc::{AllocError, Global};
 use std::collections::BTreeSet;
@@ -96,7 +96,7 @@ pub fn pieces_overdue<S: Alter, D: Desk>(
     lists: Option<&TraceLists>,
     desk: Option<&D>,
 ) -> Result<PlacedRows, Error>
-    ensures pieces { HasCleanDisk (state S.Store conn.new) → IfOk result (FindsBeside D.Stands (option_copied lists.entry) (option_copied desk.entry) overdue_pieces (state S.Store conn.old)) }
+    ensures pieces { HasCleanDisk (state S.Store conn.new) → IfOk result (FindsBeside D.Stands (option_copied lists.entry) (option_copied desk.entry) overdue_of (state S.Store conn.old)) }
     ensures kept { HasCleanDisk (state S.Store conn.new) → KeepsCommit (state S.Store conn.old) (state S.Store conn.new) }
     ensures inside { IsTrue conn.old.in_transaction → (result ≡ Err (Error.SqliteFailure code.TransactionState)) × (conn.new ≡ conn.old) }
     ensures mode { conn.old.in_transaction ≡ false → conn.new.in_transaction ≡ false }
@@ -137,8 +137,8 @@ fn add_keys(keys: &mut Vec<PieceKey>, install: Install) -> Result<(), AllocError
 }
 
 /// The boards of the pieces, each once and in byte order.
-fn boards_among(alloc: Global, pieces: &[PlacedRow]) -> Result<IdList, AllocError>
-    ensures { IfOk result (λ boards. boards ≡ set_of (map (λ (p : PlacedRow). p.board) pieces.now)) }
+fn boards_among(alloc: Global, pieces: &[Placement]) -> Result<IdList, AllocError>
+    ensures { IfOk result (λ boards. boards ≡ set_of (map (λ (p : Placement). p.board) pieces.now)) }
 {
     let mut boards = BTreeSet::new(alloc);
     for piece in pieces.iter().rev() {

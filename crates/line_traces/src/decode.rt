@@ -6,11 +6,10 @@ ghost use Rattle.sqlite_value.specs.Order.{column};
 ghost use Rattle.line_tables.specs.StateRows.{flag, placement_columns};
 ghost use Rattle.line_traces.specs.Committed.{placed_columns, name_row};
 
-use crate::row::{PlacedRow, PlacedRows};
-use desk_types::{Designator, Id, IdList, Listing, Minute};
+use crate::row::PlacedRows;
+use desk_types::{Designator, Id, IdList, Listing, Minute, Placement, PlacementRow};
 use sqlite::types::{Type, ValueRef};
 use sqlite::{Error, Row};
-use state_tables::PlacementRow;
 use std::alloc::Global;
 
 /// The name in a column.
@@ -61,13 +60,13 @@ fn yes_or_no(row: &Row, at: usize) -> Result<bool, Error>
     }
 }
 
-fn piece(row: &Row) -> Result<PlacedRow, Error>
+fn piece(row: &Row) -> Result<Placement, Error>
     ensures { IfOk result (λ piece. row.now ≡ placed_columns piece) }
 {
     if row.column_count() != 11 {
         return Err(Error::InvalidColumnIndex(11));
     }
-    Ok(PlacedRow {
+    Ok(Placement {
         number: row.get(0)?,
         place: row.get(1)?,
         board: name(row, 2)?,

@@ -1,18 +1,18 @@
 //! A law of the traces. It is for proofs, and does nothing when it runs.
 
 ghost use Rattle.std.specs.Prelude.{◌≡◌, ◌↔◌, Contains, Some, List, map};
+ghost use Rattle.desk_types.specs.declared.placement.Placement.{Placement};
 ghost use Rattle.desk_types.specs.declared.rules.Rules.TheVariants.{Two};
 ghost use Rattle.desk_types.specs.Id.{Name};
 ghost use Rattle.desk_types.specs.History.{History};
 ghost use Rattle.desk_types.specs.Judged.{IsJudged};
-ghost use Rattle.line_traces.specs.declared.row.PlacedRow.{PlacedRow};
 ghost use Rattle.line_traces.specs.Pieces.{board_trace, lot_board_names, AreConverse};
 
 /// Where `board_rows` and `lot_boards` tell of one list, a lot is among the lots of a board's pieces
 /// exactly where the board is among the boards of the lot. This holds of every list; of one that a desk
 /// judged also where a board or a lot is unknown.
 pub fn rows_are_converse()
-    ensures every { (H : History) (board lot : Name) (pieces : List PlacedRow) (boards : List Name) → board_trace H board ≡ Some pieces → lot_board_names H lot ≡ Some boards
-        → Contains (map (λ (p : PlacedRow). p.lot) pieces) lot ↔ Contains boards board }
+    ensures every { (H : History) (board lot : Name) (pieces : List Placement) (boards : List Name) → board_trace H board ≡ Some pieces → lot_board_names H lot ≡ Some boards
+        → Contains (map (λ (p : Placement). p.lot) pieces) lot ↔ Contains boards board }
     ensures judged { (H : History) (board lot : Name) → IsJudged Two H → AreConverse board (board_trace H board) lot (lot_board_names H lot) }
 {}

@@ -12,5 +12,5 @@ mod row;
 mod traces;
 
 pub use law::rows_are_converse;
-pub use row::{PlacedRow, PlacedRows};
+pub use row::PlacedRows;
 pub use traces::{board_rows, lot_boards, lot_rows, overdue_rows};

@@ -19,8 +19,8 @@ ghost use Rattle.line_traces.specs.Pieces.{piece_at};
 ghost use Rattle.line_traces.specs.Beside.{HoldsBeside, FindsBeside, AddsPieces};
 
 use crate::decode::placement;
-use crate::row::{PlacedRow, PlacedRows};
-use desk_types::{Desk, Listing};
+use crate::row::PlacedRows;
+use desk_types::{Desk, Listing, Placement};
 use line_tables::placements_between;
 use line_tables::select::select;
 use sqlite::{Alter, Connection, Error, Row};
@@ -94,7 +94,7 @@ fn piece_of<D: Desk>(
     desk: &D,
     key: PieceKey,
     row: &Row,
-) -> Result<Option<PlacedRow>, Error>
+) -> Result<Option<Placement>, Error>
     ensures { IfOk result (λ found. IfSome found (λ piece. (db : Database) (H : History) → HoldsBeside D.Stands (Some lists.now) (Some desk.now) db H
         → Has (rows_in line.placement db) row.now → piece_at H (key_of key) ≡ Some piece)) }
 {
@@ -108,7 +108,7 @@ fn piece_of<D: Desk>(
     let Some(effective) = lists.minute(key.number) else {
         return Ok(None);
     };
-    Ok(Some(PlacedRow {
+    Ok(Some(Placement {
         number: placed.number,
         place: placed.place,
         board: placed.board,
@@ -130,7 +130,7 @@ fn add_rows<D: Desk>(
     desk: &D,
     keys: &[PieceKey],
     rows: &[Row],
-    pieces: &mut Vec<PlacedRow>,
+    pieces: &mut Vec<Placement>,
 ) -> Result<bool, Error>
     ensures { IfOk result (λ all. IsTrue all → (db : Database) (H : History) → HoldsBeside D.Stands (Some lists.now) (Some desk.now) db H → AreOf line.placement rows.now db
         → AddsPieces H (map key_of keys.now) pieces.old.items pieces.new.items) }
@@ -161,7 +161,7 @@ fn add_run<S: Alter, D: Desk>(
     lists: &TraceLists,
     desk: &D,
     run: &[PieceKey],
-    pieces: &mut Vec<PlacedRow>,
+    pieces: &mut Vec<Placement>,
 ) -> Result<bool, Error>
     ensures added { HasCleanDisk (state S.Store conn.new) → IfOk result (λ all. Reads (state S.Store conn.old) (λ db. IsTrue all → (H : History) → HoldsBeside D.Stands (Some lists.now) (Some desk.now) db H
         → AddsPieces H (map key_of run.now) pieces.old.items pieces.new.items)) }

@@ -5,8 +5,8 @@ ghost use Rattle.sqlite.specs.declared.error.Error.TheVariants as Error;
 ghost use Rattle.sqlite.specs.declared.error.ErrorCode.TheVariants as code;
 ghost use Rattle.sqlite.specs.State.{HasCleanDisk, Survives, KeepsCommit};
 ghost use Rattle.sqlite.specs.Held.{state};
-ghost use Rattle.desk_types.specs.Placements.{boards_of};
-ghost use Rattle.line_traces.specs.Pieces.{pieces_on, pieces_of_lot, overdue_pieces, is_board, is_lot};
+ghost use Rattle.desk_types.specs.Placements.{overdue_of, boards_of};
+ghost use Rattle.line_traces.specs.Pieces.{pieces_on, pieces_of_lot, is_board, is_lot};
 ghost use Rattle.line_traces.specs.Committed.{FindsOfList};
 
 use crate::decode::{names, pieces};
@@ -91,7 +91,7 @@ pub fn lot_pieces<S: Alter>(
 
 /// The pieces of reels whose floor life was used up, by number, then place.
 pub fn overdue<S: Alter>(alloc: Global, conn: &mut Connection<S>) -> Result<PlacedRows, Error>
-    ensures pieces { HasCleanDisk (state S.Store conn.new) → IfOk result (FindsOfList overdue_pieces (state S.Store conn.old)) }
+    ensures pieces { HasCleanDisk (state S.Store conn.new) → IfOk result (FindsOfList overdue_of (state S.Store conn.old)) }
     ensures kept { HasCleanDisk (state S.Store conn.new) → KeepsCommit (state S.Store conn.old) (state S.Store conn.new) }
     ensures inside { IsTrue conn.old.in_transaction → (result ≡ Err (Error.SqliteFailure code.TransactionState)) × (conn.new ≡ conn.old) }
     ensures mode { conn.old.in_transaction ≡ false → conn.new.in_transaction ≡ false }

@@ -8,7 +8,8 @@ ghost use Rattle.sqlite.specs.declared.error.Error.TheVariants as Error;
 ghost use Rattle.sqlite.specs.declared.error.ErrorCode.TheVariants as code;
 ghost use Rattle.sqlite.specs.State.{HasCleanDisk, Survives, KeepsCommit};
 ghost use Rattle.sqlite.specs.Held.{state};
-ghost use Rattle.line_traces.specs.Pieces.{board_trace, lot_trace, lot_board_names, overdue_pieces};
+ghost use Rattle.desk_types.specs.Placements.{overdue_of};
+ghost use Rattle.line_traces.specs.Pieces.{board_trace, lot_trace, lot_board_names};
 ghost use Rattle.line_traces.specs.Beside.{FindsBeside};
 
 use crate::by_lists::{boards_of_lot, pieces_of_board, pieces_of_lot, pieces_overdue};
@@ -66,7 +67,7 @@ pub fn overdue_rows<S: Alter, D: Desk>(
     lists: Option<&TraceLists>,
     desk: Option<&D>,
 ) -> Result<PlacedRows, Error>
-    ensures rows { HasCleanDisk (state S.Store conn.new) → IfOk result (FindsBeside D.Stands (option_copied lists.entry) (option_copied desk.entry) overdue_pieces (state S.Store conn.old)) }
+    ensures rows { HasCleanDisk (state S.Store conn.new) → IfOk result (FindsBeside D.Stands (option_copied lists.entry) (option_copied desk.entry) overdue_of (state S.Store conn.old)) }
     ensures kept { HasCleanDisk (state S.Store conn.new) → KeepsCommit (state S.Store conn.old) (state S.Store conn.new) }
     ensures inside { IsTrue conn.old.in_transaction → (result ≡ Err (Error.SqliteFailure code.TransactionState)) × (conn.new ≡ conn.old) }
     ensures mode { conn.old.in_transaction ≡ false → conn.new.in_transaction ≡ false }

@@ -3,7 +3,7 @@
 ghost use Rattle.std.specs.Prelude.{◌≡◌, ◌+◌, ◌≤◌, [], length, reverse, OnOk, OnErr};
 ghost use Rattle.std.specs.List.{find};
 ghost use Rattle.std.specs.Option.{option_copied};
-ghost use Rattle.desk_types.specs.declared.desk.TheConstants.{MOST_ENTRIES};
+ghost use Rattle.desk_types.specs.declared.limits.TheConstants.{MOST_ENTRIES};
 ghost use Rattle.desk_types.specs.declared.rules.Rules.TheVariants.{Two};
 ghost use Rattle.desk_types.specs.Id.{same};
 ghost use Rattle.desk_types.specs.History.{accept};
@@ -35,7 +35,7 @@ pub struct PlainDesk {
 
 impl Model for PlainDesk {
     ghost use Rattle.std.specs.Prelude.{◌≤◌, length, reverse};
-    ghost use Rattle.desk_types.specs.declared.desk.TheConstants.{MOST_ENTRIES};
+    ghost use Rattle.desk_types.specs.declared.limits.TheConstants.{MOST_ENTRIES};
     ghost use Rattle.desk_types.specs.Judged.{IsJudged};
     ghost use Rattle.entry_search.specs.Kept.{AreTakes};
     ghost use Rattle.look_back.specs.Plain.{Plain};

@@ -10,7 +10,7 @@ use Rattle.desk_answers.specs.Ledger.{Ledger}
 use Rattle.feeder_state.specs.declared.desk.StateDesk.{StateDesk}
 use Rattle.line_schema.specs.declared.store.LineStore.{LineStore}
 use Rattle.http_answers.specs.Requests.{Reports, request_rule}
-use Rattle.http_listener.specs.Connections.{Connected, ConnectedEach, Ended}
+use Rattle.desk_runs.specs.Connections.{Connected, ConnectedEach, Ended}
 use Rattle.served.specs.declared.serving.ServeFault.TheVariants.{Read, Write, TooManyReads}
 use Rattle.gateway_http.specs.Reports.{report_of}
 use Rattle.headline.specs.Calls.{AnswersByTheList, Call, Serves}

@@ -15,7 +15,7 @@ use Rattle.line_schema.specs.declared.store.LineStore.{LineStore}
 use Rattle.line_schema.specs.Stands.{state_of}
 use Rattle.desk_file.specs.Files.{Closes}
 use Rattle.desk_commands.specs.Closed.{MayRead}
-use Rattle.http_listener.specs.Connections.{Ended}
+use Rattle.desk_runs.specs.Connections.{Ended}
 use Rattle.headline.specs.Calls.{Call}
 use Rattle.headline.specs.Calls.Call.{connected}
 use Rattle.many_runs.specs.Runs.{Run}

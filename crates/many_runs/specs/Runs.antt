@@ -7,7 +7,7 @@ use Rattle.desk_types.specs.declared.rules.Rules.TheVariants.{Two}
 use Rattle.desk_types.specs.History.{History}
 use Rattle.desk_types.specs.Judged.{IsLawful}
 use Rattle.desk_answers.specs.Ledger.{Ledger}
-use Rattle.consistency.specs.Consistent.{IsConsistent}
+use Rattle.desk_laws.specs.Consistent.{IsConsistent}
 use Rattle.http_answers.specs.Requests.{Reports}
 use Rattle.line_tables.specs.Rows.{Tables, HoldsAt}
 use Rattle.line_rows.specs.Rows.{ledger_tables}

@@ -1,4 +1,5 @@
-//! Any number of runs on the same files: what their calls are answered, and what the files then hold.
+//! For proofs alone: nothing of it runs. Any number of runs on the same files: what their calls are
+//! answered, and what the files then hold.
 //!
 //! `specs/Runs.antt` says what a run is, and how runs are as one.
 #![tactic(auto)]
@@ -6,9 +7,9 @@
 ghost use Rattle.std.specs.Prelude.{ℕ, List, [], ◌∷◌, Option, Some};
 ghost use Rattle.sqlite_wal.specs.Recovery.{Image};
 ghost use Rattle.http_answers.specs.Requests.{Reports};
-ghost use Rattle.http_listener.specs.Connections.{Ended};
 ghost use Rattle.http_stream.specs.Answers.{Told};
 ghost use Rattle.gateway_http.specs.Reports.{report_of};
+ghost use Rattle.desk_runs.specs.Connections.{Ended};
 ghost use Rattle.desk_runs.specs.Runs.{StaysSame, AnswersReport};
 ghost use Rattle.desk_commands.specs.declared.left.Left.TheVariants.{Desk};
 ghost use Rattle.desk_commands.specs.Runs.{RunsOn, ServesEach};
@@ -25,8 +26,7 @@ use sqlite_disk::Disk;
 
 /// A law: runs one after the other, each on the files that the one before it left, are as one run that
 /// makes their calls. So every answer of every run is that of one list of accepted commands, which is
-/// lawful and consistent, and the files hold its tables. It is for proofs, and does nothing when it
-/// runs.
+/// lawful and consistent, and the files hold its tables.
 pub fn many_runs_are_one()
     ensures { (reports : Reports) (run : Run) (runs : List Run) → IsRun reports run → AreRuns reports run.last runs → IsRun reports (as_one run runs) }
 {
@@ -34,7 +34,7 @@ pub fn many_runs_are_one()
 }
 
 /// A law: a run of the program that closed its desk's file is a run, with the calls that its contracts
-/// tell. It is for proofs, and does nothing when it runs.
+/// tell.
 pub fn closed_runs_are_runs<T: Start>(desk: &FileDesk<T, StateDesk>, files: &Files<FileFrom<T>>)
     ensures feeds { (make : Option ℕ) (input out out' : Option (List ℕ)) (ended : Ended) (image : Image) → RunsOn T.Start make (Desk desk.now) (λ G H. Feeds G input out out' ended H)
         → ClosesTo desk.now files.now image → IsRun report_of (run_of T.Start make (fed input out out' ended ∷ []) image) }
@@ -47,7 +47,7 @@ pub fn closed_runs_are_runs<T: Start>(desk: &FileDesk<T, StateDesk>, files: &Fil
 {}
 
 /// A law: a whole run of the program that closed its desk's file is a run, with the calls that its
-/// contract tells. It is for proofs, and does nothing when it runs.
+/// contract tells.
 pub fn whole_runs_are_runs<T: Start>(files: &Files<FileFrom<T>>)
     ensures feeds { (make : Option ℕ) (input out out' : Option (List ℕ)) (ended : Ended) (image : Image) → RunsTo whole T.Start ⟦<FileFrom<T> as Disk>⟧ (Some files.now) make (λ G H. Feeds G input out out' ended H)
         → ReadsClean ⟦<FileFrom<T> as Disk>⟧ files.now image → IsRun report_of (run_of T.Start make (fed input out out' ended ∷ []) image) }

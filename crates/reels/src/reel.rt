@@ -2,7 +2,7 @@
 
 ghost use Rattle.std.specs.Prelude.{◌≡◌, ℕ, ◌+◌, ◌-◌, ◌≤◌, Some, None};
 ghost use Rattle.std.specs.Option.{ForSome, ForNone};
-ghost use Rattle.desk_types.specs.declared.level.TheConstants.{GREATEST_LABEL};
+ghost use Rattle.desk_types.specs.declared.limits.TheConstants.{GREATEST_LABEL};
 
 use desk_types::{Id, Level, Minute, Moisture, Quantity};
 
@@ -50,8 +50,7 @@ pub struct Reel {
 impl Reel {
     ghost use Rattle.std.specs.Prelude.{◌≡◌, ℕ, ◌+◌, ◌-◌, ◌≤◌, ◌<◌, ◌^◌, max, not, ◌&&◌, Some, None, true, false, if◌then◌else◌, ◌∷◌};
     ghost use Rattle.std.specs.Prelude.{IfSome};
-    ghost use Rattle.desk_types.specs.declared.level.TheConstants.{GREATEST_LABEL};
-    ghost use Rattle.desk_types.specs.declared.number.TheConstants.{GREATEST_QUANTITY};
+    ghost use Rattle.desk_types.specs.declared.limits.TheConstants.{GREATEST_LABEL, GREATEST_QUANTITY};
     ghost use Rattle.desk_types.specs.declared.command.Command.TheVariants.{ReelReceived, ReelSealed, ReelBaked};
     ghost use Rattle.desk_types.specs.declared.command.Entry.{Entry};
     ghost use Rattle.desk_types.specs.Id.{Name};

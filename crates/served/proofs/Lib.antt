@@ -1,2 +1,1 @@
-pub mod ConstantRows
 pub mod SentFronts

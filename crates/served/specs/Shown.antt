@@ -4,7 +4,7 @@ use Rattle.desk_types.specs.declared.wire.Wire.{Wire}
 use Rattle.desk_types.specs.Wire.{reads_of, failures_of}
 use Rattle.served.specs.declared.serving.ServeFault.{ServeFault}
 use Rattle.served.specs.declared.serving.ServeFault.TheVariants.{Read, Write, TooManyReads}
-use Rattle.served.specs.declared.serving.TheConstants.{MOST_READS}
+use Rattle.desk_types.specs.declared.limits.TheConstants.{MOST_READS}
 
 -- the failures are as they were
 abbrev pub FailsNever : {R W : Type 0} → Wire R → Wire R → Wire W → Wire W → Type 0

@@ -6,4 +6,4 @@ mod sending;
 mod serving;
 
 pub use sending::{WriteFailed, send, send_line};
-pub use serving::{MOST_READS, ServeFault, Served};
+pub use serving::{ServeFault, Served};

@@ -5,15 +5,12 @@ ghost use Rattle.std.specs.Io.KnownBytes.{Appends};
 ghost use Rattle.desk_types.specs.Wire.{inner_of, failures_of};
 ghost use Rattle.served.specs.Sent.{SendsFront};
 
-use desk_types::Wire;
+use desk_types::{ONE_WRITE, Wire};
 use std::io::Write;
 
 /// A write failed, or took nothing.
 #[derive(Drop)]
 pub struct WriteFailed;
-
-/// The longest text that goes out with its line feed in one write, and one more.
-const SHORT: usize = 4096;
 
 /// Writes a text and a line feed: in one write where the text is short, which is most of the speed.
 pub fn send_line<W: Write>(wire: &mut Wire<W>, text: &[u8]) -> Result<(), WriteFailed>
@@ -23,7 +20,7 @@ pub fn send_line<W: Write>(wire: &mut Wire<W>, text: &[u8]) -> Result<(), WriteF
     ensures failed { OnErr result (failures_of wire.new ≡ failures_of wire.old + 1) }
     ensures front { OnErr result (SendsFront (W.contents (inner_of wire.old)) (W.contents (inner_of wire.new)) (text.now ++ 10 ∷ [])) }
 {
-    if text.len() < SHORT {
+    if text.len() < ONE_WRITE {
         let line = with_line_feed(text);
         return send(wire, &line[..text.len() + 1]);
     }
@@ -32,11 +29,11 @@ pub fn send_line<W: Write>(wire: &mut Wire<W>, text: &[u8]) -> Result<(), WriteF
 }
 
 /// The text with a line feed, in a block.
-fn with_line_feed(text: &[u8]) -> [u8; SHORT]
-    requires { length text.now < SHORT }
+fn with_line_feed(text: &[u8]) -> [u8; ONE_WRITE]
+    requires { length text.now < ONE_WRITE }
     ensures { take (length text.now + 1) result ≡ text.now ++ 10 ∷ [] }
 {
-    let mut line = [0u8; SHORT];
+    let mut line = [0u8; ONE_WRITE];
     line[..text.len()].copy_from_slice(text);
     line[text.len()] = b'\n';
     line

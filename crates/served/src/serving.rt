@@ -2,9 +2,6 @@
 
 ghost use Rattle.std.specs.Prelude.{◌≡◌, ◌+◌, ◌^◌, ◌<◌, ◌≤◌, if◌then◌else◌};
 
-/// The most reads of one input.
-pub const MOST_READS: u64 = 4_294_967_294;
-
 /// How many answers went out, and how many of them count as refused.
 #[derive(Clone, Copy, Debug, PartialEq, Eq)]
 pub struct Served {

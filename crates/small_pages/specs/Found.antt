@@ -11,7 +11,7 @@ use Rattle.sqlite_trees.specs.Tree.{Trees}
 use Rattle.sqlite.specs.Files.{AreFoundIn, HoldsDatabase, IsEmpty}
 use Rattle.sqlite.specs.State.{State}
 use Rattle.sqlite.specs.Steps.{IsFresh}
-use Rattle.small_pages.specs.declared.opening.TheConstants.{PAGE_SIZE}
+use Rattle.desk_types.specs.declared.limits.TheConstants.{PAGE_SIZE}
 
 -- no database has been made in the files yet, or its making with pages of this size was stopped
 abbrev pub IsNew : Image → Type 0

@@ -4,5 +4,5 @@
 mod opening;
 mod path;
 
-pub use opening::{PAGE_SIZE, open_files};
+pub use opening::open_files;
 pub use path::open;

@@ -9,6 +9,7 @@ ghost use Rattle.sqlite.specs.Files.{file_state, image_of, IsOpened};
 ghost use Rattle.sqlite.specs.State.{HasCleanDisk};
 ghost use Rattle.small_pages.specs.Found.{FindsAs, IsMadeOf};
 
+use desk_types::PAGE_SIZE;
 use sqlite::{Connection, Error, ErrorCode, FileStore, Files, Options};
 use sqlite_disk::Disk;
 use sqlite_pager::Pager;
@@ -16,10 +17,6 @@ use sqlite_pool::probe_blank;
 use sqlite_store::Unopened;
 use sqlite_wal::PageSize;
 use std::alloc::{AllocFailed, Global};
-
-/// The bytes of a page of new files. A page that a command changes goes whole to the log, and later
-/// to the file: pages of 1,024 bytes save an eighth of the work of those of 4,096, which are the kit's.
-pub const PAGE_SIZE: usize = 1024;
 
 /// Opens the database that the files hold, or makes one where there is none yet, also where an
 /// earlier call was stopped in its making.

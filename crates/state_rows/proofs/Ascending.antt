@@ -17,8 +17,8 @@ use Rattle.desk_types.proofs.Keys.{same-refl, same-sym, same-true}
 use Rattle.desk_laws.proofs.Accepted.{next-accepted, mountable}
 use Rattle.desk_laws.proofs.Lives.{live-next}
 use Rattle.desk_laws.proofs.Mounts.{has, live-mounted}
-use Rattle.state_tables.specs.declared.row.MountRow.{MountRow}
-use Rattle.state_tables.specs.Tables.{put_by, last_put}
+use Rattle.desk_types.specs.declared.row.MountRow.{MountRow}
+use Rattle.desk_types.specs.Tables.{put_by, last_put}
 
 -- the number of the reel's last load or splice
 abbrev pub since_of : History → Name → ℕ

@@ -17,8 +17,8 @@ use Rattle.desk_types.proofs.Keys.{same-refl, same-sym, same-true}
 use Rattle.desk_laws.proofs.Accepted.{none-holds, next-accepted}
 use Rattle.desk_laws.proofs.Lookups.{somewhere-in_work}
 use Rattle.desk_laws.proofs.BoardsInWork.{IsStartable, startable, completable}
-use Rattle.state_tables.specs.declared.row.BoardRow.{BoardRow}
-use Rattle.state_tables.specs.Tables.{board_row}
+use Rattle.desk_types.specs.declared.row.BoardRow.{BoardRow}
+use Rattle.desk_types.specs.Tables.{board_row}
 use Rattle.state_rows.specs.After.{board_after}
 
 -- ---- tests

@@ -17,8 +17,8 @@ use Rattle.desk_types.specs.Judged.{IsJudged}
 use Rattle.desk_types.proofs.Keys.{same-refl}
 use Rattle.desk_laws.proofs.Lookups.{in_work-somewhere, somewhere-in_work}
 use Rattle.desk_laws.proofs.Mounted.{iff}
-use Rattle.state_tables.specs.declared.row.BoardRow.{BoardRow}
-use Rattle.state_tables.specs.Tables.{at_place, sheet_row, work_machine, board_row}
+use Rattle.desk_types.specs.declared.row.BoardRow.{BoardRow}
+use Rattle.desk_types.specs.Tables.{at_place, sheet_row, work_machine, board_row}
 use Rattle.state_rows.proofs.BoardRows.{last_start, IsWorking, on-is, working}
 
 -- ---- boards in work

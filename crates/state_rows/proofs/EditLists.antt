@@ -7,11 +7,11 @@ use Rattle.desk_types.specs.declared.sheet.SheetRow.{SheetRow}
 use Rattle.desk_types.specs.Id.{Name, same}
 use Rattle.desk_types.proofs.LoopSteps.{take-next}
 use Rattle.desk_laws.proofs.Mounts.{has}
-use Rattle.state_tables.specs.declared.row.MountRow.{MountRow}
-use Rattle.state_tables.specs.declared.edit.RowEdit.{RowEdit}
-use Rattle.state_tables.specs.declared.edit.RowEdit.TheVariants.{TakeMount}
-use Rattle.state_tables.specs.Tables.{Tables, at_place}
-use Rattle.state_tables.specs.Edits.{with_edit, with_edits}
+use Rattle.desk_types.specs.declared.row.MountRow.{MountRow}
+use Rattle.desk_types.specs.declared.edit.RowEdit.{RowEdit}
+use Rattle.desk_types.specs.declared.edit.RowEdit.TheVariants.{TakeMount}
+use Rattle.desk_types.specs.Tables.{Tables, at_place}
+use Rattle.desk_types.specs.Edits.{with_edit, with_edits}
 use Rattle.state_rows.specs.EditsOf.{taken_rows, put_rows}
 use Rattle.state_rows.proofs.PlacementRows.{at_place-before}
 

@@ -30,12 +30,12 @@ use Rattle.desk_laws.proofs.Mounted.{mounted-is}
 use Rattle.desk_laws.proofs.Mounts.{has}
 use Rattle.desk_laws.proofs.InstalledPieces.{AreUnplaced, unplaced-count}
 use Rattle.desk_laws.proofs.BoardsInWork.{startable, completable}
-use Rattle.state_tables.specs.declared.row.ReelRow.{ReelRow}
-use Rattle.state_tables.specs.declared.row.MountRow.{MountRow}
-use Rattle.state_tables.specs.declared.row.BoardRow.{BoardRow}
-use Rattle.state_tables.specs.declared.edit.RowEdit.{RowEdit}
-use Rattle.state_tables.specs.Tables.{at_place, columns_of, sheet_row, reel_row, last_put, mount_row, board_row, placement_row, found_row, Tables, tables_of}
-use Rattle.state_tables.specs.Edits.{with_edits}
+use Rattle.desk_types.specs.declared.row.ReelRow.{ReelRow}
+use Rattle.desk_types.specs.declared.row.MountRow.{MountRow}
+use Rattle.desk_types.specs.declared.row.BoardRow.{BoardRow}
+use Rattle.desk_types.specs.declared.edit.RowEdit.{RowEdit}
+use Rattle.desk_types.specs.Tables.{at_place, columns_of, sheet_row, reel_row, last_put, mount_row, board_row, placement_row, found_row, Tables, tables_of}
+use Rattle.desk_types.specs.Edits.{with_edits}
 use Rattle.state_rows.specs.After.{fresh_row, used_after, bakes, step_row, reel_after, mount_after, board_after, placed_row, placement_after, found_after}
 use Rattle.state_rows.specs.EditsOf.{opened_row, sealed_row, baked_row, reel_edit, board_edit, taken_rows, put_rows, reels_on, pick_of, picked_rows, after_rows, after_placing, AreEditsOf}
 use Rattle.state_rows.proofs.ReelRows.{same-rows, reel_row-next, found_row-next}

@@ -18,11 +18,11 @@ use Rattle.desk_types.specs.View.{view_of}
 use Rattle.desk_types.proofs.Keys.{same-refl}
 use Rattle.desk_laws.proofs.Picks.{pieces_picked-append}
 use Rattle.desk_laws.proofs.Totals.{pieces_picked-filter}
-use Rattle.state_tables.specs.declared.row.ReelRow.{ReelRow}
-use Rattle.state_tables.specs.declared.row.PlacementRow.{PlacementRow}
-use Rattle.state_tables.specs.declared.edit.RowEdit.TheVariants.{PutPlacement}
-use Rattle.state_tables.specs.Tables.{Tables, columns_of, reel_row, at_place}
-use Rattle.state_tables.specs.Edits.{with_edits}
+use Rattle.desk_types.specs.declared.row.ReelRow.{ReelRow}
+use Rattle.desk_types.specs.declared.row.PlacementRow.{PlacementRow}
+use Rattle.desk_types.specs.declared.edit.RowEdit.TheVariants.{PutPlacement}
+use Rattle.desk_types.specs.Tables.{Tables, columns_of, reel_row, at_place}
+use Rattle.desk_types.specs.Edits.{with_edits}
 use Rattle.state_rows.specs.After.{placed_in, scrapped_in, placed_row}
 use Rattle.state_rows.specs.EditsOf.{is_picked, less_row, picked_rows, place_rows, less_by, LessFits, ArePiecesFitting, AreNamed}
 use Rattle.state_rows.proofs.ReelRows.{same-rows}

@@ -8,7 +8,7 @@ use Rattle.std.proofs.lemmas.List.Elements.{All-tail}
 use Rattle.std.specs.Map.{keys_of, lookup}
 use Rattle.desk_types.specs.Id.{Name, same, by_name}
 use Rattle.desk_types.proofs.Keys.{same-true, same-refl}
-use Rattle.state_tables.specs.declared.row.MountRow.{MountRow}
+use Rattle.desk_types.specs.declared.row.MountRow.{MountRow}
 use Rattle.state_rows.specs.Kept.{by_since, row_at, since_is, AreTheSame, ListsMounts}
 use Rattle.state_rows.proofs.RowLists.{is_at-by_since}
 

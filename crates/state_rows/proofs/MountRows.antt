@@ -21,8 +21,8 @@ use Rattle.desk_laws.proofs.Mounts.{has}
 use Rattle.desk_laws.proofs.Mounted.{mounted-is, mounted-next}
 use Rattle.desk_laws.proofs.Places.{untouched-unplaced}
 use Rattle.desk_laws.proofs.Tapes.{not-zero}
-use Rattle.state_tables.specs.declared.row.MountRow.{MountRow}
-use Rattle.state_tables.specs.Tables.{put_by, last_put, mount_row}
+use Rattle.desk_types.specs.declared.row.MountRow.{MountRow}
+use Rattle.desk_types.specs.Tables.{put_by, last_put, mount_row}
 use Rattle.state_rows.specs.After.{mount_after}
 
 -- whether the reel has pieces left

@@ -15,8 +15,8 @@ use Rattle.desk_laws.specs.Place.{is_at, place_after, place_of}
 use Rattle.desk_laws.proofs.Mounted.{mounted-is}
 use Rattle.desk_laws.proofs.Mounts.{has, has-live_on, live-mounted}
 use Rattle.desk_laws.proofs.Places.{placed, live-placed}
-use Rattle.state_tables.specs.declared.row.MountRow.{MountRow}
-use Rattle.state_tables.specs.Tables.{put_by, last_put, mount_row}
+use Rattle.desk_types.specs.declared.row.MountRow.{MountRow}
+use Rattle.desk_types.specs.Tables.{put_by, last_put, mount_row}
 use Rattle.state_rows.proofs.MountRows.{some_left}
 
 -- ---- mounts

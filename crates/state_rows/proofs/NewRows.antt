@@ -27,12 +27,12 @@ use Rattle.desk_types.specs.Judged.{IsJudged}
 use Rattle.desk_types.proofs.Keys.{same-refl}
 use Rattle.desk_laws.proofs.Accepted.{next-accepted, mountable}
 use Rattle.desk_laws.proofs.Balance.{balance}
-use Rattle.state_tables.specs.declared.row.ReelRow.{ReelRow}
-use Rattle.state_tables.specs.declared.row.PlacementRow.{PlacementRow}
-use Rattle.state_tables.specs.declared.edit.RowEdit.{RowEdit}
-use Rattle.state_tables.specs.declared.edit.RowEdit.TheVariants.{TakeSheetRow, TakeMount, PutSheetRow, PutReel, PutMount, PutPlacement, PutFound}
-use Rattle.state_tables.specs.Tables.{at_place, columns_of, Tables, tables_of, last_put, reel_row}
-use Rattle.state_tables.specs.Edits.{with_edit, with_edits, IsNew, AreNew, takes_out, AreTakesFirst, IsBalanced, AreBalanced}
+use Rattle.desk_types.specs.declared.row.ReelRow.{ReelRow}
+use Rattle.desk_types.specs.declared.row.PlacementRow.{PlacementRow}
+use Rattle.desk_types.specs.declared.edit.RowEdit.{RowEdit}
+use Rattle.desk_types.specs.declared.edit.RowEdit.TheVariants.{TakeSheetRow, TakeMount, PutSheetRow, PutReel, PutMount, PutPlacement, PutFound}
+use Rattle.desk_types.specs.Tables.{at_place, columns_of, Tables, tables_of, last_put, reel_row}
+use Rattle.desk_types.specs.Edits.{with_edit, with_edits, IsNew, AreNew, takes_out, AreTakesFirst, IsBalanced, AreBalanced}
 use Rattle.state_rows.specs.After.{fresh_row, step_row, placed_row}
 use Rattle.state_rows.specs.EditsOf.{taken_rows, put_rows, opened_row, sealed_row, baked_row, reel_edit, board_edit, reels_on, pick_of, picked_rows, take_spent, counted_row, counted_edits, count_edits, place_rows, AreTakeEdits, AreEditsOf}
 use Rattle.state_rows.proofs.EditLists.{rows-taken}

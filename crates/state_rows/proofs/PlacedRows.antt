@@ -7,11 +7,11 @@ use Rattle.std.specs.List.Sorted.{IsStrictlySortedBy}
 use Rattle.std.specs.Map.{keys_of, lookup}
 use Rattle.std.specs.BTreeMap.{is_at}
 use Rattle.std.specs.Ordering.{nat_cmp, ordering_then, is_eq}
-use Rattle.std.specs.declared.cmp.Ordering.{Ordering}
 use Rattle.std.specs.declared.cmp.Ordering.TheVariants.{Less, Equal, Greater}
 use Rattle.std.proofs.lemmas.Bool.{eqb-true, eq-eqb, ne_eqb, lt-ltb, ltb-true}
 use Rattle.std.proofs.lemmas.List.Elements.{filter_map-append}
 use Rattle.desk_types.specs.declared.command.Entry.{Entry}
+use Rattle.desk_types.specs.declared.placement.Placement.{Placement}
 use Rattle.desk_types.specs.declared.rules.Rules.TheVariants.{Two}
 use Rattle.desk_types.specs.declared.take.Purpose.{Purpose}
 use Rattle.desk_types.specs.declared.take.Purpose.TheVariants.{Placed, Rejected, Counted}
@@ -19,10 +19,11 @@ use Rattle.desk_types.specs.declared.take.Take.{Take}
 use Rattle.desk_types.specs.History.{History}
 use Rattle.desk_types.specs.Outcome.{takes_by}
 use Rattle.desk_types.specs.Judged.{IsJudged}
-use Rattle.desk_types.specs.Placements.{EntryTake, Placement, entry_takes, takes_of, placement_of, placements_of}
+use Rattle.desk_types.specs.Placements.{EntryTake, entry_takes, takes_of, placement_of, placements_of}
+use Rattle.desk_types.proofs.Keys.{is_eq-ordering_then}
 use Rattle.desk_laws.proofs.Distinct.{all-append}
-use Rattle.state_tables.specs.declared.row.PlacementRow.{PlacementRow}
-use Rattle.state_tables.specs.Tables.{placement_columns, placement_row}
+use Rattle.desk_types.specs.declared.row.PlacementRow.{PlacementRow}
+use Rattle.desk_types.specs.Tables.{placement_columns, placement_row}
 use Rattle.state_rows.specs.Kept.{by_piece, row_at, Lists}
 
 -- a placement as a row with its key
@@ -43,17 +44,12 @@ same-number a b = by (nat_lt a b) refl (a == b) refl
     by false is true at = let e = eqb-true a b at in sym (eq-eqb b a (sym e))
     by false is false at = sym (ne_eqb b a (λ e. let back = eq-eqb a b (sym e) in cc))
 
-both-equal : (a b : Ordering) → is_eq (ordering_then a b) ≡ (is_eq a && is_eq b)
-both-equal Less b = refl
-both-equal Equal b = refl
-both-equal Greater b = refl
-
 -- A look-up among these rows gives the row of the table. This holds of every list.
 pub pieces-found : (H : History) (key : ℕ × ℕ) → row_at by_piece (piece_entries H) key ≡ placement_row H key.0 key.1
 pieces-found H key = among (placements_of H)
   where
     is_key : (p : Placement) → is_at (by_piece key) (p.number, p.place) ≡ (p.number == key.0 && p.place == key.1)
-    is_key p = both-equal (nat_cmp key.0 p.number) (nat_cmp key.1 p.place) ∙ ap (λ b. b && is_eq (nat_cmp key.1 p.place)) (same-number key.0 p.number) ∙ ap (λ b. p.number == key.0 && b) (same-number key.1 p.place)
+    is_key p = is_eq-ordering_then (nat_cmp key.0 p.number) (nat_cmp key.1 p.place) ∙ ap (λ b. b && is_eq (nat_cmp key.1 p.place)) (same-number key.0 p.number) ∙ ap (λ b. p.number == key.0 && b) (same-number key.1 p.place)
 
     among : (ps : List Placement) → lookup (is_at (by_piece key)) (map entry_of ps) ≡ option_map placement_columns (find (λ (p : Placement). p.number == key.0 && p.place == key.1) ps)
     among [] = refl

@@ -7,6 +7,7 @@ use Rattle.std.proofs.lemmas.Bool.{eqb-true, ne_eqb}
 use Rattle.std.proofs.lemmas.List.Elements.{filter_map-append}
 use Rattle.std.proofs.lemmas.List.Folds.{find-append}
 use Rattle.desk_types.specs.declared.command.Entry.{Entry}
+use Rattle.desk_types.specs.declared.placement.Placement.{Placement}
 use Rattle.desk_types.specs.declared.rules.Rules.TheVariants.{Two}
 use Rattle.desk_types.specs.declared.take.Purpose.{Purpose}
 use Rattle.desk_types.specs.declared.take.Purpose.TheVariants.{Placed, Rejected, Counted}
@@ -14,9 +15,9 @@ use Rattle.desk_types.specs.declared.take.Take.{Take}
 use Rattle.desk_types.specs.History.{History}
 use Rattle.desk_types.specs.Outcome.{takes_by}
 use Rattle.desk_types.specs.Judged.{IsJudged}
-use Rattle.desk_types.specs.Placements.{EntryTake, Placement, entry_takes, takes_of, placement_of, placements_of}
-use Rattle.state_tables.specs.declared.row.PlacementRow.{PlacementRow}
-use Rattle.state_tables.specs.Tables.{at_place, placement_columns, placement_row}
+use Rattle.desk_types.specs.Placements.{EntryTake, entry_takes, takes_of, placement_of, placements_of}
+use Rattle.desk_types.specs.declared.row.PlacementRow.{PlacementRow}
+use Rattle.desk_types.specs.Tables.{at_place, placement_columns, placement_row}
 use Rattle.state_rows.specs.After.{placed_row, placement_after}
 
 -- ---- places
@@ -58,7 +59,7 @@ module _ (number effective n k : ℕ) where
           columns m p = record { number = m; place = p; board = board; designator = designator; machine = machine; slot = slot; reel = take.reel; overdue = take.overdue }
 
           row : Placement
-          row = record { number = number; place = i; board = board; designator = designator; machine = machine; slot = slot; reel = take.reel; part = take.part; lot = take.lot; effective = effective; overdue = take.overdue }
+          row = record { number = number; place = i; board = board; designator = designator; part = take.part; lot = take.lot; reel = take.reel; machine = machine; slot = slot; effective = effective; overdue = take.overdue }
 
           both : is_at row ≡ true
           both = ap (λ b. b && (i == k)) is_n ∙ is_k
@@ -74,7 +75,7 @@ module _ (number effective n k : ℕ) where
           ap (λ b. option_map placement_columns (cond b (Some row) (find is_at (filter_map placement_of (map as_take rest))))) away
         where
           row : Placement
-          row = record { number = number; place = i; board = board; designator = designator; machine = machine; slot = slot; reel = take.reel; part = take.part; lot = take.lot; effective = effective; overdue = take.overdue }
+          row = record { number = number; place = i; board = board; designator = designator; part = take.part; lot = take.lot; reel = take.reel; machine = machine; slot = slot; effective = effective; overdue = take.overdue }
       by (Rejected machine slot) = refl
       by Counted = refl
 

@@ -11,8 +11,8 @@ use Rattle.desk_types.specs.declared.count.CountRow.{CountRow}
 use Rattle.desk_types.specs.Id.{Name}
 use Rattle.desk_types.specs.History.{History}
 use Rattle.desk_types.proofs.LoopSteps.{take-next}
-use Rattle.state_tables.specs.declared.edit.RowEdit.{RowEdit}
-use Rattle.state_tables.specs.declared.edit.RowEdit.TheVariants.{TakeSheetRow, TakeMount, PutSheetRow}
+use Rattle.desk_types.specs.declared.edit.RowEdit.{RowEdit}
+use Rattle.desk_types.specs.declared.edit.RowEdit.TheVariants.{TakeSheetRow, TakeMount, PutSheetRow}
 use Rattle.state_rows.specs.EditsOf.{taken_rows, put_rows, reel_on_slot, count_edits}
 
 taken-append : (product machine : Name) (n : ℕ) (xs : List SheetRow) (x : SheetRow) → taken_rows product machine n (xs ++ x ∷ []) ≡ taken_rows product machine n xs ++ TakeSheetRow product machine (n + length xs) ∷ []

@@ -4,33 +4,28 @@ use Rattle.std.specs.Prelude.{◌==◌, ◌&&◌, ◌||◌, nat_lt}
 use Rattle.std.specs.BTreeMap.{is_at}
 use Rattle.std.specs.List.Sorted.{IsStrictlySortedBy}
 use Rattle.std.specs.Map.{keys_of}
-use Rattle.std.specs.Ordering.{is_eq, ordering_then, nat_cmp}
+use Rattle.std.specs.Ordering.{is_eq, nat_cmp}
 use Rattle.std.specs.declared.cmp.Ordering.{Ordering}
 use Rattle.std.specs.declared.cmp.Ordering.TheVariants.{Less, Equal, Greater}
 use Rattle.std.proofs.lemmas.Bool.{eqb-true, ltb-true}
 use Rattle.desk_types.specs.Id.{Name, same, by_name}
-use Rattle.desk_types.proofs.Keys.{is_at-by_name, is_at-by_pair}
+use Rattle.desk_types.proofs.Keys.{is_at-by_name, is_at-by_pair, is_eq-ordering_then}
 use Rattle.desk_types.specs.Pair.{same_pair, by_pair}
 use Rattle.desk_types.specs.declared.sheet.SheetRow.{SheetRow}
-use Rattle.state_tables.specs.declared.row.ReelRow.{ReelRow}
-use Rattle.state_tables.specs.declared.row.MountRow.{MountRow}
-use Rattle.state_tables.specs.declared.row.BoardRow.{BoardRow}
-use Rattle.state_tables.specs.declared.row.PlacementRow.{PlacementRow}
-use Rattle.state_tables.specs.declared.edit.RowEdit.{RowEdit}
-use Rattle.state_tables.specs.declared.edit.RowEdit.TheVariants.{TakeSheetRow, TakeMount, PutPart, PutAlternate, PutSheetRow, PutSelected, PutReel, PutMount, PutBoard, PutPlacement, PutFound}
+use Rattle.desk_types.specs.declared.row.ReelRow.{ReelRow}
+use Rattle.desk_types.specs.declared.row.MountRow.{MountRow}
+use Rattle.desk_types.specs.declared.row.BoardRow.{BoardRow}
+use Rattle.desk_types.specs.declared.row.PlacementRow.{PlacementRow}
+use Rattle.desk_types.specs.declared.edit.RowEdit.{RowEdit}
+use Rattle.desk_types.specs.declared.edit.RowEdit.TheVariants.{TakeSheetRow, TakeMount, PutPart, PutAlternate, PutSheetRow, PutSelected, PutReel, PutMount, PutBoard, PutPlacement, PutFound}
 use Rattle.desk_types.specs.Placements.{takes_of}
 use Rattle.desk_types.specs.Pieces.{found_of}
-use Rattle.state_tables.specs.Tables.{Tables, placement_row, found_row}
-use Rattle.state_tables.specs.Edits.{with_edit, with_edits}
+use Rattle.desk_types.specs.Tables.{Tables, placement_row, found_row}
+use Rattle.desk_types.specs.Edits.{with_edit, with_edits}
 use Rattle.state_rows.specs.Kept.{KeptRows, tables_in, is_placement, but_placements, by_sheet_place, by_piece, by_since, has_key, row_at, Lists, ListsKeys}
 use Rattle.state_rows.proofs.EditLists.{edits-next}
 
 -- ---- keys
-
-both-eq : (a b : Ordering) → is_eq (ordering_then a b) ≡ (is_eq a && is_eq b)
-both-eq Less b = refl
-both-eq Equal b = refl
-both-eq Greater b = refl
 
 is_at-number : (m n : ℕ) → is_eq (nat_cmp m n) ≡ (m == n)
 is_at-number m n = by (nat_lt m n) (m == n) refl refl
@@ -43,19 +38,19 @@ is_at-number m n = by (nat_lt m n) (m == n) refl refl
 
 pub is_at-by_sheet_place : (k q : Name × Name × ℕ) → is_at (by_sheet_place k) q ≡ (same k.0 q.0 && same k.1 q.1 && (k.2 == q.2))
 is_at-by_sheet_place k q =
-    both-eq (by_pair (k.0, k.1) (q.0, q.1)) (nat_cmp k.2 q.2)
+    is_eq-ordering_then (by_pair (k.0, k.1) (q.0, q.1)) (nat_cmp k.2 q.2)
     ∙ ap (λ b. b && is_eq (nat_cmp k.2 q.2)) (is_at-by_pair (k.0, k.1) (q.0, q.1))
     ∙ ap (λ b. same_pair (k.0, k.1) (q.0, q.1) && b) (is_at-number k.2 q.2)
 
 pub is_at-by_piece : (k q : ℕ × ℕ) → is_at (by_piece k) q ≡ (k.0 == q.0 && (k.1 == q.1))
 is_at-by_piece k q =
-    both-eq (nat_cmp k.0 q.0) (nat_cmp k.1 q.1)
+    is_eq-ordering_then (nat_cmp k.0 q.0) (nat_cmp k.1 q.1)
     ∙ ap (λ b. b && is_eq (nat_cmp k.1 q.1)) (is_at-number k.0 q.0)
     ∙ ap (λ b. (k.0 == q.0) && b) (is_at-number k.1 q.1)
 
 pub is_at-by_since : (k q : ℕ × Name) → is_at (by_since k) q ≡ (k.0 == q.0 && same k.1 q.1)
 is_at-by_since k q =
-    both-eq (nat_cmp k.0 q.0) (by_name k.1 q.1)
+    is_eq-ordering_then (nat_cmp k.0 q.0) (by_name k.1 q.1)
     ∙ ap (λ b. b && is_eq (by_name k.1 q.1)) (is_at-number k.0 q.0)
     ∙ ap (λ b. (k.0 == q.0) && b) (is_at-by_name k.1 q.1)
 

@@ -18,7 +18,7 @@ use Rattle.desk_types.specs.Command.{IsStamped}
 use Rattle.desk_types.specs.Number.{IsMinute}
 use Rattle.desk_types.specs.Desk.{IsChange}
 use Rattle.desk_types.specs.Judged.{IsJudged}
-use Rattle.desk_types.specs.declared.desk.TheConstants.{MOST_ENTRIES}
+use Rattle.desk_types.specs.declared.limits.TheConstants.{MOST_ENTRIES}
 use Rattle.desk_types.specs.declared.rules.Rules.{Rules}
 use Rattle.desk_types.specs.declared.rules.Rules.TheVariants.{Two}
 use Rattle.desk_types.proofs.BothRules.{judged-by-two}
@@ -26,13 +26,13 @@ use Rattle.desk_types.specs.Outcome.{takes_by}
 use Rattle.desk_types.specs.Pieces.{picks_of}
 use Rattle.desk_types.proofs.Keys.{same-true, same-sym, same-refl, is_at-by_name}
 use Rattle.desk_types.proofs.LoopSteps.{take-next, drop-next}
-use Rattle.state_tables.specs.declared.row.ReelRow.{ReelRow}
-use Rattle.state_tables.specs.declared.row.PlacementRow.{PlacementRow}
-use Rattle.state_tables.specs.declared.row.MountRow.{MountRow}
-use Rattle.state_tables.specs.declared.edit.RowEdit.{RowEdit}
-use Rattle.state_tables.specs.declared.edit.RowEdit.TheVariants.{TakeMount, PutReel, PutPlacement}
-use Rattle.state_tables.specs.Tables.{Tables, tables_of, reel_row, placement_row}
-use Rattle.state_tables.specs.Edits.{with_edits, AreNew, AreTakesFirst, AreBalanced}
+use Rattle.desk_types.specs.declared.row.ReelRow.{ReelRow}
+use Rattle.desk_types.specs.declared.row.PlacementRow.{PlacementRow}
+use Rattle.desk_types.specs.declared.row.MountRow.{MountRow}
+use Rattle.desk_types.specs.declared.edit.RowEdit.{RowEdit}
+use Rattle.desk_types.specs.declared.edit.RowEdit.TheVariants.{TakeMount, PutReel, PutPlacement}
+use Rattle.desk_types.specs.Tables.{Tables, tables_of, reel_row, placement_row}
+use Rattle.desk_types.specs.Edits.{with_edits, AreNew, AreTakesFirst, AreBalanced}
 use Rattle.state_rows.specs.Kept.{row_at}
 use Rattle.state_rows.specs.After.{placed_row}
 use Rattle.state_rows.specs.EditsOf.{pick_of, is_picked, is_spent, less_row, AreTakeEdits, AreEditsOf, less_by, LessFits, ArePiecesFitting, picked_rows, with_reels, without_spent, take_spent, after_rows, place_rows, AreNamed}

@@ -19,8 +19,8 @@ use Rattle.desk_types.specs.Judged.{IsJudged}
 use Rattle.desk_types.proofs.Keys.{same-refl, same-true, is_at-by_name}
 use Rattle.desk_laws.proofs.Mounted.{iff}
 use Rattle.desk_laws.proofs.Mounts.{has}
-use Rattle.state_tables.specs.declared.row.MountRow.{MountRow}
-use Rattle.state_tables.specs.Tables.{put_by, last_put, mount_row}
+use Rattle.desk_types.specs.declared.row.MountRow.{MountRow}
+use Rattle.desk_types.specs.Tables.{put_by, last_put, mount_row}
 use Rattle.state_rows.specs.Kept.{by_since, since_is, ListsMounts}
 use Rattle.state_rows.proofs.MountedRows.{mount-live, live-mount}
 use Rattle.state_rows.proofs.Ascending.{since_of, Ascends, since-put, since-within, since-ascends, ascending-same}

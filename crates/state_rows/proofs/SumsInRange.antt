@@ -4,8 +4,7 @@ use Rattle.std.specs.Option.{option_map, option_map_or}
 use Rattle.desk_types.specs.declared.command.Entry.{Entry}
 use Rattle.desk_types.specs.declared.command.Receipt.{Receipt}
 use Rattle.desk_types.specs.declared.command.Stamped.{Stamped}
-use Rattle.desk_types.specs.declared.desk.TheConstants.{MOST_ENTRIES}
-use Rattle.desk_types.specs.declared.number.TheConstants.{GREATEST_QUANTITY}
+use Rattle.desk_types.specs.declared.limits.TheConstants.{GREATEST_QUANTITY, MOST_ENTRIES}
 use Rattle.desk_types.specs.declared.rules.Rules.{Rules}
 use Rattle.desk_types.specs.declared.rules.Rules.TheVariants.{Two}
 use Rattle.desk_types.specs.declared.view.ReelView.{ReelView}
@@ -24,8 +23,8 @@ use Rattle.desk_laws.proofs.Balance.{balance}
 use Rattle.desk_laws.proofs.Exposures.{exposure-within}
 use Rattle.desk_laws.proofs.Ranges.{received-range}
 use Rattle.desk_laws.proofs.Totals.{placed-next, scrapped-next}
-use Rattle.state_tables.specs.declared.row.ReelRow.{ReelRow}
-use Rattle.state_tables.specs.Tables.{columns_of, reel_row}
+use Rattle.desk_types.specs.declared.row.ReelRow.{ReelRow}
+use Rattle.desk_types.specs.Tables.{columns_of, reel_row}
 use Rattle.state_rows.specs.EditsOf.{ArePiecesFitting, CountFits}
 use Rattle.state_rows.proofs.ReelRows.{used-then}
 

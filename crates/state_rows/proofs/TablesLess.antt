@@ -17,10 +17,10 @@ use Rattle.desk_types.specs.Outcome.{take_of}
 use Rattle.desk_types.specs.View.{view_of}
 use Rattle.desk_types.specs.Judged.{IsJudged}
 use Rattle.desk_laws.proofs.Mounted.{mounted-is}
-use Rattle.state_tables.specs.declared.row.ReelRow.{ReelRow}
-use Rattle.state_tables.specs.declared.row.MountRow.{MountRow}
-use Rattle.state_tables.specs.declared.row.PlacementRow.{PlacementRow}
-use Rattle.state_tables.specs.Tables.{columns_of, reel_row, last_put, mount_row}
+use Rattle.desk_types.specs.declared.row.ReelRow.{ReelRow}
+use Rattle.desk_types.specs.declared.row.MountRow.{MountRow}
+use Rattle.desk_types.specs.declared.row.PlacementRow.{PlacementRow}
+use Rattle.desk_types.specs.Tables.{columns_of, reel_row, last_put, mount_row}
 use Rattle.state_rows.specs.After.{placed_in, scrapped_in, used_after, step_row}
 use Rattle.state_rows.specs.EditsOf.{pick_of, is_picked, less_row, picked_rows, is_spent}
 use Rattle.state_rows.proofs.ReelRows.{same-rows}

@@ -13,11 +13,11 @@ use Rattle.desk_types.specs.Id.{Name, same}
 use Rattle.desk_types.specs.Setup.{receipt_by}
 use Rattle.desk_types.specs.Pieces.{pieces_picked, is_placed, pieces_by, found_by}
 use Rattle.desk_types.specs.FloorLife.{open_by, since_after, baked_by}
-use Rattle.state_tables.specs.declared.row.ReelRow.{ReelRow}
-use Rattle.state_tables.specs.declared.row.MountRow.{MountRow}
-use Rattle.state_tables.specs.declared.row.BoardRow.{BoardRow}
-use Rattle.state_tables.specs.declared.row.PlacementRow.{PlacementRow}
-use Rattle.state_tables.specs.Tables.{at_place}
+use Rattle.desk_types.specs.declared.row.ReelRow.{ReelRow}
+use Rattle.desk_types.specs.declared.row.MountRow.{MountRow}
+use Rattle.desk_types.specs.declared.row.BoardRow.{BoardRow}
+use Rattle.desk_types.specs.declared.row.PlacementRow.{PlacementRow}
+use Rattle.desk_types.specs.Tables.{at_place}
 
 -- how many pieces of the reel the picks place, and how many they scrap
 abbrev pub placed_in : List Pick → Name → ℕ

@@ -15,12 +15,12 @@ use Rattle.desk_types.specs.History.{History}
 use Rattle.desk_types.specs.Setup.{sheet_of, selected_on}
 use Rattle.desk_types.specs.Pieces.{pieces_picked, is_placed, placed_of, scrapped_of}
 use Rattle.desk_types.specs.View.{mounts_on, reel_view}
-use Rattle.state_tables.specs.declared.row.ReelRow.{ReelRow}
-use Rattle.state_tables.specs.declared.row.PlacementRow.{PlacementRow}
-use Rattle.state_tables.specs.declared.edit.RowEdit.{RowEdit}
-use Rattle.state_tables.specs.declared.edit.RowEdit.TheVariants.{TakeSheetRow, TakeMount, PutPart, PutAlternate, PutSheetRow, PutSelected, PutReel, PutMount, PutBoard, PutPlacement, PutFound}
-use Rattle.state_tables.specs.Tables.{Tables, at_place, columns_of, reel_row}
-use Rattle.state_tables.specs.Edits.{with_edits}
+use Rattle.desk_types.specs.declared.row.ReelRow.{ReelRow}
+use Rattle.desk_types.specs.declared.row.PlacementRow.{PlacementRow}
+use Rattle.desk_types.specs.declared.edit.RowEdit.{RowEdit}
+use Rattle.desk_types.specs.declared.edit.RowEdit.TheVariants.{TakeSheetRow, TakeMount, PutPart, PutAlternate, PutSheetRow, PutSelected, PutReel, PutMount, PutBoard, PutPlacement, PutFound}
+use Rattle.desk_types.specs.Tables.{Tables, at_place, columns_of, reel_row}
+use Rattle.desk_types.specs.Edits.{with_edits}
 use Rattle.state_rows.specs.After.{placed_in, scrapped_in, fresh_row, placed_row}
 
 -- ---- sheets

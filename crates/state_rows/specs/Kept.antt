@@ -10,13 +10,13 @@ use Rattle.std.specs.declared.cmp.Ordering.{Ordering}
 use Rattle.desk_types.specs.declared.sheet.SheetRow.{SheetRow}
 use Rattle.desk_types.specs.Id.{Name, same, by_name}
 use Rattle.desk_types.specs.Pair.{by_pair}
-use Rattle.state_tables.specs.declared.row.ReelRow.{ReelRow}
-use Rattle.state_tables.specs.declared.row.MountRow.{MountRow}
-use Rattle.state_tables.specs.declared.row.BoardRow.{BoardRow}
-use Rattle.state_tables.specs.declared.row.PlacementRow.{PlacementRow}
-use Rattle.state_tables.specs.declared.edit.RowEdit.{RowEdit}
-use Rattle.state_tables.specs.declared.edit.RowEdit.TheVariants.{PutPlacement}
-use Rattle.state_tables.specs.Tables.{Tables}
+use Rattle.desk_types.specs.declared.row.ReelRow.{ReelRow}
+use Rattle.desk_types.specs.declared.row.MountRow.{MountRow}
+use Rattle.desk_types.specs.declared.row.BoardRow.{BoardRow}
+use Rattle.desk_types.specs.declared.row.PlacementRow.{PlacementRow}
+use Rattle.desk_types.specs.declared.edit.RowEdit.{RowEdit}
+use Rattle.desk_types.specs.declared.edit.RowEdit.TheVariants.{PutPlacement}
+use Rattle.desk_types.specs.Tables.{Tables}
 
 -- ---- orders of keys
 

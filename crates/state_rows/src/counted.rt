@@ -6,12 +6,11 @@ ghost use Rattle.desk_types.specs.declared.rules.Rules.TheVariants.{Two};
 ghost use Rattle.desk_types.specs.History.{History};
 ghost use Rattle.desk_types.specs.Judged.{IsJudged};
 ghost use Rattle.desk_types.specs.Desk.{HasRoom};
-ghost use Rattle.state_tables.specs.Tables.{columns_of};
+ghost use Rattle.desk_types.specs.Tables.{columns_of};
 ghost use Rattle.state_rows.specs.EditsOf.{counted_row, counted_edits, count_edits, CountFits};
 
 use crate::reels::columns;
-use desk_types::{CountRow, Desk, ReelView};
-use state_tables::{ReelRow, RowEdit};
+use desk_types::{CountRow, Desk, ReelRow, ReelView, RowEdit};
 use std::alloc::{AllocError, Global};
 
 /// The reel's row with so many pieces counted.

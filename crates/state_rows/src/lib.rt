@@ -10,6 +10,6 @@ mod sheets;
 mod slot_rows;
 mod takes;
 
+pub use desk_types::{BoardRow, MountRow, PlacementRow, ReelRow, RowEdit, RowEdits};
 pub use rows::rows_of;
 pub use set::RowSet;
-pub use state_tables::{BoardRow, MountRow, PlacementRow, ReelRow, RowEdit, RowEdits};

@@ -4,8 +4,7 @@ ghost use Rattle.std.specs.Prelude.{◌≡◌, [], None, Some, OnOk, if◌then�
 ghost use Rattle.desk_types.specs.Id.{Name, same, by_name};
 ghost use Rattle.state_rows.specs.Kept.{row_at, AreTheSame, ListsMounts};
 
-use desk_types::Id;
-use state_tables::MountRow;
+use desk_types::{Id, MountRow};
 use std::alloc::{AllocError, Global};
 use std::collections::BTreeMap;
 use std::collections::btree_map::Iter;
@@ -21,7 +20,7 @@ pub struct Mounts {
 impl Model for Mounts {
     ghost use Rattle.std.specs.Prelude.{List};
     ghost use Rattle.desk_types.specs.Id.{Name};
-    ghost use Rattle.state_tables.specs.declared.row.MountRow.{MountRow};
+    ghost use Rattle.desk_types.specs.declared.row.MountRow.{MountRow};
     ghost use Rattle.state_rows.specs.Kept.{AreTheSame};
 
     ghost Value = { List (Name × MountRow) };

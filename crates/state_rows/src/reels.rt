@@ -6,12 +6,11 @@ ghost use Rattle.std.specs.Option.{option_map_or};
 ghost use Rattle.desk_types.specs.History.{History, now_of};
 ghost use Rattle.desk_types.specs.Judged.{IsJudged};
 ghost use Rattle.desk_types.specs.declared.rules.Rules.TheVariants.{Two};
-ghost use Rattle.state_tables.specs.Tables.{columns_of, reel_row};
+ghost use Rattle.desk_types.specs.Tables.{columns_of, reel_row};
 ghost use Rattle.state_rows.specs.EditsOf.{opened_row, sealed_row, baked_row, reel_edit};
-ghost use Rattle.state_tables.specs.declared.edit.RowEdit.TheVariants.{PutMount};
+ghost use Rattle.desk_types.specs.declared.edit.RowEdit.TheVariants.{PutMount};
 
-use desk_types::{Desk, Id, Minute, Moisture, Quantity, ReelView};
-use state_tables::{MountRow, ReelRow, RowEdit};
+use desk_types::{Desk, Id, Minute, Moisture, MountRow, Quantity, ReelRow, ReelView, RowEdit};
 use std::alloc::{AllocError, Global};
 
 /// What of a reel's view does not change with the minute.

@@ -5,8 +5,8 @@ ghost use Rattle.desk_types.specs.declared.rules.Rules.TheVariants.{Two};
 ghost use Rattle.desk_types.specs.History.{History, now_of, accept};
 ghost use Rattle.desk_types.specs.Judged.{IsJudged};
 ghost use Rattle.desk_types.specs.Desk.{HasRoom, IsChange};
-ghost use Rattle.state_tables.specs.Tables.{tables_of};
-ghost use Rattle.state_tables.specs.Edits.{with_edits, AreNew, AreTakesFirst, AreBalanced};
+ghost use Rattle.desk_types.specs.Tables.{tables_of};
+ghost use Rattle.desk_types.specs.Edits.{with_edits, AreNew, AreTakesFirst, AreBalanced};
 ghost use Rattle.state_rows.specs.EditsOf.{pick_of, AreEditsOf, ArePiecesFitting};
 
 use crate::counted::count;
@@ -14,8 +14,7 @@ use crate::reels::{bake, fresh_row, mount, open, seal};
 use crate::sheets::define;
 use crate::slot_rows::{board, unload};
 use crate::takes::take;
-use desk_types::{Change, Command, Desk, Listing, Minute, Take};
-use state_tables::{MountRow, RowEdit, RowEdits};
+use desk_types::{Change, Command, Desk, Listing, Minute, MountRow, RowEdit, RowEdits, Take};
 use std::alloc::{AllocError, Global};
 
 /// One edit.

@@ -4,14 +4,15 @@ ghost use Rattle.std.specs.Prelude.{◌≡◌, [], Some, OnOk, if◌then◌else�
 ghost use Rattle.std.specs.BTreeMap.{get, is_at};
 ghost use Rattle.desk_types.specs.Id.{by_name};
 ghost use Rattle.desk_types.specs.Pair.{by_pair};
-ghost use Rattle.state_tables.specs.Tables.{tables_of};
-ghost use Rattle.state_tables.specs.Edits.{with_edit, with_edits};
+ghost use Rattle.desk_types.specs.Tables.{tables_of};
+ghost use Rattle.desk_types.specs.Edits.{with_edit, with_edits};
 ghost use Rattle.state_rows.specs.Kept.{tables_in, is_placement, but_placements, Lists, ListsKeys, ListsMounts, by_sheet_place, by_piece};
-ghost use Rattle.state_tables.specs.declared.edit.RowEdit.TheVariants.{TakeSheetRow, TakeMount, PutPart, PutAlternate, PutSheetRow, PutSelected, PutReel, PutMount, PutBoard, PutPlacement, PutFound};
+ghost use Rattle.desk_types.specs.declared.edit.RowEdit.TheVariants.{TakeSheetRow, TakeMount, PutPart, PutAlternate, PutSheetRow, PutSelected, PutReel, PutMount, PutBoard, PutPlacement, PutFound};
 
 use crate::mounts::Mounts;
-use desk_types::{Id, Minute, SheetRow};
-use state_tables::{BoardRow, MountRow, PlacementRow, ReelRow, RowEdit, RowEdits};
+use desk_types::{
+    BoardRow, Id, Minute, MountRow, PlacementRow, ReelRow, RowEdit, RowEdits, SheetRow,
+};
 use std::alloc::{AllocError, Global};
 use std::collections::{BTreeMap, BTreeSet, btree_map, btree_set};
 use std::marker::Model;

@@ -5,8 +5,7 @@ ghost use Rattle.desk_types.specs.History.{History};
 ghost use Rattle.desk_types.specs.Setup.{sheet_of};
 ghost use Rattle.state_rows.specs.EditsOf.{taken_rows, put_rows};
 
-use desk_types::{Desk, Id, SheetRow};
-use state_tables::RowEdit;
+use desk_types::{Desk, Id, RowEdit, SheetRow};
 use std::alloc::{AllocError, Global};
 
 /// The rows of the sheet before are taken out.

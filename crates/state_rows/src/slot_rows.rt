@@ -7,10 +7,9 @@ ghost use Rattle.desk_types.specs.Id.{Name};
 ghost use Rattle.desk_types.specs.History.{History};
 ghost use Rattle.desk_types.specs.Setup.{selected_on};
 ghost use Rattle.state_rows.specs.EditsOf.{reel_on_slot, reels_on, board_edit};
-ghost use Rattle.state_tables.specs.declared.edit.RowEdit.TheVariants.{TakeMount};
+ghost use Rattle.desk_types.specs.declared.edit.RowEdit.TheVariants.{TakeMount};
 
-use desk_types::{Desk, Id, Mount};
-use state_tables::{BoardRow, RowEdit};
+use desk_types::{BoardRow, Desk, Id, Mount, RowEdit};
 use std::alloc::{AllocError, Global};
 
 /// The reel of a live reel's row, where it is on the slot.

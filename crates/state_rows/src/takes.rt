@@ -8,16 +8,15 @@ ghost use Rattle.std.specs.BTreeMap.{get, keys, values};
 ghost use Rattle.desk_types.specs.Id.{Name, same, by_name};
 ghost use Rattle.desk_types.specs.History.{History};
 ghost use Rattle.desk_types.specs.Pieces.{is_placed};
-ghost use Rattle.state_tables.specs.declared.row.ReelRow.{ReelRow};
-ghost use Rattle.state_tables.specs.declared.row.PlacementRow.{PlacementRow};
-ghost use Rattle.state_tables.specs.declared.edit.RowEdit.TheVariants.{PutReel, PutPlacement};
-ghost use Rattle.state_tables.specs.Tables.{reel_row};
+ghost use Rattle.desk_types.specs.declared.row.ReelRow.{ReelRow};
+ghost use Rattle.desk_types.specs.declared.row.PlacementRow.{PlacementRow};
+ghost use Rattle.desk_types.specs.declared.edit.RowEdit.TheVariants.{PutReel, PutPlacement};
+ghost use Rattle.desk_types.specs.Tables.{reel_row};
 ghost use Rattle.state_rows.specs.After.{placed_row};
 ghost use Rattle.state_rows.specs.EditsOf.{pick_of, less_by, LessFits, ArePiecesFitting, picked_rows, take_spent, place_rows, AreTakeEdits};
 
 use crate::reels::row;
-use desk_types::{Desk, Id, Purpose, Take};
-use state_tables::{PlacementRow, ReelRow, RowEdit};
+use desk_types::{Desk, Id, PlacementRow, Purpose, ReelRow, RowEdit, Take};
 use std::alloc::{AllocError, Global};
 use std::collections::BTreeMap;
 

@@ -14,6 +14,7 @@ ghost use Rattle.stored_texts.specs.StoredText.{stored_text};
 mod composed;
 mod fields;
 mod kept;
+mod number;
 mod reading;
 mod value;
 mod word;

@@ -10,7 +10,7 @@ ghost use Rattle.stored_texts.specs.declared.fields.Unread.TheVariants.{NotStore
 ghost use Rattle.stored_texts.specs.Apart.{names_apart, levels_apart, numbers_apart, quantities_fit, counted_quantities_fit};
 
 use crate::fields::{Fields, TAB, Unread};
-use decimals::number;
+use crate::number::number;
 use desk_types::{CountedQuantity, Designator, Id, Level, Quantity};
 use itoa::Buffer;
 use std::alloc::{AllocError, Global};

@@ -6,6 +6,7 @@ use Rattle.std.proofs.lemmas.List.{length-map}
 use Rattle.desk_types.specs.declared.command.Command.{Command}
 use Rattle.desk_types.specs.declared.command.Command.TheVariants.{MaterialsInstalled, MaterialsScrapped, CountsTaken}
 use Rattle.desk_types.specs.declared.count.CountRow.{CountRow}
+use Rattle.desk_types.specs.declared.placement.Placement.{Placement}
 use Rattle.desk_types.specs.declared.take.Pick.{Pick}
 use Rattle.desk_types.specs.declared.take.Purpose.TheVariants.{Placed, Rejected, Counted}
 use Rattle.desk_types.specs.Id.{Name, same}
@@ -14,7 +15,7 @@ use Rattle.desk_types.specs.Setup.{slot_on}
 use Rattle.desk_types.specs.Tape.{tape_of}
 use Rattle.desk_types.specs.Pieces.{pieces_picked, pick_for, install_picks, scrap_picks, count_picks, left_of, picks_of}
 use Rattle.desk_types.specs.Outcome.{take_of, takes_by}
-use Rattle.desk_types.specs.Placements.{Placement, placement_of}
+use Rattle.desk_types.specs.Placements.{placement_of}
 use Rattle.trace_lists.specs.Lists.{Key}
 use Rattle.trace_lists.specs.Noting.{keys_in, install_keys}
 use Rattle.trace_lists.proofs.Keys.{placed_key}

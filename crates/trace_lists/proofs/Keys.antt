@@ -3,10 +3,11 @@ use Rattle.std.proofs.Common.{◌≡◌, ℕ, ◌+◌, Bool, List, ◌++◌, map
 use Rattle.std.proofs.lemmas.List.{map-append}
 use Rattle.std.proofs.lemmas.List.Elements.{filter_map-append, filter-append}
 use Rattle.desk_types.specs.declared.command.Stamped.{Stamped}
+use Rattle.desk_types.specs.declared.placement.Placement.{Placement}
 use Rattle.desk_types.specs.declared.take.Take.{Take}
 use Rattle.desk_types.specs.History.{History, entry_of, accept}
 use Rattle.desk_types.specs.Outcome.{takes_by}
-use Rattle.desk_types.specs.Placements.{Placement, entry_takes, takes_of, placement_of, placements_of}
+use Rattle.desk_types.specs.Placements.{entry_takes, takes_of, placement_of, placements_of}
 use Rattle.trace_lists.specs.Lists.{Key, keys_where}
 use Rattle.trace_lists.specs.Noting.{keys_in}
 

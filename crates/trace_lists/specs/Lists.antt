@@ -5,10 +5,11 @@ use Rattle.std.specs.Option.{option_map}
 use Rattle.std.specs.BTreeMap as tree
 use Rattle.std.specs.BTreeMap.{BTreeMap}
 use Rattle.desk_types.specs.declared.command.Entry.{Entry}
+use Rattle.desk_types.specs.declared.placement.Placement.{Placement}
 use Rattle.desk_types.specs.Id.{Name, same, by_name}
 use Rattle.desk_types.specs.History.{History}
 use Rattle.desk_types.specs.Number.{IsMinute}
-use Rattle.desk_types.specs.Placements.{Placement, placements_of}
+use Rattle.desk_types.specs.Placements.{placements_of}
 use Rattle.trace_lists.specs.declared.lists.PieceKey.{PieceKey}
 use Rattle.trace_lists.specs.declared.lists.Install.{Install}
 use Rattle.trace_lists.specs.declared.lists.TraceLists.{TraceLists}

@@ -3,9 +3,10 @@ use Rattle.std.specs.Prelude.{ℕ, Bool, List, [], map, if◌then◌else◌}
 use Rattle.std.specs.List.{filter, filter_map, enumerate_from}
 use Rattle.desk_types.specs.declared.command.Command.{Command}
 use Rattle.desk_types.specs.declared.command.Command.TheVariants.{MaterialsInstalled}
+use Rattle.desk_types.specs.declared.placement.Placement.{Placement}
 use Rattle.desk_types.specs.declared.take.Take.{Take}
 use Rattle.desk_types.specs.Id.{Name, same}
-use Rattle.desk_types.specs.Placements.{Placement, placement_of}
+use Rattle.desk_types.specs.Placements.{placement_of}
 use Rattle.trace_lists.specs.declared.lists.Install.{Install}
 use Rattle.trace_lists.specs.Lists.{Key, keys_of_install}
 

@@ -3,7 +3,7 @@
 ghost use Rattle.std.specs.Prelude.{◌≡◌, ◌↔◌, ◌∷◌, [], Contains, Some, List, ℕ};
 ghost use Rattle.desk_types.specs.Id.{Name};
 ghost use Rattle.desk_types.specs.History.{History};
-ghost use Rattle.trace_texts.specs.declared.detail.TraceDetail.TheVariants.{One, Two, Three};
+ghost use Rattle.desk_types.specs.declared.trace_detail.TraceDetail.TheVariants.{One, Two, Three};
 ghost use Rattle.trace_reports.specs.Reports.{board_trace, lot_trace, rows_below};
 
 /// The traces of one list are converse on paper. Of a board and a lot that are found, what `csv` reads of
@@ -16,6 +16,6 @@ pub fn reports_are_converse()
     ensures reels { (H : History) (board part lot reel : Name) (on of : List ℕ) → board_trace Three H board ≡ Some on → lot_trace Three H lot ≡ Some of
         → Contains (rows_below on) (part ∷ lot ∷ reel ∷ []) ↔ Contains (rows_below of) (board ∷ part ∷ reel ∷ []) }
 {
-    trace_texts::reports_read_back();
-    trace_texts::traces_are_converse();
+    report_texts::reports_read_back();
+    report_texts::traces_are_converse();
 }

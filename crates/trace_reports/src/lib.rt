@@ -7,12 +7,11 @@
 mod fault;
 mod laws;
 mod lists;
-mod pieces;
 mod traces;
 
-pub use fault::{Kind, ReportFault};
+pub use desk_types::{Boards, TraceDetail};
+pub use fault::ReportFault;
 pub use laws::reports_are_converse;
-pub use list_texts::Boards;
 pub use lists::{kit_list, reel_card, slot_list};
-pub use trace_texts::TraceDetail;
+pub use report_texts::Kind;
 pub use traces::{board_trace, lot_trace, overdue_list};

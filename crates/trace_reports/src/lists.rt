@@ -3,16 +3,16 @@
 ghost use Rattle.std.specs.Prelude.{◌≡◌, IsTrue, Option, List, ℕ};
 ghost use Rattle.sqlite.specs.State.{HasCleanDisk, Survives};
 ghost use Rattle.line_schema.specs.Stands.{Kept, Stands, state_of, has_desk};
-ghost use Rattle.list_texts.specs.Card.{reel_card};
-ghost use Rattle.list_texts.specs.Slots.{slot_list};
-ghost use Rattle.list_texts.specs.Kit.{kit_list};
-ghost use Rattle.trace_reports.specs.declared.fault.Kind.TheVariants as Kind;
+ghost use Rattle.report_texts.specs.Card.{reel_card};
+ghost use Rattle.report_texts.specs.Slots.{slot_list};
+ghost use Rattle.report_texts.specs.Kit.{kit_list};
+ghost use Rattle.report_texts.specs.declared.kind.Kind.TheVariants as Kind;
 ghost use Rattle.trace_reports.specs.Reports.{Answers};
 
-use crate::fault::{Kind, ReportFault};
-use desk_types::{Desk, Id, Text};
+use crate::fault::ReportFault;
+use desk_types::{Boards, Desk, Id, Text};
 use line_schema::LineStore;
-use list_texts::Boards;
+use report_texts::Kind;
 use sqlite::Alter;
 use std::alloc::Global;
 
@@ -43,7 +43,7 @@ pub fn reel_card<S: Alter, D: Desk + Drop>(
     let Some(desk) = store.desk() else {
         unreachable!()
     };
-    or_not_found(list_texts::reel_card(alloc, desk, reel)?, Kind::Reel)
+    or_not_found(report_texts::reel_card(alloc, desk, reel)?, Kind::Reel)
 }
 
 /// The live reels of a machine's slots, by slot and then by position. It is not found where no sheet
@@ -64,7 +64,10 @@ pub fn slot_list<S: Alter, D: Desk + Drop>(
     let Some(desk) = store.desk() else {
         unreachable!()
     };
-    or_not_found(list_texts::slot_list(alloc, desk, machine)?, Kind::Machine)
+    or_not_found(
+        report_texts::slot_list(alloc, desk, machine)?,
+        Kind::Machine,
+    )
 }
 
 /// The reels to bring for so many boards of a product on a machine. It is not found where the product
@@ -88,7 +91,7 @@ pub fn kit_list<S: Alter, D: Desk + Drop>(
         unreachable!()
     };
     or_not_found(
-        list_texts::kit_list(alloc, desk, product, machine, boards)?,
+        report_texts::kit_list(alloc, desk, product, machine, boards)?,
         Kind::Sheet,
     )
 }

@@ -4,16 +4,15 @@ ghost use Rattle.std.specs.Prelude.{◌≡◌, IsTrue};
 ghost use Rattle.sqlite.specs.State.{HasCleanDisk, KeepsCommit, Survives};
 ghost use Rattle.line_schema.specs.Stands.{Kept, Stands, state_of};
 ghost use Rattle.line_schema.specs.Traces.{desk_of};
-ghost use Rattle.trace_reports.specs.declared.fault.Kind.TheVariants as Kind;
+ghost use Rattle.report_texts.specs.declared.kind.Kind.TheVariants as Kind;
 ghost use Rattle.trace_reports.specs.Reports.{board_trace, lot_trace, overdue_list, Answers, AnswersAlways};
 
-use crate::fault::{Kind, ReportFault};
-use crate::pieces::pieces_of;
-use desk_types::{Desk, Id, Text};
+use crate::fault::ReportFault;
+use desk_types::{Desk, Id, Text, TraceDetail};
 use line_schema::LineStore;
+use report_texts::{Kind, board_text, lot_text, overdue_text};
 use sqlite::Alter;
 use std::alloc::Global;
-use trace_texts::{TraceDetail, board_text, lot_text, overdue_text};
 
 /// The trace of a board: what is on it. It is not found where no accepted command started the board.
 pub fn board_trace<S: Alter, D: Desk + Drop>(
@@ -28,10 +27,9 @@ pub fn board_trace<S: Alter, D: Desk + Drop>(
     ensures unchanged { HasCleanDisk (state_of S.Store store.new) → KeepsCommit (state_of S.Store store.old) (state_of S.Store store.new) }
     ensures survives { Survives (state_of S.Store store.old) (state_of S.Store store.new) (λ _. ⊥) }
 {
-    let Some(rows) = store.board_rows(board)? else {
+    let Some(pieces) = store.board_rows(board)? else {
         return Err(ReportFault::NotFound(Kind::Board));
     };
-    let pieces = pieces_of(alloc, rows.as_slice())?;
     Ok(board_text(alloc, detail, pieces.as_slice())?)
 }
 
@@ -49,10 +47,9 @@ pub fn lot_trace<S: Alter, D: Desk + Drop>(
     ensures unchanged { HasCleanDisk (state_of S.Store store.new) → KeepsCommit (state_of S.Store store.old) (state_of S.Store store.new) }
     ensures survives { Survives (state_of S.Store store.old) (state_of S.Store store.new) (λ _. ⊥) }
 {
-    let Some(rows) = store.lot_rows(lot)? else {
+    let Some(pieces) = store.lot_rows(lot)? else {
         return Err(ReportFault::NotFound(Kind::Lot));
     };
-    let pieces = pieces_of(alloc, rows.as_slice())?;
     Ok(lot_text(alloc, detail, pieces.as_slice())?)
 }
 
@@ -68,7 +65,6 @@ pub fn overdue_list<S: Alter, D: Desk + Drop>(
     ensures unchanged { HasCleanDisk (state_of S.Store store.new) → KeepsCommit (state_of S.Store store.old) (state_of S.Store store.new) }
     ensures survives { Survives (state_of S.Store store.old) (state_of S.Store store.new) (λ _. ⊥) }
 {
-    let rows = store.overdue_rows()?;
-    let pieces = pieces_of(alloc, rows.as_slice())?;
+    let pieces = store.overdue_rows()?;
     Ok(overdue_text(alloc, pieces.as_slice())?)
 }

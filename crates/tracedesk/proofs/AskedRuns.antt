@@ -5,12 +5,12 @@ use Rattle.desk_types.specs.declared.wire.Wire.{Wire}
 use Rattle.desk_types.specs.History.{History}
 use Rattle.desk_types.specs.Wire.{inner_of, failures_of}
 use Rattle.desk_answers.specs.Ledger.{Ledger}
-use Rattle.line_opening.specs.declared.fault.OpenFault.{OpenFault}
+use Rattle.line_schema.specs.declared.fault.OpenFault.{OpenFault}
 use Rattle.desk_import.specs.declared.options.Import.{Import}
 use Rattle.desk_words.specs.CommandLine.{AsksForImport, AsksForReport, AsksForServing}
-use Rattle.http_listener.specs.Connections.{Ended, TellsConnections}
 use Rattle.http_stream.specs.Answers.{Told}
 use Rattle.gateway_http.specs.Reports.{report_of}
+use Rattle.desk_runs.specs.Connections.{Ended, TellsConnections}
 use Rattle.desk_runs.specs.Runs.{AnswersReport}
 use Rattle.desk_commands.specs.declared.left.Left.{Left}
 use Rattle.desk_commands.specs.declared.left.Left.TheVariants as left

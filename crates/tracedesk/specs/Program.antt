@@ -5,14 +5,13 @@ use Rattle.sqlite_disk.specs.declared.Disk as disk
 use Rattle.desk_types.specs.declared.wire.Wire.{Wire}
 use Rattle.desk_types.specs.History.{History}
 use Rattle.desk_types.specs.Wire.{inner_of, failures_of}
-use Rattle.consistency.specs.Consistent.{IsConsistent}
+use Rattle.desk_laws.specs.Consistent.{IsConsistent}
 use Rattle.desk_answers.specs.Ledger.{Ledger}
-use Rattle.line_opening.specs.declared.fault.OpenFault.{OpenFault}
+use Rattle.line_schema.specs.declared.fault.OpenFault.{OpenFault}
 use Rattle.desk_feed.specs.Stream.{LeavesNone}
 use Rattle.desk_import.specs.declared.options.BadOption.{BadOption}
 use Rattle.desk_import.specs.declared.options.Import.{Import}
 use Rattle.desk_words.specs.CommandLine.{AsksForAudit, AsksForFeed, AsksForImport, AsksForMigration, AsksForNothing, AsksForReport, AsksForServing, AsksForText, HasBadOption}
-use Rattle.http_listener.specs.Connections.{Ended, TellsConnections}
 use Rattle.http_stream.specs.Answers.{Told, code_of}
 use Rattle.gateway_http.specs.Reports.{report_of}
 use Rattle.served.specs.declared.serving.Served.{Served}
@@ -21,6 +20,7 @@ use Rattle.served.specs.declared.serving.ServeFault.TheVariants.{Read as ReadFau
 use Rattle.served.specs.Counts.{none_served}
 use Rattle.served.specs.Sent.{SendsFront}
 use Rattle.served.specs.Shown.{IsShown}
+use Rattle.desk_runs.specs.Connections.{Ended, TellsConnections}
 use Rattle.desk_runs.specs.Runs.{AnswersAll, AnswersImport, AnswersUpTo, CutsImport, StaysSame, AnswersReport}
 use Rattle.desk_runs.specs.Told.{fault_line, lawful_line, option_line, report_output, unavailable_line, version_line, TellsEnd, TellsLine}
 use Rattle.desk_runs.specs.Told as told

@@ -3,7 +3,7 @@
 ghost use Rattle.std.specs.Prelude.{◌≡◌, ◌⊎◌, ◌+◌, ◌^◌, ◌<◌, ◌≤◌, None, map, string_bytes, IfOk, IfErr, OnSome, ℕ};
 ghost use Rattle.std.specs.Io.KnownBytes.{IsAtEnd};
 ghost use Rattle.desk_types.specs.Wire.{inner_of, reads_of, failures_of};
-ghost use Rattle.served.specs.declared.serving.TheConstants.{MOST_READS};
+ghost use Rattle.desk_types.specs.declared.limits.TheConstants.{MOST_READS};
 ghost use Rattle.served.specs.Shown.{FailsNever};
 ghost use Rattle.desk_words.specs.CommandLine.{AsksForFeed};
 ghost use Rattle.desk_commands.specs.declared.left.Left.TheVariants.{Nothing};

@@ -3,7 +3,7 @@
 ghost use Rattle.std.specs.Prelude.{◌≡◌, ◌≢◌, ◌^◌, ◌<◌, ◌≤◌, codes};
 ghost use Rattle.std.specs.IoError.{error_kind};
 ghost use Rattle.desk_types.specs.Wire.{failures_of};
-ghost use Rattle.line_opening.specs.declared.fault.OpenFault.TheVariants.{Unavailable};
+ghost use Rattle.line_schema.specs.declared.fault.OpenFault.TheVariants.{Unavailable};
 ghost use Rattle.desk_runs.specs.Told.{TellsLine};
 ghost use Rattle.desk_commands.specs.Runs.{refusal_line};
 

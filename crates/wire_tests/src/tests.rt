@@ -1,4 +1,5 @@
 //! Wires, and lines over them.
 
+mod connections;
 mod lines;
 mod wires;

@@ -1,5 +1,5 @@
 use Rattle.desk_types.specs.Judged.{IsLawful}
-use Rattle.consistency.proofs.Judged.{consistent}
+use Rattle.desk_laws.proofs.JudgedLists.{consistent}
 use Rattle.headline.proofs.CallsInTurn.{goes_on}
 use Rattle.headline.proofs.headline.Goals as goal
 

@@ -6,13 +6,15 @@ ghost use Rattle.sqlite.specs.Held.{state};
 ghost use Rattle.desk_types.specs.declared.rules.Rules.TheVariants.{One};
 ghost use Rattle.desk_types.specs.History.{History};
 ghost use Rattle.line_tables.specs.Calls.{LeavesMigrated};
-ghost use Rattle.line_opening.specs.declared.fault.OpenFault.TheVariants as Fault;
-ghost use Rattle.line_opening.specs.Opening.{IsFaultBy, IsNamedBy, IsToldBy};
-ghost use Rattle.line_opening.specs.Versions.{IsMigrated};
+ghost use Rattle.line_schema.specs.declared.fault.OpenFault.TheVariants as Fault;
+ghost use Rattle.line_schema.specs.Opening.{IsFaultBy, IsNamedBy, IsToldBy};
+ghost use Rattle.line_schema.specs.Versions.{IsMigrated};
 
+use crate::fault::OpenFault;
+use crate::opening::{Opened, read_tables};
 use crate::store::LineStore;
-use desk_types::Desk;
-use line_opening::OpenFault;
+use desk_types::{Desk, Rules};
+use line_tables::migrate_tables;
 use sqlite::{Alter, Connection};
 use std::alloc::Global;
 
@@ -33,6 +35,16 @@ impl<S: Alter, D: Desk + Drop> LineStore<S, D> {
         ensures inside { IsTrue conn.old.in_transaction → (result ≡ Err Fault.Unavailable) × (conn.new ≡ conn.old) }
         ensures mode { conn.old.in_transaction ≡ false → conn.new.in_transaction ≡ false }
     {
-        line_opening::migrate::<S, D>(alloc, conn)
+        if !conn.is_autocommit() {
+            return Err(OpenFault::Unavailable);
+        }
+        let Opened {
+            desk: _desk,
+            lists: _lists,
+            count,
+            greatest: _greatest,
+        } = read_tables::<S, D>(alloc, conn, Rules::One)?;
+        migrate_tables(conn)?;
+        Ok(count)
     }
 }

@@ -4,7 +4,8 @@
 ghost use Rattle.std.specs.Prelude.{◌≡◌, IsTrue, IfOk};
 ghost use Rattle.sqlite.specs.State.{HasCleanDisk, KeepsCommit, Survives};
 ghost use Rattle.desk_types.specs.Id.{Name};
-ghost use Rattle.line_traces.specs.Pieces.{board_trace, lot_trace, lot_board_names, overdue_pieces, AreConverse};
+ghost use Rattle.desk_types.specs.Placements.{overdue_of};
+ghost use Rattle.line_traces.specs.Pieces.{board_trace, lot_trace, lot_board_names, AreConverse};
 ghost use Rattle.line_schema.specs.Stands.{Kept, Stands, state_of};
 ghost use Rattle.line_schema.specs.Traces.{desk_of};
 
@@ -60,7 +61,7 @@ impl<S: Alter, D: Desk + Drop> LineStore<S, D> {
 
     /// The pieces of reels whose floor life was used up, by number, then place.
     pub fn overdue_rows(&mut self) -> Result<PlacedRows, Unavailable>
-        ensures rows { (L : Kept) → Stands S.Store D.Stands D.kept_rules self.old L → HasCleanDisk (state_of S.Store self.new) → IsTrue L.own → IfOk result (λ pieces. pieces ≡ overdue_pieces L.history) }
+        ensures rows { (L : Kept) → Stands S.Store D.Stands D.kept_rules self.old L → HasCleanDisk (state_of S.Store self.new) → IsTrue L.own → IfOk result (λ pieces. pieces ≡ overdue_of L.history) }
         ensures stands { (L : Kept) → Stands S.Store D.Stands D.kept_rules self.old L → Stands S.Store D.Stands D.kept_rules self.new L }
         ensures desk { desk_of self.new ≡ desk_of self.old }
         ensures unchanged { HasCleanDisk (state_of S.Store self.new) → KeepsCommit (state_of S.Store self.old) (state_of S.Store self.new) }

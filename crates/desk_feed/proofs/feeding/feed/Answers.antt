@@ -1,7 +1,7 @@
 use Rattle.std.proofs.Common.{◌≡◌, ◌∙◌, ◌++◌, true, false, subst, arith, [], refl, Bool, drop, take}
 use Rattle.desk_types.specs.Wire.{inner_of}
 use Rattle.desk_feed.proofs.AnsweredLines.{same_write}
-use Rattle.desk_feed.specs.Owners.{ForLists}
+use Rattle.desk_answers.specs.Ledger.{ForLists}
 use Rattle.desk_feed.proofs.OwnersOfLines.{goes_none, goes_on, stops_into}
 use Rattle.desk_feed.proofs.LinesOfInputs.{start_gone, lines_go, last_goes, next_first, end_behind, no_end, one_more_end, all_ended}
 use Rattle.desk_feed.specs.Inbox.{TakesLine, source}

@@ -1,7 +1,6 @@
 use Rattle.std.proofs.Common.{◌≡◌, ◌≤◌, ◌+◌, ◌*◌, ℕ, List}
 use Rattle.desk_types.specs.Wire.{inner_of, reads_of, failures_of}
-use Rattle.served.specs.declared.serving.TheConstants.{MOST_READS}
-use Rattle.desk_feed.specs.declared.inbox.TheConstants.{BLOCK}
+use Rattle.desk_types.specs.declared.limits.TheConstants.{BLOCK, MOST_READS}
 use Rattle.desk_feed.specs.Inbox.{IsInbox, source, fuel, LinesGone}
 use Rattle.served.specs.Counts.{none_served}
 use Rattle.desk_feed.proofs.OwnersOfLines.{Goes}

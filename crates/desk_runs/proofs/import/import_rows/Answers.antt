@@ -1,6 +1,6 @@
 use Rattle.std.proofs.Common.{rules, ◌≡◌, ℕ, Bool, true, false, List, inl, sym, subst}
 use Rattle.desk_types.specs.Wire.{inner_of}
-use Rattle.desk_feed.specs.Owners.{ForLists}
+use Rattle.desk_answers.specs.Ledger.{ForLists}
 use Rattle.desk_import.specs.Folder.{IsRead}
 use Rattle.desk_import.specs.Import.{command_said, IsAnswered, IsCutOff}
 use Rattle.desk_runs.proofs.ImportsOfFiles.{says_all}

@@ -2,7 +2,7 @@ use Rattle.std.proofs.Common.{rules, ◌≡◌, ◌∙◌, sym, codes, string_by
 use Rattle.clap.specs.Matches.{found_of, first_value}
 use Rattle.clap.specs.Walk.{first_of, rows_of}
 use Rattle.clap.proofs.WalkLemmas.{first_value-rows}
-use Rattle.desk_words.specs.declared.command_line.TheConstants.{MOST_PORT, MOST_CONNECTIONS}
+use Rattle.desk_types.specs.declared.limits.TheConstants.{MOST_CONNECTIONS, MOST_PORT}
 use Rattle.desk_words.specs.CommandLine.{GoesUpTo, Shows}
 use Rattle.desk_words.proofs.command_line.serve_of.Goals as goal
 

@@ -6,7 +6,7 @@ use Rattle.std.specs.Str.Parse.{digits_value, ParsesUnsigned}
 use Rattle.std.proofs.lemmas.Bool.Decides.{nat_tests}
 use Rattle.std.proofs.lemmas.Str.Parse.{parse_gives, digits_value_short}
 use Rattle.http_routes.specs.Values.{is_numeral, number_of}
-use Rattle.http_routes.proofs.Numerals.{own}
+use Rattle.desk_types.proofs.Numerals.{own}
 use Rattle.http_routes.proofs.values.number_of.Goals as goal
 
 -- 1 to 9 digits are read as their number

@@ -2,12 +2,13 @@ use Rattle.std.proofs.Common.{Option, IfSome, MatchOption, ◌+◌, ◌<◌, ◌
 use Rattle.desk_types.specs.Wire.{inner_of, reads_of}
 use Rattle.served.specs.Counts.{none_served}
 use Rattle.served.specs.declared.serving.Served.{Served}
-use Rattle.served.specs.declared.serving.TheConstants.{MOST_READS}
+use Rattle.desk_types.specs.declared.limits.TheConstants.{MOST_READS}
 use Rattle.http_stream.specs.declared.portion.Taken.{Taken}
 use Rattle.http_stream.specs.Cut.{EndsInside, TakesPortion, is_last}
 use Rattle.http_stream.specs.Inbox.{source, fuel}
 use Rattle.http_stream.specs.Portions.{portion_of}
-use Rattle.http_stream.specs.Stream.{AnsweredInto, ForLists}
+use Rattle.desk_answers.specs.Ledger.{ForLists}
+use Rattle.http_stream.specs.Stream.{AnsweredInto}
 use Rattle.http_stream.proofs.AnsweredPortions.{same_write}
 use Rattle.http_stream.proofs.HandlersOfPortions.{goes_none, goes_on, stops_into}
 use Rattle.http_stream.proofs.Portions.{start_gone, portions_go, last_goes, end_comes, next_first}

@@ -7,7 +7,7 @@ use Rattle.std.proofs.lemmas.List.Folds.{list_all-append, list_all_at}
 use Rattle.std.proofs.lemmas.List.Splits.{length-slice_split}
 use Rattle.std.proofs.lemmas.Iterator.Consumers.{YieldsList-turn, YieldsList-end}
 use Rattle.std.proofs.lemmas.Iterator.Splits.{YieldsList-from_str_split}
-use Rattle.desk_types.specs.declared.list.TheConstants.{LONGEST_LIST}
+use Rattle.desk_types.specs.declared.limits.TheConstants.{LONGEST_LIST}
 use Rattle.desk_types.specs.Bounds.{IsListLength}
 use Rattle.desk_types.specs.Id.{Name}
 use Rattle.cfx_profile.specs.Forms.{is_designator, designator_of}

@@ -6,7 +6,7 @@ use Rattle.std.specs.Str.Parse.{digits_value, ParsesUnsigned}
 use Rattle.std.proofs.lemmas.Bool.Decides.{nat_tests}
 use Rattle.std.proofs.lemmas.Str.Parse.{parse_gives, digits_value_short}
 use Rattle.imports.specs.File.{is_number}
-use Rattle.imports.proofs.Numerals.{own}
+use Rattle.desk_types.proofs.Numerals.{own}
 use Rattle.imports.proofs.fields.quantity_of.Goals as goal
 
 -- 1 to 8 digits are read as their number

@@ -2,7 +2,7 @@ use Rattle.std.proofs.Common.{◌≡◌, ◌<◌, ℕ, IsTrue, Option, false, ta
 use Rattle.std.specs.List.{AllByRecursion}
 use Rattle.sqlite.specs.State.{HasCleanDisk, Survives, KeepsCommit}
 use Rattle.sqlite.specs.Held.{state}
-use Rattle.state_tables.specs.declared.row.PlacementRow.{PlacementRow}
+use Rattle.desk_types.specs.declared.row.PlacementRow.{PlacementRow}
 use Rattle.state_rows.specs.Kept.{tables_in}
 use Rattle.line_tables.specs.Line.{IsOurs}
 use Rattle.line_audit.specs.Audit.{Pieces, IsExpected, HoldsTable, with_placements}

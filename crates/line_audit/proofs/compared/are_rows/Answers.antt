@@ -9,36 +9,36 @@ use Rattle.line_audit.proofs.compared.are_rows.Goals as goal
 
 pub returns-then-left-eq0-clause-same : goal.returns-then-left-eq0-clause-same
 returns-then-left-eq0-clause-same g c clean es yields f listed one_key =
-    let e = g.E.Entry in
+    let e = g.E.ExpectedRow in
     let old = state g.S.Store c.args.conn.now in
-    too_few e.entry (table_of c.args.table) e.has e.columns one_key f es listed old g.I.Iterator.next_gives c.loop-entry.yielded c.args.entries _ c.loop-entry.entry-iterator c.next.new.self c.next.result c.into_iter-entry-iterator.ensures.into_iter_gives yields c.loop-entry.yielded_by c.next.ensures.steps
-    c.in-Some.entry c.in-Some.is c.loop-entry.left c.if-left-eq0.true (c.loop-entry.invariant.matched clean)
+    too_few e.entry (table_of c.args.table) e.has e.columns one_key f es listed old g.I.Iterator.next_gives c.loop-row.yielded c.args.rows _ c.loop-row.row-iterator c.next.new.self c.next.result c.into_iter-row-iterator.ensures.into_iter_gives yields c.loop-row.yielded_by c.next.ensures.steps
+    c.in-Some.row c.in-Some.is c.loop-row.left c.if-left-eq0.true (c.loop-row.invariant.matched clean)
 
 pub returns-then-not-branch-clause-same : goal.returns-then-not-branch-clause-same
 returns-then-not-branch-clause-same g c clean es yields f listed one_key =
-    let e = g.E.Entry in
+    let e = g.E.ExpectedRow in
     let old = state g.S.Store c.args.conn.now in
-    let mid = state g.S.Store c.loop-entry.conn in
+    let mid = state g.S.Store c.loop-row.conn in
     let early : HasCleanDisk mid = omega (arith, c.is_alone.ensures.survives.clean) in
-    not_alone e.entry (table_of c.args.table) e.has e.columns one_key f es listed old g.I.Iterator.next_gives c.loop-entry.yielded c.args.entries _ c.loop-entry.entry-iterator c.next.new.self c.next.result c.into_iter-entry-iterator.ensures.into_iter_gives yields c.loop-entry.yielded_by c.next.ensures.steps
-    c.in-Some.entry c.in-Some.is mid (c.loop-entry.invariant.kept early) c.in_ok-is_alone.field-0 (rw c.requires.theirs (c.in_ok-is_alone.ensures.found clean)) c.if-not-branch.true
+    not_alone e.entry (table_of c.args.table) e.has e.columns one_key f es listed old g.I.Iterator.next_gives c.loop-row.yielded c.args.rows _ c.loop-row.row-iterator c.next.new.self c.next.result c.into_iter-row-iterator.ensures.into_iter_gives yields c.loop-row.yielded_by c.next.ensures.steps
+    c.in-Some.row c.in-Some.is mid (c.loop-row.invariant.kept early) c.in_ok-is_alone.field-0 (rw c.requires.theirs (c.in_ok-is_alone.ensures.found clean)) c.if-not-branch.true
 
 pub returns-then-not-branch-clause-survives : goal.returns-then-not-branch-clause-survives
 returns-then-not-branch-clause-survives g c =
-    survives_then (state g.S.Store c.args.conn.now) (state g.S.Store c.loop-entry.conn) (state g.S.Store c.is_alone.new.conn) _ _ (λ _. ⊥) (λ _ db none. none) (λ _ db none. none) c.loop-entry.invariant.survives c.is_alone.ensures.survives
+    survives_then (state g.S.Store c.args.conn.now) (state g.S.Store c.loop-row.conn) (state g.S.Store c.is_alone.new.conn) _ _ (λ _. ⊥) (λ _ db none. none) (λ _ db none. none) c.loop-row.invariant.survives c.is_alone.ensures.survives
 
-pub loop-entry-preserved : goal.loop-entry-preserved
-loop-entry-preserved g c =
-    let e = g.E.Entry in
+pub loop-row-preserved : goal.loop-row-preserved
+loop-row-preserved g c =
+    let e = g.E.ExpectedRow in
     let old = state g.S.Store c.args.conn.now in
-    let mid = state g.S.Store c.loop-entry.conn in
+    let mid = state g.S.Store c.loop-row.conn in
     let new = state g.S.Store c.is_alone.new.conn in
-    let was = c.loop-entry.invariant in
+    let was = c.loop-row.invariant in
     let goes = c.in-Some.ensures.goes.on was.ends in
     let early : HasCleanDisk new → HasCleanDisk mid = λ clean. omega (arith, c.is_alone.ensures.survives.clean) in record {
       can = goes.0;
       ends = goes.1;
-      matched = λ clean. matched_more e.entry (table_of c.args.table) e.has e.columns old mid (was.kept (early clean)) c.loop-entry.left _ c.loop-entry.yielded c.in-Some.entry (was.matched (early clean)) c.in_ok-is_alone.field-0
+      matched = λ clean. matched_more e.entry (table_of c.args.table) e.has e.columns old mid (was.kept (early clean)) c.loop-row.left _ c.loop-row.yielded c.in-Some.row (was.matched (early clean)) c.in_ok-is_alone.field-0
           (rw c.requires.theirs (c.in_ok-is_alone.ensures.found clean)) c.if-not-branch.false (omega (arith, c.if-left-eq0.false));
       kept = λ clean. keeps_then old mid new (was.kept (early clean)) (c.is_alone.ensures.kept clean);
       mode = λ is. c.is_alone.ensures.mode (was.mode is);
@@ -47,7 +47,7 @@ loop-entry-preserved g c =
 
 pub returns-clause-same : goal.returns-clause-same
 returns-clause-same g c clean es yields f listed one_key =
-    let e = g.E.Entry in
+    let e = g.E.ExpectedRow in
     let old = state g.S.Store c.args.conn.now in
-    all_alone e.entry (table_of c.args.table) e.has e.columns one_key f es listed old g.I.Iterator.next_gives c.loop-entry.yielded c.args.entries _ c.loop-entry.entry-iterator c.next.new.self c.next.result c.into_iter-entry-iterator.ensures.into_iter_gives yields c.loop-entry.yielded_by c.next.ensures.steps
-    c.in-None.is c.loop-entry.left (c.loop-entry.invariant.matched clean)
+    all_alone e.entry (table_of c.args.table) e.has e.columns one_key f es listed old g.I.Iterator.next_gives c.loop-row.yielded c.args.rows _ c.loop-row.row-iterator c.next.new.self c.next.result c.into_iter-row-iterator.ensures.into_iter_gives yields c.loop-row.yielded_by c.next.ensures.steps
+    c.in-None.is c.loop-row.left (c.loop-row.invariant.matched clean)

@@ -4,7 +4,7 @@ use Rattle.sqlite_rules.specs.Lists.{Has}
 use Rattle.sqlite.specs.State.{HasCleanDisk}
 use Rattle.sqlite.specs.Held.{state}
 use Rattle.sqlite.proofs.StateLemmas.{survives_then}
-use Rattle.state_tables.specs.declared.row.PlacementRow.{PlacementRow}
+use Rattle.desk_types.specs.declared.row.PlacementRow.{PlacementRow}
 use Rattle.line_tables.specs.Line as line
 use Rattle.line_tables.specs.StateRows.{rows_in, placement_columns}
 use Rattle.line_tables.proofs.Keeps.{keeps_then}

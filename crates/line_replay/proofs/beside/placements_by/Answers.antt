@@ -1,5 +1,5 @@
 use Rattle.std.proofs.Common.{◌∙◌, Some, None, Vec, Global, ap, sym, append-nil}
-use Rattle.state_tables.specs.declared.row.PlacementRow.{PlacementRow}
+use Rattle.desk_types.specs.declared.row.PlacementRow.{PlacementRow}
 use Rattle.line_replay.proofs.RowsBeside.{placements-next}
 use Rattle.line_replay.proofs.beside.placements_by.Goals.{in-Some+in_ok-push-in-Some, in-None}
 use Rattle.line_replay.proofs.beside.placements_by.Goals as goal

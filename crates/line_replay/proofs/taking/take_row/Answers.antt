@@ -2,7 +2,7 @@ use Rattle.std.proofs.Common.{List, subst, arith}
 use Rattle.std.proofs.lemmas.Result.{err_from_is_err_and}
 use Rattle.sqlite.specs.State.{HasCleanDisk, KeepsCommit}
 use Rattle.sqlite.specs.Held.{state}
-use Rattle.state_tables.specs.declared.edit.RowEdit.{RowEdit}
+use Rattle.desk_types.specs.declared.edit.RowEdit.{RowEdit}
 use Rattle.line_tables.proofs.Keeps.{keeps_then}
 use Rattle.line_replay.specs.Beside.{Adds}
 use Rattle.line_replay.proofs.RowsBeside.{adds_back}

@@ -1,7 +1,7 @@
 use Rattle.std.proofs.Common.{◌≡◌, map, reverse}
+use Rattle.desk_types.specs.declared.placement.Placement.{Placement}
 use Rattle.desk_types.specs.Placements.{set_of}
-use Rattle.line_traces.specs.declared.row.PlacedRow.{PlacedRow}
 use Rattle.line_traces.proofs.by_lists.boards_among.Given as goal
 
 abbrev pub invariant-loop-piece : goal.invariant-loop-piece
-invariant-loop-piece l = l.boards.keys ≡ set_of (map (λ (p : PlacedRow). p.board) (reverse (map (λ p. p.now) l.yielded)))
+invariant-loop-piece l = l.boards.keys ≡ set_of (map (λ (p : Placement). p.board) (reverse (map (λ p. p.now) l.yielded)))

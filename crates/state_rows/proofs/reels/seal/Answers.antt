@@ -1,6 +1,6 @@
 use Rattle.std.proofs.Common.{◌≡◌, Some, ◌++◌, ◌∷◌, [], sym, ap, ◌∙◌, arith}
-use Rattle.state_tables.specs.declared.edit.RowEdit.TheVariants.{PutReel}
-use Rattle.state_tables.specs.Tables.{reel_row}
+use Rattle.desk_types.specs.declared.edit.RowEdit.TheVariants.{PutReel}
+use Rattle.desk_types.specs.Tables.{reel_row}
 use Rattle.state_rows.specs.EditsOf.{sealed_row, reel_edit}
 use Rattle.state_rows.proofs.SumsInRange.{kept-fits}
 use Rattle.state_rows.proofs.reels.seal.Goals as goal

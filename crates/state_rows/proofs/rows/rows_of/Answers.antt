@@ -2,8 +2,8 @@ use Rattle.std.proofs.Common.{◌∙◌, sym, ap, subst, map}
 use Rattle.desk_types.specs.Number.{IsMinute}
 use Rattle.desk_types.specs.History.{History}
 use Rattle.desk_types.proofs.BothRules.{judged-by-two}
-use Rattle.state_tables.specs.Tables.{tables_of}
-use Rattle.state_tables.specs.Edits.{with_edits, AreNew, AreTakesFirst, AreBalanced}
+use Rattle.desk_types.specs.Tables.{tables_of}
+use Rattle.desk_types.specs.Edits.{with_edits, AreNew, AreTakesFirst, AreBalanced}
 use Rattle.state_rows.specs.EditsOf.{pick_of, AreEditsOf, ArePiecesFitting}
 use Rattle.state_rows.proofs.RowsLess.{change-fits, rows-lead, rows-new, rows-fit}
 use Rattle.state_rows.proofs.rows.rows_of.Goals as goal

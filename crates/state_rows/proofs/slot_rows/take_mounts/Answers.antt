@@ -1,6 +1,6 @@
 use Rattle.std.proofs.Common.{◌∙◌, ap, ◌++◌, map}
 use Rattle.std.specs.Option.{option_to_list}
-use Rattle.state_tables.specs.declared.edit.RowEdit.TheVariants.{TakeMount}
+use Rattle.desk_types.specs.declared.edit.RowEdit.TheVariants.{TakeMount}
 use Rattle.state_rows.proofs.PushedEdits.{mount-next}
 use Rattle.state_rows.proofs.slot_rows.take_mounts.Goals as goal
 

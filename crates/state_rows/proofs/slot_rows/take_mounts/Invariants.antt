@@ -1,6 +1,6 @@
 use Rattle.std.proofs.Common.{◌≡◌, ◌++◌, take, map}
 use Rattle.std.specs.List.{filter_map}
-use Rattle.state_tables.specs.declared.edit.RowEdit.TheVariants.{TakeMount}
+use Rattle.desk_types.specs.declared.edit.RowEdit.TheVariants.{TakeMount}
 use Rattle.state_rows.specs.EditsOf.{reel_on_slot}
 use Rattle.state_rows.proofs.slot_rows.take_mounts.Given as goal
 

@@ -2,7 +2,7 @@ use Rattle.std.proofs.Common.{◌≡◌, map, take}
 use Rattle.std.specs.BTreeMap.{get}
 use Rattle.desk_types.specs.Id.{Name, by_name}
 use Rattle.desk_types.specs.History.{History}
-use Rattle.state_tables.specs.Tables.{reel_row}
+use Rattle.desk_types.specs.Tables.{reel_row}
 use Rattle.state_rows.specs.EditsOf.{pick_of, picked_rows}
 use Rattle.state_rows.proofs.takes.gather.Given as goal
 

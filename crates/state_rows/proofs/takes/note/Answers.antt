@@ -3,7 +3,7 @@ use Rattle.std.specs.BTreeMap.{get}
 use Rattle.std.specs.Option.{option_or}
 use Rattle.desk_types.specs.Id.{by_name, same}
 use Rattle.desk_types.proofs.Keys.{name-written}
-use Rattle.state_tables.specs.Tables.{reel_row}
+use Rattle.desk_types.specs.Tables.{reel_row}
 use Rattle.state_rows.specs.EditsOf.{pick_of}
 use Rattle.state_rows.proofs.RowsLess.{noted}
 use Rattle.state_rows.proofs.takes.note.Goals as goal

@@ -1,7 +1,7 @@
 use Rattle.std.proofs.Common.{◌∙◌, ap, ◌++◌}
 use Rattle.std.specs.Option.{option_map, option_to_list}
-use Rattle.state_tables.specs.declared.row.PlacementRow.{PlacementRow}
-use Rattle.state_tables.specs.declared.edit.RowEdit.TheVariants.{PutPlacement}
+use Rattle.desk_types.specs.declared.row.PlacementRow.{PlacementRow}
+use Rattle.desk_types.specs.declared.edit.RowEdit.TheVariants.{PutPlacement}
 use Rattle.state_rows.proofs.RowsLess.{place-next}
 use Rattle.state_rows.proofs.takes.place_all.Goals as goal
 

@@ -1,39 +1,37 @@
-use Rattle.std.proofs.Common.{◌≡◌, ◌∙◌, ◌↔◌, ℕ, Some, List, refl, sym, ap, subst₂, ◌∷◌, [], Contains}
+use Rattle.std.proofs.Common.{◌≡◌, ◌↔◌, ℕ, Some, List, sym, subst₂, ◌∷◌, [], Contains}
 use Rattle.csv.specs.Reading.{records, default_config}
-use Rattle.desk_types.specs.Id.{Name, same}
+use Rattle.desk_types.specs.Id.{Name}
 use Rattle.desk_types.specs.History.{History}
 use Rattle.desk_types.specs.Placements.{placements_of}
 use Rattle.line_traces.specs.Pieces as traced
-use Rattle.trace_texts.specs.declared.detail.TraceDetail.{TraceDetail}
-use Rattle.trace_texts.specs.declared.detail.TraceDetail.TheVariants.{One, Two, Three}
-use Rattle.trace_texts.specs.declared.piece.Piece.{Piece}
-use Rattle.trace_texts.specs.Reports.{project, board_columns, lot_columns, board_header, lot_header, board_text, lot_text, board_rows, lot_rows, pieces_on, pieces_of_lot}
+use Rattle.desk_types.specs.declared.placement.Placement.{Placement}
+use Rattle.desk_types.specs.declared.trace_detail.TraceDetail.{TraceDetail}
+use Rattle.desk_types.specs.declared.trace_detail.TraceDetail.TheVariants.{One, Two, Three}
+use Rattle.report_texts.specs.Traces.{project, board_columns, lot_columns, board_header, lot_header, board_text, lot_text, board_rows, lot_rows, pieces_on, pieces_of_lot}
 use Rattle.trace_reports.specs.Reports.{board_trace, lot_trace, rows_below}
-use Rattle.trace_reports.proofs.ReportedPieces.{told, told-where, found-rows}
+use Rattle.trace_reports.proofs.ReportedPieces.{found-rows}
 use Rattle.trace_reports.proofs.laws.reports_are_converse.Goals as goal
 
 -- the rows that are read of the trace of a board, where its texts are read back
-on-board : ((detail : TraceDetail) (pieces : List Piece) → records default_config (board_text detail pieces) ≡ project (board_columns detail) board_header ∷ board_rows detail pieces)
+on-board : ((detail : TraceDetail) (pieces : List Placement) → records default_config (board_text detail pieces) ≡ project (board_columns detail) board_header ∷ board_rows detail pieces)
     → (detail : TraceDetail) (H : History) (board : Name) (paper : List ℕ) → board_trace detail H board ≡ Some paper
-    → rows_below paper ≡ board_rows detail (pieces_on board (told (placements_of H)))
+    → rows_below paper ≡ board_rows detail (pieces_on board (placements_of H))
 on-board back detail H board paper found =
     found-rows (traced.is_board H board) (board_text detail) (project (board_columns detail) board_header) (board_rows detail) (back detail) (traced.pieces_on H board) paper found
-    ∙ ap (board_rows detail) (told-where (λ p. same p.board board) (λ p. same p.board board) (λ p. refl) (placements_of H))
 
 -- and of the trace of a lot
-of-lot : ((detail : TraceDetail) (pieces : List Piece) → records default_config (lot_text detail pieces) ≡ project (lot_columns detail) lot_header ∷ lot_rows detail pieces)
+of-lot : ((detail : TraceDetail) (pieces : List Placement) → records default_config (lot_text detail pieces) ≡ project (lot_columns detail) lot_header ∷ lot_rows detail pieces)
     → (detail : TraceDetail) (H : History) (lot : Name) (paper : List ℕ) → lot_trace detail H lot ≡ Some paper
-    → rows_below paper ≡ lot_rows detail (pieces_of_lot lot (told (placements_of H)))
+    → rows_below paper ≡ lot_rows detail (pieces_of_lot lot (placements_of H))
 of-lot back detail H lot paper found =
     found-rows (traced.is_lot H lot) (lot_text detail) (project (lot_columns detail) lot_header) (lot_rows detail) (back detail) (traced.pieces_of_lot H lot) paper found
-    ∙ ap (lot_rows detail) (told-where (λ p. same p.lot lot) (λ p. same p.lot lot) (λ p. refl) (placements_of H))
 
 pub returns-clause-lots : goal.returns-clause-lots
 returns-clause-lots c = λ H board lot on of found known.
     subst₂ (λ xs ys. ((part : Name) × Contains xs (part ∷ lot ∷ [])) ↔ Contains ys (board ∷ []))
-    (sym (on-board c.reports_read_back.ensures.board Two H board on found)) (sym (of-lot c.reports_read_back.ensures.lot One H lot of known)) (c.traces_are_converse.ensures.lots (told (placements_of H)) board lot)
+    (sym (on-board c.reports_read_back.ensures.board Two H board on found)) (sym (of-lot c.reports_read_back.ensures.lot One H lot of known)) (c.traces_are_converse.ensures.lots (placements_of H) board lot)
 
 pub returns-clause-reels : goal.returns-clause-reels
 returns-clause-reels c = λ H board part lot reel on of found known.
     subst₂ (λ xs ys. Contains xs (part ∷ lot ∷ reel ∷ []) ↔ Contains ys (board ∷ part ∷ reel ∷ []))
-    (sym (on-board c.reports_read_back.ensures.board Three H board on found)) (sym (of-lot c.reports_read_back.ensures.lot Three H lot of known)) (c.traces_are_converse.ensures.reels (told (placements_of H)) board part lot reel)
+    (sym (on-board c.reports_read_back.ensures.board Three H board on found)) (sym (of-lot c.reports_read_back.ensures.lot Three H lot of known)) (c.traces_are_converse.ensures.reels (placements_of H) board part lot reel)

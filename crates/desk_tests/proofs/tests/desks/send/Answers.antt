@@ -2,7 +2,7 @@ use Rattle.std.proofs.Common.{◌≡◌, ◌∙◌, ap, arith, subst}
 use Rattle.desk_types.specs.declared.rules.Rules.TheVariants.{Two}
 use Rattle.desk_types.specs.History.{accept}
 use Rattle.desk_types.specs.Judged.{IsJudged}
-use Rattle.state_tables.specs.Edits.{with_edits}
+use Rattle.desk_types.specs.Edits.{with_edits}
 use Rattle.desk_tests.proofs.tests.desks.send.Goals as goal
 
 pub returns-in_ok-settle-in-Ok-clause-one_list : goal.returns-in_ok-settle-in-Ok-clause-one_list

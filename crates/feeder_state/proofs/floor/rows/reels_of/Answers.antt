@@ -4,7 +4,7 @@ use Rattle.std.specs.Map.{lookup}
 use Rattle.std.proofs.lemmas.Cmp.{nat_list_cmp_total}
 use Rattle.desk_types.specs.Id.{by_name}
 use Rattle.state_rows.specs.Kept.{tables_in, row_at, Lists}
-use Rattle.state_tables.specs.Tables.{Tables}
+use Rattle.desk_types.specs.Tables.{Tables}
 use Rattle.feeder_state.specs.Held.{held_at, IsHeldOf}
 use Rattle.feeder_state.proofs.FilledMaps.{AreOf, each-of}
 use Rattle.feeder_state.proofs.RestoredReels.{row-is, row-none, reel-next}

@@ -1,6 +1,6 @@
 use Rattle.std.proofs.Common.{Some, cond, is_some, unwrap_or, sym, ap, subst, ◌∙◌}
 use Rattle.desk_types.proofs.Keys.{same-refl}
-use Rattle.state_tables.specs.Tables.{Tables}
+use Rattle.desk_types.specs.Tables.{Tables}
 use Rattle.state_rows.proofs.ReelRows.{found-kept}
 use Rattle.feeder_state.specs.Held.{held_at, IsHeld, IsHeldOf}
 use Rattle.feeder_state.proofs.RestoredReels.{mounted-row}

@@ -3,7 +3,7 @@ use Rattle.std.specs.BTreeMap.{is_at}
 use Rattle.std.specs.Map.{lookup}
 use Rattle.desk_types.specs.Pair.{by_pair}
 use Rattle.state_rows.specs.Kept.{tables_in, ListsMounts}
-use Rattle.state_tables.specs.Tables.{Tables}
+use Rattle.desk_types.specs.Tables.{Tables}
 use Rattle.state_rows.proofs.SlotRows.{slot_reels, slot-reels}
 use Rattle.feeder_state.proofs.floor.rows.tapes_of.Goals as goal
 

@@ -1,5 +1,5 @@
 use Rattle.std.proofs.Common.{ap, ◌∙◌}
-use Rattle.state_tables.specs.Tables.{Tables}
+use Rattle.desk_types.specs.Tables.{Tables}
 use Rattle.feeder_state.proofs.setup.rows.setup_of.Goals as goal
 
 pub returns : goal.returns

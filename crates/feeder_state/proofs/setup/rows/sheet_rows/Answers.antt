@@ -5,11 +5,12 @@ use Rattle.std.specs.Map.{lookup}
 use Rattle.desk_types.specs.Id.{same}
 use Rattle.desk_types.specs.Pair.{by_pair}
 use Rattle.desk_types.proofs.Keys.{is_at-by_pair, same-true}
+use Rattle.desk_types.proofs.Tests.{and-both}
 use Rattle.state_rows.specs.Kept.{tables_in, by_sheet_place, Lists}
-use Rattle.state_tables.specs.Tables.{Tables}
+use Rattle.desk_types.specs.Tables.{Tables}
 use Rattle.feeder_state.specs.Restored.{group_at, sheet_in}
 use Rattle.feeder_state.proofs.GroupedThings.{grouped}
-use Rattle.feeder_state.proofs.RestoredSheets.{rows_in, and-both, sheet-again}
+use Rattle.feeder_state.proofs.RestoredSheets.{rows_in, sheet-again}
 use Rattle.feeder_state.proofs.setup.rows.sheet_rows.Goals as goal
 
 pub loop-key-init : goal.loop-key-init

@@ -4,7 +4,7 @@ use Rattle.std.specs.BTreeMap.{is_at}
 use Rattle.std.specs.List.{list_any}
 use Rattle.desk_types.specs.Id.{same, by_name}
 use Rattle.state_rows.specs.Kept.{tables_in, by_sheet_place, Lists}
-use Rattle.state_tables.specs.Tables.{Tables}
+use Rattle.desk_types.specs.Tables.{Tables}
 use Rattle.feeder_state.specs.Setup.{is_sheeted}
 use Rattle.feeder_state.proofs.FilledMaps.{set-next}
 use Rattle.feeder_state.proofs.NameSets.{put}

@@ -6,7 +6,7 @@ use Rattle.std.specs.Map.{lookup}
 use Rattle.desk_types.specs.Id.{same, by_name}
 use Rattle.desk_types.proofs.Keys.{is_at-by_name, same-sym, same-true}
 use Rattle.state_rows.specs.Kept.{tables_in, by_piece, Lists}
-use Rattle.state_tables.specs.Tables.{Tables}
+use Rattle.desk_types.specs.Tables.{Tables}
 use Rattle.feeder_state.specs.Restored.{group_at}
 use Rattle.feeder_state.proofs.GroupedThings.{grouped-name}
 use Rattle.feeder_state.proofs.PlacedDesignators.{is_spot, rows-placed}

@@ -6,9 +6,9 @@ use Rattle.std.proofs.lemmas.Cmp.{nat_list_cmp_total}
 use Rattle.std.proofs.lemmas.Map.Lookups.{exact_bytes}
 use Rattle.desk_types.specs.Id.{by_name}
 use Rattle.desk_types.proofs.Keys.{is_at-by_name}
-use Rattle.state_tables.specs.declared.row.BoardRow.{BoardRow}
+use Rattle.desk_types.specs.declared.row.BoardRow.{BoardRow}
 use Rattle.state_rows.specs.Kept.{tables_in, Lists}
-use Rattle.state_tables.specs.Tables.{Tables}
+use Rattle.desk_types.specs.Tables.{Tables}
 use Rattle.feeder_state.specs.Work.{product_at}
 use Rattle.feeder_state.proofs.FilledMaps.{IsFilled, filled-first, filled-put}
 use Rattle.feeder_state.proofs.RestoredWork.{product-row}

@@ -1,6 +1,6 @@
 use Rattle.std.proofs.Common.{Some}
 use Rattle.desk_types.specs.Id.{by_name}
-use Rattle.state_tables.specs.declared.row.BoardRow.{BoardRow}
+use Rattle.desk_types.specs.declared.row.BoardRow.{BoardRow}
 use Rattle.state_rows.specs.Kept.{tables_in}
 use Rattle.feeder_state.specs.Work.{product_at}
 use Rattle.feeder_state.proofs.FilledMaps.{IsFilled}

@@ -6,7 +6,7 @@ use Rattle.std.proofs.lemmas.Cmp.{nat_list_cmp_total}
 use Rattle.desk_types.specs.Id.{same, by_name}
 use Rattle.desk_types.specs.Work.{in_work_on}
 use Rattle.state_rows.specs.Kept.{tables_in, Lists}
-use Rattle.state_tables.specs.Tables.{Tables}
+use Rattle.desk_types.specs.Tables.{Tables}
 use Rattle.feeder_state.specs.Work.{running_at}
 use Rattle.feeder_state.proofs.FilledMaps.{AreOf, each-of}
 use Rattle.feeder_state.proofs.RestoredWork.{IsRunning, running-first, running-next, running-last}

@@ -2,7 +2,7 @@ use Rattle.std.proofs.Common.{rules, ◌≡◌, ◌∙◌, sym, subst, arith, re
 use Rattle.std.specs.List.{slice_range}
 use Rattle.std.proofs.lemmas.List.{take_all}
 use Rattle.http_stream.specs.Heads.{IsBadHead, IsUnfinished}
-use Rattle.http_stream.specs.declared.head.TheConstants.{HEAD_LIMIT}
+use Rattle.desk_types.specs.declared.limits.TheConstants.{HEAD_LIMIT}
 use Rattle.desk_types.specs.Wire.{inner_of}
 use Rattle.http_stream.specs.Cut.{ReadsInside}
 use Rattle.http_stream.specs.Inbox.{pending_bytes, source}

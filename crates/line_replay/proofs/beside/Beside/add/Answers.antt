@@ -1,7 +1,7 @@
 use Rattle.std.proofs.Common.{◌+◌, List, length, subst, ap, ◌∙◌}
 use Rattle.sqlite.specs.Effect.{Database}
 use Rattle.sqlite.specs.Held.{state}
-use Rattle.state_tables.specs.declared.row.PlacementRow.{PlacementRow}
+use Rattle.desk_types.specs.declared.row.PlacementRow.{PlacementRow}
 use Rattle.line_replay.specs.Beside.{HoldsAsRead, ArePlacedToo}
 use Rattle.line_replay.proofs.beside.Beside.add.Goals as goal
 

@@ -1,6 +1,6 @@
 use Rattle.std.proofs.Common.{[], inl, refl, rules, arith}
 use Rattle.desk_types.specs.declared.rules.Rules.TheVariants.{Two}
-use Rattle.consistency.proofs.Judged.{consistent}
+use Rattle.desk_laws.proofs.JudgedLists.{consistent}
 use Rattle.line_tables.proofs.Ours.{blank_is}
 use Rattle.line_schema.proofs.StandsAfter.{none_yet}
 use Rattle.line_schema.proofs.store.LineStore.create.Goals as goal

@@ -1,5 +1,5 @@
 use Rattle.std.proofs.Common.{sym, ap, ◌∙◌}
-use Rattle.state_tables.specs.Edits.{with_edit}
+use Rattle.desk_types.specs.Edits.{with_edit}
 use Rattle.state_rows.specs.Kept.{tables_in}
 use Rattle.state_rows.proofs.EditLists.{edits-next}
 use Rattle.state_rows.proofs.set.RowSet.apply.Goals as goal

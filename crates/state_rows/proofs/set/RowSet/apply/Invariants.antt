@@ -1,5 +1,5 @@
 use Rattle.std.proofs.Common.{◌≡◌, take}
-use Rattle.state_tables.specs.Edits.{with_edits}
+use Rattle.desk_types.specs.Edits.{with_edits}
 use Rattle.state_rows.specs.Kept.{tables_in}
 use Rattle.state_rows.proofs.set.RowSet.apply.Given as goal
 

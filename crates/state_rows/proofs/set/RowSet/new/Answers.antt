@@ -1,5 +1,5 @@
 use Rattle.std.proofs.Common.{[], sym, ap, ◌∙◌}
-use Rattle.state_tables.specs.Tables.{tables_of}
+use Rattle.desk_types.specs.Tables.{tables_of}
 use Rattle.desk_types.specs.Id.{by_name}
 use Rattle.desk_types.specs.Pair.{by_pair}
 use Rattle.state_rows.specs.Kept.{row_at, has_key, by_sheet_place, by_piece}

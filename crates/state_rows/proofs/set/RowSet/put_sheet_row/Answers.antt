@@ -1,7 +1,7 @@
 use Rattle.std.proofs.Common.{◌≡◌, ap, ◌∙◌, rules}
 use Rattle.desk_types.specs.declared.sheet.SheetRow.{SheetRow}
-use Rattle.state_tables.specs.declared.edit.RowEdit.TheVariants.{PutSheetRow}
-use Rattle.state_tables.specs.Edits.{with_edit}
+use Rattle.desk_types.specs.declared.edit.RowEdit.TheVariants.{PutSheetRow}
+use Rattle.desk_types.specs.Edits.{with_edit}
 use Rattle.state_rows.specs.Kept.{tables_in}
 use Rattle.state_rows.specs.contracts.set.RowSet.{the_view}
 use Rattle.state_rows.proofs.RowLists.{sheet_row-put}

@@ -1,2 +1,0 @@
-mod ReadBack
-mod Records

@@ -1,0 +1,22 @@
+-- A judged list is consistent.
+use Rattle.desk_types.specs.declared.rules.Rules.{Rules}
+use Rattle.desk_types.specs.History.{History}
+use Rattle.desk_types.specs.Judged.{IsJudged}
+use Rattle.desk_types.proofs.BothRules.{judged-by-two}
+use Rattle.desk_laws.proofs.Balance.{balance}
+use Rattle.desk_laws.proofs.NameSets.{traces-converse}
+use Rattle.desk_laws.proofs.Places.{one-slot}
+use Rattle.desk_laws.proofs.InstalledPieces.{rightly-placed}
+use Rattle.desk_laws.proofs.Tapes.{live-distinct}
+use Rattle.desk_laws.specs.Consistent.{IsConsistent}
+
+pub consistent : (rules : Rules) (H : History) → IsJudged rules H → IsConsistent H
+consistent rules H judged =
+    let two = judged-by-two rules H judged in
+    record {
+      balance = λ reel. balance H reel two;
+      one_slot = λ m s machine slot reel here there. one-slot H m s machine slot reel two here there;
+      once = λ machine slot. live-distinct H machine slot two;
+      rightly_placed = rightly-placed H two;
+      converse = traces-converse H;
+    }

@@ -1,0 +1,16 @@
+-- Tests joined, and what comes of a test.
+use Rattle.std.proofs.Common.{◌≡◌, Bool, true, false, Some, None, refl}
+use Rattle.std.specs.Prelude.{◌&&◌, ◌||◌, if◌then◌else◌}
+
+pub and-both : (a b : Bool) → (a && b) ≡ true → (a ≡ true) × (b ≡ true)
+and-both true b is = (refl, is)
+and-both false b is = cc
+
+pub swap-or : (a b c : Bool) → (a || (b || c)) ≡ (b || (a || c))
+swap-or true true c = refl
+swap-or true false c = refl
+swap-or false b c = refl
+
+pub if-some : {X : Type 0} (b : Bool) (x y : X) → (if b then Some x else None) ≡ Some y → b ≡ true
+if-some true x y is = refl
+if-some false x y is = cc

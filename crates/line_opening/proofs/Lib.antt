@@ -1,2 +1,0 @@
-pub mod ReadOfCommitted
-pub mod Versions

@@ -1,0 +1,158 @@
+-- What was read of the version and of the list, told of what was committed before.
+use Rattle.std.proofs.Common.{◌≡◌, ◌≢◌, ◌≤◌, ◌∙◌, ◌⊎◌, inl, inr, ℕ, ℤ, pos, true, IsTrue, IfErr, Result, Ok, Err, Option, Some, None, refl, sym, ap, subst}
+use Rattle.std.specs.Prelude.{if◌then◌else◌, ◌==◌}
+use Rattle.std.specs.List.{list_any}
+use Rattle.sqlite.specs.Effect.{Database}
+use Rattle.sqlite.specs.State.{State, KeepsCommit, Survives}
+use Rattle.sqlite.proofs.StateLemmas.{survives_then}
+use Rattle.desk_types.specs.declared.rules.Rules.{Rules}
+use Rattle.desk_types.specs.declared.rules.Rules.TheVariants.{One, Two}
+use Rattle.desk_types.specs.declared.limits.TheConstants.{MOST_ENTRIES}
+use Rattle.desk_types.specs.History.{History}
+use Rattle.desk_types.specs.Id.{Name}
+use Rattle.desk_types.specs.Judged.{IsJudged, IsLawful}
+use Rattle.desk_laws.proofs.RulesOne.{nothing-found}
+use Rattle.line_tables.specs.declared.version.Version.{Version}
+use Rattle.desk_types.specs.declared.row.PlacementRow.{PlacementRow}
+use Rattle.desk_types.specs.Tables.{Tables as StateTables, tables_of as state_of, placement_row, found_row}
+use Rattle.state_rows.specs.Kept.{tables_in}
+use Rattle.line_tables.specs.Line.{is_ours}
+use Rattle.line_tables.specs.Names.{is_version, has_state}
+use Rattle.line_tables.specs.Rowids.{AreAllApartBy}
+use Rattle.line_audit.specs.declared.table.StateTable.{StateTable}
+use Rattle.line_audit.specs.Audit.{Pieces, IsExpected, IsVerdict, state_tables, with_placements}
+use Rattle.line_audit.proofs.PlacementsAsExpected.{expected_after}
+use Rattle.line_audit.proofs.Verdicts.{all_right}
+use Rattle.line_replay.specs.declared.beside.Beside.{Beside}
+use Rattle.line_replay.specs.Beside.{IsBeside}
+use Rattle.line_tables.specs.Rows.{HoldsBy, version_in, version_of}
+use Rattle.line_tables.specs.Calls.{Reads, IsVersionOf}
+use Rattle.line_tables.proofs.Ours.{ours_is, ours_whole}
+use Rattle.line_rows.specs.Rows.{ledger_tables}
+use Rattle.line_replay.specs.declared.fault.ReplayFault.{ReplayFault}
+use Rattle.line_replay.specs.declared.fault.ReplayFault.TheVariants as replay
+use Rattle.line_replay.specs.Replay.{IsReplayed, IsFaultOf as IsReplayFault}
+use Rattle.line_replay.proofs.ReadOfCommitted.{reads_as, reads_back}
+use Rattle.trace_lists.specs.Lists.{IsListed}
+use Rattle.line_schema.specs.declared.fault.OpenFault.{OpenFault}
+use Rattle.line_schema.specs.declared.fault.OpenFault.TheVariants.{NotADesk, OtherVersion, NotLawful, TableDiffers, NotBlank, Unavailable}
+use Rattle.line_schema.specs.declared.opening.Opened.{Opened}
+use Rattle.line_schema.specs.Opening.{IsGreatest, IsVersion, IsNoDeskBy, IsFaultBy, IsOpened, IsNamedBy, IsOfVersion, IsToldBy, opening_fault}
+
+-- ---- the row of `version`
+
+module _ (old : State) where
+  pub version_read : (v : Version) (number : ℤ) (greatest : ℕ) → v.number ≡ number → IsGreatest v.greatest greatest → Reads old (λ db. IsVersionOf (version_in db) (Some v)) → Reads old (λ db. IsVersion db number greatest)
+  version_read v number greatest is great r = record { was_open = r.was_open; are = λ schema. record { row = r.are schema ∙ rw (is, great.same) refl; least = great.least; most = great.most } }
+
+module _ (rules : Rules) (old : State) where
+  pub no_greatest : (v : Version) → ((greatest : ℕ) → IsGreatest v.greatest greatest → ⊥) → Reads old (λ db. IsVersionOf (version_in db) (Some v)) → IsNoDeskBy rules old
+  no_greatest v none r = inr (inl (record { was_open = r.was_open; are = λ schema number greatest is. none greatest (great (r.are schema) number greatest is) }))
+    where
+      great : IsVersionOf (version_in old.committed) (Some v) → (number : ℤ) (greatest : ℕ) → IsVersion old.committed number greatest → IsGreatest v.greatest greatest
+      great row number greatest is = let both = sym row ∙ is.row in record { same = cc; least = is.least; most = is.most }
+
+  pub no_version : Reads old (λ db. IsVersionOf (version_in db) None) → IsNoDeskBy rules old
+  no_version r = inr (inl (record { was_open = r.was_open; are = λ schema number greatest is. r.are schema number (pos greatest) is.row }))
+
+  pub other_version : (v : Version) (greatest : ℕ) → v.number ≢ pos (version_of rules) → IsGreatest v.greatest greatest → Reads old (λ db. IsVersionOf (version_in db) (Some v)) → IsFaultBy rules old (OtherVersion v.number)
+  other_version v greatest other great r = let is = version_read old v v.number greatest refl great r in (other, record { was_open = is.was_open; are = λ schema. (greatest, is.are schema) })
+
+  -- a row of `version` that tells no greatest number of this version
+  pub version_fault : (v : Version) (o : Option Version) (r : Result ℕ OpenFault) → o ≡ Some v
+      → IfErr r (λ f. ((f ≡ NotADesk) × ((greatest : ℕ) → IsGreatest v.greatest greatest → ⊥)) ⊎ ((f ≡ OtherVersion v.number) × (v.number ≢ pos (version_of rules)) × (greatest : ℕ) × IsGreatest v.greatest greatest))
+      → Reads old (λ db. IsVersionOf (version_in db) o) → IfErr r (IsFaultBy rules old)
+  version_fault v o (Ok n) some told read = tt
+  version_fault v o (Err f) some (inl (is, none)) read = subst (IsFaultBy rules old) (sym is) (no_greatest v none (subst (λ (x : Option Version). Reads old (λ db. IsVersionOf (version_in db) x)) some read))
+  version_fault v o (Err f) some (inr (is, other, greatest, great)) read = subst (IsFaultBy rules old) (sym is) (other_version v greatest other great (subst (λ (x : Option Version). Reads old (λ db. IsVersionOf (version_in db) x)) some read))
+
+-- ---- which faults are told of which files
+
+pub told_early : (rules : Rules) (old : State) (f : OpenFault) → list_any is_version old.now.schema.tables ≡ true → IsOfVersion f → IsToldBy rules old f
+told_early rules old NotADesk named of = tt
+told_early rules old (OtherVersion n) named of = named
+told_early rules old (NotLawful n) named of = absurd of
+told_early rules old (TableDiffers table) named of = absurd of
+told_early rules old NotBlank named of = tt
+told_early rules old Unavailable named of = tt
+
+pub told_late : (rules : Rules) (old : State) (f : ReplayFault) → IsNamedBy rules old → IsToldBy rules old (opening_fault f)
+told_late rules old (replay.NotLawful n) named = named
+told_late rules old replay.Unavailable named = tt
+
+-- ---- the list after it
+
+module _ (rules : Rules) (old mid : State) (greatest : ℕ) (kept : KeepsCommit old mid) (version : Reads old (λ db. IsVersion db (pos (version_of rules)) greatest)) where
+  pub list_fault : (f : ReplayFault) → IsReplayFault rules greatest mid f → IsFaultBy rules old (opening_fault f)
+  list_fault (replay.NotLawful n) h = (greatest, version, reads_back old mid _ kept h)
+  list_fault replay.Unavailable h = tt
+
+-- the other tables, compared with the rows beside the list
+pub audited : (rules : Rules) (Before After : Type 0) (old mid last : State) (beside : Beside) (H : History) (verdict : Option StateTable) → (After → Before) → (After → KeepsCommit old mid) → (After → KeepsCommit mid last) → IsBeside Before mid.committed beside H
+    → (After → (f : ℕ × ℕ → Option PlacementRow) (es : Pieces) → IsExpected last beside.placed.all beside.placed.count es f → Reads last (λ db. IsVerdict (state_tables rules) db (with_placements f (tables_in beside.rows)) verdict))
+    → After → Reads old (λ db. IsVerdict (state_tables rules) db (state_of H) verdict)
+audited rules Before After old mid last beside H verdict early kept kept_on is told clean =
+    let f : ℕ × ℕ → Option PlacementRow = λ key. placement_row H key.0 key.1 in
+    let expected : IsExpected mid beside.placed.all beside.placed.count is.pieces f = record { listed = is.listed; pieces = is.named; counted = is.counted; placed = λ was_open schema. is.told (early clean) schema } in
+    let here = told clean f is.pieces (expected_after mid last (kept_on clean) beside.placed.all beside.placed.count is.pieces f expected) in
+    let same : with_placements f (tables_in beside.rows) ≡ state_of H = ap (with_placements f) is.rows in
+    reads_back old mid _ (kept clean) (reads_back mid last _ (kept_on clean) (subst (λ (t : StateTables). Reads last (λ db. IsVerdict (state_tables rules) db t verdict)) same here))
+
+-- by rules One there is no row of found pieces
+none_found : (rules : Rules) (H : History) → IsJudged rules H → rules ≡ One → (reel : Name) → found_row H reel ≡ None
+none_found rules H judged is reel =
+    ap (λ (n : ℕ). if n == 0 then None else Some n) (nothing-found H reel (subst (λ (r : Rules). IsJudged r H) is judged))
+
+pub opened_on : {D : Type 0} (F : D → History → Type 0) (K : D → Rules) (Before After : Type 0) (old mid : State) (rules : Rules) (desk : D) (beside : Beside) (count : ℕ) (opened : Opened D) (H : History) → (After → Before)
+    → IsReplayed F rules opened.greatest Before mid desk beside count H → IsListed opened.lists H → K desk ≡ rules → opened.desk ≡ desk → opened.count ≡ count → opened.greatest ≤ MOST_ENTRIES → (After → KeepsCommit old mid)
+    → (After → Reads old (λ db. IsVersion db (pos (version_of rules)) opened.greatest)) → (After → Reads old (λ db. IsVerdict (state_tables rules) db (state_of H) None)) → (After → Reads old (λ db. AreAllApartBy rules db)) → IsOpened F K After old rules opened H
+opened_on F K Before After old mid rules desk beside count opened H early r listed kept_by is counted bound kept version state apart = record {
+  stands = subst (λ d. F d H) (sym is) r.stands;
+  lists = listed;
+  rules = ap K is ∙ kept_by;
+  judged = r.judged;
+  count = counted ∙ sym r.counted;
+  within = r.within;
+  bound = bound;
+  version = version;
+  rows = λ clean. reads_back old mid _ (kept clean) (r.rows (early clean));
+  state = λ clean. reads_as old _ _ (λ db. all_right rules db (state_of H) (none_found rules H r.judged)) (state clean);
+  apart = apart;
+}
+
+-- a table that differs
+pub table_fault : {D : Type 0} (F : D → History → Type 0) (rules : Rules) (Before : Type 0) (old mid : State) (desk : D) (beside : Beside) (count greatest : ℕ) (H : History) (table : StateTable) → Before → IsReplayed F rules greatest Before mid desk beside count H → KeepsCommit old mid
+    → Reads old (λ db. IsVersion db (pos (version_of rules)) greatest) → Reads old (λ db. IsVerdict (state_tables rules) db (state_of H) (Some table)) → IsFaultBy rules old (TableDiffers table)
+table_fault F rules Before old mid desk beside count greatest H table clean r kept version first =
+    record { greatest = greatest; list = H; version = version; rows = reads_back old mid _ kept (r.rows clean); first = first }
+
+-- The tables that were read are those of the list, where what is seen is what is committed: the names tell the version.
+pub opened_holds : {D : Type 0} (F : D → History → Type 0) (K : D → Rules) (Clean : Type 0) (old : State) (rules : Rules) (opened : Opened D) (H : History) → IsOpened F K Clean old rules opened H → IsNamedBy rules old
+    → (IsTrue old.is_open → old.now ≡ old.committed) → Clean → Reads old (λ db. HoldsBy rules db (ledger_tables opened.greatest H))
+opened_holds F K Clean old rules opened H o named settled clean =
+    let version = o.version clean in record {
+      was_open = version.was_open;
+      are = λ ours.
+          let whole = ours_whole rules old.committed.schema ours (subst (λ (db : Database). has_state rules db.schema.tables ≡ true) (settled version.was_open) named.2) in
+          record {
+            indexed = whole.0;
+            schema = whole.1;
+            version = (version.are ours).row;
+            accepted = ((o.rows clean).are ours).same;
+            state = (o.state clean).are ours;
+            apart = (o.apart clean).are ours;
+          };
+    }
+
+-- and it is lawful
+pub opened_lawful : {D : Type 0} (F : D → History → Type 0) (K : D → Rules) (Clean : Type 0) (old : State) (opened : Opened D) (H : History) → IsOpened F K Clean old Two opened H → Clean → IsTrue (is_ours old.committed.schema)
+    → IsLawful Two opened.greatest H
+opened_lawful F K Clean old opened H o clean own = let ours = ours_is old.committed.schema own in ((o.rows clean).are (Two, ours.0, ours.1)).lawful
+
+-- ---- the calls that read, one after the other
+
+reads_then : (a b c : State) → Survives a b (λ _. ⊥) → Survives b c (λ _. ⊥) → Survives a c (λ _. ⊥)
+reads_then a b c one two = survives_then a b c _ _ (λ _. ⊥) (λ _ db none. none) (λ _ db none. none) one two
+
+pub reads_all : (a b c d e : State) → Survives a b (λ _. ⊥) → Survives b c (λ _. ⊥) → Survives c d (λ _. ⊥) → Survives d e (λ _. ⊥) → Survives a e (λ _. ⊥)
+reads_all a b c d e one two three four = reads_then a b e one (reads_then b c e two (reads_then c d e three four))

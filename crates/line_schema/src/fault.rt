@@ -1,0 +1,71 @@
+//! Why there is no store.
+
+use line_audit::StateTable;
+use line_replay::ReplayFault;
+use std::fmt;
+
+/// Why no store is made or opened. Of those that apply the first is told; Unavailable may stand in
+/// the place of any.
+#[derive(Clone, Copy, Debug, PartialEq, Eq)]
+pub enum OpenFault {
+    /// `version` or a column of it is missing, or it has not just one row of three whole numbers, of
+    /// which the first is 1 and the last 1 to 1,000,000,000; or, where the version is ours, another
+    /// table or a column of it is missing. A file of version 1 that is to be migrated has no table
+    /// `found`.
+    NotADesk,
+    /// The tables are of another version than 2, or than 1 where they are to be migrated.
+    OtherVersion(i64),
+    /// The first place of the list, from 1, whose row is missing, can't be read, or isn't what judging
+    /// it again gives.
+    NotLawful(u32),
+    /// The first table, in their order, whose rows aren't those of the list.
+    TableDiffers(StateTable),
+    /// A table of one of our names is there.
+    NotBlank,
+    /// Memory was refused, or the database failed.
+    Unavailable,
+}
+
+/// Its name and, after a space, its number or its table.
+impl fmt::Display for OpenFault {
+    ghost use Rattle.std.specs.Prelude.{Some};
+    ghost use Rattle.line_schema.specs.Opening.{fault_text};
+
+    ghost output = { λ fault. Some (fault_text fault) };
+
+    fn fmt<W: fmt::Write>(&self, f: &mut fmt::Formatter<W>) -> fmt::Result {
+        match self {
+            OpenFault::NotADesk => f.write_str("NotADesk"),
+            OpenFault::OtherVersion(number) => write!(f, "OtherVersion {number}"),
+            OpenFault::NotLawful(place) => write!(f, "NotLawful {place}"),
+            OpenFault::TableDiffers(table) => write!(f, "TableDiffers {table}"),
+            OpenFault::NotBlank => f.write_str("NotBlank"),
+            OpenFault::Unavailable => f.write_str("Unavailable"),
+        }
+    }
+}
+
+impl From<ReplayFault> for OpenFault {
+    ghost use Rattle.std.specs.Prelude.{◌≡◌};
+    ghost use Rattle.line_schema.specs.Opening.{opening_fault};
+
+    ghost from_gives = { λ fault told. told ≡ opening_fault fault };
+
+    fn from(fault: ReplayFault) -> OpenFault {
+        match fault {
+            ReplayFault::NotLawful(place) => OpenFault::NotLawful(place),
+            ReplayFault::Unavailable => OpenFault::Unavailable,
+        }
+    }
+}
+
+impl From<sqlite::Error> for OpenFault {
+    ghost use Rattle.std.specs.Prelude.{◌≡◌};
+    ghost use Rattle.line_schema.specs.declared.fault.OpenFault.TheVariants.{Unavailable};
+
+    ghost from_gives = { λ _ fault. fault ≡ Unavailable };
+
+    fn from(_error: sqlite::Error) -> OpenFault {
+        OpenFault::Unavailable
+    }
+}

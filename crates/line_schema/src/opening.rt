@@ -1,0 +1,119 @@
+//! What a store is made of, as its tables say.
+
+ghost use Rattle.std.specs.Prelude.{◌≡◌, ◌≢◌, ◌≤◌, ◌⊎◌, ℕ, pos, false, IfOk, IfErr};
+ghost use Rattle.sqlite.specs.State.{HasCleanDisk, Survives, KeepsCommit};
+ghost use Rattle.sqlite.specs.Held.{state};
+ghost use Rattle.desk_types.specs.declared.limits.TheConstants.{MOST_ENTRIES};
+ghost use Rattle.desk_types.specs.History.{History};
+ghost use Rattle.line_tables.specs.Calls.{Reads};
+ghost use Rattle.line_tables.specs.Rows.{version_of};
+ghost use Rattle.line_schema.specs.declared.fault.OpenFault.TheVariants as Fault;
+ghost use Rattle.line_schema.specs.Opening.{IsVersion, IsFaultBy, IsNamedBy, IsOfVersion, IsToldBy, IsOpened, IsGreatest};
+
+use crate::fault::OpenFault;
+use desk_types::{Desk, MOST_ENTRIES, Rules};
+use line_audit::audit;
+use line_replay::{Replayed, replay};
+use line_tables::{Version, are_apart, find_version, has_accepted, has_state, has_version};
+use sqlite::{Alter, Connection};
+use std::alloc::Global;
+use trace_lists::TraceLists;
+
+/// The desk of a list, the lists beside it, how many entries it has, and how many it may have.
+pub struct Opened<D: Desk + Drop> {
+    pub desk: D,
+    pub lists: TraceLists,
+    pub count: u32,
+    pub greatest: u32,
+}
+
+/// Reads the version, which is to be that of the rules, and then the list, each of whose entries is
+/// judged again by them, and compares the other tables with the list's.
+pub fn read_tables<S: Alter, D: Desk + Drop>(
+    alloc: Global,
+    conn: &mut Connection<S>,
+    rules: Rules,
+) -> Result<Opened<D>, OpenFault>
+    ensures ok { IfOk result (λ r. (H : History) × IsOpened D.Stands D.kept_rules (HasCleanDisk (state S.Store conn.new)) (state S.Store conn.old) rules r H) }
+    ensures named { IfOk result (λ _. IsNamedBy rules (state S.Store conn.old)) }
+    ensures told { IfErr result (IsToldBy rules (state S.Store conn.old)) }
+    ensures never { IfErr result (λ f. f ≢ Fault.NotBlank) }
+    ensures err { HasCleanDisk (state S.Store conn.new) → IfErr result (IsFaultBy rules (state S.Store conn.old)) }
+    ensures kept { HasCleanDisk (state S.Store conn.new) → KeepsCommit (state S.Store conn.old) (state S.Store conn.new) }
+    ensures mode { conn.old.in_transaction ≡ false → conn.new.in_transaction ≡ false }
+    ensures survives { Survives (state S.Store conn.old) (state S.Store conn.new) (λ _. ⊥) }
+{
+    let whole = has_accepted(conn) && has_state(conn, rules);
+    if !has_version(conn) {
+        return Err(OpenFault::NotADesk);
+    }
+    let greatest = read_greatest(conn, rules)?;
+    if !whole {
+        return Err(OpenFault::NotADesk);
+    }
+    let Replayed {
+        desk,
+        lists,
+        count,
+        beside,
+    } = replay(alloc, conn, rules, greatest)?;
+    let apart = are_apart(conn, rules)?;
+    if !apart {
+        return Err(OpenFault::Unavailable);
+    }
+    let other = audit(alloc, conn, rules, &beside.rows, beside.placed)?;
+    match other {
+        None => Ok(Opened {
+            desk,
+            lists,
+            count,
+            greatest,
+        }),
+        Some(table) => Err(OpenFault::TableDiffers(table)),
+    }
+}
+
+/// The greatest number, where the tables are of the version of the rules.
+fn read_greatest<S: Alter>(conn: &mut Connection<S>, rules: Rules) -> Result<u32, OpenFault>
+    ensures ok { HasCleanDisk (state S.Store conn.new) → IfOk result (λ greatest. Reads (state S.Store conn.old) (λ db. IsVersion db (pos (version_of rules)) greatest)) }
+    ensures bound { IfOk result (λ greatest. greatest ≤ MOST_ENTRIES) }
+    ensures of_version { IfErr result IsOfVersion }
+    ensures never { IfErr result (λ f. f ≢ Fault.NotBlank) }
+    ensures err { HasCleanDisk (state S.Store conn.new) → IfErr result (IsFaultBy rules (state S.Store conn.old)) }
+    ensures kept { HasCleanDisk (state S.Store conn.new) → KeepsCommit (state S.Store conn.old) (state S.Store conn.new) }
+    ensures mode { conn.old.in_transaction ≡ false → conn.new.in_transaction ≡ false }
+    ensures survives { Survives (state S.Store conn.old) (state S.Store conn.new) (λ _. ⊥) }
+{
+    let found = find_version(conn)?;
+    match found {
+        Some(version) => greatest_of(&version, rules),
+        None => Err(OpenFault::NotADesk),
+    }
+}
+
+fn greatest_of(version: &Version, rules: Rules) -> Result<u32, OpenFault>
+    ensures ok { IfOk result (λ greatest. (version.now.number ≡ pos (version_of rules)) × IsGreatest version.now.greatest greatest) }
+    ensures err { IfErr result (λ f. ((f ≡ Fault.NotADesk) × ((greatest : ℕ) → IsGreatest version.now.greatest greatest → ⊥))
+        ⊎ ((f ≡ Fault.OtherVersion version.now.number) × (version.now.number ≢ pos (version_of rules)) × (greatest : ℕ) × IsGreatest version.now.greatest greatest)) }
+{
+    let Ok(greatest) = u64::try_from(version.greatest) else {
+        return Err(OpenFault::NotADesk);
+    };
+    if greatest < 1 || greatest > MOST_ENTRIES {
+        return Err(OpenFault::NotADesk);
+    }
+    if version.number != number_of(rules) {
+        return Err(OpenFault::OtherVersion(version.number));
+    }
+    Ok(greatest as u32)
+}
+
+/// The version of the tables that goes with the rules.
+fn number_of(rules: Rules) -> i64
+    ensures { result ≡ pos (version_of rules) }
+{
+    match rules {
+        Rules::One => 1,
+        Rules::Two => 2,
+    }
+}

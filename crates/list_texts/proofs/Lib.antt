@@ -1,4 +1,0 @@
-mod KitRows
-mod NoReelTwice
-mod Prefixes
-pub mod ConstantRows

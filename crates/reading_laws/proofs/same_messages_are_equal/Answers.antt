@@ -1,5 +1,0 @@
-use Rattle.desk_answers.proofs.Sameness.{same_messages, equal_messages}
-use Rattle.reading_laws.proofs.same_messages_are_equal.Goals as goal
-
-pub returns : goal.returns
-returns c = λ first again. (same_messages first again, equal_messages first again)

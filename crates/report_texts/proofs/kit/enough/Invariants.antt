@@ -1,0 +1,14 @@
+use Rattle.std.proofs.Common.{◌≡◌, ◌++◌, List, drop}
+use Rattle.std.specs.Prelude.{not}
+use Rattle.std.specs.List.{filter}
+use Rattle.desk_types.specs.declared.view.ReelView.{ReelView}
+use Rattle.desk_types.specs.Id.{Name}
+use Rattle.setup_sheets.specs.Names.{is_among, HasSeen}
+use Rattle.report_texts.specs.Kit.{enough}
+use Rattle.report_texts.proofs.kit.enough.Given as goal
+
+-- the chosen reels, and those that are enough for what is missing, are those that are enough
+abbrev pub invariant-loop-reel : goal.invariant-loop-reel
+invariant-loop-reel l = (names : List Name) → HasSeen l.given names
+    → l.chosen.items ++ enough l.missing (filter (λ (r : ReelView). not (is_among names r.reel)) (drop l.reel-index l.reels))
+    ≡ enough l.needed (filter (λ (r : ReelView). not (is_among names r.reel)) l.reels)

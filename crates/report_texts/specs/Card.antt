@@ -1,0 +1,28 @@
+-- The card of a reel.
+use Rattle.std.specs.Prelude.{ℕ, Option, List, [], ◌∷◌, codes, decimal, if◌then◌else◌}
+use Rattle.std.specs.Option.{option_map}
+use Rattle.desk_types.specs.declared.view.ReelView.{ReelView}
+use Rattle.desk_types.specs.Id.{Name}
+use Rattle.desk_types.specs.History.{History}
+use Rattle.desk_types.specs.Level.{text_of}
+use Rattle.desk_types.specs.View.{reel_view}
+use Rattle.report_texts.specs.Csv.{csv_text}
+use Rattle.report_texts.specs.Shown.{left_text}
+
+-- where the reel is: on a slot, or else out of its bag or in it
+abbrev pub state_text : ReelView → List ℕ
+state_text r = if r.mounted then codes "mounted" else if r.is_open then codes "open" else codes "sealed"
+
+abbrev pub card_header : List (List ℕ)
+card_header =
+    codes "reel" ∷ codes "part" ∷ codes "lot" ∷ codes "level" ∷ codes "received" ∷ codes "placed" ∷ codes "scrapped" ∷ codes "remaining"
+    ∷ codes "minutes_left" ∷ codes "state" ∷ []
+
+abbrev pub card_fields : ReelView → List (List ℕ)
+card_fields r =
+    r.reel ∷ r.part ∷ r.lot ∷ text_of r.level ∷ decimal r.received ∷ decimal r.placed ∷ decimal r.scrapped ∷ decimal r.remaining
+    ∷ left_text r.left ∷ state_text r ∷ []
+
+-- the card of the reel as the list leaves it, where it was received
+abbrev pub reel_card : History → Name → Option (List ℕ)
+reel_card H reel = option_map (λ r. csv_text card_header (card_fields r ∷ [])) (reel_view H reel)

@@ -1,3 +1,0 @@
-mod BorrowedSets
-mod FieldsOfRecords
-mod RecordSets
