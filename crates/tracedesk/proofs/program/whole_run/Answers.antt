@@ -48,11 +48,11 @@ returns-in-Ok-clause-unopened g c = λ is.
     let to = follows whole g.T.Start c.program-status.result.1 c.in-Ok.files c.in-Ok.ensures.ok in
     to.none (c.program-status.ensures.unopened is)
 
-pub returns-in-Ok-clause-ways_when_open : goal.returns-in-Ok-clause-opened
-returns-in-Ok-clause-ways_when_open g c = names_file whole (map string_bytes c.args.words.now) c.program-status.result.1 c.in-Ok.files c.in-Ok.ensures.ok c.program-status.ensures.named
+pub returns-in-Ok-clause-opened : goal.returns-in-Ok-clause-opened
+returns-in-Ok-clause-opened g c = names_file whole (map string_bytes c.args.words.now) c.program-status.result.1 c.in-Ok.files c.in-Ok.ensures.ok c.program-status.ensures.named
 
-pub returns-in-Err-clause-ways_when_open : goal.returns-in-Err-clause-opened
-returns-in-Err-clause-ways_when_open g c = names_file failed (map string_bytes c.args.words.now) c.program-status.result.1 c.in-Err.files c.in-Err.ensures.err c.program-status.ensures.named
+pub returns-in-Err-clause-opened : goal.returns-in-Err-clause-opened
+returns-in-Err-clause-opened g c = names_file failed (map string_bytes c.args.words.now) c.program-status.result.1 c.in-Err.files c.in-Err.ensures.err c.program-status.ensures.named
 
-pub returns-in-Err-2-clause-ways_when_open : goal.returns-in-Err-2-clause-opened
-returns-in-Err-2-clause-ways_when_open g c = names_file failed (map string_bytes c.args.words.now) c.program-status.result.1 c.in-Err.files c.in-Err.ensures.err c.program-status.ensures.named
+pub returns-in-Err-2-clause-opened : goal.returns-in-Err-2-clause-opened
+returns-in-Err-2-clause-opened g c = names_file failed (map string_bytes c.args.words.now) c.program-status.result.1 c.in-Err.files c.in-Err.ensures.err c.program-status.ensures.named
