@@ -175,21 +175,21 @@ fn answer_report<L: ReportedOwner>(
             kind: Kind::Csv,
             body: Body::Made(text),
         }),
-        None => answer_none(alloc, report),
+        None => Ok(answer_none(alloc, kind_of(report))?),
     }
 }
 
 /// The answer where what a report is about is not found.
-fn answer_none(alloc: Global, report: Report) -> Result<Response, Unavailable>
-    ensures { IfOk result (λ response. response_told response ≡ none_told (kind_of report)) }
+fn answer_none(alloc: Global, about: Option<report_texts::Kind>) -> Result<Response, Unavailable>
+    ensures { IfOk result (λ response. response_told response ≡ none_told about) }
 {
-    match kind_of(report) {
+    match about {
         Some(kind) => Ok(json(Status::NotFound, not_found_text(alloc, kind)?)),
         None => Err(Unavailable),
     }
 }
 
-/// What a report is about; none of the overdue list, which each line has.
+/// What a report is about; none of the overdue list, which each owner has.
 fn kind_of(report: Report) -> Option<report_texts::Kind>
     ensures { result ≡ kind_of report }
 {
