@@ -44,13 +44,13 @@ impl ReportedOwner for Full {
 /// A feed of one message, and the command of it.
 #[test]
 fn commands(rt: HostRuntime) -> Result<(), Fail> {
-    let mut line = Full;
+    let mut owner = Full;
     let mut output = Wire::new(Vec::new(rt.alloc()));
     let served = feed(
         rt.alloc(),
         &mut Wire::new(PART.as_bytes()),
         &mut output,
-        &mut line,
+        &mut owner,
     )?;
     assert_eq!(rt; (served.answered, served.refused), (1, 1));
     let told = "{\"Answer\":\"Refused\",\"Refusal\":\"DeskFull\",\"UniqueID\":\"u1\"}\n";
@@ -62,8 +62,8 @@ fn commands(rt: HostRuntime) -> Result<(), Fail> {
         minute: Minute::new(0).ok_or("no minute")?,
         command: Command::PartDefined { part: name },
     };
-    assert!(rt; matches!(command(&mut line, &stamped), Answer::DeskFull));
-    headline(&Full, &line);
+    assert!(rt; matches!(command(&mut owner, &stamped), Answer::DeskFull));
+    headline(&Full, &owner);
     Ok(())
 }
 
@@ -72,15 +72,15 @@ fn commands(rt: HostRuntime) -> Result<(), Fail> {
 fn reports(rt: HostRuntime) -> Result<(), Fail> {
     let mut gateway = Gateway::new(Full, RouteTable::new(rt.alloc())?);
     let mut output = Wire::new(Vec::new(rt.alloc()));
-    let request = "GET /overdue HTTP/1.1\r\n\r\n";
+    let request = "GET /reel?reel=K1 HTTP/1.1\r\n\r\n";
     let served = serve(
         rt.alloc(),
         &mut Wire::new(request.as_bytes()),
         &mut output,
         &mut gateway,
     );
-    let told = ask(rt.alloc(), &mut gateway, b"/overdue");
-    let _line = gateway.into_owner();
+    let told = ask(rt.alloc(), &mut gateway, b"/reel?reel=K1");
+    let _owner = gateway.into_owner();
     let served = served?;
     assert_eq!(rt; (served.answered, served.refused), (1, 1));
     assert_eq!(rt; told.status.code(), 404);
