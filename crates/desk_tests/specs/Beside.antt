@@ -4,10 +4,10 @@ use Rattle.desk_types.specs.History.{History}
 use Rattle.feeder_state.specs.Restored.{AreRowsOf}
 use Rattle.state_rows.specs.Kept.{KeptRows}
 
--- The desk stands for a list whose tables the rows are, and its next entry has this number, 1,001 at most.
+-- The desk stands for a list whose tables the rows are, and its next entry has this number, 10,101 at most.
 pub record AreOfOneList {D : Type 0} (StandsFor : D → History → Type 0) (desk : D) (rows : KeptRows) (number : ℕ) : Type 0 where
   pub list : History
   pub stands : StandsFor desk list
   pub tables : AreRowsOf list rows
   pub next : number ≡ length list + 1
-  pub bound : number ≤ 1001
+  pub bound : number ≤ 10101

@@ -2,6 +2,7 @@
 
 mod answers;
 mod desks;
+mod rows;
 mod usable;
 
 use desk_types::Id;

@@ -18,5 +18,5 @@ returns-in_ok-settle-in-Ok-clause-one_list g c =
         tables = rw c.as_slice.ensures at c.in_ok-apply-in-Ok.ensures ∙ ap (with_edits c.in_ok-edits-in-Ok.edits) one.tables.tables ∙ c.in_ok-edits-in-Ok.ensures.lead one.list one.stands one.next;
       };
       next = omega (arith, one.next);
-      bound = omega (arith, c.if-number-gt1000.false);
+      bound = omega (arith, c.if-number-gt10100.false);
     }

@@ -2,7 +2,7 @@ use Rattle.std.proofs.Common.{◌≡◌}
 use Rattle.desk_types.specs.declared.rules.Rules.TheVariants.{Two}
 use Rattle.feeder_state.specs.State.{IsState, rules_of}
 use Rattle.desk_tests.specs.Beside.{AreOfOneList}
-use Rattle.desk_tests.proofs.tests.desks.a_desk_made_of_the_rows_goes_on.Given as goal
+use Rattle.desk_tests.proofs.tests.desks.goes_on.Given as goal
 
 -- the desk and the rows are of one list
 abbrev pub invariant-loop-i : goal.invariant-loop-i
