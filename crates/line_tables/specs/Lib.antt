@@ -7,3 +7,4 @@ pub mod Rowids
 pub mod Rising
 pub mod Placing
 pub mod Shown
+pub mod Frames
