@@ -42,7 +42,8 @@ fn string_of(bytes: Vec<u8>) -> Result<String, NoRow>
 /// A law: two judged lists whose rows are the same, in any order, are one list. It is for proofs,
 /// and does nothing when it runs.
 pub fn rows_tell_lists_apart()
-    ensures { (rules : Rules) (G H : History) → IsJudged rules G → IsJudged rules H → IsPermutation (rows_of G) (rows_of H) → G ≡ H }
+    ensures { (rules : Rules) (G H : History) → IsJudged rules G → IsJudged rules H
+        → IsPermutation (rows_of G) (rows_of H) → G ≡ H }
 {
     texts_tell_commands_apart();
 }
