@@ -1,6 +1,7 @@
 //! The file of a desk: it is made, opened, migrated and closed.
 
-ghost use Rattle.std.specs.Prelude.{◌≡◌, ◌≢◌, ◌≤◌, [], true, false, Some, None, IfOk, IfErr, IfSome};
+ghost use Rattle.std.specs.Prelude.{◌≡◌, ◌≢◌, ◌≤◌, ◌==◌, [], true, false, Some, None, IfOk, IfErr, IfNone, IfSome};
+ghost use Rattle.std.specs.Fs.{IsFile, file_type, metadata_len};
 ghost use Rattle.sqlite_wal.specs.Files.{image_at};
 ghost use Rattle.sqlite.specs.State.{HasCleanDisk};
 ghost use Rattle.sqlite.specs.Files.{file_state, over_files, IsOpened};
@@ -20,6 +21,7 @@ use desk_types::Desk;
 use line_schema::{LineStore, OpenFault};
 use sqlite::{Connection, FileFrom, FileStore, Files, Start};
 use std::fs;
+use std::fs::Metadata;
 use std::io::ErrorKind;
 
 /// The store of a desk in a file, of which `T` says what it held as it was opened.
@@ -123,9 +125,24 @@ fn is_blank<T: Start>(rt: &HostRuntime, path: &str) -> Result<bool, Refusal<File
     ensures { IfErr result (λ r. r ≡ record { fault = Fault.Unavailable; file = None }) }
 {
     match fs::metadata(rt, path) {
-        Ok(found) if found.is_file() => Ok(found.len() == 0),
+        Ok(found) => match has_no_byte(&found) {
+            Some(blank) => Ok(blank),
+            None => Err(no_connection()),
+        },
         Err(error) if error.kind() == ErrorKind::NotFound => Ok(true),
         _ => Err(no_connection()),
+    }
+}
+
+/// Whether a file has no byte, and nothing of what is no regular file.
+fn has_no_byte(found: &Metadata) -> Option<bool>
+    ensures none { IfNone result (¬ IsFile (file_type found.now)) }
+    ensures some { IfSome result (λ blank. IsFile (file_type found.now) × (blank ≡ (metadata_len found.now == 0))) }
+{
+    if found.is_file() {
+        Some(found.len() == 0)
+    } else {
+        None
     }
 }
 

@@ -1,6 +1,6 @@
 //! The placements of one entry.
 
-ghost use Rattle.std.specs.Prelude.{◌≡◌, ◌<◌, ◌↔◌, length, map, IsTrue, IfOk};
+ghost use Rattle.std.specs.Prelude.{◌≡◌, ◌⊎◌, ◌<◌, ◌≤◌, ◌^◌, ◌↔◌, length, map, IsTrue, IfOk, IfErr};
 ghost use Rattle.sqlite.specs.State.{HasCleanDisk};
 ghost use Rattle.sqlite.specs.Held.{state};
 ghost use Rattle.line_tables.specs.Calls.{Reads};
@@ -68,7 +68,8 @@ fn are_rows(shown: &[Row], rows: &[PlacementRow]) -> Result<bool, Error>
 }
 
 fn is_placement(shown: &Row, row: &PlacementRow) -> Result<bool, Error>
-    ensures { IfOk result (λ is. IsTrue is ↔ (shown.now ≡ placement_columns row.now)) }
+    ensures ok { IfOk result (λ is. IsTrue is ↔ (shown.now ≡ placement_columns row.now)) }
+    ensures err { IfErr result (λ _. (2 ^ 63 ≤ row.now.number) ⊎ (2 ^ 63 ≤ row.now.place)) }
 {
     Ok(is_row(
         shown,

@@ -1,6 +1,6 @@
 //! What is kept beside the desk while a list is read again.
 
-ghost use Rattle.std.specs.Prelude.{◌≡◌, ◌+◌, ⊤, [], IfOk, IfErr, OnOk, length};
+ghost use Rattle.std.specs.Prelude.{◌≡◌, ◌≤◌, ◌+◌, ◌^◌, ⊤, [], IfOk, IfErr, OnOk, length};
 ghost use Rattle.sqlite.specs.State.{HasCleanDisk};
 ghost use Rattle.sqlite.specs.Effect.{Database};
 ghost use Rattle.sqlite.specs.Held.{state};
@@ -88,6 +88,7 @@ fn placement_by(edit: &RowEdit) -> Option<PlacementRow>
 fn sum(placed: u64, more: usize) -> Result<u64, ReplayFault>
     ensures ok { IfOk result (λ n. n ≡ placed + more) }
     ensures err { IfErr result (λ f. f ≡ Unavailable) }
+    ensures full { IfErr result (λ _. 2 ^ 64 ≤ placed + more) }
 {
     match placed.checked_add(more as u64) {
         Some(n) => Ok(n),

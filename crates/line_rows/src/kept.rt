@@ -1,6 +1,6 @@
 //! The row of an accepted command.
 
-ghost use Rattle.std.specs.Prelude.{◌≡◌, IfOk, string_bytes};
+ghost use Rattle.std.specs.Prelude.{◌≡◌, IfOk, IfErr, IsUtf8, string_bytes};
 ghost use Rattle.std.specs.List.Sorted.{IsPermutation};
 ghost use Rattle.desk_types.specs.declared.rules.Rules.{Rules};
 ghost use Rattle.desk_types.specs.History.{History};
@@ -31,7 +31,8 @@ pub fn row_of(alloc: Global, number: u32, change: &Change, answer: &Text) -> Res
 }
 
 fn string_of(bytes: Vec<u8>) -> Result<String, NoRow>
-    ensures { IfOk result (λ text. string_bytes text ≡ bytes.items) }
+    ensures ok { IfOk result (λ text. string_bytes text ≡ bytes.items) }
+    ensures err { IfErr result (λ _. ¬ IsUtf8 bytes.items) }
 {
     match String::from_utf8(bytes) {
         Ok(text) => Ok(text),

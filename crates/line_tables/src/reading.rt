@@ -1,7 +1,7 @@
 //! What is read of the accepted commands. Each call reads what is committed, and changes nothing. In
 //! an open transaction of the caller's it reads nothing.
 
-ghost use Rattle.std.specs.Prelude.{◌≡◌, ◌<◌, pos, length, IfOk, [], ◌∷◌, filter};
+ghost use Rattle.std.specs.Prelude.{◌≡◌, ◌≢◌, ◌<◌, ◌≤◌, ℕ, ℤ, pos, length, Option, IfOk, IfErr, [], ◌∷◌, filter};
 ghost use Rattle.std.specs.List.{list_any};
 ghost use Rattle.sqlite.specs.declared.types.Value.TheVariants.{Int};
 ghost use Rattle.sqlite.specs.State.{HasCleanDisk};
@@ -10,6 +10,7 @@ ghost use Rattle.line_tables.specs.Rows.{columns_of, accepted_in};
 ghost use Rattle.line_tables.specs.declared.reading.TheConstants.{MOST_COUNTED};
 ghost use Rattle.line_tables.specs.Calls.{Reads, has_uid, has_number, is_before, only, row_of, number_row, IsLeast};
 ghost use Rattle.line_tables.specs.Frames.{ReadsOnly, IsRefusedInside};
+ghost use Rattle.line_tables.specs.Faults.{OnlyWhere};
 
 use crate::edit::Accepted;
 use crate::select::select;
@@ -98,7 +99,8 @@ pub fn count<S: Alter>(conn: &mut Connection<S>) -> Result<u64, Error>
 }
 
 fn at_most_one(rows: Vec<Row>) -> Result<Option<Row>, Error>
-    ensures { IfOk result (λ found. rows.items ≡ only found) }
+    ensures ok { IfOk result (λ found. rows.items ≡ only found) }
+    ensures err { IfErr result (λ _. 2 ≤ length rows.items) }
 {
     let mut rows = rows;
     let last = rows.pop();
@@ -127,7 +129,8 @@ fn accepted_of(row: &Row) -> Result<Accepted, Error>
 }
 
 fn least_of(rows: &[Row]) -> Result<Option<i64>, Error>
-    ensures { IfOk result (λ least. rows.now ≡ number_row least) }
+    ensures ok { IfOk result (λ least. rows.now ≡ number_row least) }
+    ensures err { IfErr result (OnlyWhere ((least : Option ℤ) → rows.now ≢ number_row least)) }
 {
     match rows {
         [] => Ok(None),
@@ -137,7 +140,8 @@ fn least_of(rows: &[Row]) -> Result<Option<i64>, Error>
 }
 
 pub fn number_of(row: &Row) -> Result<i64, Error>
-    ensures { IfOk result (λ n. row.now ≡ Int n ∷ []) }
+    ensures ok { IfOk result (λ n. row.now ≡ Int n ∷ []) }
+    ensures err { IfErr result (OnlyWhere ((n : ℤ) → row.now ≢ Int n ∷ [])) }
 {
     if row.column_count() != 1 {
         return Err(Error::InvalidColumnIndex(1));
@@ -149,6 +153,7 @@ pub fn number_of(row: &Row) -> Result<i64, Error>
 pub fn count_of(rows: &[Row]) -> Result<u64, Error>
     ensures row { IfOk result (λ n. rows.now ≡ (Int (pos n) ∷ []) ∷ []) }
     ensures below { IfOk result (λ n. n < MOST_COUNTED) }
+    ensures err { IfErr result (OnlyWhere ((n : ℕ) → n < MOST_COUNTED → rows.now ≢ (Int (pos n) ∷ []) ∷ [])) }
 {
     let [row] = rows else {
         return Err(Error::InvalidColumnIndex(1));

@@ -1,13 +1,15 @@
 //! Whether rows are told apart by their rowids. Each call reads what is committed, and changes nothing.
 //! In an open transaction of the caller's it reads nothing.
 
-ghost use Rattle.std.specs.Prelude.{◌≡◌, ◌&&◌, true, IsTrue, IfOk, take, drop};
+ghost use Rattle.std.specs.Prelude.{◌≡◌, ◌↔◌, ◌&&◌, true, IsTrue, IfOk, IfErr, take, drop};
+ghost use Rattle.std.specs.List.{AllByRecursion};
 ghost use Rattle.sqlite.specs.State.{HasCleanDisk};
 ghost use Rattle.sqlite.specs.Held.{state};
 ghost use Rattle.line_tables.specs.Calls.{Reads};
 ghost use Rattle.line_tables.specs.Rowids.{AreAllApartBy, changed_tables, changed_of};
-ghost use Rattle.line_tables.specs.Rising.{AreApartWhere, IsFoundApartWhere, Shows, AreRising, IsPast};
+ghost use Rattle.line_tables.specs.Faults.{OnlyWhere};
 ghost use Rattle.line_tables.specs.Frames.{ReadsOnly, IsRefusedInside};
+ghost use Rattle.line_tables.specs.Rising.{AreApartWhere, IsFoundApartWhere, Shows, AreRising, IsPast, IsNumber};
 
 use crate::reading::number_of;
 use crate::select::select;
@@ -80,7 +82,8 @@ fn shows_rising<S: Alter>(conn: &mut Connection<S>, sql: &str) -> Result<bool, E
 
 /// Whether each row is an integer, above that of the row before.
 fn are_rising(rows: &[Row]) -> Result<bool, Error>
-    ensures { IfOk result (λ rising. IsTrue rising → AreRising rows.now) }
+    ensures ok { IfOk result (λ rising. IsTrue rising → AreRising rows.now) }
+    ensures err { IfErr result (OnlyWhere (¬ AllByRecursion IsNumber rows.now)) }
 {
     let mut last: Option<i64> = None;
     for row in rows {
@@ -101,9 +104,9 @@ fn are_true(a: bool, b: bool, c: bool, d: bool) -> bool
 }
 
 /// Whether the number is above the last one, where there is one.
-#[tactic(auto, using(crate::proofs::Rising::past_by))]
+#[tactic(auto, using(crate::proofs::Rising::past_by, crate::proofs::Rising::less_by))]
 fn is_past(last: Option<i64>, number: i64) -> bool
-    ensures { IsTrue result → IsPast last number }
+    ensures { IsTrue result ↔ IsPast last number }
 {
     match last {
         Some(last) => last < number,
