@@ -9,7 +9,7 @@ abbrev pub ◌>>=◌ : {X Y F : Type 0} → Result X F → (X → Result Y F) �
 Ok x >>= rest = rest x
 Err fault >>= rest = Err fault
 
--- the answer is what is said; the fault that tells want of memory may stand in its place
+-- the answer is what is said; the fault that tells out of memory may stand in its place
 abbrev pub IsSaidBut : {X F : Type 0} → F → Result X F → Result X F → Type 0
 IsSaidBut want said (Ok x) = said ≡ Ok x
 IsSaidBut want said (Err fault) = fault ≢ want → said ≡ Err fault

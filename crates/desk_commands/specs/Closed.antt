@@ -87,7 +87,7 @@ abbrev pub MigratesTo : {T D : Type 0} → Close → start.Ghosts T → disk.Gho
 MigratesTo how first g files = IsSomeAnd files (λ f. AreClean g f.log f.db → HasLineAlone (image_at first)
     → (greatest : ℕ) × (H : History) × IsOfOne (image_at first) greatest H × HoldsTables how g f (ledger_tables greatest H))
 
--- The files were refused for this fault. Where they told the truth to the end, it stands in what they held, and they hold that still. Where none was opened it is Unavailable, or there is no file or one of no bytes, and none may be made.
+-- The files were refused for this fault. Where they told the truth to the end, it stands in what they held, and they hold that still. Where none was opened it is Unavailable, or NotADesk where none may be made.
 abbrev pub IsRefusedTo : {T D : Type 0} → Close → start.Ghosts T → disk.Ghosts D → Option (Files D) → (OpenFault → Type 0) → Type 0 → OpenFault → Type 0
 IsRefusedTo how first g files StandsIn MakesNone fault =
     MatchOption files ((fault ≡ Unavailable) ⊎ ((fault ≡ NotADesk) × MakesNone)) (λ f. AreClean g f.log f.db → StandsIn fault × HoldsFound how g f (image_at first))

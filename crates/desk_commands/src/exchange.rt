@@ -44,12 +44,20 @@ pub fn feed_in_memory<R: Read, W: Write, E: Write>(
     requires write_failures { failures_of output.old < 2 ^ 63 }
     requires error_failures { failures_of errors.old < 2 ^ 63 }
     ensures status { (result ≡ 0) ⊎ (result ≡ 1) ⊎ (result ≡ 3) ⊎ (result ≡ 4) }
-    ensures done { result ≡ 0 → (served : Served) × (served.refused ≡ 0) × (H : History) × IsConsistent H × AnswersAll R.remaining W.contents input.old output.old output.new served (fresh greatest) H }
-    ensures refused { result ≡ 1 → (served : Served) × (0 < served.refused) × (H : History) × IsConsistent H × AnswersAll R.remaining W.contents input.old output.old output.new served (fresh greatest) H }
+    ensures done { result ≡ 0
+        → (served : Served) × (served.refused ≡ 0) × (H : History) × IsConsistent H
+        × AnswersAll R.remaining W.contents input.old output.old output.new served (fresh greatest) H }
+    ensures refused { result ≡ 1
+        → (served : Served) × (0 < served.refused) × (H : History) × IsConsistent H
+        × AnswersAll R.remaining W.contents input.old output.old output.new served (fresh greatest) H }
     ensures no_desk { result ≡ 3 → TellsLine E.contents errors.old errors.new (refusal_line Unavailable) }
     ensures untouched { result ≡ 3 → (input.new ≡ input.old) × (output.new ≡ output.old) }
-    ensures failed { result ≡ 4 → (fault : ServeFault) × IsShown fault input.old input.new output.old output.new × LeavesNone (R.remaining (inner_of input.old)) (R.remaining (inner_of input.new)) fault × TellsLine E.contents errors.old errors.new (fault_line fault)
-        × (H : History) × IsConsistent H × AnswersUpTo R.remaining W.contents input.old output.old output.new fault (fresh greatest) H }
+    ensures failed { result ≡ 4
+        → (fault : ServeFault) × IsShown fault input.old input.new output.old output.new
+        × LeavesNone (R.remaining (inner_of input.old)) (R.remaining (inner_of input.new)) fault
+        × TellsLine E.contents errors.old errors.new (fault_line fault)
+        × (H : History) × IsConsistent H
+        × AnswersUpTo R.remaining W.contents input.old output.old output.new fault (fresh greatest) H }
     ensures end { (result ≡ 0) ⊎ (result ≡ 1) → IsAtEnd (R.remaining (inner_of input.new)) }
     ensures kept { (result ≡ 0) ⊎ (result ≡ 1) → FailsNever input.old input.new output.old output.new }
     ensures quiet { (result ≡ 0) ⊎ (result ≡ 1) → errors.new ≡ errors.old }
@@ -84,13 +92,24 @@ pub fn feed_in_file<T: Start, R: Read, W: Write, E: Write>(
     requires write_failures { failures_of output.old < 2 ^ 63 }
     requires error_failures { failures_of errors.old < 2 ^ 63 }
     ensures status { (result.0 ≡ 0) ⊎ (result.0 ≡ 1) ⊎ (result.0 ≡ 3) ⊎ (result.0 ≡ 4) }
-    ensures done { result.0 ≡ 0 → (served : Served) × (served.refused ≡ 0) × RunsOn T.Start (Some greatest) result.1 (AnswersAll R.remaining W.contents input.old output.old output.new served) }
-    ensures refused { result.0 ≡ 1 → (served : Served) × (0 < served.refused) × RunsOn T.Start (Some greatest) result.1 (AnswersAll R.remaining W.contents input.old output.old output.new served) }
-    ensures no_desk { result.0 ≡ 3 → HasNoDesk (Refuses T.Start (Some greatest) result.1) ⊥ (TellsLine E.contents errors.old errors.new) }
+    ensures done { result.0 ≡ 0
+        → (served : Served) × (served.refused ≡ 0)
+        × RunsOn T.Start (Some greatest) result.1
+        (AnswersAll R.remaining W.contents input.old output.old output.new served) }
+    ensures refused { result.0 ≡ 1
+        → (served : Served) × (0 < served.refused)
+        × RunsOn T.Start (Some greatest) result.1
+        (AnswersAll R.remaining W.contents input.old output.old output.new served) }
+    ensures no_desk { result.0 ≡ 3
+        → HasNoDesk (Refuses T.Start (Some greatest) result.1) ⊥ (TellsLine E.contents errors.old errors.new) }
     ensures left { LeavesDesk result.1 }
     ensures untouched { result.0 ≡ 3 → (input.new ≡ input.old) × (output.new ≡ output.old) }
-    ensures failed { result.0 ≡ 4 → (fault : ServeFault) × IsShown fault input.old input.new output.old output.new × LeavesNone (R.remaining (inner_of input.old)) (R.remaining (inner_of input.new)) fault × TellsLine E.contents errors.old errors.new (fault_line fault)
-        × RunsOn T.Start (Some greatest) result.1 (AnswersUpTo R.remaining W.contents input.old output.old output.new fault) }
+    ensures failed { result.0 ≡ 4
+        → (fault : ServeFault) × IsShown fault input.old input.new output.old output.new
+        × LeavesNone (R.remaining (inner_of input.old)) (R.remaining (inner_of input.new)) fault
+        × TellsLine E.contents errors.old errors.new (fault_line fault)
+        × RunsOn T.Start (Some greatest) result.1
+        (AnswersUpTo R.remaining W.contents input.old output.old output.new fault) }
     ensures end { (result.0 ≡ 0) ⊎ (result.0 ≡ 1) → IsAtEnd (R.remaining (inner_of input.new)) }
     ensures kept { (result.0 ≡ 0) ⊎ (result.0 ≡ 1) → FailsNever input.old input.new output.old output.new }
     ensures quiet { (result.0 ≡ 0) ⊎ (result.0 ≡ 1) → errors.new ≡ errors.old }
@@ -123,15 +142,25 @@ pub fn import_in_file<T: Start, F: Folder, W: Write, E: Write>(
     requires write_failures { failures_of output.old < 2 ^ 63 }
     requires error_failures { failures_of errors.old < 2 ^ 63 }
     ensures status { (result.0 ≡ 0) ⊎ (result.0 ≡ 1) ⊎ (result.0 ≡ 3) ⊎ (result.0 ≡ 4) }
-    ensures done { result.0 ≡ 0 → RunsOn T.Start None result.1 (AnswersImport W.contents output.old output.new false import.now (F.holds folder.now from.now)) }
-    ensures refused { result.0 ≡ 1 → RunsOn T.Start None result.1 (AnswersImport W.contents output.old output.new true import.now (F.holds folder.now from.now)) }
-    ensures no_desk { result.0 ≡ 3 → HasNoDesk (Refuses T.Start None result.1) (RunsOn T.Start None result.1 StaysSame) (TellsLine E.contents errors.old errors.new) }
+    ensures done { result.0 ≡ 0
+        → RunsOn T.Start None result.1
+        (AnswersImport W.contents output.old output.new false import.now (F.holds folder.now from.now)) }
+    ensures refused { result.0 ≡ 1
+        → RunsOn T.Start None result.1
+        (AnswersImport W.contents output.old output.new true import.now (F.holds folder.now from.now)) }
+    ensures no_desk { result.0 ≡ 3
+        → HasNoDesk (Refuses T.Start None result.1) (RunsOn T.Start None result.1 StaysSame)
+        (TellsLine E.contents errors.old errors.new) }
     ensures left { LeavesDesk result.1 }
     ensures untouched { result.0 ≡ 3 → output.new ≡ output.old }
     ensures failed { result.0 ≡ 4
-        → ((failures_of output.new ≡ failures_of output.old + 1) × TellsLine E.contents errors.old errors.new (fault_line (WriteFault none_served))
-        × RunsOn T.Start None result.1 (CutsImport W.contents output.old output.new import.now (F.holds folder.now from.now)))
-        ⊎ (F.may_fail folder.now from.now × (output.new ≡ output.old) × TellsLine E.contents errors.old errors.new (fault_line (ReadFault none_served)) × RunsOn T.Start None result.1 StaysSame) }
+        → ((failures_of output.new ≡ failures_of output.old + 1)
+        × TellsLine E.contents errors.old errors.new (fault_line (WriteFault none_served))
+        × RunsOn T.Start None result.1
+        (CutsImport W.contents output.old output.new import.now (F.holds folder.now from.now)))
+        ⊎ (F.may_fail folder.now from.now × (output.new ≡ output.old)
+        × TellsLine E.contents errors.old errors.new (fault_line (ReadFault none_served))
+        × RunsOn T.Start None result.1 StaysSame) }
     ensures kept { (result.0 ≡ 0) ⊎ (result.0 ≡ 1) → failures_of output.new ≡ failures_of output.old }
     ensures quiet { (result.0 ≡ 0) ⊎ (result.0 ≡ 1) → errors.new ≡ errors.old }
 {

@@ -45,9 +45,14 @@ pub fn serve_in_file<T: Start, W: Write, E: Write>(
     requires write_failures { failures_of output.old < 2 ^ 63 }
     requires error_failures { failures_of errors.old < 2 ^ 63 }
     ensures status { (result.0 ≡ 0) ⊎ (result.0 ≡ 1) ⊎ (result.0 ≡ 3) ⊎ (result.0 ≡ 4) }
-    ensures served { (result.0 ≡ 0) ⊎ (result.0 ≡ 1) ⊎ (result.0 ≡ 4) → (ends : List Ended) × TellsConnections connections ends result.0 (W.contents (inner_of output.old)) (W.contents (inner_of output.new)) (failures_of output.old) (failures_of output.new)
+    ensures served { (result.0 ≡ 0) ⊎ (result.0 ≡ 1) ⊎ (result.0 ≡ 4)
+        → (ends : List Ended)
+        × TellsConnections connections ends result.0 (W.contents (inner_of output.old))
+        (W.contents (inner_of output.new)) (failures_of output.old) (failures_of output.new)
         × RunsOn T.Start (Some greatest) result.1 (ServesEach ends) }
-    ensures no_desk { result.0 ≡ 3 → HasNoDesk (Refuses T.Start (Some greatest) result.1) (result.1 ≡ Nothing) (TellsLine E.contents errors.old errors.new) }
+    ensures no_desk { result.0 ≡ 3
+        → HasNoDesk (Refuses T.Start (Some greatest) result.1) (result.1 ≡ Nothing)
+        (TellsLine E.contents errors.old errors.new) }
     ensures left { LeavesDesk result.1 }
     ensures untouched { result.0 ≡ 3 → output.new ≡ output.old }
     ensures failed { result.0 ≡ 4 → TellsEnd E.contents output.old output.new errors.old errors.new }
@@ -83,15 +88,23 @@ pub fn report_in_file<T: Start, W: Write, E: Write>(
     requires write_failures { failures_of output.old < 2 ^ 63 }
     requires error_failures { failures_of errors.old < 2 ^ 63 }
     ensures status { (result.0 ≡ 0) ⊎ (result.0 ≡ 1) ⊎ (result.0 ≡ 3) ⊎ (result.0 ≡ 4) }
-    ensures done { result.0 ≡ 0 → (answer : Told) × (code_of answer.status ≡ 200) × Appends (W.contents (inner_of output.old)) (W.contents (inner_of output.new)) (report_output answer)
+    ensures done { result.0 ≡ 0
+        → (answer : Told) × (code_of answer.status ≡ 200)
+        × Appends (W.contents (inner_of output.old)) (W.contents (inner_of output.new)) (report_output answer)
         × RunsOn T.Start None result.1 (AnswersReport report_of target.now answer) }
-    ensures refused { result.0 ≡ 1 → (answer : Told) × (code_of answer.status ≢ 200) × Appends (W.contents (inner_of output.old)) (W.contents (inner_of output.new)) (report_output answer)
+    ensures refused { result.0 ≡ 1
+        → (answer : Told) × (code_of answer.status ≢ 200)
+        × Appends (W.contents (inner_of output.old)) (W.contents (inner_of output.new)) (report_output answer)
         × RunsOn T.Start None result.1 (AnswersReport report_of target.now answer) }
-    ensures no_desk { result.0 ≡ 3 → HasNoDesk (Refuses T.Start None result.1) (result.1 ≡ Nothing) (TellsLine E.contents errors.old errors.new) }
+    ensures no_desk { result.0 ≡ 3
+        → HasNoDesk (Refuses T.Start None result.1) (result.1 ≡ Nothing) (TellsLine E.contents errors.old errors.new) }
     ensures left { LeavesDesk result.1 }
     ensures untouched { result.0 ≡ 3 → output.new ≡ output.old }
-    ensures failed { result.0 ≡ 4 → (failures_of output.new ≡ failures_of output.old + 1) × TellsLine E.contents errors.old errors.new (fault_line (WriteFault none_served))
-        × (answer : Told) × SendsFront (W.contents (inner_of output.old)) (W.contents (inner_of output.new)) (report_output answer)
+    ensures failed { result.0 ≡ 4
+        → (failures_of output.new ≡ failures_of output.old + 1)
+        × TellsLine E.contents errors.old errors.new (fault_line (WriteFault none_served))
+        × (answer : Told)
+        × SendsFront (W.contents (inner_of output.old)) (W.contents (inner_of output.new)) (report_output answer)
         × RunsOn T.Start None result.1 (AnswersReport report_of target.now answer) }
     ensures kept { (result.0 ≡ 0) ⊎ (result.0 ≡ 1) → failures_of output.new ≡ failures_of output.old }
     ensures quiet { (result.0 ≡ 0) ⊎ (result.0 ≡ 1) → errors.new ≡ errors.old }

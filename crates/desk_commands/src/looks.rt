@@ -31,13 +31,21 @@ pub fn audit_file<T: Start, W: Write, E: Write>(
     requires write_failures { failures_of output.old < 2 ^ 63 }
     requires error_failures { failures_of errors.old < 2 ^ 63 }
     ensures status { (result.0 ≡ 0) ⊎ (result.0 ≡ 3) ⊎ (result.0 ≡ 4) }
-    ensures done { result.0 ≡ 0 → (count : ℕ) × Appends (W.contents (inner_of output.old)) (W.contents (inner_of output.new)) (lawful_line count)
+    ensures done { result.0 ≡ 0
+        → (count : ℕ)
+        × Appends (W.contents (inner_of output.old)) (W.contents (inner_of output.new)) (lawful_line count)
         × Audits T.Start result.1 count }
-    ensures no_desk { result.0 ≡ 3 → HasNoDesk (Refuses T.Start None result.1) (RunsOn T.Start None result.1 StaysSame) (TellsLine E.contents errors.old errors.new) }
+    ensures no_desk { result.0 ≡ 3
+        → HasNoDesk (Refuses T.Start None result.1) (RunsOn T.Start None result.1 StaysSame)
+        (TellsLine E.contents errors.old errors.new) }
     ensures left { LeavesDesk result.1 }
     ensures untouched { result.0 ≡ 3 → output.new ≡ output.old }
-    ensures failed { result.0 ≡ 4 → (failures_of output.new ≡ failures_of output.old + 1) × TellsLine E.contents errors.old errors.new (fault_line (WriteFault none_served))
-        × (count : ℕ) × SendsFront (W.contents (inner_of output.old)) (W.contents (inner_of output.new)) (lawful_line count) × Audits T.Start result.1 count }
+    ensures failed { result.0 ≡ 4
+        → (failures_of output.new ≡ failures_of output.old + 1)
+        × TellsLine E.contents errors.old errors.new (fault_line (WriteFault none_served))
+        × (count : ℕ)
+        × SendsFront (W.contents (inner_of output.old)) (W.contents (inner_of output.new)) (lawful_line count)
+        × Audits T.Start result.1 count }
     ensures kept { result.0 ≡ 0 → failures_of output.new ≡ failures_of output.old }
     ensures quiet { result.0 ≡ 0 → errors.new ≡ errors.old }
 {
@@ -65,12 +73,18 @@ pub fn migrate_file<T: Start, W: Write, E: Write>(
     requires write_failures { failures_of output.old < 2 ^ 63 }
     requires error_failures { failures_of errors.old < 2 ^ 63 }
     ensures status { (result.0 ≡ 0) ⊎ (result.0 ≡ 3) ⊎ (result.0 ≡ 4) }
-    ensures done { result.0 ≡ 0 → Appends (W.contents (inner_of output.old)) (W.contents (inner_of output.new)) version_line × Migrates T.Start result.1 }
-    ensures no_desk { result.0 ≡ 3 → HasNoDesk (RefusesToMigrate T.Start result.1) ⊥ (TellsLine E.contents errors.old errors.new) }
+    ensures done { result.0 ≡ 0
+        → Appends (W.contents (inner_of output.old)) (W.contents (inner_of output.new)) version_line
+        × Migrates T.Start result.1 }
+    ensures no_desk { result.0 ≡ 3
+        → HasNoDesk (RefusesToMigrate T.Start result.1) ⊥ (TellsLine E.contents errors.old errors.new) }
     ensures left { LeavesFile result.1 }
     ensures untouched { result.0 ≡ 3 → output.new ≡ output.old }
-    ensures failed { result.0 ≡ 4 → (failures_of output.new ≡ failures_of output.old + 1) × TellsLine E.contents errors.old errors.new (fault_line (WriteFault none_served))
-        × SendsFront (W.contents (inner_of output.old)) (W.contents (inner_of output.new)) version_line × Migrates T.Start result.1 }
+    ensures failed { result.0 ≡ 4
+        → (failures_of output.new ≡ failures_of output.old + 1)
+        × TellsLine E.contents errors.old errors.new (fault_line (WriteFault none_served))
+        × SendsFront (W.contents (inner_of output.old)) (W.contents (inner_of output.new)) version_line
+        × Migrates T.Start result.1 }
     ensures kept { result.0 ≡ 0 → failures_of output.new ≡ failures_of output.old }
     ensures quiet { result.0 ≡ 0 → errors.new ≡ errors.old }
 {

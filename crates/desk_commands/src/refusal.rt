@@ -15,7 +15,8 @@ use std::io::Write;
 pub fn tell_refusal<E: Write>(alloc: Global, fault: &OpenFault, errors: &mut Wire<E>) -> u8
     requires error_failures { failures_of errors.old < 2 ^ 63 }
     ensures status { result ≡ 3 }
-    ensures told { TellsLine E.contents errors.old errors.new (refusal_line fault.now) ⊎ TellsLine E.contents errors.old errors.new unavailable_line }
+    ensures told { TellsLine E.contents errors.old errors.new (refusal_line fault.now)
+        ⊎ TellsLine E.contents errors.old errors.new unavailable_line }
 {
     match format!(in alloc; "tracedesk: {fault}") {
         Ok(line) => {

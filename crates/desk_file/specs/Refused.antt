@@ -60,7 +60,7 @@ pub record IsUnchangedSince {D : Type 0} {g : disk.Ghosts D} (image : Image) (Le
   pub kept : HasCleanDisk (file_state last) → KeepsCommit (file_state first) (file_state last)
   pub survives : Survives (file_state first) (file_state last) (Leaves (file_state first))
 
--- The files were refused. With no connection to them the fault is Unavailable, or there is no file or one of no bytes, and none may be made. Else, where the disk told the truth, it stands in what they held, and what the connection has committed is that. A fault is never NotBlank where no desk may be made.
+-- The files were refused. With no connection to them the fault is Unavailable, or NotADesk where none may be made. Else, where the disk told the truth, it stands in what they held, and what the connection has committed is that. A fault is never NotBlank where no desk may be made.
 pub record IsRefused {D : Type 0} {g : disk.Ghosts D} (image : Image) (StandsIn : OpenFault → Type 0) (Leaves : State → Trees → Type 0) (MakesNone : Type 0) (r : Refusal D g) : Type 0 where
   pub unopened : r.file ≡ None → (r.fault ≡ Unavailable) ⊎ ((r.fault ≡ NotADesk) × MakesNone)
   pub fault : IfSome r.file (λ conn. HasCleanDisk (file_state conn) → StandsIn r.fault)

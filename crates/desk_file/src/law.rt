@@ -18,11 +18,15 @@ use line_rows::rows_tell_lists_apart;
 /// them begins with that list and its greatest number, whatever greatest number is asked for. It is
 /// for proofs, and does nothing when it runs.
 pub fn next_run_goes_on()
-    ensures alone { (image : Image) (trees : Trees) (greatest : ℕ) (H : History) → ∥ HoldsDatabase image trees ∥₁ → HoldsAt (ledger_tables greatest H) trees → HasLineAlone image }
-    ensures held { (image : Image) (trees : Trees) (greatest : ℕ) (H : History) → ∥ HoldsDatabase image trees ∥₁ → HoldsAt (ledger_tables greatest H) trees
+    ensures alone { (image : Image) (trees : Trees) (greatest : ℕ) (H : History) → ∥ HoldsDatabase image trees ∥₁
+        → HoldsAt (ledger_tables greatest H) trees → HasLineAlone image }
+    ensures held { (image : Image) (trees : Trees) (greatest : ℕ) (H : History) → ∥ HoldsDatabase image trees ∥₁
+        → HoldsAt (ledger_tables greatest H) trees
         → (db : Database) → IsFoundIn image db → Holds db (ledger_tables greatest H) }
-    ensures same { (image : Image) (trees : Trees) (greatest : ℕ) (H : History) → ∥ HoldsDatabase image trees ∥₁ → HoldsAt (ledger_tables greatest H) trees → IsJudged Two H
-        → (make : Option ℕ) (next : ℕ) (H' : History) → Begins image make next H' → IsJudged Two H' → (next ≡ greatest) × (H' ≡ H) }
+    ensures same { (image : Image) (trees : Trees) (greatest : ℕ) (H : History) → ∥ HoldsDatabase image trees ∥₁
+        → HoldsAt (ledger_tables greatest H) trees → IsJudged Two H
+        → (make : Option ℕ) (next : ℕ) (H' : History) → Begins image make next H' → IsJudged Two H'
+        → (next ≡ greatest) × (H' ≡ H) }
 {
     rows_tell_lists_apart();
 }

@@ -1,6 +1,7 @@
 //! The file of a desk: it is made, opened, migrated and closed.
 
-ghost use Rattle.std.specs.Prelude.{◌≡◌, ◌≢◌, ◌≤◌, [], true, false, Some, None, IfOk, IfErr, IfSome};
+ghost use Rattle.std.specs.Prelude.{◌≡◌, ◌≢◌, ◌≤◌, ◌==◌, [], true, false, Some, None, IfOk, IfErr, IfNone, IfSome};
+ghost use Rattle.std.specs.Fs.{IsFile, file_type, metadata_len};
 ghost use Rattle.sqlite_wal.specs.Files.{image_at};
 ghost use Rattle.sqlite.specs.State.{HasCleanDisk};
 ghost use Rattle.sqlite.specs.Files.{file_state, over_files, IsOpened};
@@ -20,6 +21,7 @@ use desk_types::Desk;
 use line_schema::{LineStore, OpenFault};
 use sqlite::{Connection, FileFrom, FileStore, Files, Start};
 use std::fs;
+use std::fs::Metadata;
 use std::io::ErrorKind;
 
 /// The store of a desk in a file, of which `T` says what it held as it was opened.
@@ -42,8 +44,11 @@ pub fn open_desk<T: Start, D: Desk + Drop>(
     ensures stands { IfOk result (λ store. (L : Kept) × Stands over_files D.Stands D.kept_rules store L) }
     ensures refused { IfErr result (RefusesRun (image_at T.Start) make) }
     ensures begins { IfOk result (λ store. HasCleanDisk (state_of over_files store) → HasLineAlone (image_at T.Start)
-        → (greatest : _) × (H : History) × Begins (image_at T.Start) make greatest H × Stands over_files D.Stands D.kept_rules store (record { greatest = greatest; history = H; own = true })) }
-    ensures alone { IfOk result (λ store. HasCleanDisk (state_of over_files store) → FindsNoTable (image_at T.Start) → IfSome make (λ greatest. (trees : Trees) → (state_of over_files store).may_leave trees → HoldsAt (blank greatest) trees)) }
+        → (greatest : _) × (H : History) × Begins (image_at T.Start) make greatest H
+        × Stands over_files D.Stands D.kept_rules store (record { greatest = greatest; history = H; own = true })) }
+    ensures alone { IfOk result (λ store. HasCleanDisk (state_of over_files store) → FindsNoTable (image_at T.Start)
+        → IfSome make (λ greatest. (trees : Trees) → (state_of over_files store).may_leave trees
+        → HoldsAt (blank greatest) trees)) }
 {
     let is_blank = is_blank::<T>(rt, path)?;
     match make {
@@ -65,7 +70,8 @@ pub fn migrate_desk<T: Start, D: Desk + Drop>(
     path: &str,
     start: T,
 ) -> Result<DeskFile<T>, Refusal<FileFrom<T>>>
-    ensures migrated { IfOk result (λ conn. HasCleanDisk (file_state conn) → HasLineAlone (image_at T.Start) → MigratedFrom (image_at T.Start) conn) }
+    ensures migrated { IfOk result (λ conn. HasCleanDisk (file_state conn) → HasLineAlone (image_at T.Start)
+        → MigratedFrom (image_at T.Start) conn) }
     ensures refused { IfErr result (RefusesMigration (image_at T.Start)) }
 {
     if is_blank::<T>(rt, path)? {
@@ -119,9 +125,24 @@ fn is_blank<T: Start>(rt: &HostRuntime, path: &str) -> Result<bool, Refusal<File
     ensures { IfErr result (λ r. r ≡ record { fault = Fault.Unavailable; file = None }) }
 {
     match fs::metadata(rt, path) {
-        Ok(found) if found.is_file() => Ok(found.len() == 0),
+        Ok(found) => match has_no_byte(&found) {
+            Some(blank) => Ok(blank),
+            None => Err(no_connection()),
+        },
         Err(error) if error.kind() == ErrorKind::NotFound => Ok(true),
         _ => Err(no_connection()),
+    }
+}
+
+/// Whether a file has no byte, and nothing of what is no regular file.
+fn has_no_byte(found: &Metadata) -> Option<bool>
+    ensures none { IfNone result (¬ IsFile (file_type found.now)) }
+    ensures some { IfSome result (λ blank. IsFile (file_type found.now) × (blank ≡ (metadata_len found.now == 0))) }
+{
+    if found.is_file() {
+        Some(found.len() == 0)
+    } else {
+        None
     }
 }
 
@@ -147,8 +168,10 @@ fn new_desk<T: Start, D: Desk + Drop>(
     ensures refused { IfErr result (RefusesRun (image_at T.Start) (Some greatest)) }
     ensures stands { IfOk result (λ store. (L : Kept) × Stands over_files D.Stands D.kept_rules store L) }
     ensures begins { IfOk result (λ store. HasCleanDisk (state_of over_files store) → HasLineAlone (image_at T.Start)
-        → Begins (image_at T.Start) (Some greatest) greatest [] × Stands over_files D.Stands D.kept_rules store (record { greatest = greatest; history = []; own = true })) }
-    ensures alone { IfOk result (λ store. HasCleanDisk (state_of over_files store) → FindsNoTable (image_at T.Start) → (trees : Trees) → (state_of over_files store).may_leave trees → HoldsAt (blank greatest) trees) }
+        → Begins (image_at T.Start) (Some greatest) greatest []
+        × Stands over_files D.Stands D.kept_rules store (record { greatest = greatest; history = []; own = true })) }
+    ensures alone { IfOk result (λ store. HasCleanDisk (state_of over_files store) → FindsNoTable (image_at T.Start)
+        → (trees : Trees) → (state_of over_files store).may_leave trees → HoldsAt (blank greatest) trees) }
 {
     let conn = connect(rt, path, start)?;
     match LineStore::create(rt.alloc(), conn, greatest) {
@@ -168,7 +191,8 @@ fn kept_desk<T: Start, D: Desk + Drop>(
 ) -> Result<FileDesk<T, D>, Refusal<FileFrom<T>>>
     ensures stands { IfOk result (λ store. (L : Kept) × Stands over_files D.Stands D.kept_rules store L) }
     ensures begins { IfOk result (λ store. HasCleanDisk (state_of over_files store) → HasLineAlone (image_at T.Start)
-        → (greatest : _) × (H : History) × Begins (image_at T.Start) None greatest H × Stands over_files D.Stands D.kept_rules store (record { greatest = greatest; history = H; own = true })) }
+        → (greatest : _) × (H : History) × Begins (image_at T.Start) None greatest H
+        × Stands over_files D.Stands D.kept_rules store (record { greatest = greatest; history = H; own = true })) }
     ensures refused { IfErr result (IsRefused (image_at T.Start) (IsFaultIn (image_at T.Start) Two) (λ _ _. ⊥) ⊥) }
     ensures never { IfErr result (λ r. r.fault ≢ Fault.NotBlank) }
 {
@@ -189,7 +213,8 @@ fn connect<T: Start>(
     start: T,
 ) -> Result<DeskFile<T>, Refusal<FileFrom<T>>>
     ensures opened { IfOk result (λ conn. HasCleanDisk (file_state conn) → IsOpened conn) }
-    ensures found { IfOk result (λ conn. HasCleanDisk (file_state conn) → FindsAs (image_at T.Start) (file_state conn)) }
+    ensures found { IfOk result (λ conn. HasCleanDisk (file_state conn)
+        → FindsAs (image_at T.Start) (file_state conn)) }
     ensures mode { IfOk result (λ conn. conn.in_transaction ≡ false) }
     ensures err { IfErr result (λ r. r ≡ record { fault = Fault.Unavailable; file = None }) }
 {

@@ -15,7 +15,7 @@ pub record IsChange (rules : Rules) (H : History) (s : Stamped) (change : Change
   pub accepted : refusal_of rules H s ≡ None
   pub value : change ≡ change_of H s
 
--- the command is refused for the refusal that there is, or else makes its change; want of memory may stand in the place of either
+-- the command is refused for the refusal that there is, or else makes its change; out of memory may stand in the place of either
 abbrev pub IsJudgement : Rules → History → Stamped → Result Change JudgeFault → Type 0
 IsJudgement rules H s (Ok change) = IsChange rules H s change
 IsJudgement rules H s (Err (Refused refusal)) = refusal_of rules H s ≡ Some refusal

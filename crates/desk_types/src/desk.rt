@@ -120,7 +120,7 @@ pub trait Desk {
 }
 
 /// Judges commands one after the other, and settles each that is accepted. The replies are those of
-/// the list alone, by the desk's rules. It stops at the first want of memory, and then nothing is known of the desk.
+/// the list alone, by the desk's rules. It stops when out of memory, and then nothing is known of the desk.
 pub fn run<D: Desk>(
     alloc: Global,
     desk: &mut D,

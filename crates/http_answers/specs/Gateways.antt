@@ -8,7 +8,7 @@ use Rattle.http_answers.specs.Repeats.{get_of}
 use Rattle.http_answers.specs.Requests.{Reports, outcome_of}
 use Rattle.http_answers.specs.declared.gateway.Gateway.{Gateway}
 
--- What holds of each list for which the owner stood, where what it keeps the list in told the truth: the answer is that of the outcome, and the line stands for the list after it; or there is no answer, and the line stands for the list as it was.
+-- What holds of each list for which the owner stood, where what it keeps the list in told the truth: the answer is that of the outcome, and the owner stands for the list after it; or there is no answer, and the owner stands for the list as it was.
 abbrev pub Meets : {S E : Type 0} → (S → Ledger → Type 0) → (S → Type 0) → S → S → Result Response E → (Ledger → Outcome) → Type 0
 Meets Stands Trusts old new result outcome = (G : Ledger) → Stands old G → Trusts new →
     IfOk result (λ response. (response_told response ≡ (outcome G).told) × Stands new (record G { history = (outcome G).after })) × OnErr result (Stands new G)

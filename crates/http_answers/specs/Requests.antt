@@ -40,7 +40,7 @@ use Rattle.http_answers.specs.Statuses.{command_status, message_fault_status, im
 abbrev pub Reports : Type 0
 Reports = Report → History → Option (List ℕ)
 
--- what a report is about; none of the overdue list, which each line has
+-- what a report is about; none of the overdue list, which each owner has
 abbrev pub kind_of : Report → Option Kind
 kind_of (report.BoardTrace board detail) = Some Board
 kind_of (report.LotTrace lot detail) = Some Lot

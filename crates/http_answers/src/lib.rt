@@ -1,4 +1,4 @@
-//! What the routes of the gateway answer, over any line that answers commands and gives reports.
+//! What the routes of the gateway answer, over any owner of a list that returns reports.
 //!
 //! `specs/Requests.antt` says on one page what each request is answered and which list it leaves. The
 //! proofs here know no table and no file.

@@ -20,7 +20,7 @@ impl From<AllocError> for Unavailable {
     }
 }
 
-/// What answers the commands of one line, and gives reports of those that it accepted.
+/// What answers commands, and returns reports of those that it accepted.
 pub trait ReportedOwner: Owner {
     ghost use Rattle.std.specs.Prelude.{◌≡◌, IfOk};
     ghost use Rattle.desk_answers.specs.Ledger.{Ledger};

@@ -41,7 +41,7 @@ pub enum Kind {
 pub enum Body {
     /// A text that took memory.
     Made(Text),
-    /// The text of an answer for want of memory. It takes none.
+    /// The text of an answer where memory was refused. It takes none.
     Fixed,
 }
 
@@ -54,7 +54,7 @@ pub struct Response {
 }
 
 impl Response {
-    /// The answer for want of memory, or where a store failed. Takes no memory.
+    /// The answer when out of memory, or where a store failed. Takes no memory.
     pub fn unavailable() -> Response
         ensures { response_told result ≡ unavailable }
     {

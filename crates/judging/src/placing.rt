@@ -168,7 +168,7 @@ fn has_placed<F: Facts>(
     }
 }
 
-/// A piece off a reel on a slot.
+/// A slot with the reel that gives the piece.
 #[derive(Clone, Copy, Debug, PartialEq, Eq)]
 struct Feeder {
     slot: Id,

@@ -1,11 +1,12 @@
 //! The audit of all state tables.
 
-ghost use Rattle.std.specs.Prelude.{◌≡◌, ◌<◌, ℕ, Option, false, IfOk, length};
-ghost use Rattle.sqlite.specs.State.{HasCleanDisk, Survives, KeepsCommit};
+ghost use Rattle.std.specs.Prelude.{◌<◌, ℕ, Option, IfOk, length};
+ghost use Rattle.sqlite.specs.State.{HasCleanDisk};
 ghost use Rattle.sqlite.specs.Held.{state};
 ghost use Rattle.desk_types.specs.declared.row.PlacementRow.{PlacementRow};
 ghost use Rattle.state_rows.specs.Kept.{tables_in};
 ghost use Rattle.line_tables.specs.Calls.{Reads};
+ghost use Rattle.line_tables.specs.Frames.{ReadsOnly};
 ghost use Rattle.line_audit.specs.Alone.{Decides};
 ghost use Rattle.line_audit.specs.Audit.{Pieces, IsExpected, HasPlacements, HoldsTable, IsVerdict, state_tables, with_placements};
 
@@ -48,10 +49,12 @@ pub fn audit<S: Alter>(
     rows: &RowSet,
     placed: Placed,
 ) -> Result<Option<StateTable>, Error>
-    ensures verdict { HasCleanDisk (state S.Store conn.new) → IfOk result (λ verdict. (f : ℕ × ℕ → Option PlacementRow) → (es : Pieces) → IsExpected (state S.Store conn.old) placed.all placed.count es f → Reads (state S.Store conn.old) (λ db. IsVerdict (state_tables rules) db (with_placements f (tables_in rows.now)) verdict)) }
-    ensures kept { HasCleanDisk (state S.Store conn.new) → KeepsCommit (state S.Store conn.old) (state S.Store conn.new) }
-    ensures mode { conn.old.in_transaction ≡ false → conn.new.in_transaction ≡ false }
-    ensures survives { Survives (state S.Store conn.old) (state S.Store conn.new) (λ _. ⊥) }
+    ensures verdict { HasCleanDisk (state S.Store conn.new)
+        → IfOk result (λ verdict. (f : ℕ × ℕ → Option PlacementRow) → (es : Pieces)
+        → IsExpected (state S.Store conn.old) placed.all placed.count es f
+        → Reads (state S.Store conn.old)
+        (λ db. IsVerdict (state_tables rules) db (with_placements f (tables_in rows.now)) verdict)) }
+    ensures reads { ReadsOnly S.Store conn.old conn.new }
 {
     match rules {
         Rules::One => audit_tables(alloc, conn, rows, placed, &STATE_TABLES[..8]),
@@ -68,10 +71,12 @@ fn audit_tables<S: Alter>(
     tables: &[StateTable],
 ) -> Result<Option<StateTable>, Error>
     requires some { 0 < length tables.now }
-    ensures verdict { HasCleanDisk (state S.Store conn.new) → IfOk result (λ verdict. (f : ℕ × ℕ → Option PlacementRow) → (es : Pieces) → IsExpected (state S.Store conn.old) placed.all placed.count es f → Reads (state S.Store conn.old) (λ db. IsVerdict tables.now db (with_placements f (tables_in rows.now)) verdict)) }
-    ensures kept { HasCleanDisk (state S.Store conn.new) → KeepsCommit (state S.Store conn.old) (state S.Store conn.new) }
-    ensures mode { conn.old.in_transaction ≡ false → conn.new.in_transaction ≡ false }
-    ensures survives { Survives (state S.Store conn.old) (state S.Store conn.new) (λ _. ⊥) }
+    ensures verdict { HasCleanDisk (state S.Store conn.new)
+        → IfOk result (λ verdict. (f : ℕ × ℕ → Option PlacementRow) → (es : Pieces)
+        → IsExpected (state S.Store conn.old) placed.all placed.count es f
+        → Reads (state S.Store conn.old)
+        (λ db. IsVerdict tables.now db (with_placements f (tables_in rows.now)) verdict)) }
+    ensures reads { ReadsOnly S.Store conn.old conn.new }
 {
     for table in tables {
         if !is_same(alloc, conn, rows, placed, *table)? {
@@ -89,10 +94,11 @@ fn is_same<S: Alter>(
     placed: Placed,
     table: StateTable,
 ) -> Result<bool, Error>
-    ensures same { HasCleanDisk (state S.Store conn.new) → IfOk result (λ b. (f : ℕ × ℕ → Option PlacementRow) → (es : Pieces) → IsExpected (state S.Store conn.old) placed.all placed.count es f → Decides (λ db. HoldsTable db (with_placements f (tables_in rows.now)) table) (state S.Store conn.old) b) }
-    ensures kept { HasCleanDisk (state S.Store conn.new) → KeepsCommit (state S.Store conn.old) (state S.Store conn.new) }
-    ensures mode { conn.old.in_transaction ≡ false → conn.new.in_transaction ≡ false }
-    ensures survives { Survives (state S.Store conn.old) (state S.Store conn.new) (λ _. ⊥) }
+    ensures same { HasCleanDisk (state S.Store conn.new)
+        → IfOk result (λ b. (f : ℕ × ℕ → Option PlacementRow) → (es : Pieces)
+        → IsExpected (state S.Store conn.old) placed.all placed.count es f
+        → Decides (λ db. HoldsTable db (with_placements f (tables_in rows.now)) table) (state S.Store conn.old) b) }
+    ensures reads { ReadsOnly S.Store conn.old conn.new }
 {
     match table {
         StateTable::Part => are_rows(alloc, conn, table, rows.parts()),
@@ -109,10 +115,11 @@ fn is_same<S: Alter>(
 
 /// Whether `placement` has the expected rows: each was found, and there are so many.
 fn are_placements<S: Alter>(conn: &mut Connection<S>, placed: Placed) -> Result<bool, Error>
-    ensures same { HasCleanDisk (state S.Store conn.new) → IfOk result (λ b. (f : ℕ × ℕ → Option PlacementRow) → (es : Pieces) → IsExpected (state S.Store conn.old) placed.all placed.count es f → Decides (λ db. HasPlacements db f) (state S.Store conn.old) b) }
-    ensures kept { HasCleanDisk (state S.Store conn.new) → KeepsCommit (state S.Store conn.old) (state S.Store conn.new) }
-    ensures mode { conn.old.in_transaction ≡ false → conn.new.in_transaction ≡ false }
-    ensures survives { Survives (state S.Store conn.old) (state S.Store conn.new) (λ _. ⊥) }
+    ensures same { HasCleanDisk (state S.Store conn.new)
+        → IfOk result (λ b. (f : ℕ × ℕ → Option PlacementRow) → (es : Pieces)
+        → IsExpected (state S.Store conn.old) placed.all placed.count es f
+        → Decides (λ db. HasPlacements db f) (state S.Store conn.old) b) }
+    ensures reads { ReadsOnly S.Store conn.old conn.new }
 {
     let count = count(conn, StateTable::Placement)?;
     Ok(placed.all && count == placed.count)

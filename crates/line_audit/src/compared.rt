@@ -1,11 +1,12 @@
 //! Whether a table has just the rows of a set.
 
-ghost use Rattle.std.specs.Prelude.{◌≡◌, false, IfOk};
+ghost use Rattle.std.specs.Prelude.{◌≡◌, IfOk};
 ghost use Rattle.std.specs.Iterator.{IsFinite};
-ghost use Rattle.sqlite.specs.State.{HasCleanDisk, Survives, KeepsCommit};
+ghost use Rattle.sqlite.specs.State.{HasCleanDisk};
 ghost use Rattle.sqlite.specs.Held.{state};
 ghost use Rattle.line_audit.specs.Alone.{DecidesRows};
 ghost use Rattle.line_audit.specs.TableNames.{table_of};
+ghost use Rattle.line_tables.specs.Frames.{ReadsOnly};
 
 use crate::expected::ExpectedRow;
 use crate::shown::count;
@@ -24,10 +25,9 @@ pub fn are_rows<E: ExpectedRow, I: Iterator<Item = E>, S: Alter>(
     requires can { I.can_next rows }
     requires ends { IsFinite (I.remaining rows) }
     ensures same { HasCleanDisk (state S.Store conn.new)
-        → IfOk result (DecidesRows I.next_gives E.entry rows (table_of table) E.has E.columns (state S.Store conn.old)) }
-    ensures kept { HasCleanDisk (state S.Store conn.new) → KeepsCommit (state S.Store conn.old) (state S.Store conn.new) }
-    ensures mode { conn.old.in_transaction ≡ false → conn.new.in_transaction ≡ false }
-    ensures survives { Survives (state S.Store conn.old) (state S.Store conn.new) (λ _. ⊥) }
+        → IfOk result
+        (DecidesRows I.next_gives E.entry rows (table_of table) E.has E.columns (state S.Store conn.old)) }
+    ensures reads { ReadsOnly S.Store conn.old conn.new }
 {
     let mut left = count(conn, table)?;
     for row in rows {

@@ -1,10 +1,11 @@
 //! What a row of a state table is expected to be.
 
-ghost use Rattle.std.specs.Prelude.{◌≡◌, false, IfOk};
-ghost use Rattle.sqlite.specs.State.{HasCleanDisk, Survives, KeepsCommit};
+ghost use Rattle.std.specs.Prelude.{IfOk};
+ghost use Rattle.sqlite.specs.State.{HasCleanDisk};
 ghost use Rattle.sqlite.specs.Held.{state};
 ghost use Rattle.line_audit.specs.Alone.{FindsEntry};
 ghost use Rattle.line_audit.specs.TableNames.{table_of};
+ghost use Rattle.line_tables.specs.Frames.{ReadsOnly};
 
 use sqlite::{Alter, Connection, Error};
 use std::alloc::Global;
@@ -37,7 +38,5 @@ pub trait ExpectedRow: Drop + Sized {
     fn is_alone<S: Alter>(self, alloc: Global, conn: &mut Connection<S>) -> Result<bool, Error>
         ensures found { HasCleanDisk (state S.Store conn.new)
             → IfOk result (FindsEntry (table_of table) has columns (entry self) (state S.Store conn.old)) }
-        ensures kept { HasCleanDisk (state S.Store conn.new) → KeepsCommit (state S.Store conn.old) (state S.Store conn.new) }
-        ensures mode { conn.old.in_transaction ≡ false → conn.new.in_transaction ≡ false }
-        ensures survives { Survives (state S.Store conn.old) (state S.Store conn.new) (λ _. ⊥) };
+        ensures reads { ReadsOnly S.Store conn.old conn.new };
 }

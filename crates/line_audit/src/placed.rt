@@ -1,10 +1,11 @@
 //! The table `placement`.
 
-ghost use Rattle.std.specs.Prelude.{◌≡◌, false, IfOk};
-ghost use Rattle.sqlite.specs.State.{HasCleanDisk, Survives, KeepsCommit};
+ghost use Rattle.std.specs.Prelude.{IfOk};
+ghost use Rattle.sqlite.specs.State.{HasCleanDisk};
 ghost use Rattle.sqlite.specs.Held.{state};
 ghost use Rattle.line_tables.specs.Line as line;
 ghost use Rattle.line_tables.specs.StateRows.{placement_columns};
+ghost use Rattle.line_tables.specs.Frames.{ReadsOnly};
 ghost use Rattle.line_audit.specs.Alone.{FindsAlone};
 ghost use Rattle.line_audit.specs.Placed.{has_placement};
 
@@ -17,10 +18,10 @@ use sqlite::{Alter, Connection, Error};
 /// Whether the row is the one of its board, its designator, its number and its place. It is looked up
 /// by the index on board and designator.
 pub fn has_placement<S: Alter>(conn: &mut Connection<S>, row: &PlacementRow) -> Result<bool, Error>
-    ensures found { HasCleanDisk (state S.Store conn.new) → IfOk result (FindsAlone line.placement (has_placement row.now) (placement_columns row.now) (state S.Store conn.old)) }
-    ensures kept { HasCleanDisk (state S.Store conn.new) → KeepsCommit (state S.Store conn.old) (state S.Store conn.new) }
-    ensures mode { conn.old.in_transaction ≡ false → conn.new.in_transaction ≡ false }
-    ensures survives { Survives (state S.Store conn.old) (state S.Store conn.new) (λ _. ⊥) }
+    ensures found { HasCleanDisk (state S.Store conn.new)
+        → IfOk result
+        (FindsAlone line.placement (has_placement row.now) (placement_columns row.now) (state S.Store conn.old)) }
+    ensures reads { ReadsOnly S.Store conn.old conn.new }
 {
     shows_only(
         conn,

@@ -1,10 +1,11 @@
 //! The placements of one entry.
 
-ghost use Rattle.std.specs.Prelude.{◌≡◌, ◌<◌, ◌↔◌, false, length, map, IsTrue, IfOk};
-ghost use Rattle.sqlite.specs.State.{HasCleanDisk, Survives, KeepsCommit};
+ghost use Rattle.std.specs.Prelude.{◌≡◌, ◌⊎◌, ◌<◌, ◌≤◌, ◌^◌, ◌↔◌, length, map, IsTrue, IfOk, IfErr};
+ghost use Rattle.sqlite.specs.State.{HasCleanDisk};
 ghost use Rattle.sqlite.specs.Held.{state};
 ghost use Rattle.line_tables.specs.Calls.{Reads};
 ghost use Rattle.line_tables.specs.StateRows.{placement_columns};
+ghost use Rattle.line_tables.specs.Frames.{ReadsOnly};
 ghost use Rattle.line_audit.specs.Audit.{ArePlaced, piece_of};
 ghost use Rattle.line_audit.specs.Placed.{AreHere};
 
@@ -23,10 +24,9 @@ pub fn has_placements<S: Alter>(
     rows: &[PlacementRow],
 ) -> Result<bool, Error>
     requires some { 0 < length rows.now }
-    ensures found { HasCleanDisk (state S.Store conn.new) → IfOk result (λ all. Reads (state S.Store conn.old) (λ db. ArePlaced db all (map piece_of rows.now))) }
-    ensures kept { HasCleanDisk (state S.Store conn.new) → KeepsCommit (state S.Store conn.old) (state S.Store conn.new) }
-    ensures mode { conn.old.in_transaction ≡ false → conn.new.in_transaction ≡ false }
-    ensures survives { Survives (state S.Store conn.old) (state S.Store conn.new) (λ _. ⊥) }
+    ensures found { HasCleanDisk (state S.Store conn.new)
+        → IfOk result (λ all. Reads (state S.Store conn.old) (λ db. ArePlaced db all (map piece_of rows.now))) }
+    ensures reads { ReadsOnly S.Store conn.old conn.new }
 {
     if are_in_a_row(conn, entry, rows)? {
         return Ok(true);
@@ -40,10 +40,9 @@ fn are_in_a_row<S: Alter>(
     entry: u64,
     rows: &[PlacementRow],
 ) -> Result<bool, Error>
-    ensures found { HasCleanDisk (state S.Store conn.new) → IfOk result (λ all. Reads (state S.Store conn.old) (λ db. IsTrue all → AreHere db rows.now)) }
-    ensures kept { HasCleanDisk (state S.Store conn.new) → KeepsCommit (state S.Store conn.old) (state S.Store conn.new) }
-    ensures mode { conn.old.in_transaction ≡ false → conn.new.in_transaction ≡ false }
-    ensures survives { Survives (state S.Store conn.old) (state S.Store conn.new) (λ _. ⊥) }
+    ensures found { HasCleanDisk (state S.Store conn.new)
+        → IfOk result (λ all. Reads (state S.Store conn.old) (λ db. IsTrue all → AreHere db rows.now)) }
+    ensures reads { ReadsOnly S.Store conn.old conn.new }
 {
     let first = entry.saturating_mul(65_536);
     let shown = select(
@@ -69,7 +68,8 @@ fn are_rows(shown: &[Row], rows: &[PlacementRow]) -> Result<bool, Error>
 }
 
 fn is_placement(shown: &Row, row: &PlacementRow) -> Result<bool, Error>
-    ensures { IfOk result (λ is. IsTrue is ↔ (shown.now ≡ placement_columns row.now)) }
+    ensures ok { IfOk result (λ is. IsTrue is ↔ (shown.now ≡ placement_columns row.now)) }
+    ensures err { IfErr result (λ _. (2 ^ 63 ≤ row.now.number) ⊎ (2 ^ 63 ≤ row.now.place)) }
 {
     Ok(is_row(
         shown,
@@ -88,10 +88,9 @@ fn is_placement(shown: &Row, row: &PlacementRow) -> Result<bool, Error>
 
 fn has_each<S: Alter>(conn: &mut Connection<S>, rows: &[PlacementRow]) -> Result<bool, Error>
     requires some { 0 < length rows.now }
-    ensures found { HasCleanDisk (state S.Store conn.new) → IfOk result (λ all. Reads (state S.Store conn.old) (λ db. ArePlaced db all (map piece_of rows.now))) }
-    ensures kept { HasCleanDisk (state S.Store conn.new) → KeepsCommit (state S.Store conn.old) (state S.Store conn.new) }
-    ensures mode { conn.old.in_transaction ≡ false → conn.new.in_transaction ≡ false }
-    ensures survives { Survives (state S.Store conn.old) (state S.Store conn.new) (λ _. ⊥) }
+    ensures found { HasCleanDisk (state S.Store conn.new)
+        → IfOk result (λ all. Reads (state S.Store conn.old) (λ db. ArePlaced db all (map piece_of rows.now))) }
+    ensures reads { ReadsOnly S.Store conn.old conn.new }
 {
     for row in rows {
         if !has_placement(conn, row)? {

@@ -1,11 +1,12 @@
 //! Queries that look up one row, and that count rows.
 
-ghost use Rattle.std.specs.Prelude.{◌≡◌, ◌↔◌, ◌++◌, codes, false, [], ◌∷◌, IsTrue, IfOk};
-ghost use Rattle.sqlite.specs.State.{HasCleanDisk, Survives, KeepsCommit};
+ghost use Rattle.std.specs.Prelude.{◌≡◌, ◌↔◌, ◌++◌, codes, [], ◌∷◌, IsTrue, IfOk};
+ghost use Rattle.sqlite.specs.State.{HasCleanDisk};
 ghost use Rattle.sqlite.specs.Values.{bound};
 ghost use Rattle.sqlite.specs.Held.{state};
 ghost use Rattle.line_audit.specs.Alone.{values_of, ShowsOnly, Counts};
 ghost use Rattle.line_audit.specs.TableNames.{name_of, table_of};
+ghost use Rattle.line_tables.specs.Frames.{ReadsOnly};
 
 use crate::table::StateTable;
 use crate::values::is_row;
@@ -21,10 +22,9 @@ pub fn shows_only<S: Alter>(
     key: &[ValueRef<'_>],
     wanted: &[ValueRef<'_>],
 ) -> Result<bool, Error>
-    ensures shown { HasCleanDisk (state S.Store conn.new) → IfOk result (ShowsOnly S.Store sql.now (bound key.now) conn.old (values_of wanted.now)) }
-    ensures kept { HasCleanDisk (state S.Store conn.new) → KeepsCommit (state S.Store conn.old) (state S.Store conn.new) }
-    ensures mode { conn.old.in_transaction ≡ false → conn.new.in_transaction ≡ false }
-    ensures survives { Survives (state S.Store conn.old) (state S.Store conn.new) (λ _. ⊥) }
+    ensures shown { HasCleanDisk (state S.Store conn.new)
+        → IfOk result (ShowsOnly S.Store sql.now (bound key.now) conn.old (values_of wanted.now)) }
+    ensures reads { ReadsOnly S.Store conn.old conn.new }
 {
     let rows = select(conn, sql, key)?;
     Ok(is_only(rows.as_slice(), wanted))
@@ -41,10 +41,9 @@ fn is_only(rows: &[Row], wanted: &[ValueRef<'_>]) -> bool
 
 /// How many rows the table has.
 pub fn count<S: Alter>(conn: &mut Connection<S>, table: StateTable) -> Result<u64, Error>
-    ensures counted { HasCleanDisk (state S.Store conn.new) → IfOk result (Counts (table_of table) (state S.Store conn.old)) }
-    ensures kept { HasCleanDisk (state S.Store conn.new) → KeepsCommit (state S.Store conn.old) (state S.Store conn.new) }
-    ensures mode { conn.old.in_transaction ≡ false → conn.new.in_transaction ≡ false }
-    ensures survives { Survives (state S.Store conn.old) (state S.Store conn.new) (λ _. ⊥) }
+    ensures counted { HasCleanDisk (state S.Store conn.new)
+        → IfOk result (Counts (table_of table) (state S.Store conn.old)) }
+    ensures reads { ReadsOnly S.Store conn.old conn.new }
 {
     let rows = select(conn, count_text(table), &[])?;
     count_of(rows.as_slice())

@@ -1,11 +1,12 @@
 //! What is kept beside the desk while a list is read again.
 
-ghost use Rattle.std.specs.Prelude.{◌≡◌, ◌+◌, ⊤, [], false, IfOk, IfErr, OnOk, length};
-ghost use Rattle.sqlite.specs.State.{HasCleanDisk, Survives, KeepsCommit};
+ghost use Rattle.std.specs.Prelude.{◌≡◌, ◌≤◌, ◌+◌, ◌^◌, ⊤, [], IfOk, IfErr, OnOk, length};
+ghost use Rattle.sqlite.specs.State.{HasCleanDisk};
 ghost use Rattle.sqlite.specs.Effect.{Database};
 ghost use Rattle.sqlite.specs.Held.{state};
 ghost use Rattle.line_replay.specs.declared.fault.ReplayFault.TheVariants.{Unavailable};
 ghost use Rattle.line_replay.specs.Beside.{IsBeside, Adds, HoldsAsRead, ArePlacedToo, placement_by, placements_by};
+ghost use Rattle.line_tables.specs.Frames.{ReadsOnly};
 
 use crate::fault::ReplayFault;
 use desk_types::{PlacementRow, RowEdit};
@@ -46,11 +47,10 @@ impl Beside {
         number: u64,
         edits: &[RowEdit],
     ) -> Result<(), ReplayFault>
-        ensures ok { OnOk result (Adds (HasCleanDisk (state S.Store conn.new)) (state S.Store conn.old) edits.now self.old self.new) }
+        ensures ok { OnOk result
+            (Adds (HasCleanDisk (state S.Store conn.new)) (state S.Store conn.old) edits.now self.old self.new) }
         ensures err { IfErr result (λ f. f ≡ Unavailable) }
-        ensures kept { HasCleanDisk (state S.Store conn.new) → KeepsCommit (state S.Store conn.old) (state S.Store conn.new) }
-        ensures mode { conn.old.in_transaction ≡ false → conn.new.in_transaction ≡ false }
-        ensures survives { Survives (state S.Store conn.old) (state S.Store conn.new) (λ _. ⊥) }
+        ensures reads { ReadsOnly S.Store conn.old conn.new }
     {
         let placements = placements_by(alloc, edits)?;
         self.rows.apply_but_placements(edits)?;
@@ -88,6 +88,7 @@ fn placement_by(edit: &RowEdit) -> Option<PlacementRow>
 fn sum(placed: u64, more: usize) -> Result<u64, ReplayFault>
     ensures ok { IfOk result (λ n. n ≡ placed + more) }
     ensures err { IfErr result (λ f. f ≡ Unavailable) }
+    ensures full { IfErr result (λ _. 2 ^ 64 ≤ placed + more) }
 {
     match placed.checked_add(more as u64) {
         Some(n) => Ok(n),
@@ -102,11 +103,10 @@ fn are_found<S: Alter>(
     number: u64,
     rows: &[PlacementRow],
 ) -> Result<bool, ReplayFault>
-    ensures told { HasCleanDisk (state S.Store conn.new) → IfOk result (λ now. HoldsAsRead (state S.Store conn.old) (λ db. ArePlacedToo db found now rows.now)) }
+    ensures told { HasCleanDisk (state S.Store conn.new)
+        → IfOk result (λ now. HoldsAsRead (state S.Store conn.old) (λ db. ArePlacedToo db found now rows.now)) }
     ensures err { IfErr result (λ f. f ≡ Unavailable) }
-    ensures kept { HasCleanDisk (state S.Store conn.new) → KeepsCommit (state S.Store conn.old) (state S.Store conn.new) }
-    ensures mode { conn.old.in_transaction ≡ false → conn.new.in_transaction ≡ false }
-    ensures survives { Survives (state S.Store conn.old) (state S.Store conn.new) (λ _. ⊥) }
+    ensures reads { ReadsOnly S.Store conn.old conn.new }
 {
     if !found {
         return Ok(false);

@@ -1,12 +1,13 @@
 //! The desk of the list that a table keeps.
 
-ghost use Rattle.std.specs.Prelude.{◌≡◌, ◌≤◌, false, IsTrue, IfOk, IfErr, IfSome, length};
-ghost use Rattle.sqlite.specs.State.{HasCleanDisk, Survives, KeepsCommit};
+ghost use Rattle.std.specs.Prelude.{◌≡◌, ◌≤◌, IsTrue, IfOk, IfErr, IfSome, length};
+ghost use Rattle.sqlite.specs.State.{HasCleanDisk};
 ghost use Rattle.sqlite.specs.Held.{state};
 ghost use Rattle.desk_types.specs.declared.limits.TheConstants.{MOST_ENTRIES};
 ghost use Rattle.desk_types.specs.History.{History};
 ghost use Rattle.desk_types.specs.Judged.{IsJudged};
 ghost use Rattle.line_tables.specs.Rows.{Holds};
+ghost use Rattle.line_tables.specs.Frames.{ReadsOnly};
 ghost use Rattle.line_rows.specs.Rows.{ledger_tables};
 ghost use Rattle.line_replay.specs.Replay.{IsReplayed, IsFaultOf};
 ghost use Rattle.trace_lists.specs.Lists.{IsListed};
@@ -38,12 +39,13 @@ pub fn replay<S: Alter, D: Desk + Drop>(
     greatest: u32,
 ) -> Result<Replayed<D>, ReplayFault>
     requires bound { greatest ≤ MOST_ENTRIES }
-    ensures list { IfOk result (λ r. (H : History) × IsReplayed D.Stands rules greatest (HasCleanDisk (state S.Store conn.new)) (state S.Store conn.old) r.desk r.beside r.count H × IsListed r.lists H) }
+    ensures list { IfOk result (λ r. (H : History)
+        × IsReplayed D.Stands rules greatest (HasCleanDisk (state S.Store conn.new))
+        (state S.Store conn.old) r.desk r.beside r.count H × IsListed r.lists H) }
     ensures rules { IfOk result (λ r. D.kept_rules r.desk ≡ rules) }
-    ensures fault { HasCleanDisk (state S.Store conn.new) → IfErr result (IsFaultOf rules greatest (state S.Store conn.old)) }
-    ensures kept { HasCleanDisk (state S.Store conn.new) → KeepsCommit (state S.Store conn.old) (state S.Store conn.new) }
-    ensures mode { conn.old.in_transaction ≡ false → conn.new.in_transaction ≡ false }
-    ensures survives { Survives (state S.Store conn.old) (state S.Store conn.new) (λ _. ⊥) }
+    ensures fault { HasCleanDisk (state S.Store conn.new)
+        → IfErr result (IsFaultOf rules greatest (state S.Store conn.old)) }
+    ensures reads { ReadsOnly S.Store conn.old conn.new }
 {
     least_is_one(conn)?;
     let mut desk = D::fresh(alloc, rules);
@@ -72,12 +74,15 @@ pub fn rebuild<S: Alter, D: Desk + Drop>(
     greatest: u32,
 ) -> Option<Replayed<D>>
     requires bound { greatest ≤ MOST_ENTRIES }
-    ensures list { IfSome result (λ r. (H : History) × IsReplayed D.Stands rules greatest (HasCleanDisk (state S.Store conn.new)) (state S.Store conn.old) r.desk r.beside r.count H × IsListed r.lists H) }
-    ensures same { (G : History) → IsJudged rules G → (IsTrue (state S.Store conn.old).is_open → Holds (state S.Store conn.old).committed (ledger_tables greatest G)) → HasCleanDisk (state S.Store conn.new) → IfSome result (λ r. D.Stands r.desk G × (r.count ≡ length G) × IsListed r.lists G) }
+    ensures list { IfSome result (λ r. (H : History)
+        × IsReplayed D.Stands rules greatest (HasCleanDisk (state S.Store conn.new))
+        (state S.Store conn.old) r.desk r.beside r.count H × IsListed r.lists H) }
+    ensures same { (G : History) → IsJudged rules G
+        → (IsTrue (state S.Store conn.old).is_open
+        → Holds (state S.Store conn.old).committed (ledger_tables greatest G)) → HasCleanDisk (state S.Store conn.new)
+        → IfSome result (λ r. D.Stands r.desk G × (r.count ≡ length G) × IsListed r.lists G) }
     ensures rules { IfSome result (λ r. D.kept_rules r.desk ≡ rules) }
-    ensures kept { HasCleanDisk (state S.Store conn.new) → KeepsCommit (state S.Store conn.old) (state S.Store conn.new) }
-    ensures mode { conn.old.in_transaction ≡ false → conn.new.in_transaction ≡ false }
-    ensures survives { Survives (state S.Store conn.old) (state S.Store conn.new) (λ _. ⊥) }
+    ensures reads { ReadsOnly S.Store conn.old conn.new }
 {
     rows_tell_lists_apart();
     match replay(alloc, conn, rules, greatest) {

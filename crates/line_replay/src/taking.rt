@@ -1,8 +1,8 @@
 //! The rows, taken one after the other by their numbers.
 
-ghost use Rattle.std.specs.Prelude.{◌≡◌, ◌==◌, ◌+◌, ◌≤◌, ◌⊎◌, ⊤, ℕ, true, false, IfOk, IfErr, OnOk, [], ◌∷◌, length};
+ghost use Rattle.std.specs.Prelude.{◌≡◌, ◌==◌, ◌+◌, ◌≤◌, ◌⊎◌, ⊤, ℕ, true, IfOk, IfErr, OnOk, [], ◌∷◌, length};
 ghost use Rattle.std.specs.List.{list_any};
-ghost use Rattle.sqlite.specs.State.{HasCleanDisk, Survives, KeepsCommit};
+ghost use Rattle.sqlite.specs.State.{HasCleanDisk};
 ghost use Rattle.sqlite.specs.Effect.{Database};
 ghost use Rattle.sqlite.specs.Held.{state};
 ghost use Rattle.desk_types.specs.declared.command.Entry.{Entry};
@@ -12,6 +12,7 @@ ghost use Rattle.desk_types.specs.Desk.{HasRoom};
 ghost use Rattle.desk_types.specs.History.{History};
 ghost use Rattle.line_tables.specs.Rows.{accepted_in};
 ghost use Rattle.line_tables.specs.Calls.{Reads, is_before};
+ghost use Rattle.line_tables.specs.Frames.{ReadsOnly};
 ghost use Rattle.line_rows.specs.Judging.{GoesOn};
 ghost use Rattle.line_replay.specs.declared.fault.ReplayFault.TheVariants.{NotLawful, Unavailable};
 ghost use Rattle.line_replay.specs.Beside.{IsBeside};
@@ -29,11 +30,11 @@ use trace_lists::TraceLists;
 
 /// Asks that the least number is 1, where there is a row.
 pub fn least_is_one<S: Alter>(conn: &mut Connection<S>) -> Result<(), ReplayFault>
-    ensures ok { HasCleanDisk (state S.Store conn.new) → OnOk result (Reads (state S.Store conn.old) (λ db. IsNumbered (accepted_in db))) }
-    ensures err { HasCleanDisk (state S.Store conn.new) → IfErr result (λ f. (rules : Rules) (greatest : ℕ) → IsFaultOf rules greatest (state S.Store conn.old) f) }
-    ensures kept { HasCleanDisk (state S.Store conn.new) → KeepsCommit (state S.Store conn.old) (state S.Store conn.new) }
-    ensures mode { conn.old.in_transaction ≡ false → conn.new.in_transaction ≡ false }
-    ensures survives { Survives (state S.Store conn.old) (state S.Store conn.new) (λ _. ⊥) }
+    ensures ok { HasCleanDisk (state S.Store conn.new)
+        → OnOk result (Reads (state S.Store conn.old) (λ db. IsNumbered (accepted_in db))) }
+    ensures err { HasCleanDisk (state S.Store conn.new)
+        → IfErr result (λ f. (rules : Rules) (greatest : ℕ) → IsFaultOf rules greatest (state S.Store conn.old) f) }
+    ensures reads { ReadsOnly S.Store conn.old conn.new }
 {
     let least = least_number(conn)?;
     match least {
@@ -45,11 +46,10 @@ pub fn least_is_one<S: Alter>(conn: &mut Connection<S>) -> Result<(), ReplayFaul
 
 /// Asks that there are this many rows.
 pub fn are_all<S: Alter>(conn: &mut Connection<S>, taken: u32) -> Result<bool, ReplayFault>
-    ensures counted { HasCleanDisk (state S.Store conn.new) → IfOk result (λ are. Reads (state S.Store conn.old) (λ db. are ≡ (taken == length (accepted_in db)))) }
+    ensures counted { HasCleanDisk (state S.Store conn.new)
+        → IfOk result (λ are. Reads (state S.Store conn.old) (λ db. are ≡ (taken == length (accepted_in db)))) }
     ensures err { IfErr result (λ f. f ≡ Unavailable) }
-    ensures kept { HasCleanDisk (state S.Store conn.new) → KeepsCommit (state S.Store conn.old) (state S.Store conn.new) }
-    ensures mode { conn.old.in_transaction ≡ false → conn.new.in_transaction ≡ false }
-    ensures survives { Survives (state S.Store conn.old) (state S.Store conn.new) (λ _. ⊥) }
+    ensures reads { ReadsOnly S.Store conn.old conn.new }
 {
     Ok(count(conn)? == u64::from(taken))
 }
@@ -68,13 +68,15 @@ pub fn take_rows<S: Alter, D: Desk>(
     requires empty { IsListed lists.old [] }
     requires none { (db : Database) → IsBeside ⊤ db beside.old [] }
     requires bound { greatest ≤ MOST_ENTRIES }
-    ensures taken { IfOk result (λ n. (H : History) × (n ≤ greatest) × IsTaken (StandsListed D.Stands) (D.kept_rules desk.old) (HasCleanDisk (state S.Store conn.new)) (state S.Store conn.old).committed (desk.new, lists.new) beside.new n H) }
+    ensures taken { IfOk result (λ n. (H : History) × (n ≤ greatest)
+        × IsTaken (StandsListed D.Stands) (D.kept_rules desk.old) (HasCleanDisk (state S.Store conn.new))
+        (state S.Store conn.old).committed (desk.new, lists.new) beside.new n H) }
     ensures ends { HasCleanDisk (state S.Store conn.new) → IfOk result (IsEnd greatest (state S.Store conn.old)) }
-    ensures err { HasCleanDisk (state S.Store conn.new) → IfErr result (λ f. (f ≡ Unavailable) ⊎ ((n : ℕ) × (f ≡ NotLawful n) × IsStop (D.kept_rules desk.old) greatest (state S.Store conn.old) n)) }
+    ensures err { HasCleanDisk (state S.Store conn.new)
+        → IfErr result (λ f. (f ≡ Unavailable)
+        ⊎ ((n : ℕ) × (f ≡ NotLawful n) × IsStop (D.kept_rules desk.old) greatest (state S.Store conn.old) n)) }
     ensures rules { OnOk result (D.kept_rules desk.new ≡ D.kept_rules desk.old) }
-    ensures kept { HasCleanDisk (state S.Store conn.new) → KeepsCommit (state S.Store conn.old) (state S.Store conn.new) }
-    ensures mode { conn.old.in_transaction ≡ false → conn.new.in_transaction ≡ false }
-    ensures survives { Survives (state S.Store conn.old) (state S.Store conn.new) (λ _. ⊥) }
+    ensures reads { ReadsOnly S.Store conn.old conn.new }
 {
     for number in 0..greatest {
         let taken = take_row(alloc, conn, desk, lists, beside, number + 1)?;
@@ -95,12 +97,16 @@ fn take_row<S: Alter, D: Desk>(
     number: u32,
 ) -> Result<bool, ReplayFault>
     requires room { HasRoom D.Stands desk.old 1 }
-    ensures ok { (H : History) → StandsListed D.Stands (desk.old, lists.old) H → length H + 1 ≡ number → IfOk result (Goes (StandsListed D.Stands) (D.kept_rules desk.old) (HasCleanDisk (state S.Store conn.new)) (state S.Store conn.old) H beside.old (desk.new, lists.new) beside.new) }
-    ensures err { (H : History) → D.Stands desk.old H → length H + 1 ≡ number → HasCleanDisk (state S.Store conn.new) → IfErr result (λ f. (f ≡ Unavailable) ⊎ ((f ≡ NotLawful number) × Reads (state S.Store conn.old) (λ db. IsStuck (D.kept_rules desk.old) H (accepted_in db)))) }
+    ensures ok { (H : History) → StandsListed D.Stands (desk.old, lists.old) H → length H + 1 ≡ number
+        → IfOk result
+        (Goes (StandsListed D.Stands) (D.kept_rules desk.old) (HasCleanDisk (state S.Store conn.new))
+        (state S.Store conn.old) H beside.old (desk.new, lists.new) beside.new) }
+    ensures err { (H : History) → D.Stands desk.old H → length H + 1 ≡ number → HasCleanDisk (state S.Store conn.new)
+        → IfErr result (λ f. (f ≡ Unavailable)
+        ⊎ ((f ≡ NotLawful number)
+        × Reads (state S.Store conn.old) (λ db. IsStuck (D.kept_rules desk.old) H (accepted_in db)))) }
     ensures rules { OnOk result (D.kept_rules desk.new ≡ D.kept_rules desk.old) }
-    ensures kept { HasCleanDisk (state S.Store conn.new) → KeepsCommit (state S.Store conn.old) (state S.Store conn.new) }
-    ensures mode { conn.old.in_transaction ≡ false → conn.new.in_transaction ≡ false }
-    ensures survives { Survives (state S.Store conn.old) (state S.Store conn.new) (λ _. ⊥) }
+    ensures reads { ReadsOnly S.Store conn.old conn.new }
 {
     let found = row_at(conn, number)?;
     match found {
@@ -123,12 +129,17 @@ fn accept_first<S: Alter, D: Desk>(
     row: &Row,
 ) -> Result<RowEdits, ReplayFault>
     requires room { HasRoom D.Stands desk.old 1 }
-    ensures ok { (H : History) → StandsListed D.Stands (desk.old, lists.old) H → length H + 1 ≡ number → IfOk result (Accepts (StandsListed D.Stands) (D.kept_rules desk.old) (HasCleanDisk (state S.Store conn.new)) (state S.Store conn.old) number row.now H (desk.new, lists.new)) }
-    ensures err { (H : History) → D.Stands desk.old H → length H + 1 ≡ number → HasCleanDisk (state S.Store conn.new) → IfErr result (λ f. (f ≡ Unavailable) ⊎ ((f ≡ NotLawful number) × ((e : Entry) → GoesOn (D.kept_rules desk.old) H row.now e → Reads (state S.Store conn.old) (λ db. list_any (is_before e.stamped.uid number) (accepted_in db) ≡ true)))) }
+    ensures ok { (H : History) → StandsListed D.Stands (desk.old, lists.old) H → length H + 1 ≡ number
+        → IfOk result
+        (Accepts (StandsListed D.Stands) (D.kept_rules desk.old) (HasCleanDisk (state S.Store conn.new))
+        (state S.Store conn.old) number row.now H (desk.new, lists.new)) }
+    ensures err { (H : History) → D.Stands desk.old H → length H + 1 ≡ number → HasCleanDisk (state S.Store conn.new)
+        → IfErr result (λ f. (f ≡ Unavailable)
+        ⊎ ((f ≡ NotLawful number)
+        × ((e : Entry) → GoesOn (D.kept_rules desk.old) H row.now e
+        → Reads (state S.Store conn.old) (λ db. list_any (is_before e.stamped.uid number) (accepted_in db) ≡ true)))) }
     ensures rules { OnOk result (D.kept_rules desk.new ≡ D.kept_rules desk.old) }
-    ensures kept { HasCleanDisk (state S.Store conn.new) → KeepsCommit (state S.Store conn.old) (state S.Store conn.new) }
-    ensures mode { conn.old.in_transaction ≡ false → conn.new.in_transaction ≡ false }
-    ensures survives { Survives (state S.Store conn.old) (state S.Store conn.new) (λ _. ⊥) }
+    ensures reads { ReadsOnly S.Store conn.old conn.new }
 {
     match accept_row(alloc, desk, lists, number, row) {
         Ok(Taken { uid, edits }) => {

@@ -32,11 +32,17 @@ pub fn prepare<D: Desk>(
     change: &Change,
 ) -> Result<Acceptance, NoRow>
     requires room { HasRoom D.Stands desk.now 1 }
-    requires judged { (H : History) → D.Stands desk.now H → IsChange (D.kept_rules desk.now) H change.now.stamped change.now }
+    requires judged { (H : History) → D.Stands desk.now H
+        → IsChange (D.kept_rules desk.now) H change.now.stamped change.now }
     ensures text { IfOk result (λ it. it.text ≡ accepted_text number change.now.stamped.uid change.now.detail) }
     ensures some { IfOk result (λ it. 0 < length it.edits.items) }
-    ensures edits { (greatest : ℕ) (H : History) → D.Stands desk.now H → IsChange Two H change.now.stamped change.now → number ≡ length H + 1 → IfOk result (λ it. after_edits it.edits.items (ledger_tables greatest H) ≡ ledger_tables greatest (accept H change.now.stamped)) }
-    ensures new { (greatest : ℕ) (H : History) → D.Stands desk.now H → number ≡ length H + 1 → IfOk result (λ it. AreNew it.edits.items (ledger_tables greatest H)) }
+    ensures edits { (greatest : ℕ) (H : History) → D.Stands desk.now H → IsChange Two H change.now.stamped change.now
+        → number ≡ length H + 1
+        → IfOk result
+        (λ it. after_edits it.edits.items (ledger_tables greatest H) ≡ ledger_tables greatest
+        (accept H change.now.stamped)) }
+    ensures new { (greatest : ℕ) (H : History) → D.Stands desk.now H → number ≡ length H + 1
+        → IfOk result (λ it. AreNew it.edits.items (ledger_tables greatest H)) }
 {
     let text = accepted_text(
         alloc,

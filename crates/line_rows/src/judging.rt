@@ -35,8 +35,13 @@ pub fn accept_row<D: Desk>(
     row: &Row,
 ) -> Result<Taken, RowFault>
     requires room { HasRoom D.Stands desk.old 1 }
-    ensures ok { (H : History) → D.Stands desk.old H → length H + 1 ≡ number → IfOk result (λ it. (e : Entry) × (e.stamped.uid ≡ it.uid) × D.Stands desk.new (e ∷ H) × GoesOn (D.kept_rules desk.old) H row.now e × Lead it.edits H e × (IsListed lists.old H → IsListed lists.new (e ∷ H))) }
-    ensures err { (H : History) → D.Stands desk.old H → length H + 1 ≡ number → IfErr result (λ f. (f ≡ NoMemory) ⊎ ((f ≡ NotLawful) × ((e : Entry) → GoesOn (D.kept_rules desk.old) H row.now e → ⊥))) }
+    ensures ok { (H : History) → D.Stands desk.old H → length H + 1 ≡ number
+        → IfOk result (λ it. (e : Entry) × (e.stamped.uid ≡ it.uid) × D.Stands desk.new (e ∷ H)
+        × GoesOn (D.kept_rules desk.old) H row.now e × Lead it.edits H e
+        × (IsListed lists.old H → IsListed lists.new (e ∷ H))) }
+    ensures err { (H : History) → D.Stands desk.old H → length H + 1 ≡ number
+        → IfErr result (λ f. (f ≡ NoMemory)
+        ⊎ ((f ≡ NotLawful) × ((e : Entry) → GoesOn (D.kept_rules desk.old) H row.now e → ⊥))) }
     ensures rules { OnOk result (D.kept_rules desk.new ≡ D.kept_rules desk.old) }
 {
     texts_tell_commands_apart();

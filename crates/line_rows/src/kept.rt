@@ -1,6 +1,6 @@
 //! The row of an accepted command.
 
-ghost use Rattle.std.specs.Prelude.{◌≡◌, IfOk, string_bytes};
+ghost use Rattle.std.specs.Prelude.{◌≡◌, IfOk, IfErr, IsUtf8, string_bytes};
 ghost use Rattle.std.specs.List.Sorted.{IsPermutation};
 ghost use Rattle.desk_types.specs.declared.rules.Rules.{Rules};
 ghost use Rattle.desk_types.specs.History.{History};
@@ -31,7 +31,8 @@ pub fn row_of(alloc: Global, number: u32, change: &Change, answer: &Text) -> Res
 }
 
 fn string_of(bytes: Vec<u8>) -> Result<String, NoRow>
-    ensures { IfOk result (λ text. string_bytes text ≡ bytes.items) }
+    ensures ok { IfOk result (λ text. string_bytes text ≡ bytes.items) }
+    ensures err { IfErr result (λ _. ¬ IsUtf8 bytes.items) }
 {
     match String::from_utf8(bytes) {
         Ok(text) => Ok(text),
@@ -42,7 +43,8 @@ fn string_of(bytes: Vec<u8>) -> Result<String, NoRow>
 /// A law: two judged lists whose rows are the same, in any order, are one list. It is for proofs,
 /// and does nothing when it runs.
 pub fn rows_tell_lists_apart()
-    ensures { (rules : Rules) (G H : History) → IsJudged rules G → IsJudged rules H → IsPermutation (rows_of G) (rows_of H) → G ≡ H }
+    ensures { (rules : Rules) (G H : History) → IsJudged rules G → IsJudged rules H
+        → IsPermutation (rows_of G) (rows_of H) → G ≡ H }
 {
     texts_tell_commands_apart();
 }

@@ -58,7 +58,8 @@ fn stamped_in(alloc: Global, row: &Row) -> Result<Option<Stamped>, AllocError>
 /// Whether the row has this number, this effective minute and this answer.
 pub fn says(row: &Row, number: u64, effective: u64, answer: &Text) -> bool
     requires { length row.now ≡ 7 }
-    ensures { IsTrue result ↔ ((column row.now 0 ≡ IntOf (pos number)) × (column row.now 4 ≡ IntOf (pos effective)) × (column row.now 6 ≡ TextOf answer.now)) }
+    ensures { IsTrue result ↔ ((column row.now 0 ≡ IntOf (pos number)) × (column row.now 4 ≡ IntOf (pos effective))
+        × (column row.now 6 ≡ TextOf answer.now)) }
 {
     is_number(row, 0, number) && is_number(row, 4, effective) && is_text(row, 6, answer.as_slice())
 }

@@ -17,7 +17,8 @@ use stored_texts::{Kept, texts_tell_commands_apart};
 /// The first answer once more where the row is that of the same message, and else that the UniqueID
 /// was used. It is said where the row is that of an entry with the message's UniqueID.
 pub fn answer_under(alloc: Global, row: Accepted, stamped: &Stamped) -> Result<Answer, AllocError>
-    ensures { (G : History) (e : Entry) → IsEntry e → e.stamped.uid ≡ stamped.now.uid → columns_of row ≡ entry_row G e → IfOk result (λ answer. answer ≡ answer_under G e stamped.now) }
+    ensures { (G : History) (e : Entry) → IsEntry e → e.stamped.uid ≡ stamped.now.uid → columns_of row ≡ entry_row G e
+        → IfOk result (λ answer. answer ≡ answer_under G e stamped.now) }
 {
     stamped.ranges_hold();
     texts_tell_commands_apart();
@@ -31,7 +32,8 @@ pub fn answer_under(alloc: Global, row: Accepted, stamped: &Stamped) -> Result<A
 
 /// Whether the row has this source, this own minute and this text of the command.
 fn is_row_of(row: &Accepted, stamped: &Stamped, text: &Text) -> bool
-    ensures { IsTrue result ↔ ((string_bytes row.now.source ≡ stamped.now.source) × (row.now.own ≡ stamped.now.minute) × (string_bytes row.now.command ≡ text.now)) }
+    ensures { IsTrue result ↔ ((string_bytes row.now.source ≡ stamped.now.source) × (row.now.own ≡ stamped.now.minute)
+        × (string_bytes row.now.command ≡ text.now)) }
 {
     row.source.as_bytes() == stamped.source.as_bytes()
         && u64::from(row.own) == stamped.minute.get()

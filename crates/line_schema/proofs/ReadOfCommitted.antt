@@ -3,8 +3,9 @@ use Rattle.std.proofs.Common.{◌≡◌, ◌≢◌, ◌≤◌, ◌∙◌, ◌⊎
 use Rattle.std.specs.Prelude.{if◌then◌else◌, ◌==◌}
 use Rattle.std.specs.List.{list_any}
 use Rattle.sqlite.specs.Effect.{Database}
-use Rattle.sqlite.specs.State.{State, KeepsCommit, Survives}
-use Rattle.sqlite.proofs.StateLemmas.{survives_then}
+use Rattle.sqlite_trees.specs.declared.store.Store.{Ghosts}
+use Rattle.sqlite.specs.Held.{Held}
+use Rattle.sqlite.specs.State.{State, KeepsCommit}
 use Rattle.desk_types.specs.declared.rules.Rules.{Rules}
 use Rattle.desk_types.specs.declared.rules.Rules.TheVariants.{One, Two}
 use Rattle.desk_types.specs.declared.limits.TheConstants.{MOST_ENTRIES}
@@ -27,6 +28,8 @@ use Rattle.line_replay.specs.declared.beside.Beside.{Beside}
 use Rattle.line_replay.specs.Beside.{IsBeside}
 use Rattle.line_tables.specs.Rows.{HoldsBy, version_in, version_of}
 use Rattle.line_tables.specs.Calls.{Reads, IsVersionOf}
+use Rattle.line_tables.specs.Frames.{ReadsOnly}
+use Rattle.line_tables.proofs.Frames.{reads_then}
 use Rattle.line_tables.proofs.Ours.{ours_is, ours_whole}
 use Rattle.line_rows.specs.Rows.{ledger_tables}
 use Rattle.line_replay.specs.declared.fault.ReplayFault.{ReplayFault}
@@ -151,8 +154,6 @@ opened_lawful F K Clean old opened H o clean own = let ours = ours_is old.commit
 
 -- ---- the calls that read, one after the other
 
-reads_then : (a b c : State) → Survives a b (λ _. ⊥) → Survives b c (λ _. ⊥) → Survives a c (λ _. ⊥)
-reads_then a b c one two = survives_then a b c _ _ (λ _. ⊥) (λ _ db none. none) (λ _ db none. none) one two
-
-pub reads_all : (a b c d e : State) → Survives a b (λ _. ⊥) → Survives b c (λ _. ⊥) → Survives c d (λ _. ⊥) → Survives d e (λ _. ⊥) → Survives a e (λ _. ⊥)
-reads_all a b c d e one two three four = reads_then a b e one (reads_then b c e two (reads_then c d e three four))
+-- four of them
+pub reads_all : {S : Type 0} (g : Ghosts S) (a b c d e : Held S) → ReadsOnly g a b → ReadsOnly g b c → ReadsOnly g c d → ReadsOnly g d e → ReadsOnly g a e
+reads_all g a b c d e one two three four = reads_then g a b e one (reads_then g b c e two (reads_then g c d e three four))

@@ -79,7 +79,7 @@ ledger L = record { rules = Two; greatest = L.greatest; history = L.history }
 abbrev pub kept_after : Kept → Stamped → Answer → Kept
 kept_after L s answer = record L { history = (ledger_after (ledger L) s answer).history }
 
--- want of memory and a fault of the database are answered Unavailable
+-- out of memory and a fault of the database are answered Unavailable
 abbrev pub answer_in : Result Answer Fault → Answer
 answer_in (Ok answer) = answer
 answer_in (Err fault) = Unavailable

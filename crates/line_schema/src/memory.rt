@@ -19,7 +19,9 @@ pub fn in_memory<D: Desk + Drop>(
 ) -> Result<LineStore<FileStore<MemoryFile>, D>, Unavailable>
     requires least { 1 ≤ greatest }
     requires most { greatest ≤ MOST_ENTRIES }
-    ensures stands { IfOk result (λ store. Stands over_files D.Stands D.kept_rules store (record { greatest = greatest; history = []; own = true })) }
+    ensures stands { IfOk result
+        (λ store. Stands over_files D.Stands D.kept_rules store
+        (record { greatest = greatest; history = []; own = true })) }
 {
     let conn = memory_store::open(alloc)?;
     match LineStore::create(alloc, conn, greatest) {

@@ -1,12 +1,13 @@
 //! What a store is made of, as its tables say.
 
-ghost use Rattle.std.specs.Prelude.{◌≡◌, ◌≢◌, ◌≤◌, ◌⊎◌, ℕ, pos, false, IfOk, IfErr};
-ghost use Rattle.sqlite.specs.State.{HasCleanDisk, Survives, KeepsCommit};
+ghost use Rattle.std.specs.Prelude.{◌≡◌, ◌≢◌, ◌≤◌, ◌⊎◌, ℕ, pos, IfOk, IfErr};
+ghost use Rattle.sqlite.specs.State.{HasCleanDisk};
 ghost use Rattle.sqlite.specs.Held.{state};
 ghost use Rattle.desk_types.specs.declared.limits.TheConstants.{MOST_ENTRIES};
 ghost use Rattle.desk_types.specs.History.{History};
 ghost use Rattle.line_tables.specs.Calls.{Reads};
 ghost use Rattle.line_tables.specs.Rows.{version_of};
+ghost use Rattle.line_tables.specs.Frames.{ReadsOnly};
 ghost use Rattle.line_schema.specs.declared.fault.OpenFault.TheVariants as Fault;
 ghost use Rattle.line_schema.specs.Opening.{IsVersion, IsFaultBy, IsNamedBy, IsOfVersion, IsToldBy, IsOpened, IsGreatest};
 
@@ -34,14 +35,13 @@ pub fn read_tables<S: Alter, D: Desk + Drop>(
     conn: &mut Connection<S>,
     rules: Rules,
 ) -> Result<Opened<D>, OpenFault>
-    ensures ok { IfOk result (λ r. (H : History) × IsOpened D.Stands D.kept_rules (HasCleanDisk (state S.Store conn.new)) (state S.Store conn.old) rules r H) }
+    ensures ok { IfOk result (λ r. (H : History)
+        × IsOpened D.Stands D.kept_rules (HasCleanDisk (state S.Store conn.new)) (state S.Store conn.old) rules r H) }
     ensures named { IfOk result (λ _. IsNamedBy rules (state S.Store conn.old)) }
     ensures told { IfErr result (IsToldBy rules (state S.Store conn.old)) }
     ensures never { IfErr result (λ f. f ≢ Fault.NotBlank) }
     ensures err { HasCleanDisk (state S.Store conn.new) → IfErr result (IsFaultBy rules (state S.Store conn.old)) }
-    ensures kept { HasCleanDisk (state S.Store conn.new) → KeepsCommit (state S.Store conn.old) (state S.Store conn.new) }
-    ensures mode { conn.old.in_transaction ≡ false → conn.new.in_transaction ≡ false }
-    ensures survives { Survives (state S.Store conn.old) (state S.Store conn.new) (λ _. ⊥) }
+    ensures reads { ReadsOnly S.Store conn.old conn.new }
 {
     let whole = has_accepted(conn) && has_state(conn, rules);
     if !has_version(conn) {
@@ -75,14 +75,14 @@ pub fn read_tables<S: Alter, D: Desk + Drop>(
 
 /// The greatest number, where the tables are of the version of the rules.
 fn read_greatest<S: Alter>(conn: &mut Connection<S>, rules: Rules) -> Result<u32, OpenFault>
-    ensures ok { HasCleanDisk (state S.Store conn.new) → IfOk result (λ greatest. Reads (state S.Store conn.old) (λ db. IsVersion db (pos (version_of rules)) greatest)) }
+    ensures ok { HasCleanDisk (state S.Store conn.new)
+        → IfOk result
+        (λ greatest. Reads (state S.Store conn.old) (λ db. IsVersion db (pos (version_of rules)) greatest)) }
     ensures bound { IfOk result (λ greatest. greatest ≤ MOST_ENTRIES) }
     ensures of_version { IfErr result IsOfVersion }
     ensures never { IfErr result (λ f. f ≢ Fault.NotBlank) }
     ensures err { HasCleanDisk (state S.Store conn.new) → IfErr result (IsFaultBy rules (state S.Store conn.old)) }
-    ensures kept { HasCleanDisk (state S.Store conn.new) → KeepsCommit (state S.Store conn.old) (state S.Store conn.new) }
-    ensures mode { conn.old.in_transaction ≡ false → conn.new.in_transaction ≡ false }
-    ensures survives { Survives (state S.Store conn.old) (state S.Store conn.new) (λ _. ⊥) }
+    ensures reads { ReadsOnly S.Store conn.old conn.new }
 {
     let found = find_version(conn)?;
     match found {
@@ -92,9 +92,12 @@ fn read_greatest<S: Alter>(conn: &mut Connection<S>, rules: Rules) -> Result<u32
 }
 
 fn greatest_of(version: &Version, rules: Rules) -> Result<u32, OpenFault>
-    ensures ok { IfOk result (λ greatest. (version.now.number ≡ pos (version_of rules)) × IsGreatest version.now.greatest greatest) }
-    ensures err { IfErr result (λ f. ((f ≡ Fault.NotADesk) × ((greatest : ℕ) → IsGreatest version.now.greatest greatest → ⊥))
-        ⊎ ((f ≡ Fault.OtherVersion version.now.number) × (version.now.number ≢ pos (version_of rules)) × (greatest : ℕ) × IsGreatest version.now.greatest greatest)) }
+    ensures ok { IfOk result (λ greatest. (version.now.number ≡ pos (version_of rules))
+        × IsGreatest version.now.greatest greatest) }
+    ensures err { IfErr result
+        (λ f. ((f ≡ Fault.NotADesk) × ((greatest : ℕ) → IsGreatest version.now.greatest greatest → ⊥))
+        ⊎ ((f ≡ Fault.OtherVersion version.now.number) × (version.now.number ≢ pos (version_of rules)) × (greatest : ℕ)
+        × IsGreatest version.now.greatest greatest)) }
 {
     let Ok(greatest) = u64::try_from(version.greatest) else {
         return Err(OpenFault::NotADesk);

@@ -18,9 +18,12 @@ pub fn settle_both<D: Desk + Drop>(
     change: Change,
 ) -> (Option<D>, Option<TraceLists>)
     requires room { IfSome desk (λ d. HasRoom D.Stands d 1) }
-    requires judged { IfSome desk (λ d. (H : History) → D.Stands d H → IsChange (D.kept_rules d) H change.stamped change) }
-    ensures desk { (rules : Rules) (H : History) → IfSome desk (λ d. D.Stands d H × (D.kept_rules d ≡ rules)) → IfSome result.0 (λ d. D.Stands d (accept H change.stamped) × (D.kept_rules d ≡ rules)) }
-    ensures lists { (H : History) → IfSome desk (λ d. D.Stands d H) → IfSome lists (λ l. IsListed l H) → number ≡ length H + 1 → IfSome result.1 (λ l. IsListed l (accept H change.stamped)) }
+    requires judged { IfSome desk (λ d. (H : History) → D.Stands d H
+        → IsChange (D.kept_rules d) H change.stamped change) }
+    ensures desk { (rules : Rules) (H : History) → IfSome desk (λ d. D.Stands d H × (D.kept_rules d ≡ rules))
+        → IfSome result.0 (λ d. D.Stands d (accept H change.stamped) × (D.kept_rules d ≡ rules)) }
+    ensures lists { (H : History) → IfSome desk (λ d. D.Stands d H) → IfSome lists (λ l. IsListed l H)
+        → number ≡ length H + 1 → IfSome result.1 (λ l. IsListed l (accept H change.stamped)) }
     ensures beside { is_some result.1 ≡ is_some result.0 }
 {
     let Some(mut desk) = desk else {

@@ -62,18 +62,28 @@ impl<S: Alter, D: Desk + Drop> LineStore<S, D> {
     ) -> Result<LineStore<S, D>, (OpenFault, Connection<S>)>
         requires least { 1 ≤ greatest }
         requires most { greatest ≤ MOST_ENTRIES }
-        ensures stands { IfOk result (λ store. Stands S.Store D.Stands D.kept_rules store (record { greatest = greatest; history = []; own = is_blank (state S.Store conn).now.schema })) }
-        ensures alone { IfOk result (λ store. HasCleanDisk (state_of S.Store store) → IsTrue (is_blank (state S.Store conn).now.schema) → (trees : Trees) → (state_of S.Store store).may_leave trees → HoldsAt (blank greatest) trees) }
+        ensures stands { IfOk result
+            (λ store. Stands S.Store D.Stands D.kept_rules store
+            (record { greatest = greatest; history = []; own = is_blank (state S.Store conn).now.schema })) }
+        ensures alone { IfOk result (λ store. HasCleanDisk (state_of S.Store store)
+            → IsTrue (is_blank (state S.Store conn).now.schema) → (trees : Trees)
+            → (state_of S.Store store).may_leave trees → HoldsAt (blank greatest) trees) }
         ensures ready { IfOk result (λ store. IsTrue (has_desk store)) }
-        ensures stays_open { IfOk result (λ store. HasCleanDisk (state_of S.Store store) → IsTrue (state_of S.Store store).is_open) }
-        ensures leaves { IfOk result (λ store. Survives (state S.Store conn) (state_of S.Store store) (LeavesBlank greatest (state S.Store conn))) }
+        ensures stays_open { IfOk result (λ store. HasCleanDisk (state_of S.Store store)
+            → IsTrue (state_of S.Store store).is_open) }
+        ensures leaves { IfOk result
+            (λ store. Survives (state S.Store conn) (state_of S.Store store)
+            (LeavesBlank greatest (state S.Store conn))) }
         ensures nameless { IfOk result (λ _. list_any has_name (state S.Store conn).now.schema.tables ≡ false) }
-        ensures fault { IfErr result (λ e. (e.0 ≡ Fault.Unavailable) ⊎ ((e.0 ≡ Fault.NotBlank) × (list_any has_name (state S.Store conn).now.schema.tables ≡ true))) }
+        ensures fault { IfErr result (λ e. (e.0 ≡ Fault.Unavailable)
+            ⊎ ((e.0 ≡ Fault.NotBlank) × (list_any has_name (state S.Store conn).now.schema.tables ≡ true))) }
         ensures untouched { IfErr result (λ e. e.0 ≡ Fault.NotBlank → e.1 ≡ conn) }
         ensures inside { IsTrue conn.in_transaction → result ≡ Err (Fault.Unavailable, conn) }
         ensures mode { IfErr result (λ e. conn.in_transaction ≡ false → e.1.in_transaction ≡ false) }
-        ensures unchanged { IfErr result (λ e. HasCleanDisk (state S.Store e.1) → KeepsCommit (state S.Store conn) (state S.Store e.1)) }
-        ensures survives { IfErr result (λ e. Survives (state S.Store conn) (state S.Store e.1) (LeavesBlank greatest (state S.Store conn))) }
+        ensures unchanged { IfErr result (λ e. HasCleanDisk (state S.Store e.1)
+            → KeepsCommit (state S.Store conn) (state S.Store e.1)) }
+        ensures survives { IfErr result
+            (λ e. Survives (state S.Store conn) (state S.Store e.1) (LeavesBlank greatest (state S.Store conn))) }
     {
         let mut conn = conn;
         if !conn.is_autocommit() {
@@ -101,7 +111,10 @@ impl<S: Alter, D: Desk + Drop> LineStore<S, D> {
         alloc: Global,
         conn: Connection<S>,
     ) -> Result<LineStore<S, D>, (OpenFault, Connection<S>)>
-        ensures stands { IfOk result (λ store. (L : Kept) × (L.own ≡ is_ours (state S.Store conn).committed.schema) × Stands S.Store D.Stands D.kept_rules store L × (HasCleanDisk (state_of S.Store store) → Reads (state S.Store conn) (λ db. Holds db (ledger_tables L.greatest L.history)))) }
+        ensures stands { IfOk result (λ store. (L : Kept) × (L.own ≡ is_ours (state S.Store conn).committed.schema)
+            × Stands S.Store D.Stands D.kept_rules store L
+            × (HasCleanDisk (state_of S.Store store)
+            → Reads (state S.Store conn) (λ db. Holds db (ledger_tables L.greatest L.history)))) }
         ensures named { IfOk result (λ _. IsNamed (state S.Store conn)) }
         ensures ready { IfOk result (λ store. IsTrue (has_desk store)) }
         ensures fault { IfErr result (λ e. HasCleanDisk (state S.Store e.1) → IsFaultOf (state S.Store conn) e.0) }
@@ -109,8 +122,10 @@ impl<S: Alter, D: Desk + Drop> LineStore<S, D> {
         ensures never { IfErr result (λ e. e.0 ≢ Fault.NotBlank) }
         ensures inside { IsTrue conn.in_transaction → result ≡ Err (Fault.Unavailable, conn) }
         ensures mode { IfErr result (λ e. conn.in_transaction ≡ false → e.1.in_transaction ≡ false) }
-        ensures same { IfOk result (λ store. HasCleanDisk (state_of S.Store store) → KeepsCommit (state S.Store conn) (state_of S.Store store)) }
-        ensures unchanged { IfErr result (λ e. HasCleanDisk (state S.Store e.1) → KeepsCommit (state S.Store conn) (state S.Store e.1)) }
+        ensures same { IfOk result (λ store. HasCleanDisk (state_of S.Store store)
+            → KeepsCommit (state S.Store conn) (state_of S.Store store)) }
+        ensures unchanged { IfErr result (λ e. HasCleanDisk (state S.Store e.1)
+            → KeepsCommit (state S.Store conn) (state S.Store e.1)) }
         ensures leaves { IfOk result (λ store. Survives (state S.Store conn) (state_of S.Store store) (λ _. ⊥)) }
         ensures survives { IfErr result (λ e. Survives (state S.Store conn) (state S.Store e.1) (λ _. ⊥)) }
     {
@@ -163,7 +178,8 @@ impl<S: Alter, D: Desk + Drop> LineStore<S, D> {
     /// The desk, where it is at hand: after [`LineStore::ready`] it is.
     pub fn desk(&self) -> Option<&D>
         ensures there { is_some result ≡ has_desk self.now }
-        ensures stands { (L : Kept) → Stands S.Store D.Stands D.kept_rules self.now L → IfSome result (λ desk. D.Stands desk.now L.history × (D.kept_rules desk.now ≡ Two)) }
+        ensures stands { (L : Kept) → Stands S.Store D.Stands D.kept_rules self.now L
+            → IfSome result (λ desk. D.Stands desk.now L.history × (D.kept_rules desk.now ≡ Two)) }
     {
         self.desk.as_ref()
     }
@@ -175,7 +191,9 @@ impl<S: Alter, D: Desk + Drop> LineStore<S, D> {
         ensures at_hand { IsTrue (has_desk self.old) → self.new ≡ self.old }
         ensures ok { OnOk result (IsTrue (has_desk self.new)) }
         ensures kept { (L : Kept) × Stands S.Store D.Stands D.kept_rules self.new L }
-        ensures stands { (L : Kept) → Stands S.Store D.Stands D.kept_rules self.old L → HasCleanDisk (state_of S.Store self.new) → IsTrue L.own → Stands S.Store D.Stands D.kept_rules self.new L }
+        ensures stands { (L : Kept) → Stands S.Store D.Stands D.kept_rules self.old L
+            → HasCleanDisk (state_of S.Store self.new) → IsTrue L.own
+            → Stands S.Store D.Stands D.kept_rules self.new L }
         ensures survives { Survives (state_of S.Store self.old) (state_of S.Store self.new) (λ _. ⊥) }
     {
         if self.desk.is_some() {
@@ -189,7 +207,9 @@ impl<S: Alter, D: Desk + Drop> LineStore<S, D> {
         requires stands { (L : Kept) × Stands S.Store D.Stands D.kept_rules self.old L }
         ensures ok { OnOk result (IsTrue (has_desk self.new)) }
         ensures kept { (L : Kept) × Stands S.Store D.Stands D.kept_rules self.new L }
-        ensures stands { (L : Kept) → Stands S.Store D.Stands D.kept_rules self.old L → HasCleanDisk (state_of S.Store self.new) → IsTrue L.own → Stands S.Store D.Stands D.kept_rules self.new L }
+        ensures stands { (L : Kept) → Stands S.Store D.Stands D.kept_rules self.old L
+            → HasCleanDisk (state_of S.Store self.new) → IsTrue L.own
+            → Stands S.Store D.Stands D.kept_rules self.new L }
         ensures survives { Survives (state_of S.Store self.old) (state_of S.Store self.new) (λ _. ⊥) }
     {
         match rebuild(self.alloc, &mut self.conn, Rules::Two, self.greatest) {
@@ -216,10 +236,17 @@ impl<S: Alter, D: Desk + Drop> LineStore<S, D> {
     pub fn command(&mut self, stamped: &Stamped) -> Answer
         requires stands { (L : Kept) × Stands S.Store D.Stands D.kept_rules self.old L }
         ensures kept { (L : Kept) × Stands S.Store D.Stands D.kept_rules self.new L }
-        ensures answer { (L : Kept) → Stands S.Store D.Stands D.kept_rules self.old L → HasCleanDisk (state_of S.Store self.new) → IsTrue L.own → IsAnswer (ledger L) stamped.now result }
-        ensures stands { (L : Kept) → Stands S.Store D.Stands D.kept_rules self.old L → HasCleanDisk (state_of S.Store self.new) → IsTrue L.own → Stands S.Store D.Stands D.kept_rules self.new (kept_after L stamped.now result) }
-        ensures tables { (L : Kept) → Stands S.Store D.Stands D.kept_rules self.old L → ShowsTables S.Store self.new (kept_after L stamped.now result) }
-        ensures crash { (L : Kept) → Stands S.Store D.Stands D.kept_rules self.old L → HasCleanDisk (state_of S.Store self.new) → IsTrue L.own → (trees : Trees) → (state_of S.Store self.new).may_leave trees → Leaves L stamped.now result ((state_of S.Store self.old).may_leave trees) trees }
+        ensures answer { (L : Kept) → Stands S.Store D.Stands D.kept_rules self.old L
+            → HasCleanDisk (state_of S.Store self.new) → IsTrue L.own → IsAnswer (ledger L) stamped.now result }
+        ensures stands { (L : Kept) → Stands S.Store D.Stands D.kept_rules self.old L
+            → HasCleanDisk (state_of S.Store self.new) → IsTrue L.own
+            → Stands S.Store D.Stands D.kept_rules self.new (kept_after L stamped.now result) }
+        ensures tables { (L : Kept) → Stands S.Store D.Stands D.kept_rules self.old L
+            → ShowsTables S.Store self.new (kept_after L stamped.now result) }
+        ensures crash { (L : Kept) → Stands S.Store D.Stands D.kept_rules self.old L
+            → HasCleanDisk (state_of S.Store self.new) → IsTrue L.own → (trees : Trees)
+            → (state_of S.Store self.new).may_leave trees
+            → Leaves L stamped.now result ((state_of S.Store self.old).may_leave trees) trees }
         ensures clean { HasCleanDisk (state_of S.Store self.new) → HasCleanDisk (state_of S.Store self.old) }
         ensures survives { Survives (state_of S.Store self.old) (state_of S.Store self.new) (λ _. ⊤) }
     {
@@ -232,10 +259,21 @@ impl<S: Alter, D: Desk + Drop> LineStore<S, D> {
     fn answer(&mut self, stamped: &Stamped) -> Result<Answer, Unavailable>
         requires stands { (L : Kept) × Stands S.Store D.Stands D.kept_rules self.old L }
         ensures kept { (L : Kept) × Stands S.Store D.Stands D.kept_rules self.new L }
-        ensures answer { (L : Kept) → Stands S.Store D.Stands D.kept_rules self.old L → HasCleanDisk (state_of S.Store self.new) → IsTrue L.own → IfOk result (λ answer. answer ≡ command_answer Two L.greatest L.history stamped.now) }
-        ensures ok { (L : Kept) → Stands S.Store D.Stands D.kept_rules self.old L → HasCleanDisk (state_of S.Store self.new) → IsTrue L.own → OnOk result (Stands S.Store D.Stands D.kept_rules self.new (record L { history = command_after Two L.greatest L.history stamped.now })) }
-        ensures err { (L : Kept) → Stands S.Store D.Stands D.kept_rules self.old L → HasCleanDisk (state_of S.Store self.new) → IsTrue L.own → OnErr result (Stands S.Store D.Stands D.kept_rules self.new L) }
-        ensures crash { (L : Kept) → Stands S.Store D.Stands D.kept_rules self.old L → HasCleanDisk (state_of S.Store self.new) → IsTrue L.own → (trees : Trees) → (state_of S.Store self.new).may_leave trees → Leaves L stamped.now (answer_in result) ((state_of S.Store self.old).may_leave trees) trees }
+        ensures answer { (L : Kept) → Stands S.Store D.Stands D.kept_rules self.old L
+            → HasCleanDisk (state_of S.Store self.new) → IsTrue L.own
+            → IfOk result (λ answer. answer ≡ command_answer Two L.greatest L.history stamped.now) }
+        ensures ok { (L : Kept) → Stands S.Store D.Stands D.kept_rules self.old L
+            → HasCleanDisk (state_of S.Store self.new) → IsTrue L.own
+            → OnOk result
+            (Stands S.Store D.Stands D.kept_rules self.new
+            (record L { history = command_after Two L.greatest L.history stamped.now })) }
+        ensures err { (L : Kept) → Stands S.Store D.Stands D.kept_rules self.old L
+            → HasCleanDisk (state_of S.Store self.new) → IsTrue L.own
+            → OnErr result (Stands S.Store D.Stands D.kept_rules self.new L) }
+        ensures crash { (L : Kept) → Stands S.Store D.Stands D.kept_rules self.old L
+            → HasCleanDisk (state_of S.Store self.new) → IsTrue L.own → (trees : Trees)
+            → (state_of S.Store self.new).may_leave trees
+            → Leaves L stamped.now (answer_in result) ((state_of S.Store self.old).may_leave trees) trees }
         ensures survives { Survives (state_of S.Store self.old) (state_of S.Store self.new) (λ _. ⊤) }
     {
         if let Some(answer) = self.earlier(stamped)? {
@@ -250,8 +288,11 @@ impl<S: Alter, D: Desk + Drop> LineStore<S, D> {
     /// The answer by the row that has the UniqueID, where there is one.
     fn earlier(&mut self, stamped: &Stamped) -> Result<Option<Answer>, Unavailable>
         requires stands { (L : Kept) × Stands S.Store D.Stands D.kept_rules self.old L }
-        ensures answer { (L : Kept) → Stands S.Store D.Stands D.kept_rules self.old L → HasCleanDisk (state_of S.Store self.new) → IsTrue L.own → IfOk result (λ answer. answer ≡ earlier_answer L.history stamped.now) }
-        ensures stands { (L : Kept) → Stands S.Store D.Stands D.kept_rules self.old L → Stands S.Store D.Stands D.kept_rules self.new L }
+        ensures answer { (L : Kept) → Stands S.Store D.Stands D.kept_rules self.old L
+            → HasCleanDisk (state_of S.Store self.new) → IsTrue L.own
+            → IfOk result (λ answer. answer ≡ earlier_answer L.history stamped.now) }
+        ensures stands { (L : Kept) → Stands S.Store D.Stands D.kept_rules self.old L
+            → Stands S.Store D.Stands D.kept_rules self.new L }
         ensures survives { Survives (state_of S.Store self.old) (state_of S.Store self.new) (λ _. ⊥) }
     {
         match find(&mut self.conn, stamped.uid.as_str())? {
@@ -265,10 +306,22 @@ impl<S: Alter, D: Desk + Drop> LineStore<S, D> {
     fn answer_new(&mut self, stamped: &Stamped) -> Result<Answer, Unavailable>
         requires stands { (L : Kept) × Stands S.Store D.Stands D.kept_rules self.old L }
         ensures kept { (L : Kept) × Stands S.Store D.Stands D.kept_rules self.new L }
-        ensures answer { (L : Kept) → Stands S.Store D.Stands D.kept_rules self.old L → HasCleanDisk (state_of S.Store self.new) → IsTrue L.own → IfOk result (λ answer. answer ≡ judged_answer L.history stamped.now (reply_to Two L.history stamped.now)) }
-        ensures ok { (L : Kept) → Stands S.Store D.Stands D.kept_rules self.old L → HasCleanDisk (state_of S.Store self.new) → IsTrue L.own → earlier_answer L.history stamped.now ≡ None → OnOk result (Stands S.Store D.Stands D.kept_rules self.new (record L { history = after_command Two L.history stamped.now })) }
-        ensures err { (L : Kept) → Stands S.Store D.Stands D.kept_rules self.old L → HasCleanDisk (state_of S.Store self.new) → IsTrue L.own → OnErr result (Stands S.Store D.Stands D.kept_rules self.new L) }
-        ensures crash { (L : Kept) → Stands S.Store D.Stands D.kept_rules self.old L → HasCleanDisk (state_of S.Store self.new) → IsTrue L.own → (trees : Trees) → (state_of S.Store self.new).may_leave trees → NewlyLeaves L stamped.now (answer_in result) ((state_of S.Store self.old).may_leave trees) trees }
+        ensures answer { (L : Kept) → Stands S.Store D.Stands D.kept_rules self.old L
+            → HasCleanDisk (state_of S.Store self.new) → IsTrue L.own
+            → IfOk result
+            (λ answer. answer ≡ judged_answer L.history stamped.now (reply_to Two L.history stamped.now)) }
+        ensures ok { (L : Kept) → Stands S.Store D.Stands D.kept_rules self.old L
+            → HasCleanDisk (state_of S.Store self.new) → IsTrue L.own → earlier_answer L.history stamped.now ≡ None
+            → OnOk result
+            (Stands S.Store D.Stands D.kept_rules self.new
+            (record L { history = after_command Two L.history stamped.now })) }
+        ensures err { (L : Kept) → Stands S.Store D.Stands D.kept_rules self.old L
+            → HasCleanDisk (state_of S.Store self.new) → IsTrue L.own
+            → OnErr result (Stands S.Store D.Stands D.kept_rules self.new L) }
+        ensures crash { (L : Kept) → Stands S.Store D.Stands D.kept_rules self.old L
+            → HasCleanDisk (state_of S.Store self.new) → IsTrue L.own → (trees : Trees)
+            → (state_of S.Store self.new).may_leave trees
+            → NewlyLeaves L stamped.now (answer_in result) ((state_of S.Store self.old).may_leave trees) trees }
         ensures survives { Survives (state_of S.Store self.old) (state_of S.Store self.new) (λ _. ⊤) }
     {
         self.ready()?;
@@ -279,10 +332,20 @@ impl<S: Alter, D: Desk + Drop> LineStore<S, D> {
     fn answer_at_hand(&mut self, stamped: &Stamped) -> Result<Answer, Unavailable>
         requires stands { (L : Kept) × Stands S.Store D.Stands D.kept_rules self.old L }
         ensures kept { (L : Kept) × Stands S.Store D.Stands D.kept_rules self.new L }
-        ensures answer { (L : Kept) → Stands S.Store D.Stands D.kept_rules self.old L → IfOk result (λ answer. answer ≡ judged_answer L.history stamped.now (reply_to Two L.history stamped.now)) }
-        ensures ok { (L : Kept) → Stands S.Store D.Stands D.kept_rules self.old L → (HasCleanDisk (state_of S.Store self.new) → IsTrue L.own → earlier_answer L.history stamped.now ≡ None) → OnOk result (Stands S.Store D.Stands D.kept_rules self.new (record L { history = after_command Two L.history stamped.now })) }
-        ensures err { (L : Kept) → Stands S.Store D.Stands D.kept_rules self.old L → OnErr result (Stands S.Store D.Stands D.kept_rules self.new L) }
-        ensures crash { (L : Kept) → Stands S.Store D.Stands D.kept_rules self.old L → HasCleanDisk (state_of S.Store self.new) → IsTrue L.own → (trees : Trees) → (state_of S.Store self.new).may_leave trees → NewlyLeaves L stamped.now (answer_in result) ((state_of S.Store self.old).may_leave trees) trees }
+        ensures answer { (L : Kept) → Stands S.Store D.Stands D.kept_rules self.old L
+            → IfOk result
+            (λ answer. answer ≡ judged_answer L.history stamped.now (reply_to Two L.history stamped.now)) }
+        ensures ok { (L : Kept) → Stands S.Store D.Stands D.kept_rules self.old L
+            → (HasCleanDisk (state_of S.Store self.new) → IsTrue L.own → earlier_answer L.history stamped.now ≡ None)
+            → OnOk result
+            (Stands S.Store D.Stands D.kept_rules self.new
+            (record L { history = after_command Two L.history stamped.now })) }
+        ensures err { (L : Kept) → Stands S.Store D.Stands D.kept_rules self.old L
+            → OnErr result (Stands S.Store D.Stands D.kept_rules self.new L) }
+        ensures crash { (L : Kept) → Stands S.Store D.Stands D.kept_rules self.old L
+            → HasCleanDisk (state_of S.Store self.new) → IsTrue L.own → (trees : Trees)
+            → (state_of S.Store self.new).may_leave trees
+            → NewlyLeaves L stamped.now (answer_in result) ((state_of S.Store self.old).may_leave trees) trees }
         ensures survives { Survives (state_of S.Store self.old) (state_of S.Store self.new) (λ _. ⊤) }
     {
         if self.count >= self.greatest {
@@ -303,12 +366,22 @@ impl<S: Alter, D: Desk + Drop> LineStore<S, D> {
     fn commit_change(&mut self, change: Change) -> Result<Answer, Unavailable>
         requires stands { (L : Kept) × Stands S.Store D.Stands D.kept_rules self.old L }
         requires room { self.old.count < self.old.greatest }
-        requires judged { IsSomeAnd self.old.desk (λ d. (H : History) → D.Stands d H → IsChange (D.kept_rules d) H change.stamped change) }
-        ensures answer { (L : Kept) → Stands S.Store D.Stands D.kept_rules self.old L → IfOk result (λ answer. answer ≡ judged_answer L.history change.stamped (Reply.Accepted change.detail)) }
-        ensures ok { (L : Kept) → Stands S.Store D.Stands D.kept_rules self.old L → (HasCleanDisk (state_of S.Store self.new) → IsTrue L.own → earlier_answer L.history change.stamped ≡ None) → OnOk result (Stands S.Store D.Stands D.kept_rules self.new (with_command L change.stamped)) }
-        ensures err { (L : Kept) → Stands S.Store D.Stands D.kept_rules self.old L → OnErr result (Stands S.Store D.Stands D.kept_rules self.new L) }
-        ensures survives { (L : Kept) → Stands S.Store D.Stands D.kept_rules self.old L → IsTrue L.own → Survives (state_of S.Store self.old) (state_of S.Store self.new) (HoldsAt (ledger_tables L.greatest (with_command L change.stamped).history)) }
-        ensures alone { (L : Kept) → Stands S.Store D.Stands D.kept_rules self.old L → HasCleanDisk (state_of S.Store self.new) → IsTrue L.own → OnOk result ((trees : Trees) → (state_of S.Store self.new).may_leave trees → HoldsAt (ledger_tables L.greatest (with_command L change.stamped).history) trees) }
+        requires judged { IsSomeAnd self.old.desk (λ d. (H : History) → D.Stands d H
+            → IsChange (D.kept_rules d) H change.stamped change) }
+        ensures answer { (L : Kept) → Stands S.Store D.Stands D.kept_rules self.old L
+            → IfOk result (λ answer. answer ≡ judged_answer L.history change.stamped (Reply.Accepted change.detail)) }
+        ensures ok { (L : Kept) → Stands S.Store D.Stands D.kept_rules self.old L
+            → (HasCleanDisk (state_of S.Store self.new) → IsTrue L.own → earlier_answer L.history change.stamped ≡ None)
+            → OnOk result (Stands S.Store D.Stands D.kept_rules self.new (with_command L change.stamped)) }
+        ensures err { (L : Kept) → Stands S.Store D.Stands D.kept_rules self.old L
+            → OnErr result (Stands S.Store D.Stands D.kept_rules self.new L) }
+        ensures survives { (L : Kept) → Stands S.Store D.Stands D.kept_rules self.old L → IsTrue L.own
+            → Survives (state_of S.Store self.old) (state_of S.Store self.new)
+            (HoldsAt (ledger_tables L.greatest (with_command L change.stamped).history)) }
+        ensures alone { (L : Kept) → Stands S.Store D.Stands D.kept_rules self.old L
+            → HasCleanDisk (state_of S.Store self.new) → IsTrue L.own
+            → OnOk result ((trees : Trees) → (state_of S.Store self.new).may_leave trees
+            → HoldsAt (ledger_tables L.greatest (with_command L change.stamped).history) trees) }
         ensures faults { Survives (state_of S.Store self.old) (state_of S.Store self.new) (λ _. ⊤) }
     {
         change.stamped.ranges_hold();

@@ -5,6 +5,7 @@ pub mod Inserts
 pub mod Creates
 pub mod Puts
 pub mod Keeps
+pub mod Frames
 pub mod Finds
 pub mod Numbers
 pub mod Leaves

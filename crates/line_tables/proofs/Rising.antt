@@ -42,6 +42,14 @@ use Rattle.line_tables.proofs.RowidTexts.{rowids_from, IsRowids, found_is}
 pub past_by : (last n : ℤ) → int_lt last n ≡ true → int_cmp last n ≡ Less
 past_by last n h = subst (λ b. cond b Less (cond (int_lt n last) Greater Equal) ≡ Less) (sym h) refl
 
+pub less_by : (last n : ℤ) → int_cmp last n ≡ Less → int_lt last n ≡ true
+less_by last n h = go (int_lt last n) (int_lt n last) h
+  where
+    go : (a b : Bool) → cond a Less (cond b Greater Equal) ≡ Less → a ≡ true
+    go true b h = refl
+    go false true h = absurd (let e : Greater ≡ Less = h in cc)
+    go false false h = absurd (let e : Equal ≡ Less = h in cc)
+
 past_then : (last : Option ℤ) (n m : ℤ) → IsPast last n → int_cmp n m ≡ Less → IsPast last m
 past_then None n m h k = tt
 past_then (Some l) n m h k = int_cmp_total.trans l n m h k

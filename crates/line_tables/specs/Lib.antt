@@ -5,5 +5,7 @@ pub mod Names
 pub mod StateRows
 pub mod Rowids
 pub mod Rising
+pub mod Faults
 pub mod Placing
 pub mod Shown
+pub mod Frames

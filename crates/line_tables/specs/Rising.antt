@@ -4,6 +4,7 @@ use Rattle.std.specs.List.{AllByRecursion}
 use Rattle.std.specs.Ordering.{int_cmp}
 use Rattle.std.specs.declared.cmp.Ordering.TheVariants.{Less}
 use Rattle.sqlite_value.specs.declared.value.Value.{Value}
+use Rattle.sqlite.specs.declared.types.Value.TheVariants.{Int}
 use Rattle.sqlite_value.specs.Order.{Row, column, value_cmp}
 use Rattle.sqlite_schema.specs.declared.schema.Table.{Table}
 use Rattle.sqlite.specs.Effect.{Database}
@@ -31,6 +32,10 @@ IsBefore v row = value_cmp (column row 0) v ≡ Less
 -- each row is an integer, above those before
 abbrev pub AreRising : List Row → Type 0
 AreRising rows = IsAscending (λ a b. value_cmp (column a 0) (column b 0) ≡ Less) rows × AllByRecursion (λ row. IsTrue (is_int (column row 0))) rows
+
+-- the row is one integer
+abbrev pub IsNumber : Row → Type 0
+IsNumber row = (n : ℤ) × (row ≡ Int n ∷ [])
 
 -- what the query shows rises, where it is told so
 abbrev pub Shows : {S : Type 0} → Ghosts S → List ℕ → Held S → Bool → Type 0

@@ -1,10 +1,11 @@
 //! Rows of what is on the line: reels, where they are mounted, and boards.
 
-ghost use Rattle.std.specs.Prelude.{◌≡◌, OnOk};
-ghost use Rattle.sqlite.specs.State.{HasCleanDisk, Survives, KeepsCommit};
+ghost use Rattle.std.specs.Prelude.{OnOk};
+ghost use Rattle.sqlite.specs.State.{HasCleanDisk};
 ghost use Rattle.sqlite.specs.Held.{state};
 ghost use Rattle.desk_types.specs.declared.edit.RowEdit.TheVariants as RowEdit;
 ghost use Rattle.line_tables.specs.Calls.{WritesRow};
+ghost use Rattle.line_tables.specs.Frames.{InTransaction};
 
 use crate::statement::{change_or_put, run};
 use crate::values::{int, or_empty, since};
@@ -15,10 +16,10 @@ use sqlite::{Alter, Error, Transaction, params};
 /// A reel's row is changed in its place, since placements refer to it. Two rows of one reel are an
 /// error.
 pub fn put_reel<S: Alter>(tx: &mut Transaction<'_, S>, row: &ReelRow) -> Result<(), Error>
-    ensures same_reference { tx.new.conn.ghost_name ≡ tx.old.conn.ghost_name }
-    ensures done { HasCleanDisk (state S.Store tx.new.conn.now) → OnOk result (WritesRow (RowEdit.PutReel row.now) (state S.Store tx.old.conn.now) (state S.Store tx.new.conn.now)) }
-    ensures kept { HasCleanDisk (state S.Store tx.new.conn.now) → KeepsCommit (state S.Store tx.old.conn.now) (state S.Store tx.new.conn.now) }
-    ensures survives { Survives (state S.Store tx.old.conn.now) (state S.Store tx.new.conn.now) (λ _. ⊥) }
+    ensures done { HasCleanDisk (state S.Store tx.new.conn.now)
+        → OnOk result
+        (WritesRow (RowEdit.PutReel row.now) (state S.Store tx.old.conn.now) (state S.Store tx.new.conn.now)) }
+    ensures within { InTransaction S.Store tx.old tx.new }
 {
     change_or_put(
         tx,
@@ -43,10 +44,10 @@ pub fn put_reel<S: Alter>(tx: &mut Transaction<'_, S>, row: &ReelRow) -> Result<
 
 /// Takes the reel off where it is mounted, if it is.
 pub fn take_mount<S: Alter>(tx: &mut Transaction<'_, S>, reel: &Id) -> Result<(), Error>
-    ensures same_reference { tx.new.conn.ghost_name ≡ tx.old.conn.ghost_name }
-    ensures done { HasCleanDisk (state S.Store tx.new.conn.now) → OnOk result (WritesRow (RowEdit.TakeMount reel.now) (state S.Store tx.old.conn.now) (state S.Store tx.new.conn.now)) }
-    ensures kept { HasCleanDisk (state S.Store tx.new.conn.now) → KeepsCommit (state S.Store tx.old.conn.now) (state S.Store tx.new.conn.now) }
-    ensures survives { Survives (state S.Store tx.old.conn.now) (state S.Store tx.new.conn.now) (λ _. ⊥) }
+    ensures done { HasCleanDisk (state S.Store tx.new.conn.now)
+        → OnOk result
+        (WritesRow (RowEdit.TakeMount reel.now) (state S.Store tx.old.conn.now) (state S.Store tx.new.conn.now)) }
+    ensures within { InTransaction S.Store tx.old tx.new }
 {
     run(
         tx,
@@ -57,10 +58,10 @@ pub fn take_mount<S: Alter>(tx: &mut Transaction<'_, S>, reel: &Id) -> Result<()
 
 /// A mounted reel, where the reel is mounted nowhere and no row has its number.
 pub fn put_mount<S: Alter>(tx: &mut Transaction<'_, S>, row: &MountRow) -> Result<(), Error>
-    ensures same_reference { tx.new.conn.ghost_name ≡ tx.old.conn.ghost_name }
-    ensures done { HasCleanDisk (state S.Store tx.new.conn.now) → OnOk result (WritesRow (RowEdit.PutMount row.now) (state S.Store tx.old.conn.now) (state S.Store tx.new.conn.now)) }
-    ensures kept { HasCleanDisk (state S.Store tx.new.conn.now) → KeepsCommit (state S.Store tx.old.conn.now) (state S.Store tx.new.conn.now) }
-    ensures survives { Survives (state S.Store tx.old.conn.now) (state S.Store tx.new.conn.now) (λ _. ⊥) }
+    ensures done { HasCleanDisk (state S.Store tx.new.conn.now)
+        → OnOk result
+        (WritesRow (RowEdit.PutMount row.now) (state S.Store tx.old.conn.now) (state S.Store tx.new.conn.now)) }
+    ensures within { InTransaction S.Store tx.old tx.new }
 {
     run(
         tx,
@@ -76,10 +77,10 @@ pub fn put_mount<S: Alter>(tx: &mut Transaction<'_, S>, row: &MountRow) -> Resul
 
 /// A board. Its row, where it has one, is changed in its place.
 pub fn put_board<S: Alter>(tx: &mut Transaction<'_, S>, row: &BoardRow) -> Result<(), Error>
-    ensures same_reference { tx.new.conn.ghost_name ≡ tx.old.conn.ghost_name }
-    ensures done { HasCleanDisk (state S.Store tx.new.conn.now) → OnOk result (WritesRow (RowEdit.PutBoard row.now) (state S.Store tx.old.conn.now) (state S.Store tx.new.conn.now)) }
-    ensures kept { HasCleanDisk (state S.Store tx.new.conn.now) → KeepsCommit (state S.Store tx.old.conn.now) (state S.Store tx.new.conn.now) }
-    ensures survives { Survives (state S.Store tx.old.conn.now) (state S.Store tx.new.conn.now) (λ _. ⊥) }
+    ensures done { HasCleanDisk (state S.Store tx.new.conn.now)
+        → OnOk result
+        (WritesRow (RowEdit.PutBoard row.now) (state S.Store tx.old.conn.now) (state S.Store tx.new.conn.now)) }
+    ensures within { InTransaction S.Store tx.old tx.new }
 {
     change_or_put(
         tx,

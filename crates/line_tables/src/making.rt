@@ -1,14 +1,13 @@
 //! The tables of an empty list.
 
-ghost use Rattle.std.specs.Prelude.{◌≡◌, false, Err, IsTrue, OnOk, OnErr};
+ghost use Rattle.std.specs.Prelude.{◌≡◌, false, IsTrue, OnOk, OnErr};
 ghost use Rattle.sqlite_trees.specs.Tree.{Trees};
-ghost use Rattle.sqlite.specs.declared.error.Error.TheVariants as Error;
-ghost use Rattle.sqlite.specs.declared.error.ErrorCode.TheVariants as code;
 ghost use Rattle.sqlite.specs.State.{HasCleanDisk, Survives, KeepsCommit};
 ghost use Rattle.sqlite.specs.Held.{state};
 ghost use Rattle.line_tables.specs.Line.{no_schema, line_schema, first_of_line};
 ghost use Rattle.line_tables.specs.Rows.{Holds, blank};
 ghost use Rattle.line_tables.specs.Calls.{Makes, LeavesBlank, Extends, AddsFound};
+ghost use Rattle.line_tables.specs.Frames.{InTransaction, IsRefusedInside};
 
 use crate::statement::run;
 use sqlite::{Alter, Connection, Error, ErrorCode, Transaction, params};
@@ -17,13 +16,22 @@ use sqlite::{Alter, Connection, Error, ErrorCode, Transaction, params};
 /// or nothing. Tables of other names stay, and what is said of values is said where there was none.
 /// In an open transaction of the caller's nothing is done; a name that is taken is `NameTaken`.
 pub fn make<S: Alter>(conn: &mut Connection<S>, greatest: u32) -> Result<(), Error>
-    ensures made { HasCleanDisk (state S.Store conn.new) → OnOk result ((state S.Store conn.old).now.schema ≡ no_schema → Holds (state S.Store conn.new).committed (blank greatest)) }
-    ensures layout { HasCleanDisk (state S.Store conn.new) → OnOk result ((state S.Store conn.old).now.schema ≡ no_schema → (state S.Store conn.new).committed.schema ≡ line_schema) }
-    ensures stays_open { HasCleanDisk (state S.Store conn.new) → OnOk result (IsTrue (state S.Store conn.old).is_open × IsTrue (state S.Store conn.new).is_open) }
-    ensures neither { HasCleanDisk (state S.Store conn.new) → OnErr result (KeepsCommit (state S.Store conn.old) (state S.Store conn.new)) }
-    ensures alone { HasCleanDisk (state S.Store conn.new) → OnOk result ((trees : Trees) → (state S.Store conn.new).may_leave trees → LeavesBlank greatest (state S.Store conn.old) trees) }
-    ensures crash { Survives (state S.Store conn.old) (state S.Store conn.new) (LeavesBlank greatest (state S.Store conn.old)) }
-    ensures inside { IsTrue conn.old.in_transaction → (result ≡ Err (Error.SqliteFailure code.TransactionState)) × (conn.new ≡ conn.old) }
+    ensures made { HasCleanDisk (state S.Store conn.new)
+        → OnOk result ((state S.Store conn.old).now.schema ≡ no_schema
+        → Holds (state S.Store conn.new).committed (blank greatest)) }
+    ensures layout { HasCleanDisk (state S.Store conn.new)
+        → OnOk result ((state S.Store conn.old).now.schema ≡ no_schema
+        → (state S.Store conn.new).committed.schema ≡ line_schema) }
+    ensures stays_open { HasCleanDisk (state S.Store conn.new)
+        → OnOk result (IsTrue (state S.Store conn.old).is_open × IsTrue (state S.Store conn.new).is_open) }
+    ensures neither { HasCleanDisk (state S.Store conn.new)
+        → OnErr result (KeepsCommit (state S.Store conn.old) (state S.Store conn.new)) }
+    ensures alone { HasCleanDisk (state S.Store conn.new)
+        → OnOk result ((trees : Trees) → (state S.Store conn.new).may_leave trees
+        → LeavesBlank greatest (state S.Store conn.old) trees) }
+    ensures crash { Survives (state S.Store conn.old) (state S.Store conn.new)
+        (LeavesBlank greatest (state S.Store conn.old)) }
+    ensures inside { IsRefusedInside result conn.old conn.new }
     ensures mode { conn.old.in_transaction ≡ false → conn.new.in_transaction ≡ false }
 {
     if !conn.is_autocommit() {
@@ -35,10 +43,9 @@ pub fn make<S: Alter>(conn: &mut Connection<S>, greatest: u32) -> Result<(), Err
 }
 
 fn make_all<S: Alter>(tx: &mut Transaction<'_, S>, greatest: u32) -> Result<(), Error>
-    ensures same_reference { tx.new.conn.ghost_name ≡ tx.old.conn.ghost_name }
-    ensures made { HasCleanDisk (state S.Store tx.new.conn.now) → OnOk result (Makes greatest (state S.Store tx.old.conn.now) (state S.Store tx.new.conn.now)) }
-    ensures kept { HasCleanDisk (state S.Store tx.new.conn.now) → KeepsCommit (state S.Store tx.old.conn.now) (state S.Store tx.new.conn.now) }
-    ensures survives { Survives (state S.Store tx.old.conn.now) (state S.Store tx.new.conn.now) (λ _. ⊥) }
+    ensures made { HasCleanDisk (state S.Store tx.new.conn.now)
+        → OnOk result (Makes greatest (state S.Store tx.old.conn.now) (state S.Store tx.new.conn.now)) }
+    ensures within { InTransaction S.Store tx.old tx.new }
 {
     make_tables(tx)?;
     run(
@@ -50,10 +57,9 @@ fn make_all<S: Alter>(tx: &mut Transaction<'_, S>, greatest: u32) -> Result<(), 
 
 /// All tables with the indexes of their rules, and no row.
 fn make_tables<S: Alter>(tx: &mut Transaction<'_, S>) -> Result<(), Error>
-    ensures same_reference { tx.new.conn.ghost_name ≡ tx.old.conn.ghost_name }
-    ensures made { HasCleanDisk (state S.Store tx.new.conn.now) → OnOk result (Extends no_schema line_schema (state S.Store tx.old.conn.now) (state S.Store tx.new.conn.now)) }
-    ensures kept { HasCleanDisk (state S.Store tx.new.conn.now) → KeepsCommit (state S.Store tx.old.conn.now) (state S.Store tx.new.conn.now) }
-    ensures survives { Survives (state S.Store tx.old.conn.now) (state S.Store tx.new.conn.now) (λ _. ⊥) }
+    ensures made { HasCleanDisk (state S.Store tx.new.conn.now)
+        → OnOk result (Extends no_schema line_schema (state S.Store tx.old.conn.now) (state S.Store tx.new.conn.now)) }
+    ensures within { InTransaction S.Store tx.old tx.new }
 {
     make_list(tx)?;
     make_setup(tx)?;
@@ -63,10 +69,10 @@ fn make_tables<S: Alter>(tx: &mut Transaction<'_, S>) -> Result<(), Error>
 
 /// The list and its version.
 fn make_list<S: Alter>(tx: &mut Transaction<'_, S>) -> Result<(), Error>
-    ensures same_reference { tx.new.conn.ghost_name ≡ tx.old.conn.ghost_name }
-    ensures made { HasCleanDisk (state S.Store tx.new.conn.now) → OnOk result (Extends no_schema (first_of_line 2 1) (state S.Store tx.old.conn.now) (state S.Store tx.new.conn.now)) }
-    ensures kept { HasCleanDisk (state S.Store tx.new.conn.now) → KeepsCommit (state S.Store tx.old.conn.now) (state S.Store tx.new.conn.now) }
-    ensures survives { Survives (state S.Store tx.old.conn.now) (state S.Store tx.new.conn.now) (λ _. ⊥) }
+    ensures made { HasCleanDisk (state S.Store tx.new.conn.now)
+        → OnOk result
+        (Extends no_schema (first_of_line 2 1) (state S.Store tx.old.conn.now) (state S.Store tx.new.conn.now)) }
+    ensures within { InTransaction S.Store tx.old tx.new }
 {
     run(
         tx,
@@ -82,10 +88,11 @@ fn make_list<S: Alter>(tx: &mut Transaction<'_, S>) -> Result<(), Error>
 
 /// What is set up before the line runs.
 fn make_setup<S: Alter>(tx: &mut Transaction<'_, S>) -> Result<(), Error>
-    ensures same_reference { tx.new.conn.ghost_name ≡ tx.old.conn.ghost_name }
-    ensures made { HasCleanDisk (state S.Store tx.new.conn.now) → OnOk result (Extends (first_of_line 2 1) (first_of_line 6 5) (state S.Store tx.old.conn.now) (state S.Store tx.new.conn.now)) }
-    ensures kept { HasCleanDisk (state S.Store tx.new.conn.now) → KeepsCommit (state S.Store tx.old.conn.now) (state S.Store tx.new.conn.now) }
-    ensures survives { Survives (state S.Store tx.old.conn.now) (state S.Store tx.new.conn.now) (λ _. ⊥) }
+    ensures made { HasCleanDisk (state S.Store tx.new.conn.now)
+        → OnOk result
+        (Extends (first_of_line 2 1) (first_of_line 6 5) (state S.Store tx.old.conn.now)
+        (state S.Store tx.new.conn.now)) }
+    ensures within { InTransaction S.Store tx.old tx.new }
 {
     run(
         tx,
@@ -111,10 +118,11 @@ fn make_setup<S: Alter>(tx: &mut Transaction<'_, S>) -> Result<(), Error>
 
 /// What is on the line.
 fn make_floor<S: Alter>(tx: &mut Transaction<'_, S>) -> Result<(), Error>
-    ensures same_reference { tx.new.conn.ghost_name ≡ tx.old.conn.ghost_name }
-    ensures made { HasCleanDisk (state S.Store tx.new.conn.now) → OnOk result (Extends (first_of_line 6 5) (first_of_line 9 8) (state S.Store tx.old.conn.now) (state S.Store tx.new.conn.now)) }
-    ensures kept { HasCleanDisk (state S.Store tx.new.conn.now) → KeepsCommit (state S.Store tx.old.conn.now) (state S.Store tx.new.conn.now) }
-    ensures survives { Survives (state S.Store tx.old.conn.now) (state S.Store tx.new.conn.now) (λ _. ⊥) }
+    ensures made { HasCleanDisk (state S.Store tx.new.conn.now)
+        → OnOk result
+        (Extends (first_of_line 6 5) (first_of_line 9 8) (state S.Store tx.old.conn.now)
+        (state S.Store tx.new.conn.now)) }
+    ensures within { InTransaction S.Store tx.old tx.new }
 {
     run(
         tx,
@@ -135,10 +143,10 @@ fn make_floor<S: Alter>(tx: &mut Transaction<'_, S>) -> Result<(), Error>
 
 /// Where pieces went, and what counts found.
 fn make_pieces<S: Alter>(tx: &mut Transaction<'_, S>) -> Result<(), Error>
-    ensures same_reference { tx.new.conn.ghost_name ≡ tx.old.conn.ghost_name }
-    ensures made { HasCleanDisk (state S.Store tx.new.conn.now) → OnOk result (Extends (first_of_line 9 8) line_schema (state S.Store tx.old.conn.now) (state S.Store tx.new.conn.now)) }
-    ensures kept { HasCleanDisk (state S.Store tx.new.conn.now) → KeepsCommit (state S.Store tx.old.conn.now) (state S.Store tx.new.conn.now) }
-    ensures survives { Survives (state S.Store tx.old.conn.now) (state S.Store tx.new.conn.now) (λ _. ⊥) }
+    ensures made { HasCleanDisk (state S.Store tx.new.conn.now)
+        → OnOk result
+        (Extends (first_of_line 9 8) line_schema (state S.Store tx.old.conn.now) (state S.Store tx.new.conn.now)) }
+    ensures within { InTransaction S.Store tx.old tx.new }
 {
     run(
         tx,
@@ -150,10 +158,9 @@ fn make_pieces<S: Alter>(tx: &mut Transaction<'_, S>) -> Result<(), Error>
 
 /// The table of what counts found, which version 1 lacks.
 pub fn make_found<S: Alter>(tx: &mut Transaction<'_, S>) -> Result<(), Error>
-    ensures same_reference { tx.new.conn.ghost_name ≡ tx.old.conn.ghost_name }
-    ensures made { HasCleanDisk (state S.Store tx.new.conn.now) → OnOk result (AddsFound (state S.Store tx.old.conn.now) (state S.Store tx.new.conn.now)) }
-    ensures kept { HasCleanDisk (state S.Store tx.new.conn.now) → KeepsCommit (state S.Store tx.old.conn.now) (state S.Store tx.new.conn.now) }
-    ensures survives { Survives (state S.Store tx.old.conn.now) (state S.Store tx.new.conn.now) (λ _. ⊥) }
+    ensures made { HasCleanDisk (state S.Store tx.new.conn.now)
+        → OnOk result (AddsFound (state S.Store tx.old.conn.now) (state S.Store tx.new.conn.now)) }
+    ensures within { InTransaction S.Store tx.old tx.new }
 {
     run(
         tx,

@@ -1,12 +1,11 @@
 //! The tables of version 1 made those of version 2.
 
-ghost use Rattle.std.specs.Prelude.{◌≡◌, false, Err, IsTrue, OnOk, OnErr};
+ghost use Rattle.std.specs.Prelude.{◌≡◌, false, IsTrue, OnOk, OnErr};
 ghost use Rattle.sqlite_trees.specs.Tree.{Trees};
-ghost use Rattle.sqlite.specs.declared.error.Error.TheVariants as Error;
-ghost use Rattle.sqlite.specs.declared.error.ErrorCode.TheVariants as code;
 ghost use Rattle.sqlite.specs.State.{HasCleanDisk, Survives, KeepsCommit};
 ghost use Rattle.sqlite.specs.Held.{state};
 ghost use Rattle.line_tables.specs.Calls.{Migrated, Migrates, LeavesMigrated};
+ghost use Rattle.line_tables.specs.Frames.{InTransaction, IsRefusedInside};
 
 use crate::making::make_found;
 use crate::statement::run;
@@ -16,12 +15,18 @@ use sqlite::{Alter, Connection, Error, ErrorCode, Transaction};
 /// more, which is empty, and the version has its number. All other rows stay as they are. In an open
 /// transaction of the caller's nothing is done.
 pub fn migrate_tables<S: Alter>(conn: &mut Connection<S>) -> Result<(), Error>
-    ensures done { HasCleanDisk (state S.Store conn.new) → OnOk result (Migrated (state S.Store conn.old).committed (state S.Store conn.new).committed) }
-    ensures stays_open { HasCleanDisk (state S.Store conn.new) → OnOk result (IsTrue (state S.Store conn.old).is_open × IsTrue (state S.Store conn.new).is_open) }
-    ensures neither { HasCleanDisk (state S.Store conn.new) → OnErr result (KeepsCommit (state S.Store conn.old) (state S.Store conn.new)) }
-    ensures alone { HasCleanDisk (state S.Store conn.new) → OnOk result ((trees : Trees) → (state S.Store conn.new).may_leave trees → LeavesMigrated (state S.Store conn.old) trees) }
-    ensures crash { Survives (state S.Store conn.old) (state S.Store conn.new) (LeavesMigrated (state S.Store conn.old)) }
-    ensures inside { IsTrue conn.old.in_transaction → (result ≡ Err (Error.SqliteFailure code.TransactionState)) × (conn.new ≡ conn.old) }
+    ensures done { HasCleanDisk (state S.Store conn.new)
+        → OnOk result (Migrated (state S.Store conn.old).committed (state S.Store conn.new).committed) }
+    ensures stays_open { HasCleanDisk (state S.Store conn.new)
+        → OnOk result (IsTrue (state S.Store conn.old).is_open × IsTrue (state S.Store conn.new).is_open) }
+    ensures neither { HasCleanDisk (state S.Store conn.new)
+        → OnErr result (KeepsCommit (state S.Store conn.old) (state S.Store conn.new)) }
+    ensures alone { HasCleanDisk (state S.Store conn.new)
+        → OnOk result ((trees : Trees) → (state S.Store conn.new).may_leave trees
+        → LeavesMigrated (state S.Store conn.old) trees) }
+    ensures crash { Survives (state S.Store conn.old) (state S.Store conn.new)
+        (LeavesMigrated (state S.Store conn.old)) }
+    ensures inside { IsRefusedInside result conn.old conn.new }
     ensures mode { conn.old.in_transaction ≡ false → conn.new.in_transaction ≡ false }
 {
     if !conn.is_autocommit() {
@@ -33,10 +38,9 @@ pub fn migrate_tables<S: Alter>(conn: &mut Connection<S>) -> Result<(), Error>
 }
 
 fn change_version<S: Alter>(tx: &mut Transaction<'_, S>) -> Result<(), Error>
-    ensures same_reference { tx.new.conn.ghost_name ≡ tx.old.conn.ghost_name }
-    ensures done { HasCleanDisk (state S.Store tx.new.conn.now) → OnOk result (Migrates (state S.Store tx.old.conn.now) (state S.Store tx.new.conn.now)) }
-    ensures kept { HasCleanDisk (state S.Store tx.new.conn.now) → KeepsCommit (state S.Store tx.old.conn.now) (state S.Store tx.new.conn.now) }
-    ensures survives { Survives (state S.Store tx.old.conn.now) (state S.Store tx.new.conn.now) (λ _. ⊥) }
+    ensures done { HasCleanDisk (state S.Store tx.new.conn.now)
+        → OnOk result (Migrates (state S.Store tx.old.conn.now) (state S.Store tx.new.conn.now)) }
+    ensures within { InTransaction S.Store tx.old tx.new }
 {
     make_found(tx)?;
     run(tx, "UPDATE version SET number = 2", &[])

@@ -194,14 +194,17 @@ fn has_found(tables: &[Table], rules: Rules) -> bool
 }
 
 fn has_table(tables: &[Table], name: &str, columns: &[&str]) -> bool
-    ensures { result ≡ list_any (λ table. same_name table.name name.now && list_all (λ column. has_column table column.now) columns.now) tables.now }
+    ensures { result ≡ list_any
+        (λ table. same_name table.name name.now && list_all
+        (λ column. has_column table column.now) columns.now) tables.now }
 {
     tables.iter().any(|table| is_named(table, name, columns))
 }
 
 /// Whether the table has this name and these columns.
 fn is_named(table: &Table, name: &str, columns: &[&str]) -> bool
-    ensures { result ≡ (same_name table.now.name name.now && list_all (λ column. has_column table.now column.now) columns.now) }
+    ensures { result ≡ (same_name table.now.name name.now && list_all
+        (λ column. has_column table.now column.now) columns.now) }
 {
     same_name(table.name.as_slice(), name.as_bytes()) && has_columns(table, columns)
 }

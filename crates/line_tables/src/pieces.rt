@@ -2,13 +2,14 @@
 
 ghost use Rattle.std.specs.Prelude.{◌≡◌, OnOk, ◌++◌, IfOk, IfSome, List, map, length};
 ghost use Rattle.std.specs.List.{flat_map};
-ghost use Rattle.sqlite.specs.State.{HasCleanDisk, Survives, KeepsCommit};
+ghost use Rattle.sqlite.specs.State.{HasCleanDisk};
 ghost use Rattle.sqlite.specs.Held.{state};
 ghost use Rattle.desk_types.specs.declared.edit.RowEdit.TheVariants as RowEdit;
 ghost use Rattle.desk_types.specs.declared.row.PlacementRow.{PlacementRow};
 ghost use Rattle.sqlite.specs.Values.{bound};
 ghost use Rattle.line_tables.specs.Placing.{placement_edit, placement_kept, ArePlacing};
 ghost use Rattle.line_tables.specs.Calls.{Writes, WritesRow};
+ghost use Rattle.line_tables.specs.Frames.{InTransaction};
 
 use crate::edit::Edit;
 use crate::statement::{change_or_put, run};
@@ -24,10 +25,10 @@ pub fn put_placement<S: Alter>(
     tx: &mut Transaction<'_, S>,
     row: &PlacementRow,
 ) -> Result<(), Error>
-    ensures same_reference { tx.new.conn.ghost_name ≡ tx.old.conn.ghost_name }
-    ensures done { HasCleanDisk (state S.Store tx.new.conn.now) → OnOk result (WritesRow (RowEdit.PutPlacement row.now) (state S.Store tx.old.conn.now) (state S.Store tx.new.conn.now)) }
-    ensures kept { HasCleanDisk (state S.Store tx.new.conn.now) → KeepsCommit (state S.Store tx.old.conn.now) (state S.Store tx.new.conn.now) }
-    ensures survives { Survives (state S.Store tx.old.conn.now) (state S.Store tx.new.conn.now) (λ _. ⊥) }
+    ensures done { HasCleanDisk (state S.Store tx.new.conn.now)
+        → OnOk result
+        (WritesRow (RowEdit.PutPlacement row.now) (state S.Store tx.old.conn.now) (state S.Store tx.new.conn.now)) }
+    ensures within { InTransaction S.Store tx.old tx.new }
 {
     let mut values = Vec::new(alloc);
     add_values(&mut values, row)?;
@@ -44,10 +45,10 @@ pub fn put_eight<S: Alter>(
     tx: &mut Transaction<'_, S>,
     values: &[ValueRef<'_>],
 ) -> Result<(), Error>
-    ensures same_reference { tx.new.conn.ghost_name ≡ tx.old.conn.ghost_name }
-    ensures done { HasCleanDisk (state S.Store tx.new.conn.now) → OnOk result ((rows : List PlacementRow) → length rows ≡ 8 → bound values.now ≡ flat_map placement_kept rows → Writes (map placement_edit rows) (state S.Store tx.old.conn.now) (state S.Store tx.new.conn.now)) }
-    ensures kept { HasCleanDisk (state S.Store tx.new.conn.now) → KeepsCommit (state S.Store tx.old.conn.now) (state S.Store tx.new.conn.now) }
-    ensures survives { Survives (state S.Store tx.old.conn.now) (state S.Store tx.new.conn.now) (λ _. ⊥) }
+    ensures done { HasCleanDisk (state S.Store tx.new.conn.now)
+        → OnOk result ((rows : List PlacementRow) → length rows ≡ 8 → bound values.now ≡ flat_map placement_kept rows
+        → Writes (map placement_edit rows) (state S.Store tx.old.conn.now) (state S.Store tx.new.conn.now)) }
+    ensures within { InTransaction S.Store tx.old tx.new }
 {
     run(
         tx,
@@ -94,10 +95,10 @@ fn add_values<'a>(values: &mut Vec<ValueRef<'a>>, row: &'a PlacementRow) -> Resu
 
 /// So many pieces found on a reel, in the place of what was found before. None is refused.
 pub fn put_found<S: Alter>(tx: &mut Transaction<'_, S>, reel: &Id, pieces: u64) -> Result<(), Error>
-    ensures same_reference { tx.new.conn.ghost_name ≡ tx.old.conn.ghost_name }
-    ensures done { HasCleanDisk (state S.Store tx.new.conn.now) → OnOk result (WritesRow (RowEdit.PutFound reel.now pieces) (state S.Store tx.old.conn.now) (state S.Store tx.new.conn.now)) }
-    ensures kept { HasCleanDisk (state S.Store tx.new.conn.now) → KeepsCommit (state S.Store tx.old.conn.now) (state S.Store tx.new.conn.now) }
-    ensures survives { Survives (state S.Store tx.old.conn.now) (state S.Store tx.new.conn.now) (λ _. ⊥) }
+    ensures done { HasCleanDisk (state S.Store tx.new.conn.now)
+        → OnOk result
+        (WritesRow (RowEdit.PutFound reel.now pieces) (state S.Store tx.old.conn.now) (state S.Store tx.new.conn.now)) }
+    ensures within { InTransaction S.Store tx.old tx.new }
 {
     change_or_put(
         tx,

@@ -1,16 +1,16 @@
 //! What is read of the accepted commands. Each call reads what is committed, and changes nothing. In
 //! an open transaction of the caller's it reads nothing.
 
-ghost use Rattle.std.specs.Prelude.{◌≡◌, ◌<◌, false, pos, length, Err, IsTrue, IfOk, [], ◌∷◌, filter};
+ghost use Rattle.std.specs.Prelude.{◌≡◌, ◌≢◌, ◌<◌, ◌≤◌, ℕ, ℤ, pos, length, Option, IfOk, IfErr, [], ◌∷◌, filter};
 ghost use Rattle.std.specs.List.{list_any};
 ghost use Rattle.sqlite.specs.declared.types.Value.TheVariants.{Int};
-ghost use Rattle.sqlite.specs.declared.error.Error.TheVariants as Error;
-ghost use Rattle.sqlite.specs.declared.error.ErrorCode.TheVariants as code;
-ghost use Rattle.sqlite.specs.State.{HasCleanDisk, Survives, KeepsCommit};
+ghost use Rattle.sqlite.specs.State.{HasCleanDisk};
 ghost use Rattle.sqlite.specs.Held.{state};
 ghost use Rattle.line_tables.specs.Rows.{columns_of, accepted_in};
 ghost use Rattle.line_tables.specs.declared.reading.TheConstants.{MOST_COUNTED};
 ghost use Rattle.line_tables.specs.Calls.{Reads, has_uid, has_number, is_before, only, row_of, number_row, IsLeast};
+ghost use Rattle.line_tables.specs.Frames.{ReadsOnly, IsRefusedInside};
+ghost use Rattle.line_tables.specs.Faults.{OnlyWhere};
 
 use crate::edit::Accepted;
 use crate::select::select;
@@ -22,11 +22,11 @@ pub const MOST_COUNTED: u64 = 9_223_372_036_854_775_807;
 /// The row with this UniqueID, by the index on it, where there is one. Two such rows are an error,
 /// and so is one with a number outside `u32` or a value of another type.
 pub fn find<S: Alter>(conn: &mut Connection<S>, uid: &str) -> Result<Option<Accepted>, Error>
-    ensures found { HasCleanDisk (state S.Store conn.new) → IfOk result (λ found. Reads (state S.Store conn.old) (λ db. filter (has_uid uid.now) (accepted_in db) ≡ row_of found)) }
-    ensures kept { HasCleanDisk (state S.Store conn.new) → KeepsCommit (state S.Store conn.old) (state S.Store conn.new) }
-    ensures inside { IsTrue conn.old.in_transaction → (result ≡ Err (Error.SqliteFailure code.TransactionState)) × (conn.new ≡ conn.old) }
-    ensures mode { conn.old.in_transaction ≡ false → conn.new.in_transaction ≡ false }
-    ensures survives { Survives (state S.Store conn.old) (state S.Store conn.new) (λ _. ⊥) }
+    ensures found { HasCleanDisk (state S.Store conn.new)
+        → IfOk result
+        (λ found. Reads (state S.Store conn.old) (λ db. filter (has_uid uid.now) (accepted_in db) ≡ row_of found)) }
+    ensures reads { ReadsOnly S.Store conn.old conn.new }
+    ensures inside { IsRefusedInside result conn.old conn.new }
 {
     let rows = select(
         conn,
@@ -42,11 +42,11 @@ pub fn find<S: Alter>(conn: &mut Connection<S>, uid: &str) -> Result<Option<Acce
 /// The seven columns of the row with this number, whatever their values, where there is one. Two such
 /// rows are an error.
 pub fn row_at<S: Alter>(conn: &mut Connection<S>, number: u32) -> Result<Option<Row>, Error>
-    ensures found { HasCleanDisk (state S.Store conn.new) → IfOk result (λ found. Reads (state S.Store conn.old) (λ db. filter (has_number number) (accepted_in db) ≡ only found)) }
-    ensures kept { HasCleanDisk (state S.Store conn.new) → KeepsCommit (state S.Store conn.old) (state S.Store conn.new) }
-    ensures inside { IsTrue conn.old.in_transaction → (result ≡ Err (Error.SqliteFailure code.TransactionState)) × (conn.new ≡ conn.old) }
-    ensures mode { conn.old.in_transaction ≡ false → conn.new.in_transaction ≡ false }
-    ensures survives { Survives (state S.Store conn.old) (state S.Store conn.new) (λ _. ⊥) }
+    ensures found { HasCleanDisk (state S.Store conn.new)
+        → IfOk result
+        (λ found. Reads (state S.Store conn.old) (λ db. filter (has_number number) (accepted_in db) ≡ only found)) }
+    ensures reads { ReadsOnly S.Store conn.old conn.new }
+    ensures inside { IsRefusedInside result conn.old conn.new }
 {
     let rows = select(
         conn,
@@ -58,11 +58,11 @@ pub fn row_at<S: Alter>(conn: &mut Connection<S>, number: u32) -> Result<Option<
 
 /// Whether a row of a lower number has this UniqueID.
 pub fn is_repeat<S: Alter>(conn: &mut Connection<S>, uid: &str, number: u32) -> Result<bool, Error>
-    ensures found { HasCleanDisk (state S.Store conn.new) → IfOk result (λ found. Reads (state S.Store conn.old) (λ db. found ≡ list_any (is_before uid.now number) (accepted_in db))) }
-    ensures kept { HasCleanDisk (state S.Store conn.new) → KeepsCommit (state S.Store conn.old) (state S.Store conn.new) }
-    ensures inside { IsTrue conn.old.in_transaction → (result ≡ Err (Error.SqliteFailure code.TransactionState)) × (conn.new ≡ conn.old) }
-    ensures mode { conn.old.in_transaction ≡ false → conn.new.in_transaction ≡ false }
-    ensures survives { Survives (state S.Store conn.old) (state S.Store conn.new) (λ _. ⊥) }
+    ensures found { HasCleanDisk (state S.Store conn.new)
+        → IfOk result
+        (λ found. Reads (state S.Store conn.old) (λ db. found ≡ list_any (is_before uid.now number) (accepted_in db))) }
+    ensures reads { ReadsOnly S.Store conn.old conn.new }
+    ensures inside { IsRefusedInside result conn.old conn.new }
 {
     let rows = select(
         conn,
@@ -74,11 +74,10 @@ pub fn is_repeat<S: Alter>(conn: &mut Connection<S>, uid: &str, number: u32) -> 
 
 /// The least number of a row, or none where there is no row. A number that is no integer is an error.
 pub fn least_number<S: Alter>(conn: &mut Connection<S>) -> Result<Option<i64>, Error>
-    ensures least { HasCleanDisk (state S.Store conn.new) → IfOk result (λ least. Reads (state S.Store conn.old) (λ db. IsLeast (accepted_in db) least)) }
-    ensures kept { HasCleanDisk (state S.Store conn.new) → KeepsCommit (state S.Store conn.old) (state S.Store conn.new) }
-    ensures inside { IsTrue conn.old.in_transaction → (result ≡ Err (Error.SqliteFailure code.TransactionState)) × (conn.new ≡ conn.old) }
-    ensures mode { conn.old.in_transaction ≡ false → conn.new.in_transaction ≡ false }
-    ensures survives { Survives (state S.Store conn.old) (state S.Store conn.new) (λ _. ⊥) }
+    ensures least { HasCleanDisk (state S.Store conn.new)
+        → IfOk result (λ least. Reads (state S.Store conn.old) (λ db. IsLeast (accepted_in db) least)) }
+    ensures reads { ReadsOnly S.Store conn.old conn.new }
+    ensures inside { IsRefusedInside result conn.old conn.new }
 {
     let rows = select(
         conn,
@@ -90,18 +89,18 @@ pub fn least_number<S: Alter>(conn: &mut Connection<S>) -> Result<Option<i64>, E
 
 /// How many rows there are.
 pub fn count<S: Alter>(conn: &mut Connection<S>) -> Result<u64, Error>
-    ensures counted { HasCleanDisk (state S.Store conn.new) → IfOk result (λ n. Reads (state S.Store conn.old) (λ db. n ≡ length (accepted_in db))) }
-    ensures kept { HasCleanDisk (state S.Store conn.new) → KeepsCommit (state S.Store conn.old) (state S.Store conn.new) }
-    ensures inside { IsTrue conn.old.in_transaction → (result ≡ Err (Error.SqliteFailure code.TransactionState)) × (conn.new ≡ conn.old) }
-    ensures mode { conn.old.in_transaction ≡ false → conn.new.in_transaction ≡ false }
-    ensures survives { Survives (state S.Store conn.old) (state S.Store conn.new) (λ _. ⊥) }
+    ensures counted { HasCleanDisk (state S.Store conn.new)
+        → IfOk result (λ n. Reads (state S.Store conn.old) (λ db. n ≡ length (accepted_in db))) }
+    ensures reads { ReadsOnly S.Store conn.old conn.new }
+    ensures inside { IsRefusedInside result conn.old conn.new }
 {
     let rows = select(conn, "SELECT count(*) FROM accepted", &[])?;
     count_of(rows.as_slice())
 }
 
 fn at_most_one(rows: Vec<Row>) -> Result<Option<Row>, Error>
-    ensures { IfOk result (λ found. rows.items ≡ only found) }
+    ensures ok { IfOk result (λ found. rows.items ≡ only found) }
+    ensures err { IfErr result (λ _. 2 ≤ length rows.items) }
 {
     let mut rows = rows;
     let last = rows.pop();
@@ -130,7 +129,8 @@ fn accepted_of(row: &Row) -> Result<Accepted, Error>
 }
 
 fn least_of(rows: &[Row]) -> Result<Option<i64>, Error>
-    ensures { IfOk result (λ least. rows.now ≡ number_row least) }
+    ensures ok { IfOk result (λ least. rows.now ≡ number_row least) }
+    ensures err { IfErr result (OnlyWhere ((least : Option ℤ) → rows.now ≢ number_row least)) }
 {
     match rows {
         [] => Ok(None),
@@ -140,7 +140,8 @@ fn least_of(rows: &[Row]) -> Result<Option<i64>, Error>
 }
 
 pub fn number_of(row: &Row) -> Result<i64, Error>
-    ensures { IfOk result (λ n. row.now ≡ Int n ∷ []) }
+    ensures ok { IfOk result (λ n. row.now ≡ Int n ∷ []) }
+    ensures err { IfErr result (OnlyWhere ((n : ℤ) → row.now ≢ Int n ∷ [])) }
 {
     if row.column_count() != 1 {
         return Err(Error::InvalidColumnIndex(1));
@@ -152,6 +153,7 @@ pub fn number_of(row: &Row) -> Result<i64, Error>
 pub fn count_of(rows: &[Row]) -> Result<u64, Error>
     ensures row { IfOk result (λ n. rows.now ≡ (Int (pos n) ∷ []) ∷ []) }
     ensures below { IfOk result (λ n. n < MOST_COUNTED) }
+    ensures err { IfErr result (OnlyWhere ((n : ℕ) → n < MOST_COUNTED → rows.now ≢ (Int (pos n) ∷ []) ∷ [])) }
 {
     let [row] = rows else {
         return Err(Error::InvalidColumnIndex(1));

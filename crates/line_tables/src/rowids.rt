@@ -1,14 +1,15 @@
 //! Whether rows are told apart by their rowids. Each call reads what is committed, and changes nothing.
 //! In an open transaction of the caller's it reads nothing.
 
-ghost use Rattle.std.specs.Prelude.{◌≡◌, ◌&&◌, true, false, Err, IsTrue, IfOk, take, drop};
-ghost use Rattle.sqlite.specs.declared.error.Error.TheVariants as Error;
-ghost use Rattle.sqlite.specs.declared.error.ErrorCode.TheVariants as code;
-ghost use Rattle.sqlite.specs.State.{HasCleanDisk, Survives, KeepsCommit};
+ghost use Rattle.std.specs.Prelude.{◌≡◌, ◌↔◌, ◌&&◌, true, IsTrue, IfOk, IfErr, take, drop};
+ghost use Rattle.std.specs.List.{AllByRecursion};
+ghost use Rattle.sqlite.specs.State.{HasCleanDisk};
 ghost use Rattle.sqlite.specs.Held.{state};
 ghost use Rattle.line_tables.specs.Calls.{Reads};
 ghost use Rattle.line_tables.specs.Rowids.{AreAllApartBy, changed_tables, changed_of};
-ghost use Rattle.line_tables.specs.Rising.{AreApartWhere, IsFoundApartWhere, Shows, AreRising, IsPast};
+ghost use Rattle.line_tables.specs.Faults.{OnlyWhere};
+ghost use Rattle.line_tables.specs.Frames.{ReadsOnly, IsRefusedInside};
+ghost use Rattle.line_tables.specs.Rising.{AreApartWhere, IsFoundApartWhere, Shows, AreRising, IsPast, IsNumber};
 
 use crate::reading::number_of;
 use crate::select::select;
@@ -18,11 +19,10 @@ use sqlite::{Alter, Connection, Error, Row};
 /// Whether in each state table but `placement` every row has an integer of its own as its rowid. SQL
 /// keeps it so in every file that it writes. Under rules One there is no table of what counts found.
 pub fn are_apart<S: Alter>(conn: &mut Connection<S>, rules: Rules) -> Result<bool, Error>
-    ensures apart { HasCleanDisk (state S.Store conn.new) → IfOk result (λ are. Reads (state S.Store conn.old) (λ db. IsTrue are → AreAllApartBy rules db)) }
-    ensures kept { HasCleanDisk (state S.Store conn.new) → KeepsCommit (state S.Store conn.old) (state S.Store conn.new) }
-    ensures inside { IsTrue conn.old.in_transaction → (result ≡ Err (Error.SqliteFailure code.TransactionState)) × (conn.new ≡ conn.old) }
-    ensures mode { conn.old.in_transaction ≡ false → conn.new.in_transaction ≡ false }
-    ensures survives { Survives (state S.Store conn.old) (state S.Store conn.new) (λ _. ⊥) }
+    ensures apart { HasCleanDisk (state S.Store conn.new)
+        → IfOk result (λ are. Reads (state S.Store conn.old) (λ db. IsTrue are → AreAllApartBy rules db)) }
+    ensures reads { ReadsOnly S.Store conn.old conn.new }
+    ensures inside { IsRefusedInside result conn.old conn.new }
 {
     if !is_setup_apart(conn)? {
         return Ok(false);
@@ -32,11 +32,10 @@ pub fn are_apart<S: Alter>(conn: &mut Connection<S>, rules: Rules) -> Result<boo
 
 /// The tables of what is set up.
 fn is_setup_apart<S: Alter>(conn: &mut Connection<S>) -> Result<bool, Error>
-    ensures found { HasCleanDisk (state S.Store conn.new) → IfOk result (λ apart. Reads (state S.Store conn.old) (AreApartWhere apart (take 4 changed_tables))) }
-    ensures kept { HasCleanDisk (state S.Store conn.new) → KeepsCommit (state S.Store conn.old) (state S.Store conn.new) }
-    ensures inside { IsTrue conn.old.in_transaction → (result ≡ Err (Error.SqliteFailure code.TransactionState)) × (conn.new ≡ conn.old) }
-    ensures mode { conn.old.in_transaction ≡ false → conn.new.in_transaction ≡ false }
-    ensures survives { Survives (state S.Store conn.old) (state S.Store conn.new) (λ _. ⊥) }
+    ensures found { HasCleanDisk (state S.Store conn.new)
+        → IfOk result (λ apart. Reads (state S.Store conn.old) (AreApartWhere apart (take 4 changed_tables))) }
+    ensures reads { ReadsOnly S.Store conn.old conn.new }
+    ensures inside { IsRefusedInside result conn.old conn.new }
 {
     let part = shows_rising(conn, "SELECT rowid FROM part ORDER BY rowid")?;
     let alternate = shows_rising(conn, "SELECT rowid FROM alternate ORDER BY rowid")?;
@@ -47,11 +46,10 @@ fn is_setup_apart<S: Alter>(conn: &mut Connection<S>) -> Result<bool, Error>
 
 /// The tables of what is on the line, and of what counts found.
 fn is_floor_apart<S: Alter>(conn: &mut Connection<S>, rules: Rules) -> Result<bool, Error>
-    ensures found { HasCleanDisk (state S.Store conn.new) → IfOk result (λ apart. Reads (state S.Store conn.old) (AreApartWhere apart (drop 4 (changed_of rules)))) }
-    ensures kept { HasCleanDisk (state S.Store conn.new) → KeepsCommit (state S.Store conn.old) (state S.Store conn.new) }
-    ensures inside { IsTrue conn.old.in_transaction → (result ≡ Err (Error.SqliteFailure code.TransactionState)) × (conn.new ≡ conn.old) }
-    ensures mode { conn.old.in_transaction ≡ false → conn.new.in_transaction ≡ false }
-    ensures survives { Survives (state S.Store conn.old) (state S.Store conn.new) (λ _. ⊥) }
+    ensures found { HasCleanDisk (state S.Store conn.new)
+        → IfOk result (λ apart. Reads (state S.Store conn.old) (AreApartWhere apart (drop 4 (changed_of rules)))) }
+    ensures reads { ReadsOnly S.Store conn.old conn.new }
+    ensures inside { IsRefusedInside result conn.old conn.new }
 {
     let reel = shows_rising(conn, "SELECT rowid FROM reel ORDER BY rowid")?;
     let mount = shows_rising(conn, "SELECT rowid FROM mount ORDER BY rowid")?;
@@ -62,10 +60,9 @@ fn is_floor_apart<S: Alter>(conn: &mut Connection<S>, rules: Rules) -> Result<bo
 
 /// The table of what counts found, where there is one.
 fn is_found_apart<S: Alter>(conn: &mut Connection<S>, rules: Rules) -> Result<bool, Error>
-    ensures found { HasCleanDisk (state S.Store conn.new) → IfOk result (λ apart. IsFoundApartWhere rules apart (state S.Store conn.old)) }
-    ensures kept { HasCleanDisk (state S.Store conn.new) → KeepsCommit (state S.Store conn.old) (state S.Store conn.new) }
-    ensures mode { conn.old.in_transaction ≡ false → conn.new.in_transaction ≡ false }
-    ensures survives { Survives (state S.Store conn.old) (state S.Store conn.new) (λ _. ⊥) }
+    ensures found { HasCleanDisk (state S.Store conn.new)
+        → IfOk result (λ apart. IsFoundApartWhere rules apart (state S.Store conn.old)) }
+    ensures reads { ReadsOnly S.Store conn.old conn.new }
 {
     match rules {
         Rules::One => Ok(true),
@@ -76,10 +73,8 @@ fn is_found_apart<S: Alter>(conn: &mut Connection<S>, rules: Rules) -> Result<bo
 /// Whether the query shows numbers that rise.
 fn shows_rising<S: Alter>(conn: &mut Connection<S>, sql: &str) -> Result<bool, Error>
     ensures shown { HasCleanDisk (state S.Store conn.new) → IfOk result (Shows S.Store sql.now conn.old) }
-    ensures kept { HasCleanDisk (state S.Store conn.new) → KeepsCommit (state S.Store conn.old) (state S.Store conn.new) }
-    ensures inside { IsTrue conn.old.in_transaction → (result ≡ Err (Error.SqliteFailure code.TransactionState)) × (conn.new ≡ conn.old) }
-    ensures mode { conn.old.in_transaction ≡ false → conn.new.in_transaction ≡ false }
-    ensures survives { Survives (state S.Store conn.old) (state S.Store conn.new) (λ _. ⊥) }
+    ensures reads { ReadsOnly S.Store conn.old conn.new }
+    ensures inside { IsRefusedInside result conn.old conn.new }
 {
     let rows = select(conn, sql, &[])?;
     are_rising(rows.as_slice())
@@ -87,7 +82,8 @@ fn shows_rising<S: Alter>(conn: &mut Connection<S>, sql: &str) -> Result<bool, E
 
 /// Whether each row is an integer, above that of the row before.
 fn are_rising(rows: &[Row]) -> Result<bool, Error>
-    ensures { IfOk result (λ rising. IsTrue rising → AreRising rows.now) }
+    ensures ok { IfOk result (λ rising. IsTrue rising → AreRising rows.now) }
+    ensures err { IfErr result (OnlyWhere (¬ AllByRecursion IsNumber rows.now)) }
 {
     let mut last: Option<i64> = None;
     for row in rows {
@@ -108,9 +104,9 @@ fn are_true(a: bool, b: bool, c: bool, d: bool) -> bool
 }
 
 /// Whether the number is above the last one, where there is one.
-#[tactic(auto, using(crate::proofs::Rising::past_by))]
+#[tactic(auto, using(crate::proofs::Rising::past_by, crate::proofs::Rising::less_by))]
 fn is_past(last: Option<i64>, number: i64) -> bool
-    ensures { IsTrue result → IsPast last number }
+    ensures { IsTrue result ↔ IsPast last number }
 {
     match last {
         Some(last) => last < number,

@@ -1,10 +1,11 @@
 //! Rows of what is set up: parts, their alternates, sheets, and the products selected.
 
-ghost use Rattle.std.specs.Prelude.{◌≡◌, OnOk};
-ghost use Rattle.sqlite.specs.State.{HasCleanDisk, Survives, KeepsCommit};
+ghost use Rattle.std.specs.Prelude.{OnOk};
+ghost use Rattle.sqlite.specs.State.{HasCleanDisk};
 ghost use Rattle.sqlite.specs.Held.{state};
 ghost use Rattle.desk_types.specs.declared.edit.RowEdit.TheVariants as RowEdit;
 ghost use Rattle.line_tables.specs.Calls.{WritesRow};
+ghost use Rattle.line_tables.specs.Frames.{InTransaction};
 
 use crate::statement::{change_or_put, run};
 use crate::values::{designators_text, int};
@@ -15,10 +16,10 @@ use std::alloc::Global;
 
 /// A part, in the place of its row where it has one.
 pub fn put_part<S: Alter>(tx: &mut Transaction<'_, S>, part: &Id) -> Result<(), Error>
-    ensures same_reference { tx.new.conn.ghost_name ≡ tx.old.conn.ghost_name }
-    ensures done { HasCleanDisk (state S.Store tx.new.conn.now) → OnOk result (WritesRow (RowEdit.PutPart part.now) (state S.Store tx.old.conn.now) (state S.Store tx.new.conn.now)) }
-    ensures kept { HasCleanDisk (state S.Store tx.new.conn.now) → KeepsCommit (state S.Store tx.old.conn.now) (state S.Store tx.new.conn.now) }
-    ensures survives { Survives (state S.Store tx.old.conn.now) (state S.Store tx.new.conn.now) (λ _. ⊥) }
+    ensures done { HasCleanDisk (state S.Store tx.new.conn.now)
+        → OnOk result
+        (WritesRow (RowEdit.PutPart part.now) (state S.Store tx.old.conn.now) (state S.Store tx.new.conn.now)) }
+    ensures within { InTransaction S.Store tx.old tx.new }
 {
     run(
         tx,
@@ -34,10 +35,11 @@ pub fn put_alternate<S: Alter>(
     part: &Id,
     alternate: &Id,
 ) -> Result<(), Error>
-    ensures same_reference { tx.new.conn.ghost_name ≡ tx.old.conn.ghost_name }
-    ensures done { HasCleanDisk (state S.Store tx.new.conn.now) → OnOk result (WritesRow (RowEdit.PutAlternate part.now alternate.now) (state S.Store tx.old.conn.now) (state S.Store tx.new.conn.now)) }
-    ensures kept { HasCleanDisk (state S.Store tx.new.conn.now) → KeepsCommit (state S.Store tx.old.conn.now) (state S.Store tx.new.conn.now) }
-    ensures survives { Survives (state S.Store tx.old.conn.now) (state S.Store tx.new.conn.now) (λ _. ⊥) }
+    ensures done { HasCleanDisk (state S.Store tx.new.conn.now)
+        → OnOk result
+        (WritesRow (RowEdit.PutAlternate part.now alternate.now) (state S.Store tx.old.conn.now)
+        (state S.Store tx.new.conn.now)) }
+    ensures within { InTransaction S.Store tx.old tx.new }
 {
     run(
         tx,
@@ -58,10 +60,11 @@ pub fn take_sheet_row<S: Alter>(
     machine: &Id,
     place: u64,
 ) -> Result<(), Error>
-    ensures same_reference { tx.new.conn.ghost_name ≡ tx.old.conn.ghost_name }
-    ensures done { HasCleanDisk (state S.Store tx.new.conn.now) → OnOk result (WritesRow (RowEdit.TakeSheetRow product.now machine.now place) (state S.Store tx.old.conn.now) (state S.Store tx.new.conn.now)) }
-    ensures kept { HasCleanDisk (state S.Store tx.new.conn.now) → KeepsCommit (state S.Store tx.old.conn.now) (state S.Store tx.new.conn.now) }
-    ensures survives { Survives (state S.Store tx.old.conn.now) (state S.Store tx.new.conn.now) (λ _. ⊥) }
+    ensures done { HasCleanDisk (state S.Store tx.new.conn.now)
+        → OnOk result
+        (WritesRow (RowEdit.TakeSheetRow product.now machine.now place) (state S.Store tx.old.conn.now)
+        (state S.Store tx.new.conn.now)) }
+    ensures within { InTransaction S.Store tx.old tx.new }
 {
     run(
         tx,
@@ -83,10 +86,11 @@ pub fn put_sheet_row<'x, S: Alter>(
     place: u64,
     row: &'x SheetRow,
 ) -> Result<(), Error>
-    ensures same_reference { tx.new.conn.ghost_name ≡ tx.old.conn.ghost_name }
-    ensures done { HasCleanDisk (state S.Store tx.new.conn.now) → OnOk result (WritesRow (RowEdit.PutSheetRow product.now machine.now place row.now) (state S.Store tx.old.conn.now) (state S.Store tx.new.conn.now)) }
-    ensures kept { HasCleanDisk (state S.Store tx.new.conn.now) → KeepsCommit (state S.Store tx.old.conn.now) (state S.Store tx.new.conn.now) }
-    ensures survives { Survives (state S.Store tx.old.conn.now) (state S.Store tx.new.conn.now) (λ _. ⊥) }
+    ensures done { HasCleanDisk (state S.Store tx.new.conn.now)
+        → OnOk result
+        (WritesRow (RowEdit.PutSheetRow product.now machine.now place row.now) (state S.Store tx.old.conn.now)
+        (state S.Store tx.new.conn.now)) }
+    ensures within { InTransaction S.Store tx.old tx.new }
 {
     let designators = designators_text(alloc, row.designators.as_slice())?;
     run(
@@ -109,10 +113,11 @@ pub fn put_selected<S: Alter>(
     machine: &Id,
     product: &Id,
 ) -> Result<(), Error>
-    ensures same_reference { tx.new.conn.ghost_name ≡ tx.old.conn.ghost_name }
-    ensures done { HasCleanDisk (state S.Store tx.new.conn.now) → OnOk result (WritesRow (RowEdit.PutSelected machine.now product.now) (state S.Store tx.old.conn.now) (state S.Store tx.new.conn.now)) }
-    ensures kept { HasCleanDisk (state S.Store tx.new.conn.now) → KeepsCommit (state S.Store tx.old.conn.now) (state S.Store tx.new.conn.now) }
-    ensures survives { Survives (state S.Store tx.old.conn.now) (state S.Store tx.new.conn.now) (λ _. ⊥) }
+    ensures done { HasCleanDisk (state S.Store tx.new.conn.now)
+        → OnOk result
+        (WritesRow (RowEdit.PutSelected machine.now product.now) (state S.Store tx.old.conn.now)
+        (state S.Store tx.new.conn.now)) }
+    ensures within { InTransaction S.Store tx.old tx.new }
 {
     change_or_put(
         tx,

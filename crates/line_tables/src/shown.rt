@@ -1,13 +1,12 @@
 //! Placements by their rowids.
 
-ghost use Rattle.std.specs.Prelude.{◌≡◌, false, Err, IsTrue, IfOk};
-ghost use Rattle.sqlite.specs.declared.error.Error.TheVariants as Error;
-ghost use Rattle.sqlite.specs.declared.error.ErrorCode.TheVariants as code;
-ghost use Rattle.sqlite.specs.State.{HasCleanDisk, Survives, KeepsCommit};
+ghost use Rattle.std.specs.Prelude.{IfOk};
+ghost use Rattle.sqlite.specs.State.{HasCleanDisk};
 ghost use Rattle.sqlite.specs.Held.{state};
 ghost use Rattle.line_tables.specs.Line as line;
 ghost use Rattle.line_tables.specs.Calls.{Reads};
 ghost use Rattle.line_tables.specs.Shown.{AreOf};
+ghost use Rattle.line_tables.specs.Frames.{ReadsOnly, IsRefusedInside};
 
 use crate::select::select;
 use sqlite::types::ValueRef;
@@ -21,11 +20,10 @@ pub fn placements_between<S: Alter>(
     first: i64,
     last: i64,
 ) -> Result<Vec<Row>, Error>
-    ensures shown { HasCleanDisk (state S.Store conn.new) → IfOk result (λ rows. Reads (state S.Store conn.old) (AreOf line.placement rows.items)) }
-    ensures kept { HasCleanDisk (state S.Store conn.new) → KeepsCommit (state S.Store conn.old) (state S.Store conn.new) }
-    ensures inside { IsTrue conn.old.in_transaction → (result ≡ Err (Error.SqliteFailure code.TransactionState)) × (conn.new ≡ conn.old) }
-    ensures mode { conn.old.in_transaction ≡ false → conn.new.in_transaction ≡ false }
-    ensures survives { Survives (state S.Store conn.old) (state S.Store conn.new) (λ _. ⊥) }
+    ensures shown { HasCleanDisk (state S.Store conn.new)
+        → IfOk result (λ rows. Reads (state S.Store conn.old) (AreOf line.placement rows.items)) }
+    ensures reads { ReadsOnly S.Store conn.old conn.new }
+    ensures inside { IsRefusedInside result conn.old conn.new }
 {
     select(
         conn,

@@ -1,10 +1,11 @@
 //! One statement inside a transaction.
 
-ghost use Rattle.std.specs.Prelude.{◌≡◌, OnOk, IfOk};
-ghost use Rattle.sqlite.specs.State.{HasCleanDisk, Survives, KeepsCommit};
+ghost use Rattle.std.specs.Prelude.{OnOk, IfOk};
+ghost use Rattle.sqlite.specs.State.{HasCleanDisk};
 ghost use Rattle.sqlite.specs.Values.{bound};
 ghost use Rattle.sqlite.specs.Held.{state};
 ghost use Rattle.line_tables.specs.Calls.{Runs, Changes, ChangesOrPuts};
+ghost use Rattle.line_tables.specs.Frames.{InTransaction};
 
 use sqlite::types::ValueRef;
 use sqlite::{Alter, Error, Transaction};
@@ -15,10 +16,10 @@ pub fn run<S: Alter>(
     sql: &str,
     values: &[ValueRef<'_>],
 ) -> Result<(), Error>
-    ensures same_reference { tx.new.conn.ghost_name ≡ tx.old.conn.ghost_name }
-    ensures ran { HasCleanDisk (state S.Store tx.new.conn.now) → OnOk result (Runs sql.now (bound values.now) (state S.Store tx.old.conn.now) (state S.Store tx.new.conn.now)) }
-    ensures kept { HasCleanDisk (state S.Store tx.new.conn.now) → KeepsCommit (state S.Store tx.old.conn.now) (state S.Store tx.new.conn.now) }
-    ensures survives { Survives (state S.Store tx.old.conn.now) (state S.Store tx.new.conn.now) (λ _. ⊥) }
+    ensures ran { HasCleanDisk (state S.Store tx.new.conn.now)
+        → OnOk result
+        (Runs sql.now (bound values.now) (state S.Store tx.old.conn.now) (state S.Store tx.new.conn.now)) }
+    ensures within { InTransaction S.Store tx.old tx.new }
 {
     match run_counted(tx, sql, values) {
         Ok(_) => Ok(()),
@@ -32,10 +33,11 @@ pub fn run_counted<S: Alter>(
     sql: &str,
     values: &[ValueRef<'_>],
 ) -> Result<usize, Error>
-    ensures same_reference { tx.new.conn.ghost_name ≡ tx.old.conn.ghost_name }
-    ensures ran { HasCleanDisk (state S.Store tx.new.conn.now) → IfOk result (λ count. Changes count sql.now (bound values.now) (state S.Store tx.old.conn.now) (state S.Store tx.new.conn.now)) }
-    ensures kept { HasCleanDisk (state S.Store tx.new.conn.now) → KeepsCommit (state S.Store tx.old.conn.now) (state S.Store tx.new.conn.now) }
-    ensures survives { Survives (state S.Store tx.old.conn.now) (state S.Store tx.new.conn.now) (λ _. ⊥) }
+    ensures ran { HasCleanDisk (state S.Store tx.new.conn.now)
+        → IfOk result
+        (λ count. Changes count sql.now (bound values.now) (state S.Store tx.old.conn.now)
+        (state S.Store tx.new.conn.now)) }
+    ensures within { InTransaction S.Store tx.old tx.new }
 {
     tx.execute(sql, values)
 }
@@ -48,10 +50,11 @@ pub fn change_or_put<S: Alter>(
     insert: &str,
     values: &[ValueRef<'_>],
 ) -> Result<(), Error>
-    ensures same_reference { tx.new.conn.ghost_name ≡ tx.old.conn.ghost_name }
-    ensures done { HasCleanDisk (state S.Store tx.new.conn.now) → OnOk result (ChangesOrPuts S.Store update.now insert.now (bound values.now) (state S.Store tx.old.conn.now) (state S.Store tx.new.conn.now)) }
-    ensures kept { HasCleanDisk (state S.Store tx.new.conn.now) → KeepsCommit (state S.Store tx.old.conn.now) (state S.Store tx.new.conn.now) }
-    ensures survives { Survives (state S.Store tx.old.conn.now) (state S.Store tx.new.conn.now) (λ _. ⊥) }
+    ensures done { HasCleanDisk (state S.Store tx.new.conn.now)
+        → OnOk result
+        (ChangesOrPuts S.Store update.now insert.now (bound values.now) (state S.Store tx.old.conn.now)
+        (state S.Store tx.new.conn.now)) }
+    ensures within { InTransaction S.Store tx.old tx.new }
 {
     let changed = run_counted(tx, update, values)?;
     match changed {

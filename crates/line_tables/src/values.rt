@@ -1,6 +1,6 @@
 //! Values as SQL keeps them.
 
-ghost use Rattle.std.specs.Prelude.{◌≡◌, unwrap_or, [], ◌∷◌, ◌++◌, pos, IfOk, OnOk};
+ghost use Rattle.std.specs.Prelude.{◌≡◌, ◌≤◌, ◌^◌, unwrap_or, [], ◌∷◌, ◌++◌, pos, IfOk, IfErr, OnOk, MatchResult};
 ghost use Rattle.std.specs.List.{flat_map, join_with_byte};
 ghost use Rattle.sqlite.specs.declared.types.Value.TheVariants.{Int};
 ghost use Rattle.sqlite_value.specs.Value.{owned};
@@ -14,7 +14,7 @@ use std::alloc::{AllocError, Global};
 
 /// The number, where it is one of SQL's, which end at the greatest `i64`.
 pub fn int<'a>(n: u64) -> Result<ValueRef<'a>, Error>
-    ensures { IfOk result (λ value. owned value ≡ Int (pos n)) }
+    ensures { MatchResult result (λ value. owned value ≡ Int (pos n)) (λ _. 2 ^ 63 ≤ n) }
 {
     match i64::try_from(n) {
         Ok(i) => Ok(ValueRef::Int(i)),
@@ -45,7 +45,8 @@ pub fn or_empty(name: &Option<Id>) -> &str
 /// The rowid of a placement: rows in its order are in that of numbers and then of places, of which
 /// there are fewer than 65,536.
 pub fn placement_id<'a>(number: u64, place: u64) -> Result<ValueRef<'a>, Error>
-    ensures { IfOk result (λ value. owned value ≡ Int (pos (placement_id number place))) }
+    ensures ok { IfOk result (λ value. owned value ≡ Int (pos (placement_id number place))) }
+    ensures err { IfErr result (λ _. 2 ^ 63 ≤ placement_id number place) }
 {
     let Some(first) = number.checked_mul(65_536) else {
         return Err(Error::IntegralValueOutOfRange(0));

@@ -1,14 +1,13 @@
 //! The row of `version`.
 
-ghost use Rattle.std.specs.Prelude.{◌≡◌, ◌<◌, ℤ, pos, false, length, Err, IsTrue, IfOk, IfSome, IfNone, [], ◌∷◌};
+ghost use Rattle.std.specs.Prelude.{◌≡◌, ◌<◌, ℤ, pos, length, IfOk, IfSome, IfNone, [], ◌∷◌};
 ghost use Rattle.sqlite.specs.declared.types.Value.TheVariants.{Int};
 ghost use Rattle.sqlite_value.specs.Order.{column};
-ghost use Rattle.sqlite.specs.declared.error.Error.TheVariants as Error;
-ghost use Rattle.sqlite.specs.declared.error.ErrorCode.TheVariants as code;
-ghost use Rattle.sqlite.specs.State.{HasCleanDisk, Survives, KeepsCommit};
+ghost use Rattle.sqlite.specs.State.{HasCleanDisk};
 ghost use Rattle.sqlite.specs.Held.{state};
 ghost use Rattle.line_tables.specs.Rows.{version_in as rows_of_version};
 ghost use Rattle.line_tables.specs.Calls.{Reads, IsVersionOf};
+ghost use Rattle.line_tables.specs.Frames.{ReadsOnly, IsRefusedInside};
 
 use crate::select::select;
 use sqlite::types::ValueRef;
@@ -26,11 +25,10 @@ pub struct Version {
 /// The version, where `version` has just one row, of three whole numbers with the first 1. In an open
 /// transaction of the caller's nothing is read.
 pub fn find_version<S: Alter>(conn: &mut Connection<S>) -> Result<Option<Version>, Error>
-    ensures read { HasCleanDisk (state S.Store conn.new) → IfOk result (λ found. Reads (state S.Store conn.old) (λ db. IsVersionOf (rows_of_version db) found)) }
-    ensures kept { HasCleanDisk (state S.Store conn.new) → KeepsCommit (state S.Store conn.old) (state S.Store conn.new) }
-    ensures inside { IsTrue conn.old.in_transaction → (result ≡ Err (Error.SqliteFailure code.TransactionState)) × (conn.new ≡ conn.old) }
-    ensures mode { conn.old.in_transaction ≡ false → conn.new.in_transaction ≡ false }
-    ensures survives { Survives (state S.Store conn.old) (state S.Store conn.new) (λ _. ⊥) }
+    ensures read { HasCleanDisk (state S.Store conn.new)
+        → IfOk result (λ found. Reads (state S.Store conn.old) (λ db. IsVersionOf (rows_of_version db) found)) }
+    ensures reads { ReadsOnly S.Store conn.old conn.new }
+    ensures inside { IsRefusedInside result conn.old conn.new }
 {
     let rows = select(conn, "SELECT one, number, greatest FROM version", &[])?;
     Ok(version_in(rows.as_slice()))

@@ -1,15 +1,14 @@
 //! Edits, written in one transaction.
 
-ghost use Rattle.std.specs.Prelude.{◌≡◌, ◌<◌, ◌≤◌, false, length, take, Err, IsTrue, IfOk, IfSome, OnOk, OnErr, [], ◌∷◌};
+ghost use Rattle.std.specs.Prelude.{◌≡◌, ◌<◌, ◌≤◌, false, length, take, IsTrue, IfOk, IfSome, OnOk, OnErr, [], ◌∷◌};
 ghost use Rattle.sqlite_trees.specs.Tree.{Trees};
-ghost use Rattle.sqlite.specs.declared.error.Error.TheVariants as Error;
-ghost use Rattle.sqlite.specs.declared.error.ErrorCode.TheVariants as code;
 ghost use Rattle.sqlite.specs.State.{HasCleanDisk, Survives, KeepsCommit};
 ghost use Rattle.sqlite.specs.Held.{state};
 ghost use Rattle.line_tables.specs.declared.edit.Edit.TheVariants as Edit;
 ghost use Rattle.sqlite.specs.Values.{bound};
 ghost use Rattle.line_tables.specs.Placing.{ArePlacing};
 ghost use Rattle.line_tables.specs.Calls.{Edits, Writes, LeavesEdited};
+ghost use Rattle.line_tables.specs.Frames.{InTransaction, IsRefusedInside};
 
 use crate::edit::{Accepted, Edit};
 use crate::pieces::{put_eight, values_of_all};
@@ -28,12 +27,18 @@ pub fn append<S: Alter>(
     edits: &[Edit],
 ) -> Result<(), Error>
     requires some { 0 < length edits.now }
-    ensures done { HasCleanDisk (state S.Store conn.new) → OnOk result (Edits edits.now (state S.Store conn.old).committed (state S.Store conn.new).committed) }
-    ensures stays_open { HasCleanDisk (state S.Store conn.new) → OnOk result (IsTrue (state S.Store conn.old).is_open × IsTrue (state S.Store conn.new).is_open) }
-    ensures neither { HasCleanDisk (state S.Store conn.new) → OnErr result (KeepsCommit (state S.Store conn.old) (state S.Store conn.new)) }
-    ensures alone { HasCleanDisk (state S.Store conn.new) → OnOk result ((trees : Trees) → (state S.Store conn.new).may_leave trees → LeavesEdited edits.now (state S.Store conn.old) trees) }
-    ensures crash { Survives (state S.Store conn.old) (state S.Store conn.new) (LeavesEdited edits.now (state S.Store conn.old)) }
-    ensures inside { IsTrue conn.old.in_transaction → (result ≡ Err (Error.SqliteFailure code.TransactionState)) × (conn.new ≡ conn.old) }
+    ensures done { HasCleanDisk (state S.Store conn.new)
+        → OnOk result (Edits edits.now (state S.Store conn.old).committed (state S.Store conn.new).committed) }
+    ensures stays_open { HasCleanDisk (state S.Store conn.new)
+        → OnOk result (IsTrue (state S.Store conn.old).is_open × IsTrue (state S.Store conn.new).is_open) }
+    ensures neither { HasCleanDisk (state S.Store conn.new)
+        → OnErr result (KeepsCommit (state S.Store conn.old) (state S.Store conn.new)) }
+    ensures alone { HasCleanDisk (state S.Store conn.new)
+        → OnOk result ((trees : Trees) → (state S.Store conn.new).may_leave trees
+        → LeavesEdited edits.now (state S.Store conn.old) trees) }
+    ensures crash { Survives (state S.Store conn.old) (state S.Store conn.new)
+        (LeavesEdited edits.now (state S.Store conn.old)) }
+    ensures inside { IsRefusedInside result conn.old conn.new }
     ensures mode { conn.old.in_transaction ≡ false → conn.new.in_transaction ≡ false }
 {
     if !conn.is_autocommit() {
@@ -50,10 +55,9 @@ fn put_all<S: Alter>(
     edits: &[Edit],
 ) -> Result<(), Error>
     requires some { 0 < length edits.now }
-    ensures same_reference { tx.new.conn.ghost_name ≡ tx.old.conn.ghost_name }
-    ensures done { HasCleanDisk (state S.Store tx.new.conn.now) → OnOk result (Writes edits.now (state S.Store tx.old.conn.now) (state S.Store tx.new.conn.now)) }
-    ensures kept { HasCleanDisk (state S.Store tx.new.conn.now) → KeepsCommit (state S.Store tx.old.conn.now) (state S.Store tx.new.conn.now) }
-    ensures survives { Survives (state S.Store tx.old.conn.now) (state S.Store tx.new.conn.now) (λ _. ⊥) }
+    ensures done { HasCleanDisk (state S.Store tx.new.conn.now)
+        → OnOk result (Writes edits.now (state S.Store tx.old.conn.now) (state S.Store tx.new.conn.now)) }
+    ensures within { InTransaction S.Store tx.old tx.new }
 {
     let mut rest = edits;
     while !rest.is_empty() {
@@ -71,11 +75,11 @@ fn put_first<S: Alter>(
     edits: &[Edit],
 ) -> Result<usize, Error>
     requires some { 0 < length edits.now }
-    ensures same_reference { tx.new.conn.ghost_name ≡ tx.old.conn.ghost_name }
     ensures some { IfOk result (λ taken. 0 < taken × taken ≤ length edits.now) }
-    ensures done { HasCleanDisk (state S.Store tx.new.conn.now) → IfOk result (λ taken. Writes (take taken edits.now) (state S.Store tx.old.conn.now) (state S.Store tx.new.conn.now)) }
-    ensures kept { HasCleanDisk (state S.Store tx.new.conn.now) → KeepsCommit (state S.Store tx.old.conn.now) (state S.Store tx.new.conn.now) }
-    ensures survives { Survives (state S.Store tx.old.conn.now) (state S.Store tx.new.conn.now) (λ _. ⊥) }
+    ensures done { HasCleanDisk (state S.Store tx.new.conn.now)
+        → IfOk result
+        (λ taken. Writes (take taken edits.now) (state S.Store tx.old.conn.now) (state S.Store tx.new.conn.now)) }
+    ensures within { InTransaction S.Store tx.old tx.new }
 {
     if let Some(values) = first_eight(alloc, edits)? {
         put_eight(tx, values.as_slice())?;
@@ -87,7 +91,8 @@ fn put_first<S: Alter>(
 
 /// The values of the first eight edits, where there are so many and each puts a placement.
 fn first_eight<'a>(alloc: Global, edits: &'a [Edit]) -> Result<Option<Vec<ValueRef<'a>>>, Error>
-    ensures { IfOk result (λ found. IfSome found (λ values. 8 ≤ length edits.now × ArePlacing (take 8 edits.now) (bound values.items))) }
+    ensures { IfOk result
+        (λ found. IfSome found (λ values. 8 ≤ length edits.now × ArePlacing (take 8 edits.now) (bound values.items))) }
 {
     match edits.get(..8) {
         Some(eight) => values_of_all(alloc, eight),
@@ -96,10 +101,9 @@ fn first_eight<'a>(alloc: Global, edits: &'a [Edit]) -> Result<Option<Vec<ValueR
 }
 
 fn put<S: Alter>(alloc: Global, tx: &mut Transaction<'_, S>, edit: &Edit) -> Result<(), Error>
-    ensures same_reference { tx.new.conn.ghost_name ≡ tx.old.conn.ghost_name }
-    ensures done { HasCleanDisk (state S.Store tx.new.conn.now) → OnOk result (Writes (edit.now ∷ []) (state S.Store tx.old.conn.now) (state S.Store tx.new.conn.now)) }
-    ensures kept { HasCleanDisk (state S.Store tx.new.conn.now) → KeepsCommit (state S.Store tx.old.conn.now) (state S.Store tx.new.conn.now) }
-    ensures survives { Survives (state S.Store tx.old.conn.now) (state S.Store tx.new.conn.now) (λ _. ⊥) }
+    ensures done { HasCleanDisk (state S.Store tx.new.conn.now)
+        → OnOk result (Writes (edit.now ∷ []) (state S.Store tx.old.conn.now) (state S.Store tx.new.conn.now)) }
+    ensures within { InTransaction S.Store tx.old tx.new }
 {
     match edit {
         Edit::PutAccepted(row) => put_accepted(tx, row),
@@ -108,10 +112,10 @@ fn put<S: Alter>(alloc: Global, tx: &mut Transaction<'_, S>, edit: &Edit) -> Res
 }
 
 fn put_accepted<S: Alter>(tx: &mut Transaction<'_, S>, row: &Accepted) -> Result<(), Error>
-    ensures same_reference { tx.new.conn.ghost_name ≡ tx.old.conn.ghost_name }
-    ensures done { HasCleanDisk (state S.Store tx.new.conn.now) → OnOk result (Writes (Edit.PutAccepted row.now ∷ []) (state S.Store tx.old.conn.now) (state S.Store tx.new.conn.now)) }
-    ensures kept { HasCleanDisk (state S.Store tx.new.conn.now) → KeepsCommit (state S.Store tx.old.conn.now) (state S.Store tx.new.conn.now) }
-    ensures survives { Survives (state S.Store tx.old.conn.now) (state S.Store tx.new.conn.now) (λ _. ⊥) }
+    ensures done { HasCleanDisk (state S.Store tx.new.conn.now)
+        → OnOk result
+        (Writes (Edit.PutAccepted row.now ∷ []) (state S.Store tx.old.conn.now) (state S.Store tx.new.conn.now)) }
+    ensures within { InTransaction S.Store tx.old tx.new }
 {
     run(
         tx,

@@ -1,16 +1,15 @@
 //! The pieces of a board, of a lot, and of overdue reels: by the lists beside a desk where they and the
 //! desk are at hand, and each row is found where they say, or else by a query.
 
-ghost use Rattle.std.specs.Prelude.{◌≡◌, ◌++◌, false, Err, IsTrue, IfOk, OnOk, map, option_copied};
-ghost use Rattle.sqlite.specs.declared.error.Error.TheVariants as Error;
-ghost use Rattle.sqlite.specs.declared.error.ErrorCode.TheVariants as code;
-ghost use Rattle.sqlite.specs.State.{HasCleanDisk, Survives, KeepsCommit};
+ghost use Rattle.std.specs.Prelude.{◌≡◌, ◌++◌, IfOk, OnOk, map, option_copied};
+ghost use Rattle.sqlite.specs.State.{HasCleanDisk};
 ghost use Rattle.sqlite.specs.Held.{state};
 ghost use Rattle.desk_types.specs.declared.placement.Placement.{Placement};
 ghost use Rattle.desk_types.specs.Placements.{overdue_of, boards_of, set_of};
 ghost use Rattle.trace_lists.specs.Lists.{key_of, keys_of_install, keys_of_installs};
 ghost use Rattle.line_traces.specs.Pieces.{pieces_on, pieces_of_lot};
 ghost use Rattle.line_traces.specs.Beside.{FindsBeside};
+ghost use Rattle.line_tables.specs.Frames.{ReadsOnly, IsRefusedInside};
 
 use crate::looked::pieces_at;
 use crate::pieces::{board_pieces, lot_names, lot_pieces, overdue};
@@ -29,10 +28,11 @@ pub fn pieces_of_board<S: Alter, D: Desk>(
     desk: Option<&D>,
     board: &Id,
 ) -> Result<PlacedRows, Error>
-    ensures pieces { HasCleanDisk (state S.Store conn.new) → IfOk result (FindsBeside D.Stands (option_copied lists.entry) (option_copied desk.entry) (λ H. pieces_on H board.now) (state S.Store conn.old)) }
-    ensures kept { HasCleanDisk (state S.Store conn.new) → KeepsCommit (state S.Store conn.old) (state S.Store conn.new) }
-    ensures mode { conn.old.in_transaction ≡ false → conn.new.in_transaction ≡ false }
-    ensures survives { Survives (state S.Store conn.old) (state S.Store conn.new) (λ _. ⊥) }
+    ensures pieces { HasCleanDisk (state S.Store conn.new)
+        → IfOk result
+        (FindsBeside D.Stands (option_copied lists.entry) (option_copied desk.entry) (λ H. pieces_on H board.now)
+        (state S.Store conn.old)) }
+    ensures reads { ReadsOnly S.Store conn.old conn.new }
 {
     let (Some(lists), Some(desk)) = (lists, desk) else {
         return board_pieces(alloc, conn, board);
@@ -52,10 +52,11 @@ pub fn pieces_of_lot<S: Alter, D: Desk>(
     desk: Option<&D>,
     lot: &Id,
 ) -> Result<PlacedRows, Error>
-    ensures pieces { HasCleanDisk (state S.Store conn.new) → IfOk result (FindsBeside D.Stands (option_copied lists.entry) (option_copied desk.entry) (λ H. pieces_of_lot H lot.now) (state S.Store conn.old)) }
-    ensures kept { HasCleanDisk (state S.Store conn.new) → KeepsCommit (state S.Store conn.old) (state S.Store conn.new) }
-    ensures mode { conn.old.in_transaction ≡ false → conn.new.in_transaction ≡ false }
-    ensures survives { Survives (state S.Store conn.old) (state S.Store conn.new) (λ _. ⊥) }
+    ensures pieces { HasCleanDisk (state S.Store conn.new)
+        → IfOk result
+        (FindsBeside D.Stands (option_copied lists.entry) (option_copied desk.entry) (λ H. pieces_of_lot H lot.now)
+        (state S.Store conn.old)) }
+    ensures reads { ReadsOnly S.Store conn.old conn.new }
 {
     let (Some(lists), Some(desk)) = (lists, desk) else {
         return lot_pieces(alloc, conn, lot);
@@ -75,10 +76,11 @@ pub fn boards_of_lot<S: Alter, D: Desk>(
     desk: Option<&D>,
     lot: &Id,
 ) -> Result<IdList, Error>
-    ensures boards { HasCleanDisk (state S.Store conn.new) → IfOk result (FindsBeside D.Stands (option_copied lists.entry) (option_copied desk.entry) (λ H. boards_of H lot.now) (state S.Store conn.old)) }
-    ensures kept { HasCleanDisk (state S.Store conn.new) → KeepsCommit (state S.Store conn.old) (state S.Store conn.new) }
-    ensures mode { conn.old.in_transaction ≡ false → conn.new.in_transaction ≡ false }
-    ensures survives { Survives (state S.Store conn.old) (state S.Store conn.new) (λ _. ⊥) }
+    ensures boards { HasCleanDisk (state S.Store conn.new)
+        → IfOk result
+        (FindsBeside D.Stands (option_copied lists.entry) (option_copied desk.entry) (λ H. boards_of H lot.now)
+        (state S.Store conn.old)) }
+    ensures reads { ReadsOnly S.Store conn.old conn.new }
 {
     let (Some(lists), Some(desk)) = (lists, desk) else {
         return lot_names(alloc, conn, lot);
@@ -96,11 +98,12 @@ pub fn pieces_overdue<S: Alter, D: Desk>(
     lists: Option<&TraceLists>,
     desk: Option<&D>,
 ) -> Result<PlacedRows, Error>
-    ensures pieces { HasCleanDisk (state S.Store conn.new) → IfOk result (FindsBeside D.Stands (option_copied lists.entry) (option_copied desk.entry) overdue_of (state S.Store conn.old)) }
-    ensures kept { HasCleanDisk (state S.Store conn.new) → KeepsCommit (state S.Store conn.old) (state S.Store conn.new) }
-    ensures inside { IsTrue conn.old.in_transaction → (result ≡ Err (Error.SqliteFailure code.TransactionState)) × (conn.new ≡ conn.old) }
-    ensures mode { conn.old.in_transaction ≡ false → conn.new.in_transaction ≡ false }
-    ensures survives { Survives (state S.Store conn.old) (state S.Store conn.new) (λ _. ⊥) }
+    ensures pieces { HasCleanDisk (state S.Store conn.new)
+        → IfOk result
+        (FindsBeside D.Stands (option_copied lists.entry) (option_copied desk.entry) overdue_of
+        (state S.Store conn.old)) }
+    ensures reads { ReadsOnly S.Store conn.old conn.new }
+    ensures inside { IsRefusedInside result conn.old conn.new }
 {
     let (Some(lists), Some(desk)) = (lists, desk) else {
         return overdue(alloc, conn);

@@ -1,8 +1,12 @@
 //! Rows of values as rows of pieces.
 
-ghost use Rattle.std.specs.Prelude.{◌≡◌, ℕ, ◌<◌, length, IfOk, map, pos};
+ghost use Rattle.std.specs.Prelude.{◌≡◌, ◌≢◌, ℕ, ◌<◌, ◌≤◌, length, Bool, List, IfOk, IfErr, map, pos};
 ghost use Rattle.sqlite.specs.declared.types.Value.TheVariants.{Int, Text};
 ghost use Rattle.sqlite_value.specs.Order.{column};
+ghost use Rattle.desk_types.specs.Designator.{IsDesignator};
+ghost use Rattle.desk_types.specs.Id.{IsId};
+ghost use Rattle.desk_types.specs.Number.{IsMinute};
+ghost use Rattle.line_tables.specs.Faults.{OnlyWhere};
 ghost use Rattle.line_tables.specs.StateRows.{flag, placement_columns};
 ghost use Rattle.line_traces.specs.Committed.{placed_columns, name_row};
 
@@ -14,7 +18,8 @@ use std::alloc::Global;
 
 /// The name in a column.
 fn name(row: &Row, at: usize) -> Result<Id, Error>
-    ensures { IfOk result (λ id. column row.now at ≡ Text id) }
+    ensures ok { IfOk result (λ id. column row.now at ≡ Text id) }
+    ensures err { IfErr result (λ _. (id : List ℕ) → IsId id → column row.now at ≢ Text id) }
 {
     let value = row.get_ref(at)?;
     if let ValueRef::Text(bytes) = value {
@@ -27,7 +32,9 @@ fn name(row: &Row, at: usize) -> Result<Id, Error>
 
 /// The designator in a column.
 fn designator(row: &Row, at: usize) -> Result<Designator, Error>
-    ensures { IfOk result (λ designator. column row.now at ≡ Text designator) }
+    ensures ok { IfOk result (λ designator. column row.now at ≡ Text designator) }
+    ensures err { IfErr result (λ _. (designator : List ℕ) → IsDesignator designator
+        → column row.now at ≢ Text designator) }
 {
     let value = row.get_ref(at)?;
     if let ValueRef::Text(bytes) = value {
@@ -40,7 +47,8 @@ fn designator(row: &Row, at: usize) -> Result<Designator, Error>
 
 /// The minute in a column.
 fn minute(row: &Row, at: usize) -> Result<Minute, Error>
-    ensures { IfOk result (λ minute. column row.now at ≡ Int (pos minute)) }
+    ensures ok { IfOk result (λ minute. column row.now at ≡ Int (pos minute)) }
+    ensures err { IfErr result (OnlyWhere ((minute : ℕ) → IsMinute minute → column row.now at ≢ Int (pos minute))) }
 {
     match Minute::new(row.get(at)?) {
         Some(minute) => Ok(minute),
@@ -50,7 +58,8 @@ fn minute(row: &Row, at: usize) -> Result<Minute, Error>
 
 /// The 1 or 0 in a column.
 fn yes_or_no(row: &Row, at: usize) -> Result<bool, Error>
-    ensures { IfOk result (λ b. column row.now at ≡ Int (flag b)) }
+    ensures ok { IfOk result (λ b. column row.now at ≡ Int (flag b)) }
+    ensures err { IfErr result (OnlyWhere ((b : Bool) → column row.now at ≢ Int (flag b))) }
 {
     let n: u64 = row.get(at)?;
     match n {

@@ -12,7 +12,9 @@ ghost use Rattle.line_traces.specs.Pieces.{board_trace, lot_board_names, AreConv
 /// exactly where the board is among the boards of the lot. This holds of every list; of one that a desk
 /// judged also where a board or a lot is unknown.
 pub fn rows_are_converse()
-    ensures every { (H : History) (board lot : Name) (pieces : List Placement) (boards : List Name) → board_trace H board ≡ Some pieces → lot_board_names H lot ≡ Some boards
+    ensures every { (H : History) (board lot : Name) (pieces : List Placement) (boards : List Name)
+        → board_trace H board ≡ Some pieces → lot_board_names H lot ≡ Some boards
         → Contains (map (λ (p : Placement). p.lot) pieces) lot ↔ Contains boards board }
-    ensures judged { (H : History) (board lot : Name) → IsJudged Two H → AreConverse board (board_trace H board) lot (lot_board_names H lot) }
+    ensures judged { (H : History) (board lot : Name) → IsJudged Two H
+        → AreConverse board (board_trace H board) lot (lot_board_names H lot) }
 {}

@@ -1,11 +1,9 @@
 //! Pieces that are looked up where the lists beside a desk say that they are. Each row is looked at: it
 //! has the number and the place that were asked for, or nothing is told by the lists.
 
-ghost use Rattle.std.specs.Prelude.{◌≡◌, ◌+◌, ◌++◌, ◌<◌, ◌≤◌, ◌↔◌, pos, false, Err, Some, IsTrue, IfOk, IfSome, OnOk, length, map};
-ghost use Rattle.sqlite.specs.declared.error.Error.TheVariants as Error;
-ghost use Rattle.sqlite.specs.declared.error.ErrorCode.TheVariants as code;
+ghost use Rattle.std.specs.Prelude.{◌≡◌, ◌+◌, ◌++◌, ◌<◌, ◌≤◌, ◌↔◌, pos, Some, IsTrue, IfOk, IfSome, OnOk, length, map};
 ghost use Rattle.sqlite.specs.Effect.{Database};
-ghost use Rattle.sqlite.specs.State.{HasCleanDisk, Survives, KeepsCommit};
+ghost use Rattle.sqlite.specs.State.{HasCleanDisk};
 ghost use Rattle.sqlite.specs.Held.{state};
 ghost use Rattle.sqlite_rules.specs.Lists.{Has};
 ghost use Rattle.desk_types.specs.History.{History};
@@ -14,6 +12,7 @@ ghost use Rattle.line_tables.specs.Calls.{Reads};
 ghost use Rattle.line_tables.specs.Rowids.{placement_id};
 ghost use Rattle.line_tables.specs.Shown.{AreOf};
 ghost use Rattle.line_tables.specs.StateRows.{rows_in};
+ghost use Rattle.line_tables.specs.Frames.{ReadsOnly, IsRefusedInside};
 ghost use Rattle.trace_lists.specs.Lists.{key_of};
 ghost use Rattle.line_traces.specs.Pieces.{piece_at};
 ghost use Rattle.line_traces.specs.Beside.{HoldsBeside, FindsBeside, AddsPieces};
@@ -30,10 +29,8 @@ use trace_lists::{PieceKey, TraceLists};
 /// An error where the connection does not answer.
 fn ask<S: Alter>(conn: &mut Connection<S>) -> Result<(), Error>
     ensures answers { HasCleanDisk (state S.Store conn.new) → OnOk result (IsTrue (state S.Store conn.old).is_open) }
-    ensures kept { HasCleanDisk (state S.Store conn.new) → KeepsCommit (state S.Store conn.old) (state S.Store conn.new) }
-    ensures inside { IsTrue conn.old.in_transaction → (result ≡ Err (Error.SqliteFailure code.TransactionState)) × (conn.new ≡ conn.old) }
-    ensures mode { conn.old.in_transaction ≡ false → conn.new.in_transaction ≡ false }
-    ensures survives { Survives (state S.Store conn.old) (state S.Store conn.new) (λ _. ⊥) }
+    ensures reads { ReadsOnly S.Store conn.old conn.new }
+    ensures inside { IsRefusedInside result conn.old conn.new }
 {
     select(conn, "SELECT 1", &[])?;
     Ok(())
@@ -95,7 +92,9 @@ fn piece_of<D: Desk>(
     key: PieceKey,
     row: &Row,
 ) -> Result<Option<Placement>, Error>
-    ensures { IfOk result (λ found. IfSome found (λ piece. (db : Database) (H : History) → HoldsBeside D.Stands (Some lists.now) (Some desk.now) db H
+    ensures { IfOk result
+        (λ found. IfSome found (λ piece. (db : Database) (H : History)
+        → HoldsBeside D.Stands (Some lists.now) (Some desk.now) db H
         → Has (rows_in line.placement db) row.now → piece_at H (key_of key) ≡ Some piece)) }
 {
     let placed = placement(row)?;
@@ -132,7 +131,8 @@ fn add_rows<D: Desk>(
     rows: &[Row],
     pieces: &mut Vec<Placement>,
 ) -> Result<bool, Error>
-    ensures { IfOk result (λ all. IsTrue all → (db : Database) (H : History) → HoldsBeside D.Stands (Some lists.now) (Some desk.now) db H → AreOf line.placement rows.now db
+    ensures { IfOk result (λ all. IsTrue all → (db : Database) (H : History)
+        → HoldsBeside D.Stands (Some lists.now) (Some desk.now) db H → AreOf line.placement rows.now db
         → AddsPieces H (map key_of keys.now) pieces.old.items pieces.new.items) }
 {
     for (at, key) in keys.iter().enumerate() {
@@ -163,11 +163,12 @@ fn add_run<S: Alter, D: Desk>(
     run: &[PieceKey],
     pieces: &mut Vec<Placement>,
 ) -> Result<bool, Error>
-    ensures added { HasCleanDisk (state S.Store conn.new) → IfOk result (λ all. Reads (state S.Store conn.old) (λ db. IsTrue all → (H : History) → HoldsBeside D.Stands (Some lists.now) (Some desk.now) db H
+    ensures added { HasCleanDisk (state S.Store conn.new)
+        → IfOk result
+        (λ all. Reads (state S.Store conn.old) (λ db. IsTrue all → (H : History)
+        → HoldsBeside D.Stands (Some lists.now) (Some desk.now) db H
         → AddsPieces H (map key_of run.now) pieces.old.items pieces.new.items)) }
-    ensures kept { HasCleanDisk (state S.Store conn.new) → KeepsCommit (state S.Store conn.old) (state S.Store conn.new) }
-    ensures mode { conn.old.in_transaction ≡ false → conn.new.in_transaction ≡ false }
-    ensures survives { Survives (state S.Store conn.old) (state S.Store conn.new) (λ _. ⊥) }
+    ensures reads { ReadsOnly S.Store conn.old conn.new }
 {
     let (first, last) = ends_of(run);
     let rows = placements_between(conn, first, last)?;
@@ -183,11 +184,13 @@ pub fn pieces_at<S: Alter, D: Desk>(
     desk: &D,
     keys: &[PieceKey],
 ) -> Result<Option<PlacedRows>, Error>
-    ensures told { HasCleanDisk (state S.Store conn.new) → IfOk result (λ found. IfSome found (λ pieces. FindsBeside D.Stands (Some lists.now) (Some desk.now) (λ H. map (piece_at H) (map key_of keys.now)) (state S.Store conn.old) (map Some pieces))) }
-    ensures kept { HasCleanDisk (state S.Store conn.new) → KeepsCommit (state S.Store conn.old) (state S.Store conn.new) }
-    ensures inside { IsTrue conn.old.in_transaction → (result ≡ Err (Error.SqliteFailure code.TransactionState)) × (conn.new ≡ conn.old) }
-    ensures mode { conn.old.in_transaction ≡ false → conn.new.in_transaction ≡ false }
-    ensures survives { Survives (state S.Store conn.old) (state S.Store conn.new) (λ _. ⊥) }
+    ensures told { HasCleanDisk (state S.Store conn.new)
+        → IfOk result
+        (λ found. IfSome found
+        (λ pieces. FindsBeside D.Stands (Some lists.now) (Some desk.now) (λ H. map (piece_at H) (map key_of keys.now))
+        (state S.Store conn.old) (map Some pieces))) }
+    ensures reads { ReadsOnly S.Store conn.old conn.new }
+    ensures inside { IsRefusedInside result conn.old conn.new }
 {
     ask(conn)?;
     let mut pieces = Vec::new(alloc);

@@ -1,13 +1,12 @@
 //! The queries. They need neither lists nor a desk.
 
-ghost use Rattle.std.specs.Prelude.{◌≡◌, false, Err, IsTrue, IfOk};
-ghost use Rattle.sqlite.specs.declared.error.Error.TheVariants as Error;
-ghost use Rattle.sqlite.specs.declared.error.ErrorCode.TheVariants as code;
-ghost use Rattle.sqlite.specs.State.{HasCleanDisk, Survives, KeepsCommit};
+ghost use Rattle.std.specs.Prelude.{IfOk};
+ghost use Rattle.sqlite.specs.State.{HasCleanDisk};
 ghost use Rattle.sqlite.specs.Held.{state};
 ghost use Rattle.desk_types.specs.Placements.{overdue_of, boards_of};
 ghost use Rattle.line_traces.specs.Pieces.{pieces_on, pieces_of_lot, is_board, is_lot};
 ghost use Rattle.line_traces.specs.Committed.{FindsOfList};
+ghost use Rattle.line_tables.specs.Frames.{ReadsOnly, IsRefusedInside};
 
 use crate::decode::{names, pieces};
 use crate::row::PlacedRows;
@@ -19,11 +18,10 @@ use std::alloc::Global;
 
 /// Whether the board was started.
 pub fn has_board<S: Alter>(conn: &mut Connection<S>, board: &Id) -> Result<bool, Error>
-    ensures found { HasCleanDisk (state S.Store conn.new) → IfOk result (FindsOfList (λ H. is_board H board.now) (state S.Store conn.old)) }
-    ensures kept { HasCleanDisk (state S.Store conn.new) → KeepsCommit (state S.Store conn.old) (state S.Store conn.new) }
-    ensures inside { IsTrue conn.old.in_transaction → (result ≡ Err (Error.SqliteFailure code.TransactionState)) × (conn.new ≡ conn.old) }
-    ensures mode { conn.old.in_transaction ≡ false → conn.new.in_transaction ≡ false }
-    ensures survives { Survives (state S.Store conn.old) (state S.Store conn.new) (λ _. ⊥) }
+    ensures found { HasCleanDisk (state S.Store conn.new)
+        → IfOk result (FindsOfList (λ H. is_board H board.now) (state S.Store conn.old)) }
+    ensures reads { ReadsOnly S.Store conn.old conn.new }
+    ensures inside { IsRefusedInside result conn.old conn.new }
 {
     let rows = select(
         conn,
@@ -35,11 +33,10 @@ pub fn has_board<S: Alter>(conn: &mut Connection<S>, board: &Id) -> Result<bool,
 
 /// Whether a reel of the lot was received. Each reel is looked at.
 pub fn has_lot<S: Alter>(conn: &mut Connection<S>, lot: &Id) -> Result<bool, Error>
-    ensures found { HasCleanDisk (state S.Store conn.new) → IfOk result (FindsOfList (λ H. is_lot H lot.now) (state S.Store conn.old)) }
-    ensures kept { HasCleanDisk (state S.Store conn.new) → KeepsCommit (state S.Store conn.old) (state S.Store conn.new) }
-    ensures inside { IsTrue conn.old.in_transaction → (result ≡ Err (Error.SqliteFailure code.TransactionState)) × (conn.new ≡ conn.old) }
-    ensures mode { conn.old.in_transaction ≡ false → conn.new.in_transaction ≡ false }
-    ensures survives { Survives (state S.Store conn.old) (state S.Store conn.new) (λ _. ⊥) }
+    ensures found { HasCleanDisk (state S.Store conn.new)
+        → IfOk result (FindsOfList (λ H. is_lot H lot.now) (state S.Store conn.old)) }
+    ensures reads { ReadsOnly S.Store conn.old conn.new }
+    ensures inside { IsRefusedInside result conn.old conn.new }
 {
     let rows = select(
         conn,
@@ -55,11 +52,10 @@ pub fn board_pieces<S: Alter>(
     conn: &mut Connection<S>,
     board: &Id,
 ) -> Result<PlacedRows, Error>
-    ensures pieces { HasCleanDisk (state S.Store conn.new) → IfOk result (FindsOfList (λ H. pieces_on H board.now) (state S.Store conn.old)) }
-    ensures kept { HasCleanDisk (state S.Store conn.new) → KeepsCommit (state S.Store conn.old) (state S.Store conn.new) }
-    ensures inside { IsTrue conn.old.in_transaction → (result ≡ Err (Error.SqliteFailure code.TransactionState)) × (conn.new ≡ conn.old) }
-    ensures mode { conn.old.in_transaction ≡ false → conn.new.in_transaction ≡ false }
-    ensures survives { Survives (state S.Store conn.old) (state S.Store conn.new) (λ _. ⊥) }
+    ensures pieces { HasCleanDisk (state S.Store conn.new)
+        → IfOk result (FindsOfList (λ H. pieces_on H board.now) (state S.Store conn.old)) }
+    ensures reads { ReadsOnly S.Store conn.old conn.new }
+    ensures inside { IsRefusedInside result conn.old conn.new }
 {
     let rows = select(
         conn,
@@ -75,11 +71,10 @@ pub fn lot_pieces<S: Alter>(
     conn: &mut Connection<S>,
     lot: &Id,
 ) -> Result<PlacedRows, Error>
-    ensures pieces { HasCleanDisk (state S.Store conn.new) → IfOk result (FindsOfList (λ H. pieces_of_lot H lot.now) (state S.Store conn.old)) }
-    ensures kept { HasCleanDisk (state S.Store conn.new) → KeepsCommit (state S.Store conn.old) (state S.Store conn.new) }
-    ensures inside { IsTrue conn.old.in_transaction → (result ≡ Err (Error.SqliteFailure code.TransactionState)) × (conn.new ≡ conn.old) }
-    ensures mode { conn.old.in_transaction ≡ false → conn.new.in_transaction ≡ false }
-    ensures survives { Survives (state S.Store conn.old) (state S.Store conn.new) (λ _. ⊥) }
+    ensures pieces { HasCleanDisk (state S.Store conn.new)
+        → IfOk result (FindsOfList (λ H. pieces_of_lot H lot.now) (state S.Store conn.old)) }
+    ensures reads { ReadsOnly S.Store conn.old conn.new }
+    ensures inside { IsRefusedInside result conn.old conn.new }
 {
     let rows = select(
         conn,
@@ -91,11 +86,10 @@ pub fn lot_pieces<S: Alter>(
 
 /// The pieces of reels whose floor life was used up, by number, then place.
 pub fn overdue<S: Alter>(alloc: Global, conn: &mut Connection<S>) -> Result<PlacedRows, Error>
-    ensures pieces { HasCleanDisk (state S.Store conn.new) → IfOk result (FindsOfList overdue_of (state S.Store conn.old)) }
-    ensures kept { HasCleanDisk (state S.Store conn.new) → KeepsCommit (state S.Store conn.old) (state S.Store conn.new) }
-    ensures inside { IsTrue conn.old.in_transaction → (result ≡ Err (Error.SqliteFailure code.TransactionState)) × (conn.new ≡ conn.old) }
-    ensures mode { conn.old.in_transaction ≡ false → conn.new.in_transaction ≡ false }
-    ensures survives { Survives (state S.Store conn.old) (state S.Store conn.new) (λ _. ⊥) }
+    ensures pieces { HasCleanDisk (state S.Store conn.new)
+        → IfOk result (FindsOfList overdue_of (state S.Store conn.old)) }
+    ensures reads { ReadsOnly S.Store conn.old conn.new }
+    ensures inside { IsRefusedInside result conn.old conn.new }
 {
     let rows = select(
         conn,
@@ -111,11 +105,10 @@ pub fn lot_names<S: Alter>(
     conn: &mut Connection<S>,
     lot: &Id,
 ) -> Result<IdList, Error>
-    ensures names { HasCleanDisk (state S.Store conn.new) → IfOk result (FindsOfList (λ H. boards_of H lot.now) (state S.Store conn.old)) }
-    ensures kept { HasCleanDisk (state S.Store conn.new) → KeepsCommit (state S.Store conn.old) (state S.Store conn.new) }
-    ensures inside { IsTrue conn.old.in_transaction → (result ≡ Err (Error.SqliteFailure code.TransactionState)) × (conn.new ≡ conn.old) }
-    ensures mode { conn.old.in_transaction ≡ false → conn.new.in_transaction ≡ false }
-    ensures survives { Survives (state S.Store conn.old) (state S.Store conn.new) (λ _. ⊥) }
+    ensures names { HasCleanDisk (state S.Store conn.new)
+        → IfOk result (FindsOfList (λ H. boards_of H lot.now) (state S.Store conn.old)) }
+    ensures reads { ReadsOnly S.Store conn.old conn.new }
+    ensures inside { IsRefusedInside result conn.old conn.new }
 {
     let rows = select(
         conn,

@@ -3,14 +3,13 @@
 //! Where the lists beside a desk and the desk are at hand, the rows of pieces are read where the lists say
 //! that they are, and each is looked at; else, and where one is another, they are found by a query.
 
-ghost use Rattle.std.specs.Prelude.{◌≡◌, false, Err, IsTrue, IfOk, option_copied};
-ghost use Rattle.sqlite.specs.declared.error.Error.TheVariants as Error;
-ghost use Rattle.sqlite.specs.declared.error.ErrorCode.TheVariants as code;
-ghost use Rattle.sqlite.specs.State.{HasCleanDisk, Survives, KeepsCommit};
+ghost use Rattle.std.specs.Prelude.{IfOk, option_copied};
+ghost use Rattle.sqlite.specs.State.{HasCleanDisk};
 ghost use Rattle.sqlite.specs.Held.{state};
 ghost use Rattle.desk_types.specs.Placements.{overdue_of};
 ghost use Rattle.line_traces.specs.Pieces.{board_trace, lot_trace, lot_board_names};
 ghost use Rattle.line_traces.specs.Beside.{FindsBeside};
+ghost use Rattle.line_tables.specs.Frames.{ReadsOnly, IsRefusedInside};
 
 use crate::by_lists::{boards_of_lot, pieces_of_board, pieces_of_lot, pieces_overdue};
 use crate::pieces::{has_board, has_lot};
@@ -28,11 +27,12 @@ pub fn board_rows<S: Alter, D: Desk>(
     desk: Option<&D>,
     board: &Id,
 ) -> Result<Option<PlacedRows>, Error>
-    ensures trace { HasCleanDisk (state S.Store conn.new) → IfOk result (FindsBeside D.Stands (option_copied lists.entry) (option_copied desk.entry) (λ H. board_trace H board.now) (state S.Store conn.old)) }
-    ensures kept { HasCleanDisk (state S.Store conn.new) → KeepsCommit (state S.Store conn.old) (state S.Store conn.new) }
-    ensures inside { IsTrue conn.old.in_transaction → (result ≡ Err (Error.SqliteFailure code.TransactionState)) × (conn.new ≡ conn.old) }
-    ensures mode { conn.old.in_transaction ≡ false → conn.new.in_transaction ≡ false }
-    ensures survives { Survives (state S.Store conn.old) (state S.Store conn.new) (λ _. ⊥) }
+    ensures trace { HasCleanDisk (state S.Store conn.new)
+        → IfOk result
+        (FindsBeside D.Stands (option_copied lists.entry) (option_copied desk.entry) (λ H. board_trace H board.now)
+        (state S.Store conn.old)) }
+    ensures reads { ReadsOnly S.Store conn.old conn.new }
+    ensures inside { IsRefusedInside result conn.old conn.new }
 {
     if !has_board(conn, board)? {
         return Ok(None);
@@ -48,11 +48,12 @@ pub fn lot_rows<S: Alter, D: Desk>(
     desk: Option<&D>,
     lot: &Id,
 ) -> Result<Option<PlacedRows>, Error>
-    ensures trace { HasCleanDisk (state S.Store conn.new) → IfOk result (FindsBeside D.Stands (option_copied lists.entry) (option_copied desk.entry) (λ H. lot_trace H lot.now) (state S.Store conn.old)) }
-    ensures kept { HasCleanDisk (state S.Store conn.new) → KeepsCommit (state S.Store conn.old) (state S.Store conn.new) }
-    ensures inside { IsTrue conn.old.in_transaction → (result ≡ Err (Error.SqliteFailure code.TransactionState)) × (conn.new ≡ conn.old) }
-    ensures mode { conn.old.in_transaction ≡ false → conn.new.in_transaction ≡ false }
-    ensures survives { Survives (state S.Store conn.old) (state S.Store conn.new) (λ _. ⊥) }
+    ensures trace { HasCleanDisk (state S.Store conn.new)
+        → IfOk result
+        (FindsBeside D.Stands (option_copied lists.entry) (option_copied desk.entry) (λ H. lot_trace H lot.now)
+        (state S.Store conn.old)) }
+    ensures reads { ReadsOnly S.Store conn.old conn.new }
+    ensures inside { IsRefusedInside result conn.old conn.new }
 {
     if !has_lot(conn, lot)? {
         return Ok(None);
@@ -67,11 +68,12 @@ pub fn overdue_rows<S: Alter, D: Desk>(
     lists: Option<&TraceLists>,
     desk: Option<&D>,
 ) -> Result<PlacedRows, Error>
-    ensures rows { HasCleanDisk (state S.Store conn.new) → IfOk result (FindsBeside D.Stands (option_copied lists.entry) (option_copied desk.entry) overdue_of (state S.Store conn.old)) }
-    ensures kept { HasCleanDisk (state S.Store conn.new) → KeepsCommit (state S.Store conn.old) (state S.Store conn.new) }
-    ensures inside { IsTrue conn.old.in_transaction → (result ≡ Err (Error.SqliteFailure code.TransactionState)) × (conn.new ≡ conn.old) }
-    ensures mode { conn.old.in_transaction ≡ false → conn.new.in_transaction ≡ false }
-    ensures survives { Survives (state S.Store conn.old) (state S.Store conn.new) (λ _. ⊥) }
+    ensures rows { HasCleanDisk (state S.Store conn.new)
+        → IfOk result
+        (FindsBeside D.Stands (option_copied lists.entry) (option_copied desk.entry) overdue_of
+        (state S.Store conn.old)) }
+    ensures reads { ReadsOnly S.Store conn.old conn.new }
+    ensures inside { IsRefusedInside result conn.old conn.new }
 {
     pieces_overdue(alloc, conn, lists, desk)
 }
@@ -85,11 +87,12 @@ pub fn lot_boards<S: Alter, D: Desk>(
     desk: Option<&D>,
     lot: &Id,
 ) -> Result<Option<IdList>, Error>
-    ensures boards { HasCleanDisk (state S.Store conn.new) → IfOk result (FindsBeside D.Stands (option_copied lists.entry) (option_copied desk.entry) (λ H. lot_board_names H lot.now) (state S.Store conn.old)) }
-    ensures kept { HasCleanDisk (state S.Store conn.new) → KeepsCommit (state S.Store conn.old) (state S.Store conn.new) }
-    ensures inside { IsTrue conn.old.in_transaction → (result ≡ Err (Error.SqliteFailure code.TransactionState)) × (conn.new ≡ conn.old) }
-    ensures mode { conn.old.in_transaction ≡ false → conn.new.in_transaction ≡ false }
-    ensures survives { Survives (state S.Store conn.old) (state S.Store conn.new) (λ _. ⊥) }
+    ensures boards { HasCleanDisk (state S.Store conn.new)
+        → IfOk result
+        (FindsBeside D.Stands (option_copied lists.entry) (option_copied desk.entry) (λ H. lot_board_names H lot.now)
+        (state S.Store conn.old)) }
+    ensures reads { ReadsOnly S.Store conn.old conn.new }
+    ensures inside { IsRefusedInside result conn.old conn.new }
 {
     if !has_lot(conn, lot)? {
         return Ok(None);

@@ -15,7 +15,7 @@ pub type MemoryConnection = Connection<FileStore<MemoryFile>>;
 /// left in the file; a log in memory has none, so any number serves.
 const SEED: u64 = 0;
 
-/// A database with no table. The error is for want of memory.
+/// A database with no table. An error is out of memory.
 pub fn open(alloc: Global) -> Result<MemoryConnection, Error>
     ensures empty { IfOk result (λ conn. IsEmpty (file_state conn)) }
     ensures mode { IfOk result (λ conn. conn.in_transaction ≡ false) }

@@ -7,7 +7,7 @@ use Rattle.setup_sheets.specs.declared.sheet.SheetFault.{SheetFault}
 use Rattle.setup_sheets.specs.declared.sheet.SheetFault.TheVariants.{Refused, NoMemory}
 use Rattle.setup_sheets.specs.Names.{is_among}
 
--- the rows are refused for what is wrong with them by these parts, or nothing is; want of memory may stand in the place of either
+-- the rows are refused for what is wrong with them by these parts, or nothing is; out of memory may stand in the place of either
 abbrev pub IsChecked : List Name → List SheetRow → Result (Unit {0}) SheetFault → Type 0
 IsChecked parts rows (Ok done) = sheet_refusal (is_among parts) rows ≡ None
 IsChecked parts rows (Err (Refused refusal)) = sheet_refusal (is_among parts) rows ≡ Some refusal

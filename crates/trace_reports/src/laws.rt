@@ -11,9 +11,11 @@ ghost use Rattle.trace_reports.specs.Reports.{board_trace, lot_trace, rows_below
 /// detail 3 of the one has a reel of a part exactly where detail 3 of the other has it. This holds of every
 /// list.
 pub fn reports_are_converse()
-    ensures lots { (H : History) (board lot : Name) (on of : List ℕ) → board_trace Two H board ≡ Some on → lot_trace One H lot ≡ Some of
+    ensures lots { (H : History) (board lot : Name) (on of : List ℕ) → board_trace Two H board ≡ Some on
+        → lot_trace One H lot ≡ Some of
         → ((part : Name) × Contains (rows_below on) (part ∷ lot ∷ [])) ↔ Contains (rows_below of) (board ∷ []) }
-    ensures reels { (H : History) (board part lot reel : Name) (on of : List ℕ) → board_trace Three H board ≡ Some on → lot_trace Three H lot ≡ Some of
+    ensures reels { (H : History) (board part lot reel : Name) (on of : List ℕ) → board_trace Three H board ≡ Some on
+        → lot_trace Three H lot ≡ Some of
         → Contains (rows_below on) (part ∷ lot ∷ reel ∷ []) ↔ Contains (rows_below of) (board ∷ part ∷ reel ∷ []) }
 {
     report_texts::reports_read_back();

@@ -33,10 +33,13 @@ pub fn reel_card<S: Alter, D: Desk + Drop>(
     reel: &Id,
 ) -> Result<Text, ReportFault>
     requires stands { (L : Kept) × Stands S.Store D.Stands D.kept_rules store.old L }
-    ensures card { (L : Kept) → Stands S.Store D.Stands D.kept_rules store.old L → HasCleanDisk (state_of S.Store store.new) → IsTrue L.own → Answers Kind.Reel (reel_card L.history reel.now) result }
+    ensures card { (L : Kept) → Stands S.Store D.Stands D.kept_rules store.old L
+        → HasCleanDisk (state_of S.Store store.new) → IsTrue L.own
+        → Answers Kind.Reel (reel_card L.history reel.now) result }
     ensures at_hand { IsTrue (has_desk store.old) → store.new ≡ store.old }
     ensures kept { (L : Kept) × Stands S.Store D.Stands D.kept_rules store.new L }
-    ensures stands { (L : Kept) → Stands S.Store D.Stands D.kept_rules store.old L → HasCleanDisk (state_of S.Store store.new) → IsTrue L.own → Stands S.Store D.Stands D.kept_rules store.new L }
+    ensures stands { (L : Kept) → Stands S.Store D.Stands D.kept_rules store.old L
+        → HasCleanDisk (state_of S.Store store.new) → IsTrue L.own → Stands S.Store D.Stands D.kept_rules store.new L }
     ensures survives { Survives (state_of S.Store store.old) (state_of S.Store store.new) (λ _. ⊥) }
 {
     store.ready()?;
@@ -54,10 +57,13 @@ pub fn slot_list<S: Alter, D: Desk + Drop>(
     machine: &Id,
 ) -> Result<Text, ReportFault>
     requires stands { (L : Kept) × Stands S.Store D.Stands D.kept_rules store.old L }
-    ensures list { (L : Kept) → Stands S.Store D.Stands D.kept_rules store.old L → HasCleanDisk (state_of S.Store store.new) → IsTrue L.own → Answers Kind.Machine (slot_list L.history machine.now) result }
+    ensures list { (L : Kept) → Stands S.Store D.Stands D.kept_rules store.old L
+        → HasCleanDisk (state_of S.Store store.new) → IsTrue L.own
+        → Answers Kind.Machine (slot_list L.history machine.now) result }
     ensures at_hand { IsTrue (has_desk store.old) → store.new ≡ store.old }
     ensures kept { (L : Kept) × Stands S.Store D.Stands D.kept_rules store.new L }
-    ensures stands { (L : Kept) → Stands S.Store D.Stands D.kept_rules store.old L → HasCleanDisk (state_of S.Store store.new) → IsTrue L.own → Stands S.Store D.Stands D.kept_rules store.new L }
+    ensures stands { (L : Kept) → Stands S.Store D.Stands D.kept_rules store.old L
+        → HasCleanDisk (state_of S.Store store.new) → IsTrue L.own → Stands S.Store D.Stands D.kept_rules store.new L }
     ensures survives { Survives (state_of S.Store store.old) (state_of S.Store store.new) (λ _. ⊥) }
 {
     store.ready()?;
@@ -80,10 +86,13 @@ pub fn kit_list<S: Alter, D: Desk + Drop>(
     boards: Boards,
 ) -> Result<Text, ReportFault>
     requires stands { (L : Kept) × Stands S.Store D.Stands D.kept_rules store.old L }
-    ensures list { (L : Kept) → Stands S.Store D.Stands D.kept_rules store.old L → HasCleanDisk (state_of S.Store store.new) → IsTrue L.own → Answers Kind.Sheet (kit_list L.history product.now machine.now boards) result }
+    ensures list { (L : Kept) → Stands S.Store D.Stands D.kept_rules store.old L
+        → HasCleanDisk (state_of S.Store store.new) → IsTrue L.own
+        → Answers Kind.Sheet (kit_list L.history product.now machine.now boards) result }
     ensures at_hand { IsTrue (has_desk store.old) → store.new ≡ store.old }
     ensures kept { (L : Kept) × Stands S.Store D.Stands D.kept_rules store.new L }
-    ensures stands { (L : Kept) → Stands S.Store D.Stands D.kept_rules store.old L → HasCleanDisk (state_of S.Store store.new) → IsTrue L.own → Stands S.Store D.Stands D.kept_rules store.new L }
+    ensures stands { (L : Kept) → Stands S.Store D.Stands D.kept_rules store.old L
+        → HasCleanDisk (state_of S.Store store.new) → IsTrue L.own → Stands S.Store D.Stands D.kept_rules store.new L }
     ensures survives { Survives (state_of S.Store store.old) (state_of S.Store store.new) (λ _. ⊥) }
 {
     store.ready()?;

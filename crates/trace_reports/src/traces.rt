@@ -21,10 +21,14 @@ pub fn board_trace<S: Alter, D: Desk + Drop>(
     board: &Id,
     detail: TraceDetail,
 ) -> Result<Text, ReportFault>
-    ensures trace { (L : Kept) → Stands S.Store D.Stands D.kept_rules store.old L → HasCleanDisk (state_of S.Store store.new) → IsTrue L.own → Answers Kind.Board (board_trace detail L.history board.now) result }
-    ensures stands { (L : Kept) → Stands S.Store D.Stands D.kept_rules store.old L → Stands S.Store D.Stands D.kept_rules store.new L }
+    ensures trace { (L : Kept) → Stands S.Store D.Stands D.kept_rules store.old L
+        → HasCleanDisk (state_of S.Store store.new) → IsTrue L.own
+        → Answers Kind.Board (board_trace detail L.history board.now) result }
+    ensures stands { (L : Kept) → Stands S.Store D.Stands D.kept_rules store.old L
+        → Stands S.Store D.Stands D.kept_rules store.new L }
     ensures desk { desk_of store.new ≡ desk_of store.old }
-    ensures unchanged { HasCleanDisk (state_of S.Store store.new) → KeepsCommit (state_of S.Store store.old) (state_of S.Store store.new) }
+    ensures unchanged { HasCleanDisk (state_of S.Store store.new)
+        → KeepsCommit (state_of S.Store store.old) (state_of S.Store store.new) }
     ensures survives { Survives (state_of S.Store store.old) (state_of S.Store store.new) (λ _. ⊥) }
 {
     let Some(pieces) = store.board_rows(board)? else {
@@ -41,10 +45,14 @@ pub fn lot_trace<S: Alter, D: Desk + Drop>(
     lot: &Id,
     detail: TraceDetail,
 ) -> Result<Text, ReportFault>
-    ensures trace { (L : Kept) → Stands S.Store D.Stands D.kept_rules store.old L → HasCleanDisk (state_of S.Store store.new) → IsTrue L.own → Answers Kind.Lot (lot_trace detail L.history lot.now) result }
-    ensures stands { (L : Kept) → Stands S.Store D.Stands D.kept_rules store.old L → Stands S.Store D.Stands D.kept_rules store.new L }
+    ensures trace { (L : Kept) → Stands S.Store D.Stands D.kept_rules store.old L
+        → HasCleanDisk (state_of S.Store store.new) → IsTrue L.own
+        → Answers Kind.Lot (lot_trace detail L.history lot.now) result }
+    ensures stands { (L : Kept) → Stands S.Store D.Stands D.kept_rules store.old L
+        → Stands S.Store D.Stands D.kept_rules store.new L }
     ensures desk { desk_of store.new ≡ desk_of store.old }
-    ensures unchanged { HasCleanDisk (state_of S.Store store.new) → KeepsCommit (state_of S.Store store.old) (state_of S.Store store.new) }
+    ensures unchanged { HasCleanDisk (state_of S.Store store.new)
+        → KeepsCommit (state_of S.Store store.old) (state_of S.Store store.new) }
     ensures survives { Survives (state_of S.Store store.old) (state_of S.Store store.new) (λ _. ⊥) }
 {
     let Some(pieces) = store.lot_rows(lot)? else {
@@ -59,10 +67,13 @@ pub fn overdue_list<S: Alter, D: Desk + Drop>(
     alloc: Global,
     store: &mut LineStore<S, D>,
 ) -> Result<Text, ReportFault>
-    ensures list { (L : Kept) → Stands S.Store D.Stands D.kept_rules store.old L → HasCleanDisk (state_of S.Store store.new) → IsTrue L.own → AnswersAlways (overdue_list L.history) result }
-    ensures stands { (L : Kept) → Stands S.Store D.Stands D.kept_rules store.old L → Stands S.Store D.Stands D.kept_rules store.new L }
+    ensures list { (L : Kept) → Stands S.Store D.Stands D.kept_rules store.old L
+        → HasCleanDisk (state_of S.Store store.new) → IsTrue L.own → AnswersAlways (overdue_list L.history) result }
+    ensures stands { (L : Kept) → Stands S.Store D.Stands D.kept_rules store.old L
+        → Stands S.Store D.Stands D.kept_rules store.new L }
     ensures desk { desk_of store.new ≡ desk_of store.old }
-    ensures unchanged { HasCleanDisk (state_of S.Store store.new) → KeepsCommit (state_of S.Store store.old) (state_of S.Store store.new) }
+    ensures unchanged { HasCleanDisk (state_of S.Store store.new)
+        → KeepsCommit (state_of S.Store store.old) (state_of S.Store store.new) }
     ensures survives { Survives (state_of S.Store store.old) (state_of S.Store store.new) (λ _. ⊥) }
 {
     let pieces = store.overdue_rows()?;

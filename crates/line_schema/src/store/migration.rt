@@ -25,13 +25,17 @@ impl<S: Alter, D: Desk + Drop> LineStore<S, D> {
     /// a fault the tables are as before; where it was a commit that failed, a crash may leave version
     /// 2 all the same. In an open transaction of the caller's it is Unavailable.
     pub fn migrate(alloc: Global, conn: &mut Connection<S>) -> Result<u32, OpenFault>
-        ensures migrated { HasCleanDisk (state S.Store conn.new) → IfOk result (λ count. (greatest : ℕ) × (H : History) × IsMigrated (state S.Store conn.old) (state S.Store conn.new) greatest H count) }
+        ensures migrated { HasCleanDisk (state S.Store conn.new)
+            → IfOk result (λ count. (greatest : ℕ) × (H : History)
+            × IsMigrated (state S.Store conn.old) (state S.Store conn.new) greatest H count) }
         ensures named { IfOk result (λ _. IsNamedBy One (state S.Store conn.old)) }
         ensures fault { HasCleanDisk (state S.Store conn.new) → IfErr result (IsFaultBy One (state S.Store conn.old)) }
         ensures told { IfErr result (IsToldBy One (state S.Store conn.old)) }
         ensures never { IfErr result (λ f. f ≢ Fault.NotBlank) }
-        ensures unchanged { HasCleanDisk (state S.Store conn.new) → IfErr result (λ _. KeepsCommit (state S.Store conn.old) (state S.Store conn.new)) }
-        ensures crash { Survives (state S.Store conn.old) (state S.Store conn.new) (LeavesMigrated (state S.Store conn.old)) }
+        ensures unchanged { HasCleanDisk (state S.Store conn.new)
+            → IfErr result (λ _. KeepsCommit (state S.Store conn.old) (state S.Store conn.new)) }
+        ensures crash { Survives (state S.Store conn.old) (state S.Store conn.new)
+            (LeavesMigrated (state S.Store conn.old)) }
         ensures inside { IsTrue conn.old.in_transaction → (result ≡ Err Fault.Unavailable) × (conn.new ≡ conn.old) }
         ensures mode { conn.old.in_transaction ≡ false → conn.new.in_transaction ≡ false }
     {

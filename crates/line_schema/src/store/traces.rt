@@ -18,11 +18,17 @@ use sqlite::Alter;
 impl<S: Alter, D: Desk + Drop> LineStore<S, D> {
     /// The pieces on a board by number, then place; none where no accepted command started the board.
     pub fn board_rows(&mut self, board: &Id) -> Result<Option<PlacedRows>, Unavailable>
-        ensures trace { (L : Kept) → Stands S.Store D.Stands D.kept_rules self.old L → HasCleanDisk (state_of S.Store self.new) → IsTrue L.own → IfOk result (λ pieces. pieces ≡ board_trace L.history board.now) }
-        ensures converse { (L : Kept) → Stands S.Store D.Stands D.kept_rules self.old L → HasCleanDisk (state_of S.Store self.new) → IsTrue L.own → IfOk result (λ pieces. (lot : Name) → AreConverse board.now pieces lot (lot_board_names L.history lot)) }
-        ensures stands { (L : Kept) → Stands S.Store D.Stands D.kept_rules self.old L → Stands S.Store D.Stands D.kept_rules self.new L }
+        ensures trace { (L : Kept) → Stands S.Store D.Stands D.kept_rules self.old L
+            → HasCleanDisk (state_of S.Store self.new) → IsTrue L.own
+            → IfOk result (λ pieces. pieces ≡ board_trace L.history board.now) }
+        ensures converse { (L : Kept) → Stands S.Store D.Stands D.kept_rules self.old L
+            → HasCleanDisk (state_of S.Store self.new) → IsTrue L.own
+            → IfOk result (λ pieces. (lot : Name) → AreConverse board.now pieces lot (lot_board_names L.history lot)) }
+        ensures stands { (L : Kept) → Stands S.Store D.Stands D.kept_rules self.old L
+            → Stands S.Store D.Stands D.kept_rules self.new L }
         ensures desk { desk_of self.new ≡ desk_of self.old }
-        ensures unchanged { HasCleanDisk (state_of S.Store self.new) → KeepsCommit (state_of S.Store self.old) (state_of S.Store self.new) }
+        ensures unchanged { HasCleanDisk (state_of S.Store self.new)
+            → KeepsCommit (state_of S.Store self.old) (state_of S.Store self.new) }
         ensures survives { Survives (state_of S.Store self.old) (state_of S.Store self.new) (λ _. ⊥) }
     {
         let lists = self.lists.as_ref();
@@ -33,10 +39,14 @@ impl<S: Alter, D: Desk + Drop> LineStore<S, D> {
     /// The pieces of a lot by number, then place; none where no accepted command received a reel of the
     /// lot.
     pub fn lot_rows(&mut self, lot: &Id) -> Result<Option<PlacedRows>, Unavailable>
-        ensures trace { (L : Kept) → Stands S.Store D.Stands D.kept_rules self.old L → HasCleanDisk (state_of S.Store self.new) → IsTrue L.own → IfOk result (λ pieces. pieces ≡ lot_trace L.history lot.now) }
-        ensures stands { (L : Kept) → Stands S.Store D.Stands D.kept_rules self.old L → Stands S.Store D.Stands D.kept_rules self.new L }
+        ensures trace { (L : Kept) → Stands S.Store D.Stands D.kept_rules self.old L
+            → HasCleanDisk (state_of S.Store self.new) → IsTrue L.own
+            → IfOk result (λ pieces. pieces ≡ lot_trace L.history lot.now) }
+        ensures stands { (L : Kept) → Stands S.Store D.Stands D.kept_rules self.old L
+            → Stands S.Store D.Stands D.kept_rules self.new L }
         ensures desk { desk_of self.new ≡ desk_of self.old }
-        ensures unchanged { HasCleanDisk (state_of S.Store self.new) → KeepsCommit (state_of S.Store self.old) (state_of S.Store self.new) }
+        ensures unchanged { HasCleanDisk (state_of S.Store self.new)
+            → KeepsCommit (state_of S.Store self.old) (state_of S.Store self.new) }
         ensures survives { Survives (state_of S.Store self.old) (state_of S.Store self.new) (λ _. ⊥) }
     {
         let lists = self.lists.as_ref();
@@ -47,11 +57,17 @@ impl<S: Alter, D: Desk + Drop> LineStore<S, D> {
     /// The boards that hold a piece of a lot, each once and in byte order; none where no accepted
     /// command received a reel of the lot.
     pub fn lot_boards(&mut self, lot: &Id) -> Result<Option<IdList>, Unavailable>
-        ensures boards { (L : Kept) → Stands S.Store D.Stands D.kept_rules self.old L → HasCleanDisk (state_of S.Store self.new) → IsTrue L.own → IfOk result (λ boards. boards ≡ lot_board_names L.history lot.now) }
-        ensures converse { (L : Kept) → Stands S.Store D.Stands D.kept_rules self.old L → HasCleanDisk (state_of S.Store self.new) → IsTrue L.own → IfOk result (λ boards. (board : Name) → AreConverse board (board_trace L.history board) lot.now boards) }
-        ensures stands { (L : Kept) → Stands S.Store D.Stands D.kept_rules self.old L → Stands S.Store D.Stands D.kept_rules self.new L }
+        ensures boards { (L : Kept) → Stands S.Store D.Stands D.kept_rules self.old L
+            → HasCleanDisk (state_of S.Store self.new) → IsTrue L.own
+            → IfOk result (λ boards. boards ≡ lot_board_names L.history lot.now) }
+        ensures converse { (L : Kept) → Stands S.Store D.Stands D.kept_rules self.old L
+            → HasCleanDisk (state_of S.Store self.new) → IsTrue L.own
+            → IfOk result (λ boards. (board : Name) → AreConverse board (board_trace L.history board) lot.now boards) }
+        ensures stands { (L : Kept) → Stands S.Store D.Stands D.kept_rules self.old L
+            → Stands S.Store D.Stands D.kept_rules self.new L }
         ensures desk { desk_of self.new ≡ desk_of self.old }
-        ensures unchanged { HasCleanDisk (state_of S.Store self.new) → KeepsCommit (state_of S.Store self.old) (state_of S.Store self.new) }
+        ensures unchanged { HasCleanDisk (state_of S.Store self.new)
+            → KeepsCommit (state_of S.Store self.old) (state_of S.Store self.new) }
         ensures survives { Survives (state_of S.Store self.old) (state_of S.Store self.new) (λ _. ⊥) }
     {
         let lists = self.lists.as_ref();
@@ -61,10 +77,14 @@ impl<S: Alter, D: Desk + Drop> LineStore<S, D> {
 
     /// The pieces of reels whose floor life was used up, by number, then place.
     pub fn overdue_rows(&mut self) -> Result<PlacedRows, Unavailable>
-        ensures rows { (L : Kept) → Stands S.Store D.Stands D.kept_rules self.old L → HasCleanDisk (state_of S.Store self.new) → IsTrue L.own → IfOk result (λ pieces. pieces ≡ overdue_of L.history) }
-        ensures stands { (L : Kept) → Stands S.Store D.Stands D.kept_rules self.old L → Stands S.Store D.Stands D.kept_rules self.new L }
+        ensures rows { (L : Kept) → Stands S.Store D.Stands D.kept_rules self.old L
+            → HasCleanDisk (state_of S.Store self.new) → IsTrue L.own
+            → IfOk result (λ pieces. pieces ≡ overdue_of L.history) }
+        ensures stands { (L : Kept) → Stands S.Store D.Stands D.kept_rules self.old L
+            → Stands S.Store D.Stands D.kept_rules self.new L }
         ensures desk { desk_of self.new ≡ desk_of self.old }
-        ensures unchanged { HasCleanDisk (state_of S.Store self.new) → KeepsCommit (state_of S.Store self.old) (state_of S.Store self.new) }
+        ensures unchanged { HasCleanDisk (state_of S.Store self.new)
+            → KeepsCommit (state_of S.Store self.old) (state_of S.Store self.new) }
         ensures survives { Survives (state_of S.Store self.old) (state_of S.Store self.new) (λ _. ⊥) }
     {
         let lists = self.lists.as_ref();

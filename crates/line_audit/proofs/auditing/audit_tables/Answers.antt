@@ -3,10 +3,9 @@ use Rattle.std.specs.List.{AllByRecursion}
 use Rattle.std.proofs.lemmas.List.{take_all}
 use Rattle.sqlite.specs.State.{HasCleanDisk}
 use Rattle.sqlite.specs.Held.{state}
-use Rattle.sqlite.proofs.StateLemmas.{survives_then}
 use Rattle.desk_types.specs.declared.row.PlacementRow.{PlacementRow}
 use Rattle.state_rows.specs.Kept.{tables_in}
-use Rattle.line_tables.proofs.Keeps.{keeps_then}
+use Rattle.line_tables.proofs.Frames.{reads_then}
 use Rattle.line_audit.specs.Audit.{Pieces, IsExpected, HoldsTable, with_placements}
 use Rattle.line_audit.proofs.MatchedEntries.{reads_before}
 use Rattle.line_audit.proofs.PlacementsAsExpected.{expected_after}
@@ -17,8 +16,8 @@ pub returns-then-not-branch-clause-verdict : goal.returns-then-not-branch-clause
 returns-then-not-branch-clause-verdict g c clean f es expected =
     let old = state g.S.Store c.args.conn.now in
     let mid = state g.S.Store c.loop-table.conn in
-    let early : HasCleanDisk mid = omega (arith, c.is_same.ensures.survives.clean) in
-    let kept = c.loop-table.invariant.kept early in
+    let early : HasCleanDisk mid = omega (arith, c.is_same.ensures.reads.survives.clean) in
+    let kept = c.loop-table.invariant.reads.kept early in
     let told = reads_before old mid kept _ (c.in_ok-is_same.ensures.same clean f es (expected_after old mid kept c.args.placed.all c.args.placed.count es f expected)) in
     let i = c.loop-table.table-index in
     let within : i < length c.args.tables.now = omega (arith, c.loop-table-test.true) in
@@ -41,15 +40,13 @@ loop-table-preserved g c =
     let was = c.loop-table.invariant in
     let i = c.loop-table.table-index in
     let within : i < length c.args.tables.now = omega (arith, c.loop-table-test.true) in
-    let early : HasCleanDisk new → HasCleanDisk mid = λ clean. omega (arith, c.is_same.ensures.survives.clean) in
+    let early : HasCleanDisk new → HasCleanDisk mid = λ clean. omega (arith, c.is_same.ensures.reads.survives.clean) in
     let told = λ (clean : HasCleanDisk new) (f : ℕ × ℕ → Option PlacementRow) (es : Pieces) (expected : IsExpected old c.args.placed.all c.args.placed.count es f).
-    reads_before old mid (was.kept (early clean)) _ (c.in_ok-is_same.ensures.same clean f es (expected_after old mid (was.kept (early clean)) c.args.placed.all c.args.placed.count es f expected)) in
+    reads_before old mid (was.reads.kept (early clean)) _ (c.in_ok-is_same.ensures.same clean f es (expected_after old mid (was.reads.kept (early clean)) c.args.placed.all c.args.placed.count es f expected)) in
     record {
       opened = λ clean f es expected some. (told clean f es expected).was_open;
       right = λ clean f es expected schema. right_more _ c.args.tables.now i _ within (was.right (early clean) f es expected schema) (((told clean f es expected).are schema).0 c.if-not-branch.false);
-      kept = λ clean. keeps_then old mid new (was.kept (early clean)) (c.is_same.ensures.kept clean);
-      mode = λ is. c.is_same.ensures.mode (was.mode is);
-      survives = survives_then old mid new _ _ (λ _. ⊥) (λ _ db none. none) (λ _ db none. none) was.survives c.is_same.ensures.survives;
+      reads = reads_then g.S.Store c.args.conn.now c.loop-table.conn c.is_same.new.conn was.reads c.is_same.ensures.reads;
     }
 
 pub returns-clause-verdict : goal.returns-clause-verdict

@@ -1,10 +1,11 @@
-use Rattle.std.proofs.Common.{◌≡◌, ◌<◌, ℕ, IsTrue, Option, false, take}
+use Rattle.std.proofs.Common.{◌<◌, ℕ, IsTrue, Option, take}
 use Rattle.std.specs.List.{AllByRecursion}
-use Rattle.sqlite.specs.State.{HasCleanDisk, Survives, KeepsCommit}
+use Rattle.sqlite.specs.State.{HasCleanDisk}
 use Rattle.sqlite.specs.Held.{state}
 use Rattle.desk_types.specs.declared.row.PlacementRow.{PlacementRow}
 use Rattle.state_rows.specs.Kept.{tables_in}
 use Rattle.line_tables.specs.Line.{IsOurs}
+use Rattle.line_tables.specs.Frames.{ReadsOnly}
 use Rattle.line_audit.specs.Audit.{Pieces, IsExpected, HoldsTable, with_placements}
 use Rattle.line_audit.proofs.auditing.audit_tables.Given as goal
 
@@ -15,7 +16,5 @@ invariant-loop-table g l =
       opened : HasCleanDisk now → (f : ℕ × ℕ → Option PlacementRow) → (es : Pieces) → IsExpected old l.placed.all l.placed.count es f → 0 < l.table-index → IsTrue old.is_open;
       right : HasCleanDisk now → (f : ℕ × ℕ → Option PlacementRow) → (es : Pieces) → IsExpected old l.placed.all l.placed.count es f → IsOurs old.committed.schema
           → AllByRecursion (HoldsTable old.committed (with_placements f (tables_in l.rows))) (take l.table-index l.tables);
-      kept : HasCleanDisk now → KeepsCommit old now;
-      mode : l.fn.conn.in_transaction ≡ false → l.conn.in_transaction ≡ false;
-      survives : Survives old now (λ _. ⊥);
+      reads : ReadsOnly g.S.Store l.fn.conn l.conn;
     }

@@ -1,6 +1,7 @@
-use Rattle.std.proofs.Common.{◌≡◌, false, map}
-use Rattle.sqlite.specs.State.{HasCleanDisk, Survives, KeepsCommit}
+use Rattle.std.proofs.Common.{map}
+use Rattle.sqlite.specs.State.{HasCleanDisk}
 use Rattle.sqlite.specs.Held.{state}
+use Rattle.line_tables.specs.Frames.{ReadsOnly}
 use Rattle.line_audit.specs.Alone.{AreMatched}
 use Rattle.line_audit.specs.TableNames.{table_of}
 use Rattle.line_audit.proofs.compared.are_rows.Given as goal
@@ -12,7 +13,5 @@ invariant-loop-row g l =
       can : (goal.iterator-loop-row g).can_next l.row-iterator;
       ends : (goal.iterator-loop-row g).is_finite l.row-iterator;
       matched : HasCleanDisk now → AreMatched (table_of l.fn.table) g.E.ExpectedRow.has g.E.ExpectedRow.columns old l.left (map g.E.ExpectedRow.entry l.yielded);
-      kept : HasCleanDisk now → KeepsCommit old now;
-      mode : l.fn.conn.in_transaction ≡ false → l.conn.in_transaction ≡ false;
-      survives : Survives old now (λ _. ⊥);
+      reads : ReadsOnly g.S.Store l.fn.conn l.conn;
     }

@@ -3,11 +3,10 @@ use Rattle.std.proofs.lemmas.List.{take_all}
 use Rattle.sqlite_rules.specs.Lists.{Has}
 use Rattle.sqlite.specs.State.{HasCleanDisk}
 use Rattle.sqlite.specs.Held.{state}
-use Rattle.sqlite.proofs.StateLemmas.{survives_then}
 use Rattle.desk_types.specs.declared.row.PlacementRow.{PlacementRow}
 use Rattle.line_tables.specs.Line as line
 use Rattle.line_tables.specs.StateRows.{rows_in, placement_columns}
-use Rattle.line_tables.proofs.Keeps.{keeps_then}
+use Rattle.line_tables.proofs.Frames.{reads_then}
 use Rattle.line_audit.specs.Placed.{has_placement, AreHere}
 use Rattle.line_audit.proofs.PlacementsFound.{looked_here, one_missing, all_here}
 use Rattle.line_audit.proofs.MatchedEntries.{reads_before}
@@ -18,8 +17,8 @@ pub returns-then-not-branch-clause-found : goal.returns-then-not-branch-clause-f
 returns-then-not-branch-clause-found g c clean =
     let old = state g.S.Store c.args.conn.now in
     let mid = state g.S.Store c.loop-row.conn in
-    let early : HasCleanDisk mid = omega (arith, c.has_placement.ensures.survives.clean) in
-    let told = reads_before old mid (c.loop-row.invariant.kept early) _ (c.in_ok-has_placement.ensures.found clean) in
+    let early : HasCleanDisk mid = omega (arith, c.has_placement.ensures.reads.survives.clean) in
+    let told = reads_before old mid (c.loop-row.invariant.reads.kept early) _ (c.in_ok-has_placement.ensures.found clean) in
     let rows = rows_in line.placement old.committed in
     record {
       was_open = told.was_open;
@@ -33,15 +32,13 @@ loop-row-preserved g c =
     let mid = state g.S.Store c.loop-row.conn in
     let new = state g.S.Store c.has_placement.new.conn in
     let was = c.loop-row.invariant in
-    let early : HasCleanDisk new → HasCleanDisk mid = λ clean. omega (arith, c.has_placement.ensures.survives.clean) in
-    let told = λ (clean : HasCleanDisk new). reads_before old mid (was.kept (early clean)) _ (c.in_ok-has_placement.ensures.found clean) in
+    let early : HasCleanDisk new → HasCleanDisk mid = λ clean. omega (arith, c.has_placement.ensures.reads.survives.clean) in
+    let told = λ (clean : HasCleanDisk new). reads_before old mid (was.reads.kept (early clean)) _ (c.in_ok-has_placement.ensures.found clean) in
     record {
       opened = λ clean some. (told clean).was_open;
       here = λ clean schema. right_more (λ (p : PlacementRow). Has (rows_in line.placement old.committed) (placement_columns p)) c.args.rows.now c.loop-row.row-index c.row-item.result c.loop-row-test.true (was.here (early clean) schema)
           (subst (λ (p : PlacementRow). Has (rows_in line.placement old.committed) (placement_columns p)) c.row-item.is (looked_here old.committed c.row-item.result (((told clean).are schema).0 c.if-not-branch.false)));
-      kept = λ clean. keeps_then old mid new (was.kept (early clean)) (c.has_placement.ensures.kept clean);
-      mode = λ is. c.has_placement.ensures.mode (was.mode is);
-      survives = survives_then old mid new _ _ (λ _. ⊥) (λ _ db none. none) (λ _ db none. none) was.survives c.has_placement.ensures.survives;
+      reads = reads_then g.S.Store c.args.conn.now c.loop-row.conn c.has_placement.new.conn was.reads c.has_placement.ensures.reads;
     }
 
 pub returns-clause-found : goal.returns-clause-found

@@ -1,7 +1,8 @@
-use Rattle.std.proofs.Common.{◌≡◌, ◌<◌, IsTrue, false, take}
-use Rattle.sqlite.specs.State.{HasCleanDisk, Survives, KeepsCommit}
+use Rattle.std.proofs.Common.{◌<◌, IsTrue, take}
+use Rattle.sqlite.specs.State.{HasCleanDisk}
 use Rattle.sqlite.specs.Held.{state}
 use Rattle.line_tables.specs.Line.{IsOurs}
+use Rattle.line_tables.specs.Frames.{ReadsOnly}
 use Rattle.line_audit.specs.Placed.{AreHere}
 use Rattle.line_audit.proofs.placements.has_each.Given as goal
 
@@ -11,7 +12,5 @@ invariant-loop-row g l =
     let now = state g.S.Store l.conn in record {
       opened : HasCleanDisk now → 0 < l.row-index → IsTrue old.is_open;
       here : HasCleanDisk now → IsOurs old.committed.schema → AreHere old.committed (take l.row-index l.rows);
-      kept : HasCleanDisk now → KeepsCommit old now;
-      mode : l.fn.conn.in_transaction ≡ false → l.conn.in_transaction ≡ false;
-      survives : Survives old now (λ _. ⊥);
+      reads : ReadsOnly g.S.Store l.fn.conn l.conn;
     }

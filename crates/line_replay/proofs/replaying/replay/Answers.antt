@@ -17,8 +17,8 @@ returns-in_err-count-clause-fault g c clean =
     let old = state g.S.Store c.args.conn.now in
     let mid = state g.S.Store c.least_is_one.new.conn in
     let p = err_from_is_err_and c.from_residual-in_err-count.result c.from_residual-in_err-count.ensures.1 in
-    let early : HasCleanDisk mid = omega (arith, c.take_rows.ensures.survives.clean) in
-    rw (p.1, p.2) (fault_before c.args.rules c.args.greatest old mid c.in_err-count.field-0.0 (c.least_is_one.ensures.kept early) (c.in_ok-least_is_one.ensures.ok early) (rw c.fresh-desk.ensures.rules at (c.in_err-count.ensures.err clean)))
+    let early : HasCleanDisk mid = omega (arith, c.take_rows.ensures.reads.survives.clean) in
+    rw (p.1, p.2) (fault_before c.args.rules c.args.greatest old mid c.in_err-count.field-0.0 (c.least_is_one.ensures.reads.kept early) (c.in_ok-least_is_one.ensures.ok early) (rw c.fresh-desk.ensures.rules at (c.in_err-count.ensures.err clean)))
 
 pub returns-then-not-all-clause-fault : goal.returns-then-not-all-clause-fault
 returns-then-not-all-clause-fault g c clean =
@@ -26,11 +26,11 @@ returns-then-not-all-clause-fault g c clean =
     let mid = state g.S.Store c.least_is_one.new.conn in
     let last = state g.S.Store c.take_rows.new.conn in
     let After = HasCleanDisk (state g.S.Store c.are_all.new.conn) in
-    let early : After → HasCleanDisk last = λ done. omega (arith, c.are_all.ensures.survives.clean) in
-    let earlier : HasCleanDisk last → HasCleanDisk mid = λ done. omega (arith, c.take_rows.ensures.survives.clean) in
+    let early : After → HasCleanDisk last = λ done. omega (arith, c.are_all.ensures.reads.survives.clean) in
+    let earlier : HasCleanDisk last → HasCleanDisk mid = λ done. omega (arith, c.take_rows.ensures.reads.survives.clean) in
     let t = rw c.fresh-desk.ensures.rules at c.in_ok-count.ensures.taken in
     too_few (StandsListed g.D.Desk.Stands) c.args.rules c.args.greatest old mid last (c.take_rows.new.desk, c.take_rows.new.lists) c.take_rows.new.beside c.in_ok-count.count t.0 (HasCleanDisk last) After early
-    (λ done. c.least_is_one.ensures.kept (earlier (early done))) (λ done. c.take_rows.ensures.kept (early done)) t.1 t.2 c.in_ok-all.all c.in_ok-all.ensures.counted
+    (λ done. c.least_is_one.ensures.reads.kept (earlier (early done))) (λ done. c.take_rows.ensures.reads.kept (early done)) t.1 t.2 c.in_ok-all.all c.in_ok-all.ensures.counted
     c.if-not-all.true clean (c.in_ok-least_is_one.ensures.ok (earlier (early clean))) (c.in_ok-count.ensures.ends (early clean))
 
 pub returns-clause-list : goal.returns-clause-list
@@ -39,12 +39,12 @@ returns-clause-list g c =
     let mid = state g.S.Store c.least_is_one.new.conn in
     let last = state g.S.Store c.take_rows.new.conn in
     let After = HasCleanDisk (state g.S.Store c.are_all.new.conn) in
-    let early : After → HasCleanDisk last = λ done. omega (arith, c.are_all.ensures.survives.clean) in
-    let earlier : HasCleanDisk last → HasCleanDisk mid = λ done. omega (arith, c.take_rows.ensures.survives.clean) in
+    let early : After → HasCleanDisk last = λ done. omega (arith, c.are_all.ensures.reads.survives.clean) in
+    let earlier : HasCleanDisk last → HasCleanDisk mid = λ done. omega (arith, c.take_rows.ensures.reads.survives.clean) in
     let t = rw c.fresh-desk.ensures.rules at c.in_ok-count.ensures.taken in (
       t.0,
       replayed g.D.Desk.Stands c.args.rules c.args.greatest old mid last c.take_rows.new.desk c.take_rows.new.beside c.in_ok-count.count t.0 (HasCleanDisk last) After early
-          (λ done. c.least_is_one.ensures.kept (earlier (early done))) (λ done. c.take_rows.ensures.kept (early done)) t.1 (desk-taken t.2) c.in_ok-all.all c.in_ok-all.ensures.counted
+          (λ done. c.least_is_one.ensures.reads.kept (earlier (early done))) (λ done. c.take_rows.ensures.reads.kept (early done)) t.1 (desk-taken t.2) c.in_ok-all.all c.in_ok-all.ensures.counted
           c.if-not-all.false,
       t.2.stands.1,
     )

@@ -15,14 +15,14 @@ returns-in_ok-add-in-Some-clause-ok g c H stands numbered =
     let first = state g.S.Store c.row_at.new.conn in
     let mid = state g.S.Store c.accept_first.new.conn in
     let After = HasCleanDisk (state g.S.Store c.add.new.conn) in
-    let early : After → HasCleanDisk mid = λ clean. omega (arith, c.add.ensures.survives.clean, clean) in
-    let earlier : After → HasCleanDisk first = λ clean. omega (arith, c.accept_first.ensures.survives.clean, early clean) in
-    let kept : After → KeepsCommit old mid = λ clean. keeps_then old first mid (c.row_at.ensures.kept (earlier clean)) (c.accept_first.ensures.kept (early clean)) in
+    let early : After → HasCleanDisk mid = λ clean. omega (arith, c.add.ensures.reads.survives.clean, clean) in
+    let earlier : After → HasCleanDisk first = λ clean. omega (arith, c.accept_first.ensures.reads.survives.clean, early clean) in
+    let kept : After → KeepsCommit old mid = λ clean. keeps_then old first mid (c.row_at.ensures.reads.kept (earlier clean)) (c.accept_first.ensures.reads.kept (early clean)) in
     let accepts = c.in_ok-edits-in-Some.ensures.ok H stands numbered in record {
       entry = accepts.entry;
       stands = accepts.stands;
       next = accepts.goes.next;
-      row = λ clean. row_taken old first c.in_ok-found.found c.in-Some.row H accepts.entry c.args.number (c.row_at.ensures.kept (earlier clean)) c.in-Some.is numbered accepts.goes.same (c.in_ok-found.ensures.found (earlier clean)) (accepts.first (early clean));
+      row = λ clean. row_taken old first c.in_ok-found.found c.in-Some.row H accepts.entry c.args.number (c.row_at.ensures.reads.kept (earlier clean)) c.in-Some.is numbered accepts.goes.same (c.in_ok-found.ensures.found (earlier clean)) (accepts.first (early clean));
       edits = c.in_ok-edits-in-Some.edits;
       lead = accepts.lead;
       adds = adds_back After old mid c.in_ok-edits-in-Some.edits c.args.beside.now c.add.new.self kept (subst (λ (xs : List RowEdit). Adds After mid xs c.args.beside.now c.add.new.self) c.as_slice.ensures c.in_ok-add-in-Some.ensures.ok);
@@ -32,7 +32,7 @@ pub returns-in_err-edits-in-Some-clause-err : goal.returns-in_err-edits-in-Some-
 returns-in_err-edits-in-Some-clause-err g c H stands numbered clean =
     let old = state g.S.Store c.args.conn.now in
     let first = state g.S.Store c.row_at.new.conn in
-    let early : HasCleanDisk first = omega (arith, c.accept_first.ensures.survives.clean, clean) in
+    let early : HasCleanDisk first = omega (arith, c.accept_first.ensures.reads.survives.clean, clean) in
     let p = err_from_is_err_and c.from_residual-in_err-edits-in-Some.result c.from_residual-in_err-edits-in-Some.ensures.1 in
-    rw (p.1, p.2) (fault_stuck (g.D.Desk.kept_rules c.args.desk.now) old first c.in_ok-found.found c.in-Some.row H c.args.number (c.row_at.ensures.kept early) c.in-Some.is numbered (c.in_ok-found.ensures.found early)
+    rw (p.1, p.2) (fault_stuck (g.D.Desk.kept_rules c.args.desk.now) old first c.in_ok-found.found c.in-Some.row H c.args.number (c.row_at.ensures.reads.kept early) c.in-Some.is numbered (c.in_ok-found.ensures.found early)
     c.in_err-edits-in-Some.field-0.0 (c.in_err-edits-in-Some.ensures.err H stands numbered clean))

@@ -1,10 +1,9 @@
-use Rattle.std.proofs.Common.{◌≡◌, ◌∙◌, ◌⊎◌, ◌+◌, ◌≤◌, Bool, [], refl, subst, rules, arith}
+use Rattle.std.proofs.Common.{◌≡◌, ◌∙◌, ◌⊎◌, ◌+◌, ◌≤◌, Bool, [], refl, subst, arith}
 use Rattle.std.proofs.lemmas.Result.{err_from_is_err_and}
 use Rattle.sqlite.specs.State.{HasCleanDisk}
 use Rattle.sqlite.specs.Held.{state}
-use Rattle.sqlite.proofs.StateLemmas.{survives_then}
 use Rattle.desk_types.specs.declared.rules.Rules.{Rules}
-use Rattle.line_tables.proofs.Keeps.{keeps_then}
+use Rattle.line_tables.proofs.Frames.{reads_same, reads_then}
 use Rattle.line_replay.specs.declared.fault.ReplayFault.TheVariants.{NotLawful, Unavailable}
 use Rattle.line_tables.specs.Calls.{Reads}
 use Rattle.line_tables.specs.Rows.{accepted_in}
@@ -27,9 +26,7 @@ loop-number-init g c =
           others = beside_none (HasCleanDisk old) old.committed c.args.beside.now (c.requires.none old.committed);
         },
       );
-      kept = λ clean. record { was_open = λ is. is; committed = λ is. refl };
-      mode = λ is. is;
-      survives = search rules;
+      reads = reads_same g.S.Store c.args.conn.now;
     }
 
 pub loop-number-preserved : goal.loop-number-preserved
@@ -41,15 +38,13 @@ loop-number-preserved g c =
     let was = c.loop-number.invariant in
     let H = was.taken.0 in
     let taken = was.taken.1 in
-    let early : HasCleanDisk new → HasCleanDisk mid = λ clean. omega (arith, c.take_row.ensures.survives.clean) in
+    let early : HasCleanDisk new → HasCleanDisk mid = λ clean. omega (arith, c.take_row.ensures.reads.survives.clean) in
     let went = c.in_ok-taken.ensures.ok H taken.stands (omega (arith, taken.counted)) in
     let again = subst (λ (r : Rules). Goes F r (HasCleanDisk new) mid H c.loop-number.beside (c.take_row.new.desk, c.take_row.new.lists) c.take_row.new.beside c.in_ok-taken.taken) was.rules went in
     let more = subst (λ (b : Bool). Goes F (g.D.Desk.kept_rules c.args.desk.now) (HasCleanDisk new) mid H c.loop-number.beside (c.take_row.new.desk, c.take_row.new.lists) c.take_row.new.beside b) c.if-not-taken.false again in record {
       rules = c.in_ok-taken.ensures.rules ∙ was.rules;
-      taken = taken_more F (g.D.Desk.kept_rules c.args.desk.now) old mid (HasCleanDisk mid) (HasCleanDisk new) early was.kept (c.loop-number.desk, c.loop-number.lists) (c.take_row.new.desk, c.take_row.new.lists) c.loop-number.beside c.take_row.new.beside c.loop-number.number H taken more;
-      kept = λ clean. keeps_then old mid new (was.kept (early clean)) (c.take_row.ensures.kept clean);
-      mode = λ is. c.take_row.ensures.mode (was.mode is);
-      survives = survives_then old mid new _ _ (λ _. ⊥) (λ _ db none. none) (λ _ db none. none) was.survives c.take_row.ensures.survives;
+      taken = taken_more F (g.D.Desk.kept_rules c.args.desk.now) old mid (HasCleanDisk mid) (HasCleanDisk new) early was.reads.kept (c.loop-number.desk, c.loop-number.lists) (c.take_row.new.desk, c.take_row.new.lists) c.loop-number.beside c.take_row.new.beside c.loop-number.number H taken more;
+      reads = reads_then g.S.Store c.args.conn.now c.loop-number.conn c.take_row.new.conn was.reads c.take_row.ensures.reads;
     }
 
 pub returns-in_err-taken-clause-err : goal.returns-in_err-taken-clause-err
@@ -61,9 +56,9 @@ returns-in_err-taken-clause-err g c clean =
     let taken = was.taken.1 in
     let n = c.loop-number.number in
     let f = c.in_err-taken.field-0.0 in
-    let early : HasCleanDisk mid = omega (arith, c.take_row.ensures.survives.clean, clean) in
+    let early : HasCleanDisk mid = omega (arith, c.take_row.ensures.reads.survives.clean, clean) in
     let low : n + 1 ≤ c.args.greatest = omega (arith, c.loop-number-test.true) in
     let p = err_from_is_err_and c.from_residual.result c.from_residual.ensures.1 in
     let stop = c.in_err-taken.ensures.err H taken.stands.0 (omega (arith, taken.counted)) clean in
     let again = subst (λ (r : Rules). (f ≡ Unavailable) ⊎ ((f ≡ NotLawful (n + 1)) × Reads mid (λ db. IsStuck r H (accepted_in db)))) was.rules stop in
-    rw (p.1, p.2) (fault_taken (StandsListed g.D.Desk.Stands) (g.D.Desk.kept_rules c.args.desk.now) c.args.greatest old mid (HasCleanDisk mid) (c.loop-number.desk, c.loop-number.lists) c.loop-number.beside n H early (was.kept early) taken low f again)
+    rw (p.1, p.2) (fault_taken (StandsListed g.D.Desk.Stands) (g.D.Desk.kept_rules c.args.desk.now) c.args.greatest old mid (HasCleanDisk mid) (c.loop-number.desk, c.loop-number.lists) c.loop-number.beside n H early (was.reads.kept early) taken low f again)

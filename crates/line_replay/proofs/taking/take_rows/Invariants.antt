@@ -1,7 +1,8 @@
-use Rattle.std.proofs.Common.{◌≡◌, false}
-use Rattle.sqlite.specs.State.{HasCleanDisk, Survives, KeepsCommit}
+use Rattle.std.proofs.Common.{◌≡◌}
+use Rattle.sqlite.specs.State.{HasCleanDisk}
 use Rattle.sqlite.specs.Held.{state}
 use Rattle.desk_types.specs.History.{History}
+use Rattle.line_tables.specs.Frames.{ReadsOnly}
 use Rattle.line_replay.specs.Replay.{StandsListed, IsTaken}
 use Rattle.line_replay.proofs.taking.take_rows.Given as goal
 
@@ -12,7 +13,5 @@ invariant-loop-number g l =
     let now = state g.S.Store l.conn in record {
       rules : kept_rules l.desk ≡ kept_rules l.fn.desk;
       taken : (H : History) × IsTaken (StandsListed g.D.Desk.Stands) (kept_rules l.fn.desk) (HasCleanDisk now) old.committed (l.desk, l.lists) l.beside l.number H;
-      kept : HasCleanDisk now → KeepsCommit old now;
-      mode : l.fn.conn.in_transaction ≡ false → l.conn.in_transaction ≡ false;
-      survives : Survives old now (λ _. ⊥);
+      reads : ReadsOnly g.S.Store l.fn.conn l.conn;
     }

@@ -15,18 +15,18 @@ returns-in-None-clause-ok g c =
     let seen = state g.S.Store c.are_apart.new.conn in
     let Before = HasCleanDisk last in
     let After = HasCleanDisk (state g.S.Store c.audit.new.conn) in
-    let late : After → HasCleanDisk seen = λ clean. omega (arith, c.audit.ensures.survives.clean, clean) in
-    let early : After → Before = λ clean. omega (arith, c.are_apart.ensures.survives.clean, late clean) in
-    let earlier : Before → HasCleanDisk mid = λ clean. omega (arith, c.replay.ensures.survives.clean, clean) in
-    let kept : After → KeepsCommit old mid = λ clean. c.read_greatest.ensures.kept (earlier (early clean)) in
-    let kept_on : After → KeepsCommit mid seen = λ clean. keeps_then mid last seen (c.replay.ensures.kept (early clean)) (c.are_apart.ensures.kept (late clean)) in
+    let late : After → HasCleanDisk seen = λ clean. omega (arith, c.audit.ensures.reads.survives.clean, clean) in
+    let early : After → Before = λ clean. omega (arith, c.are_apart.ensures.reads.survives.clean, late clean) in
+    let earlier : Before → HasCleanDisk mid = λ clean. omega (arith, c.replay.ensures.reads.survives.clean, clean) in
+    let kept : After → KeepsCommit old mid = λ clean. c.read_greatest.ensures.reads.kept (earlier (early clean)) in
+    let kept_on : After → KeepsCommit mid seen = λ clean. keeps_then mid last seen (c.replay.ensures.reads.kept (early clean)) (c.are_apart.ensures.reads.kept (late clean)) in
     let r = c.in_ok-desk.field-0 in
     let list = c.in_ok-desk.ensures.list in
     let first = audited c.args.rules Before After old mid seen r.beside list.0 None early kept kept_on list.1.others (λ clean. rw c.in-None.is at (c.in_ok-other.ensures.verdict clean)) in (
       list.0,
       opened_on g.D.Desk.Stands g.D.Desk.kept_rules Before After old mid c.args.rules r.desk r.beside r.count _ list.0 early list.1 list.2 c.in_ok-desk.ensures.rules refl refl c.in_ok-greatest.ensures.bound kept
           (λ clean. c.in_ok-greatest.ensures.ok (earlier (early clean))) first
-          (λ clean. reads_back old last _ (keeps_then old mid last (kept clean) (c.replay.ensures.kept (early clean))) (reads_as last _ _ (λ db apart. apart c.if-not-apart.false) (c.in_ok-apart.ensures.apart (late clean)))),
+          (λ clean. reads_back old last _ (keeps_then old mid last (kept clean) (c.replay.ensures.reads.kept (early clean))) (reads_as last _ _ (λ db apart. apart c.if-not-apart.false) (c.in_ok-apart.ensures.apart (late clean)))),
     )
 
 pub returns-in-Some-clause-err : goal.returns-in-Some-clause-err
@@ -37,11 +37,11 @@ returns-in-Some-clause-err g c clean =
     let seen = state g.S.Store c.are_apart.new.conn in
     let Before = HasCleanDisk last in
     let After = HasCleanDisk (state g.S.Store c.audit.new.conn) in
-    let late : After → HasCleanDisk seen = λ clean. omega (arith, c.audit.ensures.survives.clean, clean) in
-    let early : After → Before = λ clean. omega (arith, c.are_apart.ensures.survives.clean, late clean) in
-    let earlier : Before → HasCleanDisk mid = λ clean. omega (arith, c.replay.ensures.survives.clean, clean) in
-    let kept : After → KeepsCommit old mid = λ clean. c.read_greatest.ensures.kept (earlier (early clean)) in
-    let kept_on : After → KeepsCommit mid seen = λ clean. keeps_then mid last seen (c.replay.ensures.kept (early clean)) (c.are_apart.ensures.kept (late clean)) in
+    let late : After → HasCleanDisk seen = λ clean. omega (arith, c.audit.ensures.reads.survives.clean, clean) in
+    let early : After → Before = λ clean. omega (arith, c.are_apart.ensures.reads.survives.clean, late clean) in
+    let earlier : Before → HasCleanDisk mid = λ clean. omega (arith, c.replay.ensures.reads.survives.clean, clean) in
+    let kept : After → KeepsCommit old mid = λ clean. c.read_greatest.ensures.reads.kept (earlier (early clean)) in
+    let kept_on : After → KeepsCommit mid seen = λ clean. keeps_then mid last seen (c.replay.ensures.reads.kept (early clean)) (c.are_apart.ensures.reads.kept (late clean)) in
     let r = c.in_ok-desk.field-0 in
     let list = c.in_ok-desk.ensures.list in
     let first = audited c.args.rules Before After old mid seen r.beside list.0 (Some c.in-Some.table) early kept kept_on list.1.others (λ clean. rw c.in-Some.is at (c.in_ok-other.ensures.verdict clean)) in
@@ -52,16 +52,16 @@ pub returns-in_err-desk-clause-err : goal.returns-in_err-desk-clause-err
 returns-in_err-desk-clause-err g c clean =
     let old = state g.S.Store c.args.conn.now in
     let mid = state g.S.Store c.read_greatest.new.conn in
-    let early : HasCleanDisk mid = omega (arith, c.replay.ensures.survives.clean, clean) in
+    let early : HasCleanDisk mid = omega (arith, c.replay.ensures.reads.survives.clean, clean) in
     let p = err_from_is_err_and c.from_residual-in_err-desk.result c.from_residual-in_err-desk.ensures.1 in
-    rw (p.1, p.2) (list_fault c.args.rules old mid c.in_ok-greatest.greatest (c.read_greatest.ensures.kept early) (c.in_ok-greatest.ensures.ok early) c.in_err-desk.field-0.0 (c.in_err-desk.ensures.fault clean))
+    rw (p.1, p.2) (list_fault c.args.rules old mid c.in_ok-greatest.greatest (c.read_greatest.ensures.reads.kept early) (c.in_ok-greatest.ensures.ok early) c.in_err-desk.field-0.0 (c.in_err-desk.ensures.fault clean))
 
-pub returns-in-None-clause-survives : goal.returns-in-None-clause-survives
-returns-in-None-clause-survives g c =
-    reads_all (state g.S.Store c.args.conn.now) (state g.S.Store c.read_greatest.new.conn) (state g.S.Store c.replay.new.conn) (state g.S.Store c.are_apart.new.conn) (state g.S.Store c.audit.new.conn)
-    c.read_greatest.ensures.survives c.replay.ensures.survives c.are_apart.ensures.survives c.audit.ensures.survives
+pub returns-in-None-clause-reads : goal.returns-in-None-clause-reads
+returns-in-None-clause-reads g c =
+    reads_all g.S.Store c.args.conn.now c.read_greatest.new.conn c.replay.new.conn c.are_apart.new.conn c.audit.new.conn
+    c.read_greatest.ensures.reads c.replay.ensures.reads c.are_apart.ensures.reads c.audit.ensures.reads
 
-pub returns-in-Some-clause-survives : goal.returns-in-Some-clause-survives
-returns-in-Some-clause-survives g c =
-    reads_all (state g.S.Store c.args.conn.now) (state g.S.Store c.read_greatest.new.conn) (state g.S.Store c.replay.new.conn) (state g.S.Store c.are_apart.new.conn) (state g.S.Store c.audit.new.conn)
-    c.read_greatest.ensures.survives c.replay.ensures.survives c.are_apart.ensures.survives c.audit.ensures.survives
+pub returns-in-Some-clause-reads : goal.returns-in-Some-clause-reads
+returns-in-Some-clause-reads g c =
+    reads_all g.S.Store c.args.conn.now c.read_greatest.new.conn c.replay.new.conn c.are_apart.new.conn c.audit.new.conn
+    c.read_greatest.ensures.reads c.replay.ensures.reads c.are_apart.ensures.reads c.audit.ensures.reads

@@ -17,7 +17,7 @@ returns-clause-crash g c =
     let end = c.commit.new.self.0 in
     let P = LeavesBlank c.args.greatest (state g.S.Store old) in
     let begun = c.transaction-tx.ensures.begun in
-    let inside = survives_begin g.S.Store old (state g.S.Store last) _ (rw begun at c.make_all.ensures.survives) in
+    let inside = survives_begin g.S.Store old (state g.S.Store last) _ (rw begun at c.make_all.ensures.within.survives) in
     let whole = survives_then (state g.S.Store old) (state g.S.Store last) (state g.S.Store end) _ _ P (λ _ db none. absurd none)
     (λ clean db is. leaves_blank g.S.Store old last db c.args.greatest (rw begun at (c.in_ok-make_all.ensures.made (omega (arith, c.commit.ensures.survives.clean)))) is) inside c.commit.ensures.survives in
     let same : end ≡ c.conn-2-1.given.0 = search rules in

@@ -7,6 +7,6 @@ use Rattle.line_tables.proofs.making.make_floor.Goals as goal
 
 pub returns-clause-made : goal.returns-clause-made
 returns-clause-made g c clean =
-    let clean_1 : HasCleanDisk (state g.S.Store c.run.new.tx.conn.now) = omega (arith, c.run-2.ensures.survives.clean, c.run-3.ensures.survives.clean) in
-    let clean_2 : HasCleanDisk (state g.S.Store c.run-2.new.tx.conn.now) = omega (arith, c.run-3.ensures.survives.clean) in
+    let clean_1 : HasCleanDisk (state g.S.Store c.run.new.tx.conn.now) = omega (arith, c.run-2.ensures.within.survives.clean, c.run-3.ensures.within.survives.clean) in
+    let clean_2 : HasCleanDisk (state g.S.Store c.run-2.new.tx.conn.now) = omega (arith, c.run-3.ensures.within.survives.clean) in
     on_ok_weaker c.run-3.result (λ last. makes_floor (state g.S.Store c.args.tx.now.conn.now) (state g.S.Store c.run.new.tx.conn.now) (state g.S.Store c.run-2.new.tx.conn.now) (state g.S.Store c.run-3.new.tx.conn.now) (c.in_ok-run.ensures.ran clean_1) (c.in_ok-run-2.ensures.ran clean_2) last) (c.run-3.ensures.ran clean)

@@ -14,9 +14,9 @@ loop-row-preserved c =
     let last = c.loop-row.last in
     let fits : SFits w64 n = search rules in
     let same : to_z w64 (of_z w64 n) ≡ n = to_z-of_z w64 n fits in
-    let past : IsPast last n = subst (IsPast last) same (c.is_past.ensures (search rules)) in
+    let past : IsPast last n = subst (IsPast last) same (c.is_past.ensures.0 (search rules)) in
     record {
-      rising = rising_more c.args.rows.now i c.row-item.result n last (search arith) (search rules) c.in_ok-number.ensures past was.rising was.below;
+      rising = rising_more c.args.rows.now i c.row-item.result n last (search arith) (search rules) c.in_ok-number.ensures.ok past was.rising was.below;
       below = subst (λ k. (m : ℤ) → IsPast (Some k) m → AllByRecursion (IsBefore (Int m)) (take (i + 1) c.args.rows.now)) (sym same)
-          (below_more c.args.rows.now i c.row-item.result n last (search arith) (search rules) c.in_ok-number.ensures past was.below);
+          (below_more c.args.rows.now i c.row-item.result n last (search arith) (search rules) c.in_ok-number.ensures.ok past was.below);
     }

@@ -12,9 +12,9 @@ returns-clause-found g c clean =
     let h2 = c.shows_rising.new.conn in
     let h3 = c.shows_rising-2.new.conn in
     let h4 = c.shows_rising-3.new.conn in
-    let clean_3 : HasCleanDisk (state g.S.Store h4) = omega (arith, c.is_found_apart.ensures.survives.clean) in
-    let clean_2 : HasCleanDisk (state g.S.Store h3) = omega (arith, c.shows_rising-3.ensures.survives.clean, clean_3) in
-    let clean_1 : HasCleanDisk (state g.S.Store h2) = omega (arith, c.shows_rising-2.ensures.survives.clean, clean_2) in
-    told_three (state g.S.Store h1) (state g.S.Store h2) (state g.S.Store h3) (state g.S.Store h4) (c.shows_rising.ensures.kept clean_1) (c.shows_rising-2.ensures.kept clean_2) (c.shows_rising-3.ensures.kept clean_3) reel mount board c.args.rules _ _ _ _
+    let clean_3 : HasCleanDisk (state g.S.Store h4) = omega (arith, c.is_found_apart.ensures.reads.survives.clean) in
+    let clean_2 : HasCleanDisk (state g.S.Store h3) = omega (arith, c.shows_rising-3.ensures.reads.survives.clean, clean_3) in
+    let clean_1 : HasCleanDisk (state g.S.Store h2) = omega (arith, c.shows_rising-2.ensures.reads.survives.clean, clean_2) in
+    told_three (state g.S.Store h1) (state g.S.Store h2) (state g.S.Store h3) (state g.S.Store h4) (c.shows_rising.ensures.reads.kept clean_1) (c.shows_rising-2.ensures.reads.kept clean_2) (c.shows_rising-3.ensures.reads.kept clean_3) reel mount board c.args.rules _ _ _ _
     (tells g.S.Store h1 _ 11 _ reel_is _ (c.in_ok-reel.ensures.shown clean_1)) (tells g.S.Store h2 _ 13 _ mount_is _ (c.in_ok-mount.ensures.shown clean_2)) (tells g.S.Store h3 _ 15 _ board_is _ (c.in_ok-board.ensures.shown clean_3)) (c.in_ok-found.ensures.found clean)
     _ c.are_true.ensures

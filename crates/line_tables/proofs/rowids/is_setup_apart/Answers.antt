@@ -12,9 +12,9 @@ returns-clause-found g c clean =
     let h2 = c.shows_rising.new.conn in
     let h3 = c.shows_rising-2.new.conn in
     let h4 = c.shows_rising-3.new.conn in
-    let clean_3 : HasCleanDisk (state g.S.Store h4) = omega (arith, c.shows_rising-4.ensures.survives.clean) in
-    let clean_2 : HasCleanDisk (state g.S.Store h3) = omega (arith, c.shows_rising-3.ensures.survives.clean, clean_3) in
-    let clean_1 : HasCleanDisk (state g.S.Store h2) = omega (arith, c.shows_rising-2.ensures.survives.clean, clean_2) in
-    told_four (state g.S.Store h1) (state g.S.Store h2) (state g.S.Store h3) (state g.S.Store h4) (c.shows_rising.ensures.kept clean_1) (c.shows_rising-2.ensures.kept clean_2) (c.shows_rising-3.ensures.kept clean_3) part alternate sheet_row selected _ _ _ _
+    let clean_3 : HasCleanDisk (state g.S.Store h4) = omega (arith, c.shows_rising-4.ensures.reads.survives.clean) in
+    let clean_2 : HasCleanDisk (state g.S.Store h3) = omega (arith, c.shows_rising-3.ensures.reads.survives.clean, clean_3) in
+    let clean_1 : HasCleanDisk (state g.S.Store h2) = omega (arith, c.shows_rising-2.ensures.reads.survives.clean, clean_2) in
+    told_four (state g.S.Store h1) (state g.S.Store h2) (state g.S.Store h3) (state g.S.Store h4) (c.shows_rising.ensures.reads.kept clean_1) (c.shows_rising-2.ensures.reads.kept clean_2) (c.shows_rising-3.ensures.reads.kept clean_3) part alternate sheet_row selected _ _ _ _
     (tells g.S.Store h1 _ 3 _ part_is _ (c.in_ok-part.ensures.shown clean_1)) (tells g.S.Store h2 _ 5 _ alternate_is _ (c.in_ok-alternate.ensures.shown clean_2)) (tells g.S.Store h3 _ 7 _ sheet_row_is _ (c.in_ok-sheet_row.ensures.shown clean_3)) (tells g.S.Store h4 _ 9 _ selected_is _ (c.in_ok-selected.ensures.shown clean))
     _ c.are_true.ensures

@@ -10,7 +10,7 @@ pub returns-in-0-clause-done : goal.returns-in-0-clause-done
 returns-in-0-clause-done g c clean =
     let a = state g.S.Store c.args.tx.now.conn.now in
     let b = state g.S.Store c.run_counted.new.tx.conn.now in
-    let early : HasCleanDisk b = omega (arith, c.run.ensures.survives.clean) in
+    let early : HasCleanDisk b = omega (arith, c.run.ensures.within.survives.clean) in
     let none : Changes 0 c.args.update.now (bound c.args.values.now) a b = subst (λ n. Changes n c.args.update.now (bound c.args.values.now) a b) c.in-0.is (c.in_ok-changed.ensures.ran early) in
     on_ok_weaker c.run.result (λ ran. inr (c.run_counted.new.tx.conn.now, none, ran)) (c.run.ensures.ran clean)
 

@@ -18,7 +18,7 @@ returns-clause-crash g c =
     let P = LeavesEdited c.args.edits.now (state g.S.Store old) in
     let begun = c.transaction-tx.ensures.begun in
     let auto : IsTrue c.is_autocommit.result = search rules in
-    let inside = survives_begin g.S.Store old (state g.S.Store last) _ (rw begun at c.put_all.ensures.survives) in
+    let inside = survives_begin g.S.Store old (state g.S.Store last) _ (rw begun at c.put_all.ensures.within.survives) in
     let whole = survives_then (state g.S.Store old) (state g.S.Store last) (state g.S.Store end) _ _ P (λ _ db none. absurd none)
     (λ clean db is. leaves_edited g.S.Store old last db c.args.edits.now (c.is_autocommit.ensures.settled auto) (rw begun at (c.in_ok-put_all.ensures.done (omega (arith, c.commit.ensures.survives.clean)))) is) inside c.commit.ensures.survives in
     let same : end ≡ c.conn-2-1.given.0 = search rules in

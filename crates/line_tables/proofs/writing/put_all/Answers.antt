@@ -1,11 +1,10 @@
-use Rattle.std.proofs.Common.{◌≡◌, ◌<◌, ◌∙◌, List, [], length, drop, subst, arith, rules}
+use Rattle.std.proofs.Common.{◌≡◌, ◌<◌, List, [], length, drop, subst, arith, rules}
 use Rattle.sqlite.specs.State.{HasCleanDisk}
 use Rattle.sqlite.specs.Held.{state}
-use Rattle.sqlite.proofs.StateLemmas.{survives_then}
 use Rattle.sqlite.specs.Effect.{IsDatabase}
 use Rattle.line_tables.specs.declared.edit.Edit.{Edit}
 use Rattle.line_tables.proofs.Alterations.{no_length}
-use Rattle.line_tables.proofs.Keeps.{keeps_then}
+use Rattle.line_tables.proofs.Frames.{within_then}
 use Rattle.line_tables.proofs.Puts.{Remain, remain_none, remain_less, sound_less}
 use Rattle.line_tables.proofs.writing.put_all.Goals as goal
 
@@ -18,13 +17,11 @@ loop-rest-preserved g c =
     let rest : List Edit = c.loop-rest.rest.now in
     let was = c.loop-rest.invariant in
     let cut : drop c.in_ok-taken.taken rest ≡ c.split_at.result.1.now = search rules in
-    let early : HasCleanDisk new → HasCleanDisk mid = λ clean. omega (arith, c.put_first.ensures.survives.clean) in record {
-      same = c.put_first.ensures.same_reference ∙ was.same;
+    let early : HasCleanDisk new → HasCleanDisk mid = λ clean. omega (arith, c.put_first.ensures.within.survives.clean) in record {
       left = λ clean. subst (λ l. Remain edits l old.now new.now) cut (remain_less edits rest c.in_ok-taken.taken old.now mid.now (was.left (early clean)) new.now (c.in_ok-taken.ensures.done clean).done);
-      was_open = λ clean _. (was.kept (early clean)).was_open (c.in_ok-taken.ensures.done clean).was_open;
+      was_open = λ clean _. (was.within.kept (early clean)).was_open (c.in_ok-taken.ensures.done clean).was_open;
       sound = λ clean _. sound_less edits rest _ old.now mid.now (was.left (early clean)) (IsDatabase new.now) (c.in_ok-taken.ensures.done clean).sound;
-      kept = λ clean. keeps_then old mid new (was.kept (early clean)) (c.put_first.ensures.kept clean);
-      survives = survives_then old mid new _ _ (λ _. ⊥) (λ _ db none. none) (λ _ db none. none) was.survives c.put_first.ensures.survives;
+      within = within_then g.S.Store c.args.tx.now c.loop-rest.tx c.put_first.new.tx was.within c.put_first.ensures.within;
     }
 
 pub returns-clause-done : goal.returns-clause-done

@@ -1,8 +1,9 @@
-use Rattle.std.proofs.Common.{◌≡◌, ◌<◌, IsTrue, length}
-use Rattle.sqlite.specs.State.{HasCleanDisk, Survives, KeepsCommit}
+use Rattle.std.proofs.Common.{◌<◌, IsTrue, length}
+use Rattle.sqlite.specs.State.{HasCleanDisk}
 use Rattle.sqlite.specs.Held.{state}
 use Rattle.sqlite.specs.Effect.{IsDatabase}
 use Rattle.line_tables.specs.Rows.{Tables, Holds, AreNew}
+use Rattle.line_tables.specs.Frames.{InTransaction}
 use Rattle.line_tables.proofs.Puts.{Remain}
 use Rattle.line_tables.proofs.writing.put_all.Given as goal
 
@@ -10,12 +11,10 @@ abbrev pub invariant-loop-rest : goal.invariant-loop-rest
 invariant-loop-rest g l =
     let old = state g.S.Store l.fn.tx.conn.now in
     let now = state g.S.Store l.tx.conn.now in record {
-      same : l.tx.conn.ghost_name ≡ l.fn.tx.conn.ghost_name;
       left : HasCleanDisk now → Remain l.edits l.rest old.now now.now;
       was_open : HasCleanDisk now → length l.rest < length l.edits → IsTrue old.is_open;
       sound : HasCleanDisk now → length l.rest < length l.edits → (tables : Tables) → Holds old.now tables → AreNew l.edits tables → IsDatabase now.now;
-      kept : HasCleanDisk now → KeepsCommit old now;
-      survives : Survives old now (λ _. ⊥);
+      within : InTransaction g.S.Store l.fn.tx l.tx;
     }
 
 abbrev pub decreases-loop-rest : goal.decreases-loop-rest

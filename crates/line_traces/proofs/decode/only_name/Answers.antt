@@ -6,4 +6,4 @@ use Rattle.line_traces.proofs.decode.only_name.Goals as goal
 pub returns : goal.returns
 returns c =
     let all : length c.args.row.now ≡ 1 = search rules in
-    IfOk-weaker c.name.result _ _ (λ id is. all-columns c.args.row.now 1 all ∙ ap (λ v. v ∷ []) is) c.name.ensures
+    IfOk-weaker c.name.result _ _ (λ id is. all-columns c.args.row.now 1 all ∙ ap (λ v. v ∷ []) is) c.name.ensures.ok

@@ -1,8 +1,7 @@
 use Rattle.std.proofs.Common.{Some, map, arith}
 use Rattle.sqlite.specs.State.{HasCleanDisk}
 use Rattle.sqlite.specs.Held.{state}
-use Rattle.sqlite.proofs.StateLemmas.{survives_then}
-use Rattle.line_tables.proofs.Keeps.{keeps_then}
+use Rattle.line_tables.proofs.Frames.{reads_then}
 use Rattle.line_traces.specs.Pieces.{piece_at}
 use Rattle.line_traces.proofs.LookedPieces.{run-added}
 use Rattle.line_traces.proofs.TwoCalls.{reads-before}
@@ -14,14 +13,12 @@ loop-left-preserved g c =
     let mid = state g.S.Store c.loop-left.conn in
     let new = state g.S.Store c.add_run.new.conn in
     let was = c.loop-left.invariant in
-    let early : HasCleanDisk new → HasCleanDisk mid = λ clean. omega (arith, c.add_run.ensures.survives.clean) in
+    let early : HasCleanDisk new → HasCleanDisk mid = λ clean. omega (arith, c.add_run.ensures.reads.survives.clean) in
     record {
       opened = λ clean. was.opened (early clean);
       told = λ clean schema H beside.
-          let added = reads-before old mid (was.kept (early clean)) _ (c.in_ok-add_run.ensures.added clean) in
+          let added = reads-before old mid (was.reads.kept (early clean)) _ (c.in_ok-add_run.ensures.added clean) in
           run-added (piece_at H) (map Some c.loop-left.pieces.items) (map Some c.add_run.new.pieces.items) _ c.loop-left.left.now c.split_run.result.0.now c.split_run.result.1.now c.split_run.ensures.whole
           (added.are schema c.if-not-branch.false H beside) (was.told (early clean) schema H beside);
-      kept = λ clean. keeps_then old mid new (was.kept (early clean)) (c.add_run.ensures.kept clean);
-      mode = λ is. c.add_run.ensures.mode (was.mode is);
-      survives = survives_then old mid new _ _ (λ _. ⊥) (λ _ db none. none) (λ _ db none. none) was.survives c.add_run.ensures.survives;
+      reads = reads_then g.S.Store c.args.conn.now c.loop-left.conn c.add_run.new.conn was.reads c.add_run.ensures.reads;
     }

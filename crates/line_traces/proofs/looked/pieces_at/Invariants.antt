@@ -1,8 +1,9 @@
-use Rattle.std.proofs.Common.{◌≡◌, ◌++◌, Some, IsTrue, false, map, length}
-use Rattle.sqlite.specs.State.{HasCleanDisk, Survives, KeepsCommit}
+use Rattle.std.proofs.Common.{◌≡◌, ◌++◌, Some, IsTrue, map, length}
+use Rattle.sqlite.specs.State.{HasCleanDisk}
 use Rattle.sqlite.specs.Held.{state}
 use Rattle.desk_types.specs.History.{History}
 use Rattle.line_tables.specs.Line.{IsOurs}
+use Rattle.line_tables.specs.Frames.{ReadsOnly}
 use Rattle.trace_lists.specs.Lists.{key_of}
 use Rattle.line_traces.specs.Pieces.{piece_at}
 use Rattle.line_traces.specs.Beside.{HoldsBeside}
@@ -15,9 +16,7 @@ invariant-loop-left g l =
       opened : HasCleanDisk now → IsTrue old.is_open;
       told : HasCleanDisk now → IsOurs old.committed.schema → (H : History) → HoldsBeside g.D.Desk.Stands (Some l.lists) (Some l.desk) old.committed H
           → map Some l.pieces.items ++ map (piece_at H) (map key_of l.left) ≡ map (piece_at H) (map key_of l.keys);
-      kept : HasCleanDisk now → KeepsCommit old now;
-      mode : l.fn.conn.in_transaction ≡ false → l.conn.in_transaction ≡ false;
-      survives : Survives old now (λ _. ⊥);
+      reads : ReadsOnly g.S.Store l.fn.conn l.conn;
     }
 
 abbrev pub decreases-loop-left : goal.decreases-loop-left

@@ -10,8 +10,8 @@ pub returns-clause-trace : goal.returns-clause-trace
 returns-clause-trace g c clean =
     let old = state g.S.Store c.args.conn.now in
     let mid = state g.S.Store c.has_lot.new.conn in
-    let first : HasCleanDisk mid = omega (arith, c.pieces_of_lot.ensures.survives.clean) in
+    let first : HasCleanDisk mid = omega (arith, c.pieces_of_lot.ensures.reads.survives.clean) in
     let is : c.in_ok-has_lot.field-0 ≡ true = search rules in
     let named = subst (FindsOfList (λ H. is_lot H c.args.lot.now) old) is (c.in_ok-has_lot.ensures.found first) in
     there-told g.D.Desk.Stands (option_copied c.args.lists) (option_copied c.args.desk) (λ H. pieces_of_lot H c.args.lot.now) old (λ H. is_lot H c.args.lot.now) _ named (
-    reads-before old mid (c.has_lot.ensures.kept first) _ (c.in_ok-pieces_of_lot.ensures.pieces clean))
+    reads-before old mid (c.has_lot.ensures.reads.kept first) _ (c.in_ok-pieces_of_lot.ensures.pieces clean))

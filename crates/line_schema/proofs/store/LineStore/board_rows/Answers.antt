@@ -6,7 +6,7 @@ use Rattle.line_schema.proofs.TracesOfLists.{told-of}
 use Rattle.line_schema.proofs.store.LineStore.board_rows.Goals as goal
 
 pub returns-clause-trace : goal.returns-clause-trace
-returns-clause-trace g c = told-of g.S.Store g.D.Desk.Stands g.D.Desk.kept_rules c.args.self.now (state g.S.Store c.board_rows.new.conn) _ _ (λ H. board_trace H c.args.board.now) c.in_ok-board_rows.field-0 (search rules) (search rules) c.board_rows.ensures.survives c.in_ok-board_rows.ensures.trace
+returns-clause-trace g c = told-of g.S.Store g.D.Desk.Stands g.D.Desk.kept_rules c.args.self.now (state g.S.Store c.board_rows.new.conn) _ _ (λ H. board_trace H c.args.board.now) c.in_ok-board_rows.field-0 (search rules) (search rules) c.board_rows.ensures.reads.survives c.in_ok-board_rows.ensures.trace
 
 pub returns-clause-converse : goal.returns-clause-converse
 returns-clause-converse g c L stands clean own lot =

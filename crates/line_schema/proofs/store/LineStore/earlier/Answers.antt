@@ -10,7 +10,7 @@ pub returns-in_ok-answer_under-in-Some-clause-answer : goal.returns-in_ok-answer
 returns-in_ok-answer_under-in-Some-clause-answer g c L stands clean own =
     let old = state g.S.Store c.args.self.now.conn in
     let s = c.args.stamped.now in
-    let early : HasCleanDisk old = omega (arith, c.find.ensures.survives.clean, clean) in
+    let early : HasCleanDisk old = omega (arith, c.find.ensures.reads.survives.clean, clean) in
     let found : Reads old (λ db. filter (has_uid s.uid) (accepted_in db) ≡ columns_of c.in-Some.row ∷ []) =
     subst (λ o. Reads old (λ db. filter (has_uid s.uid) (accepted_in db) ≡ row_of o)) c.in-Some.is (subst (λ u. Reads old (λ db. filter (has_uid u) (accepted_in db) ≡ row_of c.in_ok-row.field-0)) c.as_str.ensures (c.in_ok-row.ensures.found clean)) in
     let stood = one_stood _ L.history s (columns_of c.in-Some.row) stands.judged (looked_up old L.greatest L.history s (Some c.in-Some.row) (stands.tables early own) found) in
@@ -20,7 +20,7 @@ pub returns-in-None-clause-answer : goal.returns-in-None-clause-answer
 returns-in-None-clause-answer g c L stands clean own =
     let old = state g.S.Store c.args.self.now.conn in
     let s = c.args.stamped.now in
-    let early : HasCleanDisk old = omega (arith, c.find.ensures.survives.clean, clean) in
+    let early : HasCleanDisk old = omega (arith, c.find.ensures.reads.survives.clean, clean) in
     let found : Reads old (λ db. filter (has_uid s.uid) (accepted_in db) ≡ []) =
     subst (λ o. Reads old (λ db. filter (has_uid s.uid) (accepted_in db) ≡ row_of o)) c.in-None.is (subst (λ u. Reads old (λ db. filter (has_uid u) (accepted_in db) ≡ row_of c.in_ok-row.field-0)) c.as_str.ensures (c.in_ok-row.ensures.found clean)) in
     sym (none_stood L.history s (looked_up old L.greatest L.history s None (stands.tables early own) found))

@@ -6,7 +6,7 @@ use Rattle.line_schema.proofs.TracesOfLists.{told-of}
 use Rattle.line_schema.proofs.store.LineStore.lot_boards.Goals as goal
 
 pub returns-clause-boards : goal.returns-clause-boards
-returns-clause-boards g c = told-of g.S.Store g.D.Desk.Stands g.D.Desk.kept_rules c.args.self.now (state g.S.Store c.lot_boards.new.conn) _ _ (λ H. lot_board_names H c.args.lot.now) c.in_ok-lot_boards.field-0 (search rules) (search rules) c.lot_boards.ensures.survives c.in_ok-lot_boards.ensures.boards
+returns-clause-boards g c = told-of g.S.Store g.D.Desk.Stands g.D.Desk.kept_rules c.args.self.now (state g.S.Store c.lot_boards.new.conn) _ _ (λ H. lot_board_names H c.args.lot.now) c.in_ok-lot_boards.field-0 (search rules) (search rules) c.lot_boards.ensures.reads.survives c.in_ok-lot_boards.ensures.boards
 
 pub returns-clause-converse : goal.returns-clause-converse
 returns-clause-converse g c L stands clean own board =

@@ -5,4 +5,4 @@ use Rattle.line_schema.proofs.TracesOfLists.{told-of}
 use Rattle.line_schema.proofs.store.LineStore.lot_rows.Goals as goal
 
 pub returns-clause-trace : goal.returns-clause-trace
-returns-clause-trace g c = told-of g.S.Store g.D.Desk.Stands g.D.Desk.kept_rules c.args.self.now (state g.S.Store c.lot_rows.new.conn) _ _ (λ H. lot_trace H c.args.lot.now) c.in_ok-lot_rows.field-0 (search rules) (search rules) c.lot_rows.ensures.survives c.in_ok-lot_rows.ensures.trace
+returns-clause-trace g c = told-of g.S.Store g.D.Desk.Stands g.D.Desk.kept_rules c.args.self.now (state g.S.Store c.lot_rows.new.conn) _ _ (λ H. lot_trace H c.args.lot.now) c.in_ok-lot_rows.field-0 (search rules) (search rules) c.lot_rows.ensures.reads.survives c.in_ok-lot_rows.ensures.trace

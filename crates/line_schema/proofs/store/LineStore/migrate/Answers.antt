@@ -15,7 +15,7 @@ returns-clause-migrated g c clean =
     let all = c.in_ok-_desk.ensures.ok in (
       _,
       all.0,
-      migrated_on g.D.Desk.Stands g.D.Desk.kept_rules (HasCleanDisk mid) old mid new _ all.0 all.1 early c.in_ok-_desk.ensures.named (c.is_autocommit.ensures.settled auto) (c.read_tables.ensures.kept early)
+      migrated_on g.D.Desk.Stands g.D.Desk.kept_rules (HasCleanDisk mid) old mid new _ all.0 all.1 early c.in_ok-_desk.ensures.named (c.is_autocommit.ensures.settled auto) (c.read_tables.ensures.reads.kept early)
           (c.in_ok-migrate_tables.ensures.done clean) (c.in_ok-migrate_tables.ensures.stays_open clean) (c.in_ok-migrate_tables.ensures.alone clean),
     )
 
@@ -24,16 +24,16 @@ returns-clause-crash g c =
     let old = state g.S.Store c.args.conn.now in
     let mid = state g.S.Store c.read_tables.new.conn in
     let new = state g.S.Store c.migrate_tables.new.conn in
-    let kept : HasCleanDisk new → KeepsCommit old mid = λ clean. c.read_tables.ensures.kept (omega (arith, c.migrate_tables.ensures.crash.clean, clean)) in
-    survives_migration old mid new kept c.read_tables.ensures.survives c.migrate_tables.ensures.crash
+    let kept : HasCleanDisk new → KeepsCommit old mid = λ clean. c.read_tables.ensures.reads.kept (omega (arith, c.migrate_tables.ensures.crash.clean, clean)) in
+    survives_migration old mid new kept c.read_tables.ensures.reads.survives c.migrate_tables.ensures.crash
 
 pub returns-in_err-migrate_tables-clause-crash : goal.returns-in_err-migrate_tables-clause-crash
 returns-in_err-migrate_tables-clause-crash g c =
     let old = state g.S.Store c.args.conn.now in
     let mid = state g.S.Store c.read_tables.new.conn in
     let new = state g.S.Store c.migrate_tables.new.conn in
-    let kept : HasCleanDisk new → KeepsCommit old mid = λ clean. c.read_tables.ensures.kept (omega (arith, c.migrate_tables.ensures.crash.clean, clean)) in
-    survives_migration old mid new kept c.read_tables.ensures.survives c.migrate_tables.ensures.crash
+    let kept : HasCleanDisk new → KeepsCommit old mid = λ clean. c.read_tables.ensures.reads.kept (omega (arith, c.migrate_tables.ensures.crash.clean, clean)) in
+    survives_migration old mid new kept c.read_tables.ensures.reads.survives c.migrate_tables.ensures.crash
 
 err_still : {A E P : Type 0} (r : Result A E) → P → IfErr r (λ _. P)
 err_still (Ok a) p = tt
@@ -45,4 +45,4 @@ returns-in_err-migrate_tables-clause-unchanged g c clean =
     let mid = state g.S.Store c.read_tables.new.conn in
     let new = state g.S.Store c.migrate_tables.new.conn in
     let early : HasCleanDisk mid = omega (arith, c.migrate_tables.ensures.crash.clean, clean) in
-    err_still c.from_residual-in_err-migrate_tables.result (keeps_then old mid new (c.read_tables.ensures.kept early) (c.in_err-migrate_tables.ensures.neither clean))
+    err_still c.from_residual-in_err-migrate_tables.result (keeps_then old mid new (c.read_tables.ensures.reads.kept early) (c.in_err-migrate_tables.ensures.neither clean))

@@ -11,13 +11,13 @@ returns-in-Some-clause-kept g c =
     let old = c.requires.stands in
     let list = c.in-Some.ensures.list in (
       _,
-      remade g.S.Store g.D.Desk.Stands g.D.Desk.kept_rules c.args.self.now _ c.in-Some.field-0.desk c.in-Some.field-0.lists list.0 refl (sym list.1.counted) refl refl (c.rebuild.ensures.mode old.1.mode) list.1.stands list.2 c.in-Some.ensures.rules list.1.judged c.rebuild.ensures.survives old.0 old.1 (omega (arith, list.1.within, old.1.greatest)),
+      remade g.S.Store g.D.Desk.Stands g.D.Desk.kept_rules c.args.self.now _ c.in-Some.field-0.desk c.in-Some.field-0.lists list.0 refl (sym list.1.counted) refl refl (c.rebuild.ensures.reads.mode old.1.mode) list.1.stands list.2 c.in-Some.ensures.rules list.1.judged c.rebuild.ensures.reads.survives old.0 old.1 (omega (arith, list.1.within, old.1.greatest)),
     )
 
 pub returns-in-Some-clause-stands : goal.returns-in-Some-clause-stands
 returns-in-Some-clause-stands g c L s clean own =
     let old = state g.S.Store c.args.self.now.conn in
-    let early : HasCleanDisk (state g.S.Store c.rebuild.new.conn) → HasCleanDisk old = λ now. omega (arith, c.rebuild.ensures.survives.clean, now) in
+    let early : HasCleanDisk (state g.S.Store c.rebuild.new.conn) → HasCleanDisk old = λ now. omega (arith, c.rebuild.ensures.reads.survives.clean, now) in
     let held = subst (λ n. IsTrue old.is_open → Holds old.committed (ledger_tables n L.history)) (sym s.greatest) (s.tables (early clean) own) in
     let same = c.in-Some.ensures.same L.history s.judged held clean in
-    remade_same g.S.Store g.D.Desk.Stands g.D.Desk.kept_rules c.args.self.now _ c.in-Some.field-0.desk c.in-Some.field-0.lists L refl same.1 refl refl (c.rebuild.ensures.mode s.mode) same.0 same.2 c.in-Some.ensures.rules c.rebuild.ensures.survives c.rebuild.ensures.kept s
+    remade_same g.S.Store g.D.Desk.Stands g.D.Desk.kept_rules c.args.self.now _ c.in-Some.field-0.desk c.in-Some.field-0.lists L refl same.1 refl refl (c.rebuild.ensures.reads.mode s.mode) same.0 same.2 c.in-Some.ensures.rules c.rebuild.ensures.reads.survives c.rebuild.ensures.reads.kept s
