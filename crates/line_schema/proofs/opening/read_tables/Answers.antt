@@ -65,3 +65,8 @@ pub returns-in-Some-clause-reads : goal.returns-in-Some-clause-reads
 returns-in-Some-clause-reads g c =
     reads_all g.S.Store c.args.conn.now c.read_greatest.new.conn c.replay.new.conn c.are_apart.new.conn c.audit.new.conn
     c.read_greatest.ensures.reads c.replay.ensures.reads c.are_apart.ensures.reads c.audit.ensures.reads
+
+pub returns-in_err-other-clause-reads : goal.returns-in_err-other-clause-reads
+returns-in_err-other-clause-reads g c =
+    reads_all g.S.Store c.args.conn.now c.read_greatest.new.conn c.replay.new.conn c.are_apart.new.conn c.audit.new.conn
+    c.read_greatest.ensures.reads c.replay.ensures.reads c.are_apart.ensures.reads c.audit.ensures.reads
