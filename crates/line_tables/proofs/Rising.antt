@@ -1,5 +1,6 @@
 -- Rowids that rise are each that of one row.
-use Rattle.std.proofs.Common.{◌≡◌, ◌∙◌, inl, inr, ℕ, ℤ, ◌≤◌, ◌<◌, ◌+◌, List, [], ◌∷◌, ◌++◌, codes, map, filter, length, take, drop, get_or, Bool, true, false, ◌&&◌, if◌then◌else◌, IsTrue, Option, None, Some, Ordering, Less, Equal, Greater, is_eq, int_cmp, int_lt, cond, refl, sym, ap, subst, arith, true≢false}
+use Rattle.std.specs.Prelude.{⊤}
+use Rattle.std.proofs.Common.{◌≡◌, ◌∙◌, suc, drop-cons, inl, inr, ℕ, ℤ, ◌≤◌, ◌<◌, ◌+◌, List, [], ◌∷◌, ◌++◌, codes, map, filter, length, take, drop, get_or, Bool, true, false, ◌&&◌, if◌then◌else◌, IsTrue, Option, None, Some, Ordering, Less, Equal, Greater, is_eq, int_cmp, int_lt, cond, refl, sym, ap, subst, arith, true≢false}
 use Rattle.std.specs.List.{AllByRecursion}
 use Rattle.std.specs.List.Sorted.{IsPermutation}
 use Rattle.std.proofs.lemmas.Bool.{and_parts}
@@ -70,6 +71,35 @@ module _ (rows : List Row) (i : ℕ) (row : Row) (n : ℤ) (last : Option ℤ) (
   below_more below m h =
       subst (AllByRecursion (IsBefore (Int m))) (sym next)
       (all-append (IsBefore (Int m)) (take i rows) (row ∷ []) (below m (past_then last n m past h)) (subst (IsBefore (Int m)) (sym is) (value_cmp-Int n m ∙ h), tt))
+
+-- ---- what follows a row
+
+-- the rows rise
+abbrev pub DoRise : List Row → Type 0
+DoRise = IsAscending (λ a b. value_cmp (column a 0) (column b 0) ≡ Less)
+
+-- the rows are above the last one, where there is one
+abbrev pub AreAbove : Option ℤ → List Row → Type 0
+AreAbove None rows = ⊤
+AreAbove (Some last) rows = AllByRecursion (λ r. value_cmp (Int last) (column r 0) ≡ Less) rows
+
+module _ (rows : List Row) (i : ℕ) (row : Row) (n : ℤ) (inside : i < length rows) (item : row ≡ get_or rows i row) (is : row ≡ Int n ∷ []) where
+  split : drop i rows ≡ row ∷ drop (i + 1) rows
+  split = rw Rattle.std.proofs.Common.add-one (drop-cons rows i row inside ∙ ap (λ r. r ∷ drop (suc i) rows) (sym item))
+
+  first_is : column row 0 ≡ Int n
+  first_is = ap (λ r. column r 0) is
+
+  pub above_more : DoRise (drop i rows) → DoRise (drop (i + 1) rows) × AreAbove (Some n) (drop (i + 1) rows)
+  above_more rise =
+      let parts : DoRise (row ∷ drop (i + 1) rows) = subst DoRise split rise in
+      (parts.1, subst (λ (v : Value). AllByRecursion (λ r. value_cmp v (column r 0) ≡ Less) (drop (i + 1) rows)) first_is parts.0)
+
+  pub past_here : (last : Option ℤ) → AreAbove last (drop i rows) → IsPast last n
+  past_here None above = tt
+  past_here (Some last) above =
+      let parts : AreAbove (Some last) (row ∷ drop (i + 1) rows) = subst (AreAbove (Some last)) split above in
+      sym (value_cmp-Int last n) ∙ subst (λ (v : Value). value_cmp (Int last) v ≡ Less) first_is parts.0
 
 -- ---- rows by the values that are shown of them
 
@@ -164,7 +194,7 @@ module _ {S : Type 0} (g : Ghosts S) (old : Held S) where
     was_open = h.1.was_open;
     are = λ schema told.
         let at = tree (state g old).committed.schema in
-        apart_shown ((state g old).committed.trees at) h.0 (subst (λ l. IsPermutation (map id_of l) h.0) (overlay_none (state g old).committed.trees at) (ids_answer at _ h.0 (answer_by g sql (λ schema. rowids_from (tree schema)) _ is [] old h.0 h.1 schema))) (h.2 told);
+        apart_shown ((state g old).committed.trees at) h.0 (subst (λ l. IsPermutation (map id_of l) h.0) (overlay_none (state g old).committed.trees at) (ids_answer at _ h.0 (answer_by g sql (λ schema. rowids_from (tree schema)) _ is [] old h.0 h.1 schema))) (h.2.0 told);
   }
 
   pub tells : (sql : List ℕ) (tree : ℕ) (name : List ℕ) → IsRowids sql tree name → (b : Bool) → Shows g sql old b → Reads (state g old) (λ db. IsTrue b → AreApart (db.trees tree))

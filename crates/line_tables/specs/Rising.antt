@@ -1,5 +1,5 @@
 -- What queries tell of rowids.
-use Rattle.std.specs.Prelude.{◌≡◌, ⊤, ℕ, ℤ, Bool, IsTrue, Option, None, Some, List, [], ◌∷◌}
+use Rattle.std.specs.Prelude.{◌≡◌, ◌↔◌, ⊤, ℕ, ℤ, Bool, IsTrue, Option, None, Some, List, [], ◌∷◌}
 use Rattle.std.specs.List.{AllByRecursion}
 use Rattle.std.specs.Ordering.{int_cmp}
 use Rattle.std.specs.declared.cmp.Ordering.TheVariants.{Less}
@@ -37,9 +37,9 @@ AreRising rows = IsAscending (λ a b. value_cmp (column a 0) (column b 0) ≡ Le
 abbrev pub IsNumber : Row → Type 0
 IsNumber row = (n : ℤ) × (row ≡ Int n ∷ [])
 
--- what the query shows rises, where it is told so
+-- it is told whether what the query shows rises
 abbrev pub Shows : {S : Type 0} → Ghosts S → List ℕ → Held S → Bool → Type 0
-Shows g sql old rising = (rows : List Row) × Selects g sql [] old rows × (IsTrue rising → AreRising rows)
+Shows g sql old rising = (rows : List Row) × Selects g sql [] old rows × (IsTrue rising ↔ AreRising rows)
 
 -- the rows of each of the tables are apart, where it is told so
 abbrev pub AreApartWhere : Bool → List Table → Database → Type 0

@@ -82,7 +82,7 @@ fn shows_rising<S: Alter>(conn: &mut Connection<S>, sql: &str) -> Result<bool, E
 
 /// Whether each row is an integer, above that of the row before.
 fn are_rising(rows: &[Row]) -> Result<bool, Error>
-    ensures ok { IfOk result (λ rising. IsTrue rising → AreRising rows.now) }
+    ensures ok { IfOk result (λ rising. IsTrue rising ↔ AreRising rows.now) }
     ensures err { IfErr result (OnlyWhere (¬ AllByRecursion IsNumber rows.now)) }
 {
     let mut last: Option<i64> = None;

@@ -1,9 +1,9 @@
-use Rattle.std.proofs.Common.{◌≡◌, ◌+◌, ℤ, Some, take, sym, subst, arith, rules, SFits, to_z, of_z, w64}
+use Rattle.std.proofs.Common.{◌≡◌, ◌∙◌, ◌+◌, false, true≢false, ℤ, Some, take, drop, sym, subst, arith, rules, SFits, to_z, of_z, w64}
 use Rattle.std.proofs.lemmas.Int.{to_z-of_z}
 use Rattle.std.specs.List.{AllByRecursion}
 use Rattle.sqlite.specs.declared.types.Value.TheVariants.{Int}
 use Rattle.line_tables.specs.Rising.{IsPast, IsBefore}
-use Rattle.line_tables.proofs.Rising.{rising_more, below_more}
+use Rattle.line_tables.proofs.Rising.{DoRise, AreAbove, rising_more, below_more, above_more, past_here}
 use Rattle.line_tables.proofs.rowids.are_rising.Goals as goal
 
 pub loop-row-preserved : goal.loop-row-preserved
@@ -19,4 +19,19 @@ loop-row-preserved c =
       rising = rising_more c.args.rows.now i c.row-item.result n last (search arith) (search rules) c.in_ok-number.ensures.ok past was.rising was.below;
       below = subst (λ k. (m : ℤ) → IsPast (Some k) m → AllByRecursion (IsBefore (Int m)) (take (i + 1) c.args.rows.now)) (sym same)
           (below_more c.args.rows.now i c.row-item.result n last (search arith) (search rules) c.in_ok-number.ensures.ok past was.below);
+      above = λ rise. subst (λ k. DoRise (drop (i + 1) c.args.rows.now) × AreAbove (Some k) (drop (i + 1) c.args.rows.now)) (sym same)
+          (above_more c.args.rows.now i c.row-item.result n (search arith) (search rules) c.in_ok-number.ensures.ok (was.above rise).0);
     }
+
+pub returns-then-not-is_past-clause-ok : goal.returns-then-not-is_past-clause-ok
+returns-then-not-is_past-clause-ok c =
+    let n = c.in_ok-number.number in
+    let last = c.loop-row.last in
+    let fits : SFits w64 n = search rules in
+    let same : to_z w64 (of_z w64 n) ≡ n = to_z-of_z w64 n fits in
+    let no : c.is_past.result ≡ false = search rules in (
+      λ told. absurd (true≢false (sym told)),
+      λ rises.
+          let past = past_here c.args.rows.now c.loop-row.row-index c.row-item.result n (search arith) (search rules) c.in_ok-number.ensures.ok last (c.loop-row.invariant.above rises.0).1 in
+          absurd (true≢false (sym (c.is_past.ensures.1 (subst (IsPast last) (sym same) past)) ∙ no)),
+    )
