@@ -1,6 +1,6 @@
 -- The shop floor in maps, entry by entry.
-use Rattle.std.proofs.Common.{◌≡◌, ℕ, ◌-◌, ◌≤◌, true, false, Option, Some, None, List, [], ◌∷◌, unwrap_or, refl, sym, ap, subst, ◌∙◌, arith}
-use Rattle.std.specs.Prelude.{nat_lt, ◌&&◌, is_none, is_some}
+use Rattle.std.proofs.Common.{◌≡◌, ℕ, ◌-◌, ◌≤◌, true, Option, Some, None, List, [], ◌∷◌, unwrap_or, refl, sym, ap, ◌∙◌, arith}
+use Rattle.std.specs.Prelude.{nat_lt, ◌&&◌, is_some}
 use Rattle.std.specs.List.{find, filter}
 use Rattle.std.specs.Option.{option_map_or}
 use Rattle.desk_types.specs.declared.command.Entry.{Entry}
@@ -67,13 +67,6 @@ floor-by H floor minute is_floor later name reel is = by (reel_at floor.reels na
     by : (found : Option Reel) → IsReelOf H name found → found ≡ Some reel → reel.last ≤ minute
     by None is_reel is = cc
     by (Some found) is_reel is = omega (arith, is_reel.1, later, ap (λ o. option_map_or (λ (r : Reel). r.last) o 0) is)
-
--- a reel is on the floor where it was received
-pub floor-unknown : (H : History) (floor : Floor) (name : Name) → IsFloor H floor → reel_at floor.reels name ≡ None → is_none (receipt_of H name) ≡ true
-floor-unknown H floor name is_floor none = ap is_none (subst (IsReelOf H name) none (is_floor.reels name))
-
-pub floor-known : (H : History) (floor : Floor) (name : Name) (reel : Reel) → IsFloor H floor → reel_at floor.reels name ≡ Some reel → is_none (receipt_of H name) ≡ false
-floor-known H floor name reel is_floor some = ap is_none (subst (IsReelOf H name) some (is_floor.reels name)).0.receipt.is
 
 pub floor-there : (H : History) (floor : Floor) (name : Name) → IsFloor H floor → is_some (receipt_of H name) ≡ true → is_some (reel_at floor.reels name) ≡ true
 floor-there H floor name is_floor received = by (reel_at floor.reels name) (is_floor.reels name)

@@ -1,7 +1,7 @@
 -- What is told of a floor.
-use Rattle.std.proofs.Common.{◌≡◌, ℕ, ◌≤◌, nat_lt, Bool, true, false, Option, Some, None, [], ◌∷◌, All, is_some, unwrap_or, refl, sym, ap, subst, ◌∙◌, arith}
+use Rattle.std.proofs.Common.{◌≡◌, ℕ, nat_lt, Bool, true, false, Option, Some, None, [], ◌∷◌, All, is_some, unwrap_or, refl, sym, ap, subst, ◌∙◌}
 use Rattle.std.specs.Prelude.{◌&&◌}
-use Rattle.std.specs.Option.{option_map, option_map_or}
+use Rattle.std.specs.Option.{option_map}
 use Rattle.std.specs.Cmp.Lexicographic.{nat_list_eq_equiv}
 use Rattle.std.proofs.lemmas.Map.Views.{All-from_any}
 use Rattle.desk_types.specs.declared.rules.Rules.TheVariants.{Two}
@@ -20,7 +20,7 @@ use Rattle.entry_search.specs.Floor.{tape_at}
 use Rattle.feeder_state.specs.declared.floor.Floor.{Floor}
 use Rattle.feeder_state.specs.declared.held.Held.{Held}
 use Rattle.feeder_state.specs.Floor.{IsFloor}
-use Rattle.feeder_state.specs.Held.{held_at, IsHeldOf, AreHeldBy}
+use Rattle.feeder_state.specs.Held.{held_at, IsHeldOf}
 use Rattle.feeder_state.specs.Told.{IsTold}
 
 -- ---- reels
@@ -28,14 +28,6 @@ use Rattle.feeder_state.specs.Told.{IsTold}
 -- the desk minute of a list of which it is told
 pub told-now : (H : History) (floor : Floor) (minute : ℕ) → IsTold H floor (Some minute) → now_of H ≡ minute
 told-now H floor minute told = ap (λ o. unwrap_or o 0) (sym told.is_minute)
-
--- the last command on each reel took effect by the desk minute
-pub told-by : (H : History) (floor : Floor) (minute : ℕ) → IsTold H floor (Some minute) → AreHeldBy floor.reels minute
-told-by H floor minute told name held is = by (held_at floor.reels name) (told.is_floor.reels name) is
-  where
-    by : (found : Option Held) → IsHeldOf H name found → found ≡ Some held → held.reel.last ≤ minute
-    by None is_held is = cc
-    by (Some found) is_held is = omega (arith, is_held.by_now, told-now H floor minute told, ap (λ o. option_map_or (λ (h : Held). h.reel.last) o 0) is)
 
 -- a reel that is not held was not received, and nothing is told of it
 pub absent-view : (H : History) (name : Name) (found : Option Held) → IsHeldOf H name found → found ≡ None → reel_view H name ≡ None

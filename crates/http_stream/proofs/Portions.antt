@@ -53,11 +53,6 @@ keeps_takes (Some xs) None c p k t = absurd k
 keeps_takes (Some xs) (Some ys) None p k t = absurd t
 keeps_takes (Some xs) (Some ys) (Some zs) p k t = subst (λ l. IsPortion l p zs) k t
 
-keeps_ends : (a b : Option (List ℕ)) → Keeps a b → IfSome b EndsInside → IfSome a EndsInside
-keeps_ends None b k t = tt
-keeps_ends (Some xs) None k t = absurd k
-keeps_ends (Some xs) (Some ys) k t = subst EndsInside k t
-
 pub takes_bad : (a : Option (List ℕ)) (pend : List ℕ) (known : Option (List ℕ)) → Keeps a (prepend_known pend known) → IsBadHead (window pend)
     → TakesPortion a bad_head (prepend_known pend known)
 takes_bad a pend None k bad = keeps_takes a None None bad_head k tt
@@ -69,13 +64,6 @@ takes_large a pend None k long un = keeps_takes a None None head_too_large k tt
 takes_large a pend (Some us) k long un =
     keeps_takes a (Some (pend ++ us)) (Some (pend ++ us)) head_too_large k
     (omega (arith, long, length-append pend us), subst IsUnfinished (sym (take-append-le HEAD_LIMIT pend us long)) un)
-
-pub ends_here : (a : Option (List ℕ)) (pend : List ℕ) (known : Option (List ℕ)) → Keeps a (prepend_known pend known) → length pend < HEAD_LIMIT → IsUnfinished pend → IsAtEnd known
-    → IfSome a EndsInside
-ends_here a pend None k short un end = keeps_ends a None k tt
-ends_here a pend (Some us) k short un end =
-    let e : pend ++ us ≡ pend = ap (λ l. pend ++ l) end ∙ append-nil pend in
-    keeps_ends a (Some (pend ++ us)) k (inl (omega (arith, short, ap length e), subst IsUnfinished (sym e) un))
 
 -- ---- behind a head
 

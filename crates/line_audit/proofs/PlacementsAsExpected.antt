@@ -2,7 +2,6 @@
 use Rattle.std.proofs.Common.{◌≡◌, ◌∙◌, ◌&&◌, ◌==◌, ℕ, Bool, true, false, Option, List, [], ◌∷◌, ◌++◌, length, refl, sym, ap, ap₂, subst}
 use Rattle.std.specs.List.{AllByRecursion}
 use Rattle.std.proofs.lemmas.Bool.{and_parts, eqb-true, eq-eqb}
-use Rattle.sqlite_keyed.proofs.ListLemmas.{all-append}
 use Rattle.sqlite.specs.Effect.{Database}
 use Rattle.sqlite.specs.State.{State, KeepsCommit}
 use Rattle.desk_types.specs.declared.row.PlacementRow.{PlacementRow}
@@ -64,11 +63,6 @@ right : {X : Type 0} (P : X → Type 0) (xs ys : List X) → AllByRecursion P (x
 right P [] ys h = h
 right P (x ∷ xs) ys h = right P xs ys h.1
 
--- what was learnt of some entries and of others, told of all
-pub placed_both : (db : Database) (a b : Bool) (xs ys : Pieces) → ArePlaced db a xs → ArePlaced db b ys → ArePlaced db (a && b) (xs ++ ys)
-placed_both db a b xs ys x y = record {
-  here = λ is. let p = and_parts a b is in all-append _ xs ys (x.here p.0) (y.here p.1);
-  missing = λ is alone. go a refl is alone;
 }
   where
     go : (c : Bool) → a ≡ c → (a && b) ≡ false → AreAlone has_piece (λ _ row. placement_columns row) (rows_in line.placement db) (xs ++ ys) → ⊥

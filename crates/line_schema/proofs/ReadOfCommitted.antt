@@ -1,7 +1,6 @@
 -- What was read of the version and of the list, told of what was committed before.
 use Rattle.std.proofs.Common.{◌≡◌, ◌≢◌, ◌≤◌, ◌∙◌, ◌⊎◌, inl, inr, ℕ, ℤ, pos, true, IsTrue, IfErr, Result, Ok, Err, Option, Some, None, refl, sym, ap, subst}
 use Rattle.std.specs.Prelude.{if◌then◌else◌, ◌==◌}
-use Rattle.std.specs.List.{list_any}
 use Rattle.sqlite.specs.Effect.{Database}
 use Rattle.sqlite_trees.specs.declared.store.Store.{Ghosts}
 use Rattle.sqlite.specs.Held.{Held}
@@ -18,7 +17,7 @@ use Rattle.desk_types.specs.declared.row.PlacementRow.{PlacementRow}
 use Rattle.desk_types.specs.Tables.{Tables as StateTables, tables_of as state_of, placement_row, found_row}
 use Rattle.state_rows.specs.Kept.{tables_in}
 use Rattle.line_tables.specs.Line.{is_ours}
-use Rattle.line_tables.specs.Names.{is_version, has_state}
+use Rattle.line_tables.specs.Names.{has_state}
 use Rattle.line_tables.specs.Rowids.{AreAllApartBy}
 use Rattle.line_audit.specs.declared.table.StateTable.{StateTable}
 use Rattle.line_audit.specs.Audit.{Pieces, IsExpected, IsVerdict, state_tables, with_placements}
@@ -38,9 +37,9 @@ use Rattle.line_replay.specs.Replay.{IsReplayed, IsFaultOf as IsReplayFault}
 use Rattle.line_replay.proofs.ReadOfCommitted.{reads_as, reads_back}
 use Rattle.trace_lists.specs.Lists.{IsListed}
 use Rattle.line_schema.specs.declared.fault.OpenFault.{OpenFault}
-use Rattle.line_schema.specs.declared.fault.OpenFault.TheVariants.{NotADesk, OtherVersion, NotLawful, TableDiffers, NotBlank, Unavailable}
+use Rattle.line_schema.specs.declared.fault.OpenFault.TheVariants.{NotADesk, OtherVersion, NotLawful, TableDiffers, Unavailable}
 use Rattle.line_schema.specs.declared.opening.Opened.{Opened}
-use Rattle.line_schema.specs.Opening.{IsGreatest, IsVersion, IsNoDeskBy, IsFaultBy, IsOpened, IsNamedBy, IsOfVersion, IsToldBy, opening_fault}
+use Rattle.line_schema.specs.Opening.{IsGreatest, IsVersion, IsNoDeskBy, IsFaultBy, IsOpened, IsNamedBy, opening_fault}
 
 -- ---- the row of `version`
 
@@ -70,18 +69,6 @@ module _ (rules : Rules) (old : State) where
   version_fault v o (Err f) some (inr (is, other, greatest, great)) read = subst (IsFaultBy rules old) (sym is) (other_version v greatest other great (subst (λ (x : Option Version). Reads old (λ db. IsVersionOf (version_in db) x)) some read))
 
 -- ---- which faults are told of which files
-
-pub told_early : (rules : Rules) (old : State) (f : OpenFault) → list_any is_version old.now.schema.tables ≡ true → IsOfVersion f → IsToldBy rules old f
-told_early rules old NotADesk named of = tt
-told_early rules old (OtherVersion n) named of = named
-told_early rules old (NotLawful n) named of = absurd of
-told_early rules old (TableDiffers table) named of = absurd of
-told_early rules old NotBlank named of = tt
-told_early rules old Unavailable named of = tt
-
-pub told_late : (rules : Rules) (old : State) (f : ReplayFault) → IsNamedBy rules old → IsToldBy rules old (opening_fault f)
-told_late rules old (replay.NotLawful n) named = named
-told_late rules old replay.Unavailable named = tt
 
 -- ---- the list after it
 

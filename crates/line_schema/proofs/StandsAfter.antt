@@ -7,7 +7,7 @@ use Rattle.sqlite_trees.specs.declared.store.Store.{Ghosts}
 use Rattle.sqlite_trees.specs.Tree.{Trees}
 use Rattle.sqlite.specs.Effect.{Database}
 use Rattle.sqlite.specs.State.{State, HasCleanDisk, KeepsCommit, Survives}
-use Rattle.sqlite.proofs.StateLemmas.{survives_weaker, survives_then}
+use Rattle.sqlite.proofs.StateLemmas.{survives_weaker}
 use Rattle.sqlite.specs.Held.{state}
 use Rattle.desk_types.specs.declared.change.Change.{Change}
 use Rattle.desk_types.specs.declared.command.Entry.{Entry}
@@ -236,12 +236,6 @@ module _ {S D : Type 0} (g : Ghosts S) (F : D → History → Type 0) (K : D →
 -- whatever a crash may leave: no fault is forgotten, and only a fault shuts the connection
 pub survives_still : (s : State) → Survives s s (λ _. ⊤)
 survives_still s = record { clean = omega arith; shield = λ h. h; counts = omega arith; limit = refl; closes = λ clean was. inl was; crash = λ clean trees left. inl left }
-
-pub survives_any : (old new : State) (P : Trees → Type 0) → Survives old new P → Survives old new (λ _. ⊤)
-survives_any old new P h = survives_weaker old new P (λ _. ⊤) (λ clean trees made. tt) h
-
-pub survives_both : (old mid new : State) (P Q : Trees → Type 0) → Survives old mid P → Survives mid new Q → Survives old new (λ _. ⊤)
-survives_both old mid new P Q one two = survives_then old mid new P Q (λ _. ⊤) (λ clean trees made. tt) (λ clean trees made. tt) one two
 
 -- what a crash may leave of edits, where the tables were those of the list
 module _ (old : State) (tables after : Tables) (edits : List Edit) (is : after_edits edits tables ≡ after) (new : AreNew edits tables) (holds : HasCleanDisk old → IsTrue old.is_open → Holds old.committed tables) where

@@ -1,11 +1,10 @@
 -- What each kind of statement makes of the rows of its table.
-use Rattle.std.proofs.Common.{◌≡◌, ◌∙◌, ap₂, subst₂, drop, inl, inr, ℕ, List, [], ◌∷◌, map, filter, not, length, ◌&&◌, Bool, true, false, IsTrue, Some, refl, sym, ap, subst, arith}
+use Rattle.std.proofs.Common.{◌≡◌, ◌∙◌, ap₂, subst₂, drop, inl, inr, ℕ, List, [], ◌∷◌, map, filter, not, length, ◌&&◌, Bool, true, false, IsTrue, refl, sym, ap, subst, arith}
 use Rattle.std.specs.List.Sorted.{IsPermutation}
 use Rattle.std.proofs.lemmas.Bool.{cases_Bool}
 use Rattle.std.proofs.lemmas.List.Sorted.{IsPermutation-refl, IsPermutation-map, IsPermutation-cons, IsPermutation-trans, IsPermutation-sym}
 use Rattle.sqlite_trees.proofs.ListLemmas.{IsPermutation-filter}
 use Rattle.sqlite.proofs.Callers.{one_permutation}
-use Rattle.sqlite.specs.Ops.{is_true, from_truth}
 use Rattle.sqlite_value.specs.Order.{Row}
 use Rattle.sqlite.specs.Term.{Term}
 use Rattle.sqlite.specs.Cast.{cast_row}
@@ -131,10 +130,6 @@ module _ (indexed : Bool) (table : Table) (has : Row → Bool) (tests project : 
   }
 
 -- ---- INSERT
-
-pub truth_is : (b : Bool) → is_true (from_truth (Some b)) ≡ b
-truth_is true = refl
-truth_is false = refl
 
 module _ (indexed : Bool) (table : Table) (r values : Row) (n : List Row → Row) (old new : State) (cast : (rows : List Row) → with_rowid Chosen rows (cast_row table r) ≡ n rows) (keyed : (rows : List Row) → IsTrue (is_int (rowid (n rows))))
     (shown : (rows : List Row) → columns table (n rows) ≡ values) (went : Inserted (schema_of Two indexed) table (r ∷ []) old new) where

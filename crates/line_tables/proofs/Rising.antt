@@ -252,6 +252,3 @@ told_all old mid kept first rules b others = record {
   was_open = first.was_open;
   are = λ ours told. all-append (λ (table : Table). AreApart (kept_in table old.committed)) (take 4 changed_tables) (drop 4 (changed_of rules)) (first.are ours refl) ((reads_before old mid kept (AreApartWhere b (drop 4 (changed_of rules))) others).are ours told);
 }
-
-pub told_false : (s : State) (Is : Database → Type 0) → IsTrue s.is_open → Reads s (λ db. IsTrue false → Is db)
-told_false s Is was_open = record { was_open = was_open; are = λ ours told. absurd (true≢false (sym told)) }

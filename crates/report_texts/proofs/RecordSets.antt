@@ -29,9 +29,6 @@ has rows row = list_any (alike row) rows
 tied : (a b : Fields) → by_fields a b ≡ Equal → a ≡ b
 tied a b is = (pointwise_decides bytes_decides a b).0 (lists_ties by_name (λ x y. sym (is_at-by_name x y)) a b ∙ ap is_eq is)
 
-alike-refl : (a : Fields) → alike a a ≡ true
-alike-refl a = (pointwise_decides bytes_decides a a).1 refl
-
 has-insert : (rows : List Fields) (row other : Fields) → has (insert_key by_fields rows row) other ≡ (alike other row || has rows other)
 has-insert [] row other = refl
 has-insert (x ∷ xs) row other = by (by_fields row x) refl (has-insert xs row other)

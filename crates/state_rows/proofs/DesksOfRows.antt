@@ -114,15 +114,6 @@ same-elements (x ∷ xs) [] agree = let first = agree 0 in cc
 same-elements (x ∷ xs) (y ∷ ys) agree =
     ap (λ z. z ∷ xs) (ap (λ o. unwrap_or o x) (agree 0)) ∙ ap (λ l. y ∷ l) (same-elements xs ys (λ k. agree (suc k)))
 
--- The rows of the places from 1 on, in their order, are the sheet again.
-pub sheet-back : (H : History) (product machine : Name) (rows : List SheetRow) → IsJudged Two H → ((k : ℕ) → slice_get rows k ≡ sheet_row H product machine (k + 1))
-    → sheet_of H product machine ≡ sheet_with rows
-sheet-back H product machine rows judged agree = by (sheet_of H product machine) refl
-  where
-    none : (rs : List SheetRow) → slice_get rs 0 ≡ None → None ≡ sheet_with rs
-    none [] is = refl
-    none (r ∷ rs) is = cc
-
     some : (rs : List SheetRow) → 1 ≤ length rs → Some rs ≡ sheet_with rs
     some [] one = absurd (omega (arith, one))
     some (r ∷ rs) one = refl

@@ -22,7 +22,7 @@ use Rattle.desk_types.specs.Placements.{takes_of}
 use Rattle.desk_types.specs.Pieces.{found_of}
 use Rattle.desk_types.specs.Tables.{Tables, placement_row, found_row}
 use Rattle.desk_types.specs.Edits.{with_edit, with_edits}
-use Rattle.state_rows.specs.Kept.{KeptRows, tables_in, is_placement, but_placements, by_sheet_place, by_piece, by_since, has_key, row_at, Lists, ListsKeys}
+use Rattle.state_rows.specs.Kept.{KeptRows, tables_in, but_placements, by_sheet_place, by_piece, by_since, has_key, row_at, Lists, ListsKeys}
 use Rattle.state_rows.proofs.EditLists.{edits-next}
 
 -- ---- keys
@@ -160,23 +160,6 @@ module _ (s now : KeptRows) (is : s ≡ now) where
       ∙ ap (λ t. with_edit (PutFound reel pieces) (tables_in t)) is
 
 -- ---- edits but those of placements
-
-pub but-placement : (e : RowEdit) (t : Tables) → is_placement e ≡ true → t ≡ but_placements (with_edit e t) t
-but-placement (PutPlacement row) t is = refl
-but-placement _ t is = cc
-
-pub no-placement : (e : RowEdit) (t : Tables) → is_placement e ≡ false → with_edit e t ≡ but_placements (with_edit e t) t
-no-placement (PutPlacement row) t is = cc
-no-placement (TakeSheetRow product machine place) t is = refl
-no-placement (TakeMount reel) t is = refl
-no-placement (PutPart part) t is = refl
-no-placement (PutAlternate part alternate) t is = refl
-no-placement (PutSheetRow product machine place row) t is = refl
-no-placement (PutSelected machine product) t is = refl
-no-placement (PutReel row) t is = refl
-no-placement (PutMount row) t is = refl
-no-placement (PutBoard row) t is = refl
-no-placement (PutFound reel pieces) t is = refl
 
 -- an edit of tables whose placements are kept
 but-step : (e : RowEdit) (t kept : Tables) → but_placements (with_edit e (but_placements t kept)) kept ≡ but_placements (with_edit e t) kept
