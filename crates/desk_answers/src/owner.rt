@@ -24,7 +24,8 @@ pub trait Owner {
         ensures ready { Ready self.new }
         ensures trusts { Trusts self.new → Trusts self.old }
         ensures answer { (L : Ledger) → Stands self.old L → Trusts self.new → IsAnswer L stamped.now result }
-        ensures stands { (L : Ledger) → Stands self.old L → Trusts self.new → Stands self.new (ledger_after L stamped.now result) };
+        ensures stands { (L : Ledger) → Stands self.old L → Trusts self.new
+            → Stands self.new (ledger_after L stamped.now result) };
 
     /// A law, without code: the list is one that an owner of its rules and numbers can come to have.
     fn is_lawful(&self)

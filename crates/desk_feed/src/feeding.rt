@@ -38,20 +38,32 @@ pub fn feed<R: Read, W: Write, L: Owner>(
     requires ready { L.Ready owner.old }
     ensures ready { L.Ready owner.new }
     ensures trusts { L.Trusts owner.new → L.Trusts owner.old }
-    ensures ok { (G : Ledger) → L.Stands owner.old G → L.Trusts owner.new → IfOk result (λ served. (H : History) × L.Stands owner.new (record G { history = H }) × AnsweredAll G.rules G.greatest (R.remaining (inner_of input.old))
+    ensures ok { (G : Ledger) → L.Stands owner.old G → L.Trusts owner.new
+        → IfOk result (λ served. (H : History) × L.Stands owner.new (record G { history = H })
+        × AnsweredAll G.rules G.greatest (R.remaining (inner_of input.old))
         G.history (W.contents (inner_of output.old)) H (W.contents (inner_of output.new)) served) }
     ensures end { OnOk result (IsAtEnd (R.remaining (inner_of input.new))) }
     ensures kept { OnOk result (FailsNever input.old input.new output.old output.new) }
     ensures few_reads { reads_of input.new ≤ reads_of input.old + MOST_READS }
-    ensures read { (served : Served) → result ≡ Err (ServeFault.Read served) → IsShown (ServeFault.Read served) input.old input.new output.old output.new
-        × ((G : Ledger) → L.Stands owner.old G → L.Trusts owner.new → (H : History) × L.Stands owner.new (record G { history = H }) × AnsweredFront G.rules G.greatest (R.remaining (inner_of input.old))
+    ensures read { (served : Served) → result ≡ Err (ServeFault.Read served)
+        → IsShown (ServeFault.Read served) input.old input.new output.old output.new
+        × ((G : Ledger) → L.Stands owner.old G → L.Trusts owner.new
+        → (H : History) × L.Stands owner.new (record G { history = H })
+        × AnsweredFront G.rules G.greatest (R.remaining (inner_of input.old))
         G.history (W.contents (inner_of output.old)) H (W.contents (inner_of output.new)) served) }
-    ensures too_many { (served : Served) → result ≡ Err (ServeFault.TooManyReads served) → IsShown (ServeFault.TooManyReads served) input.old input.new output.old output.new
-        × ((G : Ledger) → L.Stands owner.old G → L.Trusts owner.new → (H : History) × L.Stands owner.new (record G { history = H }) × AnsweredFront G.rules G.greatest (R.remaining (inner_of input.old))
+    ensures too_many { (served : Served) → result ≡ Err (ServeFault.TooManyReads served)
+        → IsShown (ServeFault.TooManyReads served) input.old input.new output.old output.new
+        × ((G : Ledger) → L.Stands owner.old G → L.Trusts owner.new
+        → (H : History) × L.Stands owner.new (record G { history = H })
+        × AnsweredFront G.rules G.greatest (R.remaining (inner_of input.old))
         G.history (W.contents (inner_of output.old)) H (W.contents (inner_of output.new)) served) }
-    ensures unread { IfErr result (λ fault. LeavesNone (R.remaining (inner_of input.old)) (R.remaining (inner_of input.new)) fault) }
-    ensures write { (served : Served) → result ≡ Err (ServeFault.Write served) → IsShown (ServeFault.Write served) input.old input.new output.old output.new
-        × ((G : Ledger) → L.Stands owner.old G → L.Trusts owner.new → (H : History) × L.Stands owner.new (record G { history = H }) × AnsweredInto G.rules G.greatest (R.remaining (inner_of input.old))
+    ensures unread { IfErr result
+        (λ fault. LeavesNone (R.remaining (inner_of input.old)) (R.remaining (inner_of input.new)) fault) }
+    ensures write { (served : Served) → result ≡ Err (ServeFault.Write served)
+        → IsShown (ServeFault.Write served) input.old input.new output.old output.new
+        × ((G : Ledger) → L.Stands owner.old G → L.Trusts owner.new
+        → (H : History) × L.Stands owner.new (record G { history = H })
+        × AnsweredInto G.rules G.greatest (R.remaining (inner_of input.old))
         G.history (W.contents (inner_of output.old)) H (W.contents (inner_of output.new)) served) }
 {
     let most_reads = input.reads() + MOST_READS;
@@ -89,12 +101,17 @@ fn serve_line<W: Write, L: Owner>(
     requires ready { L.Ready owner.old }
     ensures ready { L.Ready owner.new }
     ensures trusts { L.Trusts owner.new → L.Trusts owner.old }
-    ensures ok { (G : Ledger) → L.Stands owner.old G → L.Trusts owner.new → (bytes : List ℕ) → HoldsLine raw bytes → OnOk result ((H : History) × L.Stands owner.new (record G { history = H }) × Serves G.rules G.greatest (lines_in bytes)
+    ensures ok { (G : Ledger) → L.Stands owner.old G → L.Trusts owner.new → (bytes : List ℕ) → HoldsLine raw bytes
+        → OnOk result ((H : History) × L.Stands owner.new (record G { history = H })
+        × Serves G.rules G.greatest (lines_in bytes)
         G.history (W.contents (inner_of output.old)) served.old H (W.contents (inner_of output.new)) served.new) }
-    ensures err { (G : Ledger) → L.Stands owner.old G → L.Trusts owner.new → (bytes : List ℕ) → HoldsLine raw bytes → OnErr result ((H : History) × L.Stands owner.new (record G { history = H }) × Breaks G.rules G.greatest (lines_in bytes)
+    ensures err { (G : Ledger) → L.Stands owner.old G → L.Trusts owner.new → (bytes : List ℕ) → HoldsLine raw bytes
+        → OnErr result ((H : History) × L.Stands owner.new (record G { history = H })
+        × Breaks G.rules G.greatest (lines_in bytes)
         G.history (W.contents (inner_of output.old)) served.old H (W.contents (inner_of output.new)) served.new) }
     ensures few_answers { OnOk result (served.new.answered ≤ served.old.answered + 1) }
-    ensures counted { (bytes : List ℕ) → HoldsLine raw bytes → OnOk result (served.new.answered ≡ served.old.answered + length (lines_in bytes)) }
+    ensures counted { (bytes : List ℕ) → HoldsLine raw bytes
+        → OnOk result (served.new.answered ≡ served.old.answered + length (lines_in bytes)) }
     ensures refused { served.new.refused ≤ served.new.answered }
     ensures kept { OnOk result (failures_of output.new ≡ failures_of output.old) }
     ensures failed { OnErr result (failures_of output.new ≡ failures_of output.old + 1) }

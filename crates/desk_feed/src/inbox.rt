@@ -76,13 +76,17 @@ impl Inbox {
         requires few_reads { reads_of wire.old ≤ most_reads }
         ensures valid { IsInbox self.new }
         ensures line { IfOk result (λ taken. (raw : List ℕ) × HoldsLine taken.line raw
-            × TakesLine (source self.old (R.remaining (inner_of wire.old))) raw taken.last (source self.new (R.remaining (inner_of wire.new)))) }
-        ensures unread { OnErr result ((rest : List ℕ) × HasNoFeed rest × Consumes (source self.old (R.remaining (inner_of wire.old))) (R.remaining (inner_of wire.new)) rest) }
-        ensures falls { OnOk result (fuel most_reads (reads_of wire.new) self.new < fuel most_reads (reads_of wire.old) self.old) }
+            × TakesLine (source self.old (R.remaining (inner_of wire.old))) raw taken.last
+            (source self.new (R.remaining (inner_of wire.new)))) }
+        ensures unread { OnErr result ((rest : List ℕ) × HasNoFeed rest
+            × Consumes (source self.old (R.remaining (inner_of wire.old))) (R.remaining (inner_of wire.new)) rest) }
+        ensures falls { OnOk result
+            (fuel most_reads (reads_of wire.new) self.new < fuel most_reads (reads_of wire.old) self.old) }
         ensures few_reads { reads_of wire.new ≤ most_reads }
         ensures kept { OnOk result (failures_of wire.new ≡ failures_of wire.old) }
         ensures read { result ≡ Err InboxFault.Read → failures_of wire.new ≡ failures_of wire.old + 1 }
-        ensures too_many { result ≡ Err InboxFault.TooManyReads → (reads_of wire.new ≡ most_reads) × (failures_of wire.new ≡ failures_of wire.old) }
+        ensures too_many { result ≡ Err InboxFault.TooManyReads
+            → (reads_of wire.new ≡ most_reads) × (failures_of wire.new ≡ failures_of wire.old) }
     {
         let mut line = RawLine::Whole(Vec::new(alloc));
         while self.ready(wire, most_reads)? {
@@ -108,16 +112,22 @@ impl Inbox {
         requires few_failures { failures_of wire.old < 2 ^ 63 }
         requires few_reads { reads_of wire.old ≤ most_reads }
         ensures valid { IsInbox self.new }
-        ensures source { OnOk result (Keeps (source self.old (R.remaining (inner_of wire.old))) (source self.new (R.remaining (inner_of wire.new)))) }
-        ensures unread { OnErr result (Keeps (source self.old (R.remaining (inner_of wire.old))) (R.remaining (inner_of wire.new))) }
+        ensures source { OnOk result
+            (Keeps (source self.old (R.remaining (inner_of wire.old)))
+            (source self.new (R.remaining (inner_of wire.new)))) }
+        ensures unread { OnErr result
+            (Keeps (source self.old (R.remaining (inner_of wire.old))) (R.remaining (inner_of wire.new))) }
         ensures more { result ≡ Ok true → self.new.at < self.new.end }
         ensures end { result ≡ Ok false → IsAtEnd (source self.new (R.remaining (inner_of wire.new))) }
-        ensures falls { OnOk result (fuel most_reads (reads_of wire.new) self.new ≤ fuel most_reads (reads_of wire.old) self.old) }
-        ensures falls_at_end { result ≡ Ok false → fuel most_reads (reads_of wire.new) self.new < fuel most_reads (reads_of wire.old) self.old }
+        ensures falls { OnOk result
+            (fuel most_reads (reads_of wire.new) self.new ≤ fuel most_reads (reads_of wire.old) self.old) }
+        ensures falls_at_end { result ≡ Ok false
+            → fuel most_reads (reads_of wire.new) self.new < fuel most_reads (reads_of wire.old) self.old }
         ensures few_reads { reads_of wire.new ≤ most_reads }
         ensures kept { OnOk result (failures_of wire.new ≡ failures_of wire.old) }
         ensures read { result ≡ Err InboxFault.Read → failures_of wire.new ≡ failures_of wire.old + 1 }
-        ensures too_many { result ≡ Err InboxFault.TooManyReads → (reads_of wire.new ≡ most_reads) × (failures_of wire.new ≡ failures_of wire.old) }
+        ensures too_many { result ≡ Err InboxFault.TooManyReads
+            → (reads_of wire.new ≡ most_reads) × (failures_of wire.new ≡ failures_of wire.old) }
     {
         if self.at == self.end {
             if wire.reads() >= most_reads {

@@ -62,8 +62,10 @@ pub fn answer_line<L: Owner>(alloc: Global, owner: &mut L, raw: RawLine) -> Opti
     ensures ready { L.Ready owner.new }
     ensures trusts { L.Trusts owner.new → L.Trusts owner.old }
     ensures answer { (G : Ledger) → L.Stands owner.old G → L.Trusts owner.new → (bytes : List ℕ) → HoldsLine raw bytes
-        → (H : History) × L.Stands owner.new (record G { history = H }) × AnswersRaw G.rules G.greatest G.history bytes result H }
-    ensures empty { (bytes : List ℕ) → HoldsLine raw bytes → MatchOption result (lines_in bytes ≡ []) (λ answer. lines_in bytes ≡ without_return bytes ∷ []) }
+        → (H : History) × L.Stands owner.new (record G { history = H })
+        × AnswersRaw G.rules G.greatest G.history bytes result H }
+    ensures empty { (bytes : List ℕ) → HoldsLine raw bytes
+        → MatchOption result (lines_in bytes ≡ []) (λ answer. lines_in bytes ≡ without_return bytes ∷ []) }
 {
     match raw {
         RawLine::NoMemoryReturn => None,

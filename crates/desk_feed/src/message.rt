@@ -26,8 +26,10 @@ pub fn answer_message<L: Owner>(
     requires ready { L.Ready owner.old }
     ensures ready { L.Ready owner.new }
     ensures trusts { L.Trusts owner.new → L.Trusts owner.old }
-    ensures told { (G : Ledger) → L.Stands owner.old G → L.Trusts owner.new → IfOk result (λ told. told ≡ answer_to G.rules G.greatest G.history bytes.now) }
-    ensures after { (G : Ledger) → L.Stands owner.old G → L.Trusts owner.new → OnOk result (L.Stands owner.new (record G { history = list_after G.rules G.greatest G.history bytes.now })) }
+    ensures told { (G : Ledger) → L.Stands owner.old G → L.Trusts owner.new
+        → IfOk result (λ told. told ≡ answer_to G.rules G.greatest G.history bytes.now) }
+    ensures after { (G : Ledger) → L.Stands owner.old G → L.Trusts owner.new
+        → OnOk result (L.Stands owner.new (record G { history = list_after G.rules G.greatest G.history bytes.now })) }
     ensures err { (G : Ledger) → L.Stands owner.old G → L.Trusts owner.new → OnErr result (L.Stands owner.new G) }
 {
     match read_message(alloc, bytes) {
@@ -54,8 +56,11 @@ pub fn answer_command<L: Owner>(
     requires ready { L.Ready owner.old }
     ensures ready { L.Ready owner.new }
     ensures trusts { L.Trusts owner.new → L.Trusts owner.old }
-    ensures told { (G : Ledger) → L.Stands owner.old G → L.Trusts owner.new → IfOk result (λ told. told ≡ answer_asked G.rules G.greatest G.history stamped.now) }
-    ensures after { (G : Ledger) → L.Stands owner.old G → L.Trusts owner.new → OnOk result (L.Stands owner.new (record G { history = command_after G.rules G.greatest G.history stamped.now })) }
+    ensures told { (G : Ledger) → L.Stands owner.old G → L.Trusts owner.new
+        → IfOk result (λ told. told ≡ answer_asked G.rules G.greatest G.history stamped.now) }
+    ensures after { (G : Ledger) → L.Stands owner.old G → L.Trusts owner.new
+        → OnOk result
+        (L.Stands owner.new (record G { history = command_after G.rules G.greatest G.history stamped.now })) }
     ensures err { (G : Ledger) → L.Stands owner.old G → L.Trusts owner.new → OnErr result (L.Stands owner.new G) }
 {
     match owner.command(stamped) {

@@ -25,8 +25,10 @@ pub fn answer_import<L: Owner>(
     requires ready { L.Ready owner.old }
     ensures ready { L.Ready owner.new }
     ensures trusts { L.Trusts owner.new → L.Trusts owner.old }
-    ensures told { (G : Ledger) → L.Stands owner.old G → L.Trusts owner.new → IfOk result (λ told. told ≡ answer_said G (command_said import.now bytes.now)) }
-    ensures after { (G : Ledger) → L.Stands owner.old G → L.Trusts owner.new → OnOk result (L.Stands owner.new (record G { history = after_said G (command_said import.now bytes.now) })) }
+    ensures told { (G : Ledger) → L.Stands owner.old G → L.Trusts owner.new
+        → IfOk result (λ told. told ≡ answer_said G (command_said import.now bytes.now)) }
+    ensures after { (G : Ledger) → L.Stands owner.old G → L.Trusts owner.new
+        → OnOk result (L.Stands owner.new (record G { history = after_said G (command_said import.now bytes.now) })) }
     ensures err { (G : Ledger) → L.Stands owner.old G → L.Trusts owner.new → OnErr result (L.Stands owner.new G) }
 {
     match import.command(alloc, bytes) {
@@ -52,9 +54,11 @@ pub fn serve_import<W: Write, L: Owner>(
     ensures ready { L.Ready owner.new }
     ensures trusts { L.Trusts owner.new → L.Trusts owner.old }
     ensures ok { IfOk result (λ refused. ForLists L.Stands L.Trusts owner.old owner.new
-        (IsAnswered (command_said import.now bytes.now) (W.contents (inner_of output.old)) (W.contents (inner_of output.new)) refused)) }
+        (IsAnswered (command_said import.now bytes.now) (W.contents (inner_of output.old))
+        (W.contents (inner_of output.new)) refused)) }
     ensures err { OnErr result (ForLists L.Stands L.Trusts owner.old owner.new
-        (IsCutOff (command_said import.now bytes.now) (W.contents (inner_of output.old)) (W.contents (inner_of output.new)))) }
+        (IsCutOff (command_said import.now bytes.now) (W.contents (inner_of output.old))
+        (W.contents (inner_of output.new)))) }
     ensures kept { OnOk result (failures_of output.new ≡ failures_of output.old) }
     ensures failed { OnErr result (failures_of output.new ≡ failures_of output.old + 1) }
 {

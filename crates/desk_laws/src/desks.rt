@@ -16,9 +16,11 @@ use desk_types::Desk;
 pub fn desk_is_consistent<D: Desk>(desk: &D)
     ensures balance { (H : History) (reel : Name) → D.Stands desk.now H
         → received_of H reel ≡ placed_of H reel + scrapped_of H reel + left_of H reel }
-    ensures one_place { (H : History) (m s machine slot reel : Name) → D.Stands desk.now H → Contains (live_on H m s) reel
+    ensures one_place { (H : History) (m s machine slot reel : Name) → D.Stands desk.now H
+        → Contains (live_on H m s) reel
         → Contains (live_on H machine slot) reel → (m ≡ machine) × (s ≡ slot) }
-    ensures once { (H : History) (machine slot : Name) → D.Stands desk.now H → IsDistinct same (live_on H machine slot) }
+    ensures once { (H : History) (machine slot : Name) → D.Stands desk.now H
+        → IsDistinct same (live_on H machine slot) }
     ensures rightly_placed { (H : History) → D.Stands desk.now H → All (IsRightlyPlaced H) (placements_of H) }
     ensures traces { (H : History) (board lot : Name) → D.Stands desk.now H
         → Contains (lots_of H board) lot ↔ Contains (boards_of H lot) board }

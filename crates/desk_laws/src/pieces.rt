@@ -30,19 +30,22 @@ pub fn nothing_is_found_by_rules_one()
 /// A reel that was received and has no piece left has none left from then on, by either rules. This
 /// holds of every judged list. (A reel that was not received has none left either, until it is.)
 pub fn spent_stays_spent()
-    ensures { (rules : Rules) (G H : History) (reel : Name) → IsPrefix G H → IsJudged rules H → is_some (receipt_of G reel) ≡ true → left_of G reel ≡ 0
+    ensures { (rules : Rules) (G H : History) (reel : Name) → IsPrefix G H → IsJudged rules H
+        → is_some (receipt_of G reel) ≡ true → left_of G reel ≡ 0
         → left_of H reel ≡ 0 }
 {}
 
 /// No accepted command finds a piece on a mounted reel. This holds after every list.
 pub fn mounted_reels_gain_nothing()
-    ensures { (rules : Rules) (H : History) (s : Stamped) (reel : Name) → refusal_of rules H s ≡ None → is_mounted H reel ≡ true
+    ensures { (rules : Rules) (H : History) (s : Stamped) (reel : Name) → refusal_of rules H s ≡ None
+        → is_mounted H reel ≡ true
         → found_of (accept H s) reel ≡ found_of H reel }
 {}
 
 /// An accepted scrap takes exactly its quantity, off one reel or several. This holds after every list.
 pub fn scraps_are_whole()
-    ensures { (rules : Rules) (H : History) (s : Stamped) (machine slot : Name) (quantity : ℕ) → refusal_of rules H s ≡ None
+    ensures { (rules : Rules) (H : History) (s : Stamped) (machine slot : Name) (quantity : ℕ)
+        → refusal_of rules H s ≡ None
         → s.command ≡ MaterialsScrapped machine slot quantity → pieces_of (picks_of H s.command) ≡ quantity }
 {}
 
@@ -50,5 +53,6 @@ pub fn scraps_are_whole()
 /// list.
 pub fn counts_are_exact()
     ensures { (rules : Rules) (H : History) (s : Stamped) (counts : List CountRow) → refusal_of rules H s ≡ None
-        → s.command ≡ CountsTaken counts → All (λ (row : CountRow). left_of (accept H s) row.reel ≡ row.quantity) counts }
+        → s.command ≡ CountsTaken counts
+        → All (λ (row : CountRow). left_of (accept H s) row.reel ≡ row.quantity) counts }
 {}

@@ -34,13 +34,18 @@ pub fn no_designator_twice()
 /// board, each at the designator's place in the message; its answer tells the reels of these pieces, in
 /// their order; and no designator stands there twice. This holds after every list.
 pub fn installs_are_whole()
-    ensures spots { (rules : Rules) (H : History) (s : Stamped) (machine board : Name) (designators : List Name) → refusal_of rules H s ≡ None
+    ensures spots { (rules : Rules) (H : History) (s : Stamped) (machine board : Name) (designators : List Name)
+        → refusal_of rules H s ≡ None
         → s.command ≡ MaterialsInstalled machine board designators
-        → (more : List Placement) × (placements_of (accept H s) ≡ placements_of H ++ more) × (map spot_of more ≡ spots_named machine board designators) }
-    ensures told { (rules : Rules) (H : History) (s : Stamped) (machine board : Name) (designators : List Name) (more : List Placement)
-        → refusal_of rules H s ≡ None → s.command ≡ MaterialsInstalled machine board designators → placements_of (accept H s) ≡ placements_of H ++ more
+        → (more : List Placement) × (placements_of (accept H s) ≡ placements_of H ++ more)
+        × (map spot_of more ≡ spots_named machine board designators) }
+    ensures told { (rules : Rules) (H : History) (s : Stamped) (machine board : Name) (designators : List Name)
+        (more : List Placement)
+        → refusal_of rules H s ≡ None → s.command ≡ MaterialsInstalled machine board designators
+        → placements_of (accept H s) ≡ placements_of H ++ more
         → reply_to rules H s ≡ Accepted (Reels (map (λ (p : Placement). p.reel) more)) }
-    ensures once { (rules : Rules) (H : History) (s : Stamped) (machine board : Name) (designators : List Name) → refusal_of rules H s ≡ None
+    ensures once { (rules : Rules) (H : History) (s : Stamped) (machine board : Name) (designators : List Name)
+        → refusal_of rules H s ≡ None
         → s.command ≡ MaterialsInstalled machine board designators → IsDistinct same designators }
 {}
 

@@ -16,7 +16,8 @@ ghost use Rattle.desk_types.specs.Judged.{IsLawful};
 /// This holds of every list, by either rules.
 pub fn run_in_parts()
     ensures replies { (rules : Rules) (H : History) (first second : List Stamped)
-        → replies_to rules H (first ++ second) ≡ replies_to rules H first ++ replies_to rules (after_commands rules H first) second }
+        → replies_to rules H (first ++ second) ≡ replies_to rules H first
+        ++ replies_to rules (after_commands rules H first) second }
     ensures entries { (rules : Rules) (H : History) (first second : List Stamped)
         → after_commands rules H (first ++ second) ≡ after_commands rules (after_commands rules H first) second }
 {}
@@ -31,5 +32,6 @@ pub fn accepted_under_both()
 /// The rules differ in counts alone: any other command is refused by both for the same reason, or by
 /// neither. This holds of every list.
 pub fn rules_differ_in_counts_alone()
-    ensures { (H : History) (s : Stamped) → ((counts : List CountRow) → s.command ≢ CountsTaken counts) → refusal_of One H s ≡ refusal_of Two H s }
+    ensures { (H : History) (s : Stamped) → ((counts : List CountRow) → s.command ≢ CountsTaken counts)
+        → refusal_of One H s ≡ refusal_of Two H s }
 {}

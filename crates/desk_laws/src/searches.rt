@@ -21,7 +21,10 @@ pub fn searches_say_the_rule()
     ensures mounted { (H : History) (reel : Name)
         → (is_mounted H reel ≡ true) ↔ ((machine : Name) × (slot : Name) × Contains (live_on H machine slot) reel) }
     ensures placed { (rules : Rules) (H : History) (board designator : Name) → IsJudged rules H
-        → (is_placed_on H board designator ≡ true) ↔ Any (λ (p : Placement). (p.board ≡ board) × (p.designator ≡ designator)) (placements_of H) }
-    ensures in_work { (H : History) (board : Name) → (is_in_work H board ≡ true) ↔ ((machine : Name) × (in_work_on H machine ≡ Some board)) }
-    ensures loaded { (H : History) (machine slot : Name) → tape_of H machine slot ≢ [] → Contains (loaded_slots H machine) slot }
+        → (is_placed_on H board designator ≡ true) ↔ Any (λ (p : Placement). (p.board ≡ board)
+        × (p.designator ≡ designator)) (placements_of H) }
+    ensures in_work { (H : History) (board : Name)
+        → (is_in_work H board ≡ true) ↔ ((machine : Name) × (in_work_on H machine ≡ Some board)) }
+    ensures loaded { (H : History) (machine slot : Name) → tape_of H machine slot ≢ []
+        → Contains (loaded_slots H machine) slot }
 {}

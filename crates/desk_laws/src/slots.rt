@@ -13,14 +13,17 @@ ghost use Rattle.desk_laws.specs.TapeOrder.{restarts};
 
 /// A reel stands among the live reels of one slot at most, and there once. This holds of every judged list.
 pub fn one_place()
-    ensures one_slot { (rules : Rules) (H : History) (m s machine slot reel : Name) → IsJudged rules H → Contains (live_on H m s) reel
+    ensures one_slot { (rules : Rules) (H : History) (m s machine slot reel : Name) → IsJudged rules H
+        → Contains (live_on H m s) reel
         → Contains (live_on H machine slot) reel → (m ≡ machine) × (s ≡ slot) }
-    ensures once { (rules : Rules) (H : History) (machine slot : Name) → IsJudged rules H → IsDistinct same (live_on H machine slot) }
+    ensures once { (rules : Rules) (H : History) (machine slot : Name) → IsJudged rules H
+        → IsDistinct same (live_on H machine slot) }
 {}
 
 /// A tape keeps its reels and their order until its slot is loaded or unloaded: others are joined to its
 /// end, and nowhere else. This holds of every list.
 pub fn tapes_keep_their_order()
-    ensures { (G : History) (more : List Entry) (machine slot : Name) → All (λ (e : Entry). restarts machine slot e.stamped.command ≡ false) more
+    ensures { (G : History) (more : List Entry) (machine slot : Name)
+        → All (λ (e : Entry). restarts machine slot e.stamped.command ≡ false) more
         → (joined : List Name) × (tape_of (more ++ G) machine slot ≡ tape_of G machine slot ++ joined) }
 {}

@@ -40,8 +40,11 @@ pub fn serve_port<A: Handler, W: Write, E: Write>(
     ensures ready { A.Ready handler.new }
     ensures trusts { A.Trusts handler.new → A.Trusts handler.old }
     ensures status { (result ≡ 0) ⊎ (result ≡ 1) ⊎ (result ≡ 4) }
-    ensures served { (ends : List Ended) × TellsConnections connections ends result (W.contents (inner_of output.old)) (W.contents (inner_of output.new)) (failures_of output.old) (failures_of output.new)
-        × ForLists A.Stands A.Trusts handler.old handler.new (λ G H. ConnectedEach (A.rule G.rules G.greatest) G.history ends H) }
+    ensures served { (ends : List Ended)
+        × TellsConnections connections ends result (W.contents (inner_of output.old)) (W.contents (inner_of output.new))
+        (failures_of output.old) (failures_of output.new)
+        × ForLists A.Stands A.Trusts handler.old handler.new
+        (λ G H. ConnectedEach (A.rule G.rules G.greatest) G.history ends H) }
     ensures failed { result ≡ 4 → TellsEnd E.contents output.old output.new errors.old errors.new }
     ensures kept { (result ≡ 0) ⊎ (result ≡ 1) → failures_of output.new ≡ failures_of output.old }
     ensures quiet { (result ≡ 0) ⊎ (result ≡ 1) → errors.new ≡ errors.old }
@@ -62,7 +65,8 @@ pub fn serve_port<A: Handler, W: Write, E: Write>(
 fn tell_end<E: Write>(errors: &mut Wire<E>, unwritten: bool)
     requires error_failures { failures_of errors.old < 2 ^ 63 }
     ensures read { unwritten ≡ false → TellsLine E.contents errors.old errors.new (fault_line (ReadFault none_served)) }
-    ensures write { unwritten ≡ true → TellsLine E.contents errors.old errors.new (fault_line (WriteFault none_served)) }
+    ensures write { unwritten ≡ true
+        → TellsLine E.contents errors.old errors.new (fault_line (WriteFault none_served)) }
 {
     if unwritten {
         tell_line(errors, "tracedesk: Write");
@@ -85,13 +89,23 @@ pub fn tell_report<L: ReportedOwner, W: Write, E: Write>(
     ensures ready { L.Ready (owner_of gateway.new) }
     ensures trusts { L.Trusts (owner_of gateway.new) → L.Trusts (owner_of gateway.old) }
     ensures status { (result ≡ 0) ⊎ (result ≡ 1) ⊎ (result ≡ 4) }
-    ensures done { result ≡ 0 → (answer : Told) × (code_of answer.status ≡ 200) × Appends (W.contents (inner_of output.old)) (W.contents (inner_of output.new)) (report_output answer)
-        × ForLists L.Stands L.Trusts (owner_of gateway.old) (owner_of gateway.new) (AnswersReport L.reports target.now answer) }
-    ensures refused { result ≡ 1 → (answer : Told) × (code_of answer.status ≢ 200) × Appends (W.contents (inner_of output.old)) (W.contents (inner_of output.new)) (report_output answer)
-        × ForLists L.Stands L.Trusts (owner_of gateway.old) (owner_of gateway.new) (AnswersReport L.reports target.now answer) }
-    ensures failed { result ≡ 4 → (failures_of output.new ≡ failures_of output.old + 1) × TellsLine E.contents errors.old errors.new (fault_line (WriteFault none_served))
-        × (answer : Told) × SendsFront (W.contents (inner_of output.old)) (W.contents (inner_of output.new)) (report_output answer)
-        × ForLists L.Stands L.Trusts (owner_of gateway.old) (owner_of gateway.new) (AnswersReport L.reports target.now answer) }
+    ensures done { result ≡ 0
+        → (answer : Told) × (code_of answer.status ≡ 200)
+        × Appends (W.contents (inner_of output.old)) (W.contents (inner_of output.new)) (report_output answer)
+        × ForLists L.Stands L.Trusts (owner_of gateway.old) (owner_of gateway.new)
+        (AnswersReport L.reports target.now answer) }
+    ensures refused { result ≡ 1
+        → (answer : Told) × (code_of answer.status ≢ 200)
+        × Appends (W.contents (inner_of output.old)) (W.contents (inner_of output.new)) (report_output answer)
+        × ForLists L.Stands L.Trusts (owner_of gateway.old) (owner_of gateway.new)
+        (AnswersReport L.reports target.now answer) }
+    ensures failed { result ≡ 4
+        → (failures_of output.new ≡ failures_of output.old + 1)
+        × TellsLine E.contents errors.old errors.new (fault_line (WriteFault none_served))
+        × (answer : Told)
+        × SendsFront (W.contents (inner_of output.old)) (W.contents (inner_of output.new)) (report_output answer)
+        × ForLists L.Stands L.Trusts (owner_of gateway.old) (owner_of gateway.new)
+        (AnswersReport L.reports target.now answer) }
     ensures kept { (result ≡ 0) ⊎ (result ≡ 1) → failures_of output.new ≡ failures_of output.old }
     ensures quiet { (result ≡ 0) ⊎ (result ≡ 1) → errors.new ≡ errors.old }
 {
@@ -109,10 +123,14 @@ pub fn tell_report<L: ReportedOwner, W: Write, E: Write>(
 /// Sends what an answer tells to standard output.
 fn send_report<W: Write>(output: &mut Wire<W>, response: &Response) -> Result<(), WriteFailed>
     requires few_failures { failures_of output.old < 2 ^ 63 }
-    ensures ok { OnOk result (Appends (W.contents (inner_of output.old)) (W.contents (inner_of output.new)) (report_output (response_told response.now))) }
+    ensures ok { OnOk result
+        (Appends (W.contents (inner_of output.old)) (W.contents (inner_of output.new))
+        (report_output (response_told response.now))) }
     ensures kept { OnOk result (failures_of output.new ≡ failures_of output.old) }
     ensures failed { OnErr result (failures_of output.new ≡ failures_of output.old + 1) }
-    ensures front { OnErr result (SendsFront (W.contents (inner_of output.old)) (W.contents (inner_of output.new)) (report_output (response_told response.now))) }
+    ensures front { OnErr result
+        (SendsFront (W.contents (inner_of output.old)) (W.contents (inner_of output.new))
+        (report_output (response_told response.now))) }
 {
     match response.kind {
         Kind::Csv => send(output, response.body.as_slice()),

@@ -31,14 +31,22 @@ pub fn import_rows<F: Folder, W: Write, E: Write, L: Owner>(
     ensures ready { L.Ready owner.new }
     ensures trusts { L.Trusts owner.new → L.Trusts owner.old }
     ensures status { (result ≡ 0) ⊎ (result ≡ 1) ⊎ (result ≡ 3) ⊎ (result ≡ 4) }
-    ensures done { result ≡ 0 → ForLists L.Stands L.Trusts owner.old owner.new (AnswersImport W.contents output.old output.new false import.now (F.holds folder.now from.now)) }
-    ensures refused { result ≡ 1 → ForLists L.Stands L.Trusts owner.old owner.new (AnswersImport W.contents output.old output.new true import.now (F.holds folder.now from.now)) }
+    ensures done { result ≡ 0
+        → ForLists L.Stands L.Trusts owner.old owner.new
+        (AnswersImport W.contents output.old output.new false import.now (F.holds folder.now from.now)) }
+    ensures refused { result ≡ 1
+        → ForLists L.Stands L.Trusts owner.old owner.new
+        (AnswersImport W.contents output.old output.new true import.now (F.holds folder.now from.now)) }
     ensures no_memory { result ≡ 3 → TellsLine E.contents errors.old errors.new unavailable_line }
     ensures untouched { result ≡ 3 → (owner.new ≡ owner.old) × (output.new ≡ output.old) }
     ensures failed { result ≡ 4
-        → ((failures_of output.new ≡ failures_of output.old + 1) × TellsLine E.contents errors.old errors.new (fault_line (WriteFault none_served))
-        × ForLists L.Stands L.Trusts owner.old owner.new (CutsImport W.contents output.old output.new import.now (F.holds folder.now from.now)))
-        ⊎ (F.may_fail folder.now from.now × (output.new ≡ output.old) × TellsLine E.contents errors.old errors.new (fault_line (ReadFault none_served)) × ForLists L.Stands L.Trusts owner.old owner.new StaysSame) }
+        → ((failures_of output.new ≡ failures_of output.old + 1)
+        × TellsLine E.contents errors.old errors.new (fault_line (WriteFault none_served))
+        × ForLists L.Stands L.Trusts owner.old owner.new
+        (CutsImport W.contents output.old output.new import.now (F.holds folder.now from.now)))
+        ⊎ (F.may_fail folder.now from.now × (output.new ≡ output.old)
+        × TellsLine E.contents errors.old errors.new (fault_line (ReadFault none_served))
+        × ForLists L.Stands L.Trusts owner.old owner.new StaysSame) }
     ensures kept { (result ≡ 0) ⊎ (result ≡ 1) → failures_of output.new ≡ failures_of output.old }
     ensures quiet { (result ≡ 0) ⊎ (result ≡ 1) → errors.new ≡ errors.old }
 {

@@ -34,10 +34,20 @@ pub fn feed_lines<R: Read, W: Write, E: Write, L: Owner>(
     requires ready { L.Ready owner.old }
     ensures ready { L.Ready owner.new }
     ensures status { (result ≡ 0) ⊎ (result ≡ 1) ⊎ (result ≡ 4) }
-    ensures done { result ≡ 0 → (served : Served) × (served.refused ≡ 0) × ForLists L.Stands L.Trusts owner.old owner.new (AnswersAll R.remaining W.contents input.old output.old output.new served) }
-    ensures refused { result ≡ 1 → (served : Served) × (0 < served.refused) × ForLists L.Stands L.Trusts owner.old owner.new (AnswersAll R.remaining W.contents input.old output.old output.new served) }
-    ensures failed { result ≡ 4 → (fault : ServeFault) × IsShown fault input.old input.new output.old output.new × LeavesNone (R.remaining (inner_of input.old)) (R.remaining (inner_of input.new)) fault × TellsLine E.contents errors.old errors.new (fault_line fault)
-        × ForLists L.Stands L.Trusts owner.old owner.new (AnswersUpTo R.remaining W.contents input.old output.old output.new fault) }
+    ensures done { result ≡ 0
+        → (served : Served) × (served.refused ≡ 0)
+        × ForLists L.Stands L.Trusts owner.old owner.new
+        (AnswersAll R.remaining W.contents input.old output.old output.new served) }
+    ensures refused { result ≡ 1
+        → (served : Served) × (0 < served.refused)
+        × ForLists L.Stands L.Trusts owner.old owner.new
+        (AnswersAll R.remaining W.contents input.old output.old output.new served) }
+    ensures failed { result ≡ 4
+        → (fault : ServeFault) × IsShown fault input.old input.new output.old output.new
+        × LeavesNone (R.remaining (inner_of input.old)) (R.remaining (inner_of input.new)) fault
+        × TellsLine E.contents errors.old errors.new (fault_line fault)
+        × ForLists L.Stands L.Trusts owner.old owner.new
+        (AnswersUpTo R.remaining W.contents input.old output.old output.new fault) }
     ensures end { (result ≡ 0) ⊎ (result ≡ 1) → IsAtEnd (R.remaining (inner_of input.new)) }
     ensures kept { (result ≡ 0) ⊎ (result ≡ 1) → FailsNever input.old input.new output.old output.new }
     ensures quiet { (result ≡ 0) ⊎ (result ≡ 1) → errors.new ≡ errors.old }

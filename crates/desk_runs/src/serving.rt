@@ -33,8 +33,11 @@ pub fn serve_listener<A: Handler, W: Write>(
     requires ready { A.Ready handler.old }
     ensures ready { A.Ready handler.new }
     ensures trusts { A.Trusts handler.new → A.Trusts handler.old }
-    ensures told { (ends : List Ended) × TellsConnections connections ends result (W.contents (inner_of output.old)) (W.contents (inner_of output.new)) (failures_of output.old) (failures_of output.new)
-        × ForLists A.Stands A.Trusts handler.old handler.new (λ G H. ConnectedEach (A.rule G.rules G.greatest) G.history ends H) }
+    ensures told { (ends : List Ended)
+        × TellsConnections connections ends result (W.contents (inner_of output.old)) (W.contents (inner_of output.new))
+        (failures_of output.old) (failures_of output.new)
+        × ForLists A.Stands A.Trusts handler.old handler.new
+        (λ G H. ConnectedEach (A.rule G.rules G.greatest) G.history ends H) }
 {
     let mut faulty = false;
     for k in 0..connections {
@@ -61,7 +64,8 @@ fn serve_stream<A: Handler>(
     requires ready { A.Ready handler.old }
     ensures ready { A.Ready handler.new }
     ensures trusts { A.Trusts handler.new → A.Trusts handler.old }
-    ensures served { ForLists A.Stands A.Trusts handler.old handler.new (λ G H. Connected (A.rule G.rules G.greatest) G.history result H) }
+    ensures served { ForLists A.Stands A.Trusts handler.old handler.new
+        (λ G H. Connected (A.rule G.rules G.greatest) G.history result H) }
 {
     let _ = stream.set_nodelay(true);
     serve(
@@ -89,10 +93,14 @@ fn tell<W: Write>(
     ended: &Result<Served, ServeFault>,
 ) -> Result<(), WriteFailed>
     requires few_failures { failures_of output.old < 2 ^ 63 }
-    ensures ok { OnOk result (Appends (W.contents (inner_of output.old)) (W.contents (inner_of output.new)) (connection_line number ended.now)) }
+    ensures ok { OnOk result
+        (Appends (W.contents (inner_of output.old)) (W.contents (inner_of output.new))
+        (connection_line number ended.now)) }
     ensures kept { OnOk result (failures_of output.new ≡ failures_of output.old) }
     ensures failed { OnErr result (failures_of output.new ≡ failures_of output.old + 1) }
-    ensures front { OnErr result (SendsFront (W.contents (inner_of output.old)) (W.contents (inner_of output.new)) (connection_line number ended.now)) }
+    ensures front { OnErr result
+        (SendsFront (W.contents (inner_of output.old)) (W.contents (inner_of output.new))
+        (connection_line number ended.now)) }
 {
     let (served, word) = served_and_word(ended);
     send(output, Buffer::new().format(number).as_bytes())?;

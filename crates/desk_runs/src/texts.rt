@@ -24,11 +24,15 @@ pub fn tell_lawful<W: Write, E: Write>(
     requires write_failures { failures_of output.old < 2 ^ 63 }
     requires error_failures { failures_of errors.old < 2 ^ 63 }
     ensures status { (result ≡ 0) ⊎ (result ≡ 3) ⊎ (result ≡ 4) }
-    ensures done { result ≡ 0 → Appends (W.contents (inner_of output.old)) (W.contents (inner_of output.new)) (lawful_line count) }
+    ensures done { result ≡ 0
+        → Appends (W.contents (inner_of output.old)) (W.contents (inner_of output.new)) (lawful_line count) }
     ensures no_desk { result ≡ 3 → TellsLine E.contents errors.old errors.new unavailable_line }
     ensures untouched { result ≡ 3 → output.new ≡ output.old }
-    ensures failed { result ≡ 4 → (failures_of output.new ≡ failures_of output.old + 1) × TellsLine E.contents errors.old errors.new (fault_line (WriteFault none_served)) }
-    ensures front { result ≡ 4 → SendsFront (W.contents (inner_of output.old)) (W.contents (inner_of output.new)) (lawful_line count) }
+    ensures failed { result ≡ 4
+        → (failures_of output.new ≡ failures_of output.old + 1)
+        × TellsLine E.contents errors.old errors.new (fault_line (WriteFault none_served)) }
+    ensures front { result ≡ 4
+        → SendsFront (W.contents (inner_of output.old)) (W.contents (inner_of output.new)) (lawful_line count) }
     ensures kept { result ≡ 0 → failures_of output.new ≡ failures_of output.old }
     ensures quiet { result ≡ 0 → errors.new ≡ errors.old }
 {
@@ -44,8 +48,11 @@ pub fn send_text<W: Write, E: Write>(text: &str, output: &mut Wire<W>, errors: &
     requires error_failures { failures_of errors.old < 2 ^ 63 }
     ensures status { (result ≡ 0) ⊎ (result ≡ 4) }
     ensures done { result ≡ 0 → Appends (W.contents (inner_of output.old)) (W.contents (inner_of output.new)) text.now }
-    ensures failed { result ≡ 4 → (failures_of output.new ≡ failures_of output.old + 1) × TellsLine E.contents errors.old errors.new (fault_line (WriteFault none_served)) }
-    ensures front { result ≡ 4 → SendsFront (W.contents (inner_of output.old)) (W.contents (inner_of output.new)) text.now }
+    ensures failed { result ≡ 4
+        → (failures_of output.new ≡ failures_of output.old + 1)
+        × TellsLine E.contents errors.old errors.new (fault_line (WriteFault none_served)) }
+    ensures front { result ≡ 4
+        → SendsFront (W.contents (inner_of output.old)) (W.contents (inner_of output.new)) text.now }
     ensures kept { result ≡ 0 → failures_of output.new ≡ failures_of output.old }
     ensures quiet { result ≡ 0 → errors.new ≡ errors.old }
 {

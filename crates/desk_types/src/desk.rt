@@ -127,8 +127,10 @@ pub fn run<D: Desk>(
     messages: &[Stamped],
 ) -> Result<Replies, AllocError>
     requires room { HasRoom D.Stands desk.old (length messages.now) }
-    ensures replies { (H : History) → D.Stands desk.old H → IfOk result (λ replies. replies ≡ replies_to (D.kept_rules desk.old) H messages.now) }
-    ensures stands { (H : History) → D.Stands desk.old H → OnOk result (D.Stands desk.new (after_commands (D.kept_rules desk.old) H messages.now)) }
+    ensures replies { (H : History) → D.Stands desk.old H
+        → IfOk result (λ replies. replies ≡ replies_to (D.kept_rules desk.old) H messages.now) }
+    ensures stands { (H : History) → D.Stands desk.old H
+        → OnOk result (D.Stands desk.new (after_commands (D.kept_rules desk.old) H messages.now)) }
     ensures rules { OnOk result (D.kept_rules desk.new ≡ D.kept_rules desk.old) }
 {
     let mut replies = Vec::new(alloc);
@@ -142,8 +144,10 @@ pub fn run<D: Desk>(
 /// Judges one command, and settles it where it is accepted.
 fn answer<D: Desk>(desk: &mut D, message: &Stamped) -> Result<Reply, AllocError>
     requires room { HasRoom D.Stands desk.old 1 }
-    ensures reply { (H : History) → D.Stands desk.old H → IfOk result (λ reply. reply ≡ reply_to (D.kept_rules desk.old) H message.now) }
-    ensures stands { (H : History) → D.Stands desk.old H → OnOk result (D.Stands desk.new (after_command (D.kept_rules desk.old) H message.now)) }
+    ensures reply { (H : History) → D.Stands desk.old H
+        → IfOk result (λ reply. reply ≡ reply_to (D.kept_rules desk.old) H message.now) }
+    ensures stands { (H : History) → D.Stands desk.old H
+        → OnOk result (D.Stands desk.new (after_command (D.kept_rules desk.old) H message.now)) }
     ensures rules { OnOk result (D.kept_rules desk.new ≡ D.kept_rules desk.old) }
 {
     match desk.judge(message) {

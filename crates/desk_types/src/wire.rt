@@ -73,7 +73,8 @@ impl<T: Read> Read for Wire<T> {
 
     fn read(&mut self, buf: &mut [u8]) -> io::Result<usize>
         ensures bound { ReadsAtMost result buf.new }
-        ensures bytes { ReadConsumes (T.remaining (inner_of self.old)) (T.remaining (inner_of self.new)) result buf.new }
+        ensures bytes { ReadConsumes (T.remaining (inner_of self.old))
+            (T.remaining (inner_of self.new)) result buf.new }
         ensures reads { reads_of self.new ≡ one_more (reads_of self.old) }
         ensures kept { OnOk result (failures_of self.new ≡ failures_of self.old) }
         ensures failed { OnErr result (failures_of self.new ≡ one_more (failures_of self.old)) }

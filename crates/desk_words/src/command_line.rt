@@ -109,8 +109,10 @@ fn help_or_mistake(alloc: Global, error: &clap::Error) -> Result<Asked, AllocErr
 
 /// The command to be run.
 fn command_of(alloc: Global, matches: &ArgMatches<'_>) -> Result<Asked, AllocError>
-    requires named { (words : List (List ℕ)) × (told_of words ≡ []) × (subcommand_rows_of matches.now ≡ named_by words) }
-    ensures asks { (words : List (List ℕ)) → told_of words ≡ [] → subcommand_rows_of matches.now ≡ named_by words → IfOk result (Asks words) }
+    requires named { (words : List (List ℕ)) × (told_of words ≡ [])
+        × (subcommand_rows_of matches.now ≡ named_by words) }
+    ensures asks { (words : List (List ℕ)) → told_of words ≡ [] → subcommand_rows_of matches.now ≡ named_by words
+        → IfOk result (Asks words) }
     ensures range { IfOk result IsInRange }
 {
     match matches.subcommand() {
@@ -133,7 +135,8 @@ fn command_of(alloc: Global, matches: &ArgMatches<'_>) -> Result<Asked, AllocErr
 
 /// What `feed` asks for, with the options that were found.
 fn feed_of(alloc: Global, found: &ArgMatches<'_>) -> Result<Asked, AllocError>
-    ensures asks { (words : List (List ℕ)) → Names words (codes "feed") (rows_of (found_of found.now)) → IfOk result (Asks words) }
+    ensures asks { (words : List (List ℕ)) → Names words (codes "feed") (rows_of (found_of found.now))
+        → IfOk result (Asks words) }
     ensures range { IfOk result IsInRange }
 {
     let Some(greatest) = greatest_in(found) else {
@@ -148,7 +151,8 @@ fn feed_of(alloc: Global, found: &ArgMatches<'_>) -> Result<Asked, AllocError>
 
 /// What `serve` asks for, with the options that were found.
 fn serve_of(alloc: Global, found: &ArgMatches<'_>) -> Result<Asked, AllocError>
-    ensures asks { (words : List (List ℕ)) → Names words (codes "serve") (rows_of (found_of found.now)) → IfOk result (Asks words) }
+    ensures asks { (words : List (List ℕ)) → Names words (codes "serve") (rows_of (found_of found.now))
+        → IfOk result (Asks words) }
     ensures range { IfOk result IsInRange }
 {
     let Some(port) = number_in(found, "port", MOST_PORT) else {
@@ -173,7 +177,8 @@ fn serve_of(alloc: Global, found: &ArgMatches<'_>) -> Result<Asked, AllocError>
 
 /// What `report` asks for, with the options that were found.
 fn report_of(alloc: Global, found: &ArgMatches<'_>) -> Result<Asked, AllocError>
-    ensures asks { (words : List (List ℕ)) → Names words (codes "report") (rows_of (found_of found.now)) → IfOk result (Asks words) }
+    ensures asks { (words : List (List ℕ)) → Names words (codes "report") (rows_of (found_of found.now))
+        → IfOk result (Asks words) }
     ensures range { IfOk result IsInRange }
 {
     match (found.get_str("db"), found.get_str("get")) {
@@ -187,7 +192,8 @@ fn report_of(alloc: Global, found: &ArgMatches<'_>) -> Result<Asked, AllocError>
 
 /// What `audit` asks for, with the options that were found.
 fn audit_of(alloc: Global, found: &ArgMatches<'_>) -> Result<Asked, AllocError>
-    ensures asks { (words : List (List ℕ)) → Names words (codes "audit") (rows_of (found_of found.now)) → IfOk result (Asks words) }
+    ensures asks { (words : List (List ℕ)) → Names words (codes "audit") (rows_of (found_of found.now))
+        → IfOk result (Asks words) }
     ensures range { IfOk result IsInRange }
 {
     match found.get_str("db") {
@@ -200,7 +206,8 @@ fn audit_of(alloc: Global, found: &ArgMatches<'_>) -> Result<Asked, AllocError>
 
 /// What `migrate` asks for, with the options that were found.
 fn migrate_of(alloc: Global, found: &ArgMatches<'_>) -> Result<Asked, AllocError>
-    ensures asks { (words : List (List ℕ)) → Names words (codes "migrate") (rows_of (found_of found.now)) → IfOk result (Asks words) }
+    ensures asks { (words : List (List ℕ)) → Names words (codes "migrate") (rows_of (found_of found.now))
+        → IfOk result (Asks words) }
     ensures range { IfOk result IsInRange }
 {
     match found.get_str("db") {
@@ -217,7 +224,8 @@ fn import_of(
     found: &ArgMatches<'_>,
     said: Result<Import, BadOption>,
 ) -> Result<Asked, AllocError>
-    ensures asks { (words : List (List ℕ)) → NamesImport words (rows_of (found_of found.now)) said → IfOk result (Asks words) }
+    ensures asks { (words : List (List ℕ)) → NamesImport words (rows_of (found_of found.now)) said
+        → IfOk result (Asks words) }
     ensures range { IfOk result IsInRange }
 {
     let import = match said {
@@ -538,7 +546,8 @@ fn audit<'a>(alloc: Global) -> Result<clap::Command<'a>, AllocError>
 
 /// The command `migrate`.
 fn migrate<'a>(alloc: Global) -> Result<clap::Command<'a>, AllocError>
-    ensures { IfOk result (λ command. (shape_of command ≡ migrate_shape) × ((out-Command command).has_globals ≡ false)) }
+    ensures { IfOk result (λ command. (shape_of command ≡ migrate_shape)
+        × ((out-Command command).has_globals ≡ false)) }
 {
     let file = Arg::new(alloc, "db")
         .long("db")

@@ -51,7 +51,8 @@ fn bare(alloc: Global) -> Floor
 /// The floor after an entry with its takes.
 fn note(alloc: Global, floor: &mut Floor, entry: &Entry, takes: &[Take]) -> Result<(), AllocError>
     requires { AreReelsBy floor.old.reels entry.now.effective }
-    ensures { (H : History) → IsJudged Two (entry.now ∷ H) → takes.now ≡ takes_by H entry.now.effective entry.now.stamped.command
+    ensures { (H : History) → IsJudged Two (entry.now ∷ H)
+        → takes.now ≡ takes_by H entry.now.effective entry.now.stamped.command
         → IsFloor H floor.old → OnOk result (IsFloor (entry.now ∷ H) floor.new) }
 {
     note_reel(&mut floor.reels, entry)?;
@@ -113,7 +114,8 @@ fn with_pieces(alloc: Global, stock: &BTreeMap<Id, u64>, tape: &Tape) -> Result<
 
 /// The live reels of the slot, the front first.
 pub fn live_on(alloc: Global, floor: &Floor, machine: &Id, slot: &Id) -> Result<Vec<Id>, AllocError>
-    ensures { (H : History) → IsFloor H floor.now → IfOk result (λ reels. reels.items ≡ live_on H machine.now slot.now) }
+    ensures { (H : History) → IsFloor H floor.now
+        → IfOk result (λ reels. reels.items ≡ live_on H machine.now slot.now) }
 {
     match floor.tapes.get(&(*machine, *slot)) {
         Some(tape) => with_pieces(alloc, &floor.stock, tape),

@@ -31,7 +31,8 @@ fn open_by(name: &Id, command: &Command) -> Option<bool>
 
 /// The reel, where the entry receives it.
 fn received_reel(name: &Id, entry: &Entry) -> Option<Reel>
-    ensures { (H : History) → IsJudged Two (entry.now ∷ H) → receipt_of H name.now ≡ None → IsReelOf (entry.now ∷ H) name.now result }
+    ensures { (H : History) → IsJudged Two (entry.now ∷ H) → receipt_of H name.now ≡ None
+        → IsReelOf (entry.now ∷ H) name.now result }
 {
     let at = entry.effective;
     let said = receipt_by(name, at, &entry.stamped.command)?;
@@ -42,7 +43,8 @@ fn received_reel(name: &Id, entry: &Entry) -> Option<Reel>
 fn handle(reel: &mut Reel, name: &Id, entry: &Entry)
     requires { reel.old.last ≤ entry.now.effective }
     ensures last { reel.new.last ≤ entry.now.effective }
-    ensures stands { (H : History) → IsJudged Two (entry.now ∷ H) → StandsFor H name.now reel.old → StandsFor (entry.now ∷ H) name.now reel.new }
+    ensures stands { (H : History) → IsJudged Two (entry.now ∷ H) → StandsFor H name.now reel.old
+        → StandsFor (entry.now ∷ H) name.now reel.new }
 {
     let at = entry.effective;
     match open_by(name, &entry.stamped.command) {
@@ -63,7 +65,8 @@ fn is_bake(command: &Command) -> bool
 /// The reel after an entry.
 pub fn reel_after(reel: Option<Reel>, name: &Id, entry: &Entry) -> Option<Reel>
     requires { ForSome reel (λ r. r.last ≤ entry.now.effective) }
-    ensures { (H : History) → IsJudged Two (entry.now ∷ H) → IsReelOf H name.now reel → IsReelOf (entry.now ∷ H) name.now result }
+    ensures { (H : History) → IsJudged Two (entry.now ∷ H) → IsReelOf H name.now reel
+        → IsReelOf (entry.now ∷ H) name.now result }
 {
     let Some(mut found) = reel else {
         return received_reel(name, entry);

@@ -31,7 +31,8 @@ fn received_by(command: &Command) -> Option<Id>
 
 /// Whether a reel to which this is left is neither unbaked nor expired.
 pub fn is_usable(left: Left) -> bool
-    ensures { (H : History) (reel : Name) → left ≡ life_left H reel → result ≡ (not (is_unbaked H reel) && not (is_expired H reel (now_of H))) }
+    ensures { (H : History) (reel : Name) → left ≡ life_left H reel
+        → result ≡ (not (is_unbaked H reel) && not (is_expired H reel (now_of H))) }
 {
     match left {
         Left::Minutes(minutes) => minutes > 0,
@@ -42,7 +43,8 @@ pub fn is_usable(left: Left) -> bool
 
 /// Whether the reel could be loaded where a sheet says the part.
 fn is_free(entries: &[Entry], part: &Id, view: &ReelView) -> bool
-    ensures { (reel : Name) → reel_view (reverse entries.now) reel ≡ Some view.now → result ≡ is_free (reverse entries.now) part.now reel }
+    ensures { (reel : Name) → reel_view (reverse entries.now) reel ≡ Some view.now
+        → result ≡ is_free (reverse entries.now) part.now reel }
 {
     is_allowed(entries, part, &view.part)
         && !view.mounted
@@ -76,7 +78,8 @@ fn turns(
     requires judged { IsJudged Two (reverse entries.now) }
     requires takes { AreTakes (reverse entries.now) (reverse takes.now) }
     ensures { IfOk result (λ turns. turns.items ≡ map (turn_of (reverse entries.now))
-        (in_order (by_turn (reverse entries.now)) (filter (is_free (reverse entries.now) part.now) (reels_received (reverse entries.now))))) }
+        (in_order (by_turn (reverse entries.now))
+        (filter (is_free (reverse entries.now) part.now) (reels_received (reverse entries.now))))) }
 {
     let mut turns = BTreeSet::new(alloc);
     for entry in entries {

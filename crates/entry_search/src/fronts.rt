@@ -51,7 +51,8 @@ fn front_reel(floor: &Floor, minute: Minute, reel: Option<Id>) -> Option<FrontRe
 /// The front reel of a slot with its part and its life.
 fn front_at(floor: &Floor, minute: Minute, machine: &Id, slot: &Id) -> Option<FrontReel>
     requires { AreReelsBy floor.now.reels minute }
-    ensures { (H : History) → IsJudged Two H → IsFloor H floor.now → result ≡ option_map (front_reel H minute) (front_of H machine.now slot.now) }
+    ensures { (H : History) → IsJudged Two H → IsFloor H floor.now
+        → result ≡ option_map (front_reel H minute) (front_of H machine.now slot.now) }
 {
     front_reel(floor, minute, front(floor, machine, slot))
 }

@@ -11,7 +11,8 @@ ghost use Rattle.entry_search.specs.Kept.{AreTakes, pieces_taken};
 use desk_types::{Command, CountRow, Entry, GREATEST_QUANTITY, Id, Take, Takes};
 
 fn count_in(reel: &Id, rows: &[CountRow]) -> Option<u64>
-    ensures value { result ≡ option_map (λ (row : CountRow). row.quantity) (find (λ row. same row.reel reel.now) rows.now) }
+    ensures value { result ≡ option_map (λ (row : CountRow). row.quantity)
+        (find (λ row. same row.reel reel.now) rows.now) }
     ensures range { IfSome result (λ pieces. pieces ≤ GREATEST_QUANTITY) }
 {
     let row = rows.iter().find(|row| row.reel == *reel)?;

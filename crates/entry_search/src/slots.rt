@@ -64,7 +64,8 @@ fn loaded_slots(alloc: Global, entries: &[Entry], machine: &Id) -> Result<Vec<Id
 fn mount(floor: &Floor, minute: Minute, slot: &Id, position: u64, reel: &Id) -> Mount
     requires by_now { AreReelsBy floor.now.reels minute }
     requires received { is_some (reel_at floor.now.reels reel.now) ≡ true }
-    ensures { (H : History) → IsFloor H floor.now → now_of H ≡ minute → result ≡ mount_of H slot.now (position, reel.now) }
+    ensures { (H : History) → IsFloor H floor.now → now_of H ≡ minute
+        → result ≡ mount_of H slot.now (position, reel.now) }
 {
     let Some(found) = reel_on(floor, reel) else {
         unreachable!()

@@ -48,7 +48,8 @@ fn taken_for(takes: &[Take], reel: &Id, usage: Usage) -> u64
 /// How many pieces of the reel went this way, where the takes are those of a list that a desk can
 /// have. Nothing is said of other takes.
 pub fn total(takes: &[Takes], reel: &Id, usage: Usage) -> u64
-    ensures { (H : History) → IsJudged Two H → length H ≤ MOST_ENTRIES → AreTakes H (reverse takes.now) → result ≡ total_of usage H reel.now }
+    ensures { (H : History) → IsJudged Two H → length H ≤ MOST_ENTRIES → AreTakes H (reverse takes.now)
+        → result ≡ total_of usage H reel.now }
 {
     let mut pieces = 0u64;
     for last in takes {

@@ -92,7 +92,8 @@ impl StateDesk {
 
     /// What is selected on the machine of a start.
     fn selected_at_start(&self, command: &Command) -> Option<Id>
-        ensures { (H : History) → IsState H self.now → (machine board : Name) → command.now ≡ WorkStarted machine board → result ≡ selected_on H machine }
+        ensures { (H : History) → IsState H self.now → (machine board : Name) → command.now ≡ WorkStarted machine board
+            → result ≡ selected_on H machine }
     {
         match command {
             Command::WorkStarted { machine, .. } => self.setup.selected_on(machine),

@@ -53,8 +53,10 @@ impl Floor {
         at: Minute,
         takes: &[Take],
     ) -> Result<(), AllocError>
-        requires { (H : History) × (e : Entry) × IsNoted H e command.now at takes.now × IsFloor H self.old × HasPlace H }
-        ensures { (H : History) (e : Entry) → IsNoted H e command.now at takes.now → IsFloor H self.old → OnOk result (IsFloor (e ∷ H) self.new) }
+        requires { (H : History) × (e : Entry) × IsNoted H e command.now at takes.now × IsFloor H self.old
+            × HasPlace H }
+        ensures { (H : History) (e : Entry) → IsNoted H e command.now at takes.now → IsFloor H self.old
+            → OnOk result (IsFloor (e ∷ H) self.new) }
     {
         if may_take(command) {
             self.note_takes(command, takes);
@@ -70,8 +72,10 @@ impl Floor {
     /// out of those at rest.
     fn note_takes(&mut self, command: &Command, takes: &[Take])
         requires takes { may_take command.now ≡ true }
-        requires known { (H : History) × (e : Entry) × (at : ℕ) × IsNoted H e command.now at takes.now × IsFloor H self.old × HasPlace H }
-        ensures { (H : History) (e : Entry) (at : ℕ) → IsNoted H e command.now at takes.now → IsFloor H self.old → IsFloor (e ∷ H) self.new }
+        requires known { (H : History) × (e : Entry) × (at : ℕ) × IsNoted H e command.now at takes.now
+            × IsFloor H self.old × HasPlace H }
+        ensures { (H : History) (e : Entry) (at : ℕ) → IsNoted H e command.now at takes.now → IsFloor H self.old
+            → IsFloor (e ∷ H) self.new }
     {
         if !take_pieces(&mut self.reels, command, takes) {
             return;
@@ -101,8 +105,10 @@ fn note_reels(
     at: Minute,
 ) -> Result<(), AllocError>
     requires other { may_take command.now ≡ false }
-    requires known { (H : History) × (e : Entry) × (takes : List Taking) × IsNoted H e command.now at takes × AreHeld H reels.old }
-    ensures { (H : History) (e : Entry) (takes : List Taking) → IsNoted H e command.now at takes → ((m s : Name) → tape_at tapes.now m s ≡ live_on H m s) → AreHeld H reels.old
+    requires known { (H : History) × (e : Entry) × (takes : List Taking) × IsNoted H e command.now at takes
+        × AreHeld H reels.old }
+    ensures { (H : History) (e : Entry) (takes : List Taking) → IsNoted H e command.now at takes
+        → ((m s : Name) → tape_at tapes.now m s ≡ live_on H m s) → AreHeld H reels.old
         → OnOk result (AreHeld (e ∷ H) reels.new) }
 {
     match command {

@@ -26,7 +26,8 @@ use std::collections::BTreeSet;
 
 /// Whether a reel to which this is left could be loaded where a sheet says the part.
 fn is_free(alternates: &Alternates, part: &Id, held: &Held, left: Left) -> bool
-    ensures { (H : History) (name : Name) → AreAlternates H alternates.now → IsHeld H name held.now → left ≡ life_left H name → result ≡ is_free H part.now name }
+    ensures { (H : History) (name : Name) → AreAlternates H alternates.now → IsHeld H name held.now
+        → left ≡ life_left H name → result ≡ is_free H part.now name }
 {
     allowed(alternates, part, &held.reel.part)
         && !is_live(held)
@@ -80,7 +81,9 @@ fn turns(
     part: &Id,
 ) -> Result<BTreeSet<(Left, Id)>, AllocError>
     ensures { (H : History) → IsTold H floor.now (Some minute) → AreAlternates H alternates.now
-        → IfOk result (λ turns. turns.keys ≡ map (turn_of H) (in_order (by_turn H) (filter (is_free H part.now) (reels_received H)))) }
+        → IfOk result
+        (λ turns. turns.keys ≡ map (turn_of H)
+        (in_order (by_turn H) (filter (is_free H part.now) (reels_received H)))) }
 {
     let mut turns = BTreeSet::new(alloc);
     for name in &floor.resting {
@@ -96,7 +99,8 @@ fn views_of(
     minute: Minute,
     turns: &BTreeSet<(Left, Id)>,
 ) -> Result<Vec<ReelView>, AllocError>
-    ensures { (H : History) → IsTold H floor.now (Some minute) → IfOk result (λ views. views.items ≡ filter_map (λ turn. reel_view H turn.1) turns.now.keys) }
+    ensures { (H : History) → IsTold H floor.now (Some minute)
+        → IfOk result (λ views. views.items ≡ filter_map (λ turn. reel_view H turn.1) turns.now.keys) }
 {
     let mut views = Vec::new(alloc);
     for turn in turns {
@@ -114,7 +118,8 @@ pub fn free_reels(
     alternates: &Alternates,
     part: &Id,
 ) -> Result<ReelViews, AllocError>
-    ensures { (H : History) → IsTold H floor.now minute → AreAlternates H alternates.now → IfOk result (λ reels. reels ≡ free_reels H part.now) }
+    ensures { (H : History) → IsTold H floor.now minute → AreAlternates H alternates.now
+        → IfOk result (λ reels. reels ≡ free_reels H part.now) }
 {
     let Some(minute) = minute else {
         return Ok(Listing::new(Vec::new(alloc)));

@@ -39,7 +39,8 @@ impl Held {
         ensures pieces { SamePieces self.old.reel self.new.reel }
         ensures last { self.new.reel.last ≤ at }
         ensures slot { self.new.on_slot ≡ (puts_on_slot command.now || self.old.on_slot) }
-        ensures stands { (H : History) (name : Name) (e : Entry) → e.stamped.command ≡ command.now → e.effective ≡ at → handles name command.now ≡ true
+        ensures stands { (H : History) (name : Name) (e : Entry) → e.stamped.command ≡ command.now → e.effective ≡ at
+            → handles name command.now ≡ true
             → StandsFor H name self.old.reel → StandsFor (e ∷ H) name self.new.reel }
     {
         match command {
@@ -62,7 +63,8 @@ impl Held {
 /// Does to a reel what a command on it does that is no receipt.
 pub fn handle(reels: &mut BTreeMap<Id, Held>, name: &Id, command: &Command, at: Minute)
     requires by_then { ForSome (held_at reels.old name.now) (λ held. held.reel.last ≤ at) }
-    ensures { (H : History) (e : Entry) → IsJudged Two (e ∷ H) → e.stamped.command ≡ command.now → e.effective ≡ at → handles name.now command.now ≡ true
+    ensures { (H : History) (e : Entry) → IsJudged Two (e ∷ H) → e.stamped.command ≡ command.now → e.effective ≡ at
+        → handles name.now command.now ≡ true
         → AreHeld H reels.old → AreHeld (e ∷ H) reels.new }
 {
     if let Some(held) = reels.get_mut(name) {
@@ -85,8 +87,10 @@ fn usage(purpose: &Purpose) -> Usage
 fn lower(reels: &mut BTreeMap<Id, Held>, take: &Take) -> bool
     requires { take.now.quantity ≤ left_at reels.old take.now.reel }
     ensures spent { result ≡ (left_at reels.new take.now.reel == 0) }
-    ensures moved { (r : Name) → AreMoved (if same take.now.reel r && is_usage_of Placed take.now.purpose then take.now.quantity else 0)
-        (if same take.now.reel r && is_usage_of Scrapped take.now.purpose then take.now.quantity else 0) 0 (held_at reels.old r) (held_at reels.new r) }
+    ensures moved { (r : Name)
+        → AreMoved (if same take.now.reel r && is_usage_of Placed take.now.purpose then take.now.quantity else 0)
+        (if same take.now.reel r && is_usage_of Scrapped take.now.purpose then take.now.quantity else 0) 0
+        (held_at reels.old r) (held_at reels.new r) }
 {
     match reels.get_mut(&take.reel) {
         Some(held) => {
@@ -100,8 +104,11 @@ fn lower(reels: &mut BTreeMap<Id, Held>, take: &Take) -> bool
 /// Takes the pieces of takes off their reels, and tells whether one of the reels may have none left.
 pub fn lower_all(reels: &mut BTreeMap<Id, Held>, takes: &[Take]) -> bool
     requires { (r : Name) → pieces_taken takes.now r ≤ left_at reels.old r }
-    ensures unspent { result ≡ false → list_any (λ (take : Taking). left_at reels.new take.reel == 0) takes.now ≡ false }
-    ensures moved { (r : Name) → AreMoved (taken_for Placed takes.now r) (taken_for Scrapped takes.now r) 0 (held_at reels.old r) (held_at reels.new r) }
+    ensures unspent { result ≡ false
+        → list_any (λ (take : Taking). left_at reels.new take.reel == 0) takes.now ≡ false }
+    ensures moved { (r : Name)
+        → AreMoved (taken_for Placed takes.now r) (taken_for Scrapped takes.now r) 0 (held_at reels.old r)
+        (held_at reels.new r) }
 {
     let mut spent = false;
     for take in takes {
@@ -113,7 +120,9 @@ pub fn lower_all(reels: &mut BTreeMap<Id, Held>, takes: &[Take]) -> bool
 
 /// The reel is on no slot.
 fn take_off(reels: &mut BTreeMap<Id, Held>, reel: &Id)
-    ensures { (r : Name) → held_at reels.new r ≡ (if same reel.now r then option_map off_slot (held_at reels.old r) else held_at reels.old r) }
+    ensures { (r : Name)
+        → held_at reels.new r ≡ (if same reel.now r then option_map off_slot
+        (held_at reels.old r) else held_at reels.old r) }
 {
     if let Some(held) = reels.get_mut(reel) {
         held.on_slot = false;
@@ -122,7 +131,9 @@ fn take_off(reels: &mut BTreeMap<Id, Held>, reel: &Id)
 
 /// The reels of a tape are on no slot.
 pub fn take_all_off(reels: &mut BTreeMap<Id, Held>, tape: &Tape)
-    ensures { (r : Name) → held_at reels.new r ≡ (if list_any (same r) tape.now then option_map off_slot (held_at reels.old r) else held_at reels.old r) }
+    ensures { (r : Name)
+        → held_at reels.new r ≡ (if list_any (same r) tape.now then option_map off_slot
+        (held_at reels.old r) else held_at reels.old r) }
 {
     for i in 0..tape.reels.len() {
         take_off(reels, &tape.reels[i]);
@@ -133,7 +144,9 @@ pub fn take_all_off(reels: &mut BTreeMap<Id, Held>, tape: &Tape)
 fn rise(reels: &mut BTreeMap<Id, Held>, row: &CountRow)
     requires unspent { left_at reels.old row.now.reel ≡ 0 → row.now.quantity ≡ 0 }
     requires fits { ForSome (held_at reels.old row.now.reel) CanRise }
-    ensures { (r : Name) → AreMoved 0 0 (if same row.now.reel r then row.now.quantity - left_at reels.old r else 0) (held_at reels.old r) (held_at reels.new r) }
+    ensures { (r : Name)
+        → AreMoved 0 0 (if same row.now.reel r then row.now.quantity - left_at reels.old r else 0) (held_at reels.old r)
+        (held_at reels.new r) }
 {
     let counted = row.quantity.get();
     if let Some(held) = reels.get_mut(&row.reel) {
@@ -147,7 +160,9 @@ fn rise(reels: &mut BTreeMap<Id, Held>, row: &CountRow)
 pub fn rise_all(reels: &mut BTreeMap<Id, Held>, rows: &[CountRow])
     requires unspent { All (λ (row : Counting). left_at reels.old row.reel ≡ 0 → row.quantity ≡ 0) rows.now }
     requires fits { (r : Name) → ForSome (held_at reels.old r) CanRise }
-    ensures { (r : Name) → AreMoved 0 0 (highest rows.now r (left_at reels.old r) - left_at reels.old r) (held_at reels.old r) (held_at reels.new r) }
+    ensures { (r : Name)
+        → AreMoved 0 0 (highest rows.now r (left_at reels.old r) - left_at reels.old r) (held_at reels.old r)
+        (held_at reels.new r) }
 {
     for row in rows {
         rise(reels, row);

@@ -10,7 +10,8 @@ use std::collections::BTreeMap;
 
 /// Puts a value to a name, and gives what was there.
 pub fn put<V: Drop>(map: &mut BTreeMap<Id, V>, name: Id, value: V) -> Result<Option<V>, AllocError>
-    ensures { (n : Name) → OnOk result (tree.get by_name map.new n ≡ (if same name n then Some value else tree.get by_name map.old n)) }
+    ensures { (n : Name)
+        → OnOk result (tree.get by_name map.new n ≡ (if same name n then Some value else tree.get by_name map.old n)) }
 {
     Ok(map.insert(name, value)?)
 }

@@ -32,7 +32,8 @@ pub fn receive(
     quantity: Quantity,
     at: Minute,
 ) -> Result<(), AllocError>
-    ensures { (H : History) (e : Entry) → IsJudged Two (e ∷ H) → e.stamped.command ≡ ReelReceived name part lot moisture quantity → e.effective ≡ at → AreHeld H reels.old
+    ensures { (H : History) (e : Entry) → IsJudged Two (e ∷ H)
+        → e.stamped.command ≡ ReelReceived name part lot moisture quantity → e.effective ≡ at → AreHeld H reels.old
         → OnOk result (AreHeld (e ∷ H) reels.new) }
 {
     let reel = Reel::receive(part, lot, moisture, quantity, at);
@@ -54,7 +55,8 @@ pub fn unload(
     machine: &Id,
     slot: &Id,
 )
-    ensures { (H : History) (e : Entry) → IsJudged Two (e ∷ H) → e.stamped.command ≡ MaterialsUnloaded machine.now slot.now
+    ensures { (H : History) (e : Entry) → IsJudged Two (e ∷ H)
+        → e.stamped.command ≡ MaterialsUnloaded machine.now slot.now
         → ((m s : Name) → tape_at tapes.now m s ≡ live_on H m s) → AreHeld H reels.old → AreHeld (e ∷ H) reels.new }
 {
     if let Some(tape) = tapes.get(&(*machine, *slot)) {
@@ -66,9 +68,12 @@ pub fn unload(
 /// a reel.
 pub fn take_pieces(reels: &mut BTreeMap<Id, Held>, command: &Command, takes: &[Take]) -> bool
     requires takes { may_take command.now ≡ true }
-    requires known { (H : History) × (e : Entry) × (at : ℕ) × IsNoted H e command.now at takes.now × AreHeld H reels.old × HasPlace H }
-    ensures unspent { result ≡ false → list_any (λ (take : Taking). left_at reels.new take.reel == 0) takes.now ≡ false }
-    ensures held { (H : History) (e : Entry) (at : ℕ) → IsNoted H e command.now at takes.now → AreHeld H reels.old → AreHeld (e ∷ H) reels.new }
+    requires known { (H : History) × (e : Entry) × (at : ℕ) × IsNoted H e command.now at takes.now × AreHeld H reels.old
+        × HasPlace H }
+    ensures unspent { result ≡ false
+        → list_any (λ (take : Taking). left_at reels.new take.reel == 0) takes.now ≡ false }
+    ensures held { (H : History) (e : Entry) (at : ℕ) → IsNoted H e command.now at takes.now → AreHeld H reels.old
+        → AreHeld (e ∷ H) reels.new }
 {
     let spent = lower_all(reels, takes);
     match command {

@@ -57,7 +57,9 @@ impl Placed {
     /// old ones are in order already, so the sort goes over them once. Without memory it is as
     /// before.
     pub fn add_all(&mut self, designators: &[Designator]) -> Result<(), AllocError>
-        ensures ok { (d : Name) → OnOk result (list_any (same d) self.new ≡ (list_any (same d) designators.now || list_any (same d) self.old)) }
+        ensures ok { (d : Name)
+            → OnOk result
+            (list_any (same d) self.new ≡ (list_any (same d) designators.now || list_any (same d) self.old)) }
         ensures err { OnErr result (self.new ≡ self.old) }
     {
         let alloc = *self.names.allocator();

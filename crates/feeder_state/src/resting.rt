@@ -29,7 +29,8 @@ pub fn is_at_rest(held: &Held) -> bool
 
 /// Puts in the reels of a tape.
 fn put_tape(resting: &mut BTreeSet<Id>, tape: &Tape) -> Result<(), AllocError>
-    ensures { (r : Name) → OnOk result (is_resting resting.new r ≡ (list_any (same r) tape.now || is_resting resting.old r)) }
+    ensures { (r : Name)
+        → OnOk result (is_resting resting.new r ≡ (list_any (same r) tape.now || is_resting resting.old r)) }
 {
     for i in 0..tape.reels.len() {
         resting.insert(tape.reels[i])?;
@@ -44,7 +45,10 @@ fn put_slot(
     machine: &Id,
     slot: &Id,
 ) -> Result<(), AllocError>
-    ensures { (r : Name) → OnOk result (is_resting resting.new r ≡ (list_any (same r) (tape_at tapes.now machine.now slot.now) || is_resting resting.old r)) }
+    ensures { (r : Name)
+        → OnOk result
+        (is_resting resting.new r ≡ (list_any (same r)
+        (tape_at tapes.now machine.now slot.now) || is_resting resting.old r)) }
 {
     if let Some(tape) = tapes.get(&(*machine, *slot)) {
         put_tape(resting, tape)?;
@@ -58,7 +62,9 @@ pub fn note_resting(
     tapes: &BTreeMap<(Id, Id), Tape>,
     command: &Command,
 ) -> Result<(), AllocError>
-    ensures { (r : Name) → OnOk result (is_resting resting.new r ≡ resting_after (tape_at tapes.now) r command.now (is_resting resting.old r)) }
+    ensures { (r : Name)
+        → OnOk result
+        (is_resting resting.new r ≡ resting_after (tape_at tapes.now) r command.now (is_resting resting.old r)) }
 {
     match command {
         Command::ReelReceived { reel, .. } => {
@@ -110,7 +116,8 @@ pub fn end_rests(
 
 /// The reels at rest among some reels.
 pub fn resting_of(alloc: Global, reels: &BTreeMap<Id, Held>) -> Result<BTreeSet<Id>, AllocError>
-    ensures { (H : History) → IsJudged Two H → AreHeld H reels.now → (r : Name) → IfOk result (λ resting. rests H r ≡ true → is_resting resting r ≡ true) }
+    ensures { (H : History) → IsJudged Two H → AreHeld H reels.now → (r : Name)
+        → IfOk result (λ resting. rests H r ≡ true → is_resting resting r ≡ true) }
 {
     let mut resting = BTreeSet::new(alloc);
     for (name, held) in reels {

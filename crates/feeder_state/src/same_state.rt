@@ -13,6 +13,7 @@ use crate::desk::StateDesk;
 /// the other are the same, however many they are and whether or not memory would be found for them. The
 /// values of the commands are in their ranges, as those of every command that a program holds.
 pub fn same_state_same_replies(desk: &StateDesk)
-    ensures { (G H : History) (messages : List Stamped) → state.Stands desk.now G → state.Stands desk.now H → All IsStamped messages
+    ensures { (G H : History) (messages : List Stamped) → state.Stands desk.now G → state.Stands desk.now H
+        → All IsStamped messages
         → replies_to (state.kept_rules desk.now) G messages ≡ replies_to (state.kept_rules desk.now) H messages }
 {}

@@ -47,7 +47,8 @@ impl Setup {
     /// The setup after an accepted command, whose rows are moved in. Fails only where memory is
     /// refused; the setup is of no use then.
     pub fn note(&mut self, alloc: Global, command: Command) -> Result<(), AllocError>
-        ensures { (H : History) (e : Accepted) → e.stamped.command ≡ command → IsSetup H self.old → OnOk result (IsSetup (e ∷ H) self.new) }
+        ensures { (H : History) (e : Accepted) → e.stamped.command ≡ command → IsSetup H self.old
+            → OnOk result (IsSetup (e ∷ H) self.new) }
     {
         note_part(&mut self.parts, &command)?;
         note_alternate(&mut self.alternates, &command)?;
@@ -140,7 +141,9 @@ fn note_part(parts: &mut Parts, command: &Command) -> Result<(), AllocError>
 
 /// Puts the alternate in, where the command names one.
 fn note_alternate(alternates: &mut Alternates, command: &Command) -> Result<(), AllocError>
-    ensures { (p q : Name) → OnOk result (is_pair_among alternates.new p q ≡ (allows p q command.now || is_pair_among alternates.old p q)) }
+    ensures { (p q : Name)
+        → OnOk result
+        (is_pair_among alternates.new p q ≡ (allows p q command.now || is_pair_among alternates.old p q)) }
 {
     if let Command::AlternateAllowed { part, alternate } = command {
         alternates.add(*part, *alternate)?;
@@ -150,7 +153,8 @@ fn note_alternate(alternates: &mut Alternates, command: &Command) -> Result<(), 
 
 /// Puts the machine in, where the command gives it a sheet.
 fn note_machine(sheeted: &mut BTreeSet<Id>, command: &Command) -> Result<(), AllocError>
-    ensures { (m : Name) → OnOk result (is_sheeted sheeted.new m ≡ (defines_on m command.now || is_sheeted sheeted.old m)) }
+    ensures { (m : Name)
+        → OnOk result (is_sheeted sheeted.new m ≡ (defines_on m command.now || is_sheeted sheeted.old m)) }
 {
     if let Command::SheetDefined { machine, .. } = command {
         sheeted.insert(*machine)?;
@@ -160,7 +164,9 @@ fn note_machine(sheeted: &mut BTreeSet<Id>, command: &Command) -> Result<(), All
 
 /// Puts the product that the command selects on its machine.
 fn note_selection(selections: &mut BTreeMap<Id, Id>, command: &Command) -> Result<(), AllocError>
-    ensures { (m : Name) → OnOk result (selected_at selections.new m ≡ option_or (selection_by m command.now) (selected_at selections.old m)) }
+    ensures { (m : Name)
+        → OnOk result
+        (selected_at selections.new m ≡ option_or (selection_by m command.now) (selected_at selections.old m)) }
 {
     if let Command::ProductSelected { machine, product } = command {
         selections.insert(*machine, *product)?;
@@ -175,7 +181,9 @@ fn put_sheet(
     machine: Id,
     sheet: Sheet,
 ) -> Result<(), AllocError>
-    ensures { (p m : Name) → OnOk result (sheet_at sheets.new p m ≡ (if same product p && same machine m then Some sheet else sheet_at sheets.old p m)) }
+    ensures { (p m : Name)
+        → OnOk result
+        (sheet_at sheets.new p m ≡ (if same product p && same machine m then Some sheet else sheet_at sheets.old p m)) }
 {
     sheets.insert((product, machine), sheet)?;
     Ok(())
@@ -187,7 +195,8 @@ fn note_sheet(
     sheets: &mut BTreeMap<(Id, Id), Sheet>,
     command: Command,
 ) -> Result<(), AllocError>
-    ensures { (p m : Name) → OnOk result (sheet_at sheets.new p m ≡ option_or (sheet_by p m command) (sheet_at sheets.old p m)) }
+    ensures { (p m : Name)
+        → OnOk result (sheet_at sheets.new p m ≡ option_or (sheet_by p m command) (sheet_at sheets.old p m)) }
 {
     if let Command::SheetDefined {
         product,

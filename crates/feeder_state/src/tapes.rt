@@ -30,7 +30,9 @@ fn remove(tape: &mut VecDeque<Id>, reel: &Id)
 /// Takes a reel off a slot.
 fn drop_reel(tapes: &mut BTreeMap<(Id, Id), Tape>, machine: Id, slot: Id, reel: &Id)
     requires { IsDistinct same (tape_at tapes.old machine slot) }
-    ensures { (m s : Name) → tape_at tapes.new m s ≡ filter (λ r. not ((same machine m && same slot s) && same reel.now r)) (tape_at tapes.old m s) }
+    ensures { (m s : Name)
+        → tape_at tapes.new m s ≡ filter (λ r. not ((same machine m && same slot s) && same reel.now r))
+        (tape_at tapes.old m s) }
 {
     if let Some(tape) = tapes.get_mut(&(machine, slot)) {
         remove(&mut tape.reels, reel);
@@ -50,7 +52,9 @@ pub fn is_spent(reels: &BTreeMap<Id, Held>, reel: &Id) -> bool
 /// Takes the reel of a take off its slot, where that spent it.
 fn drop_spent(reels: &BTreeMap<Id, Held>, tapes: &mut BTreeMap<(Id, Id), Tape>, take: &Take)
     requires { (m s : Name) → IsDistinct same (tape_at tapes.old m s) }
-    ensures { (m s : Name) → tape_at tapes.new m s ≡ filter (λ r. not (is_spent_by (left_at reels.now) m s r take.now)) (tape_at tapes.old m s) }
+    ensures { (m s : Name)
+        → tape_at tapes.new m s ≡ filter (λ r. not (is_spent_by (left_at reels.now) m s r take.now))
+        (tape_at tapes.old m s) }
 {
     if !is_spent(reels, &take.reel) {
         return;
@@ -69,7 +73,9 @@ pub fn drop_all_spent(
     takes: &[Take],
 )
     requires { (m s : Name) → IsDistinct same (tape_at tapes.old m s) }
-    ensures { (m s : Name) → tape_at tapes.new m s ≡ filter (λ r. not (list_any (is_spent_by (left_at reels.now) m s r) takes.now)) (tape_at tapes.old m s) }
+    ensures { (m s : Name)
+        → tape_at tapes.new m s ≡ filter (λ r. not (list_any (is_spent_by (left_at reels.now) m s r) takes.now))
+        (tape_at tapes.old m s) }
 {
     for take in takes {
         drop_spent(reels, tapes, take);

@@ -67,7 +67,8 @@ pub fn reel_view(floor: &Floor, minute: Option<Minute>, name: &Id) -> Option<Ree
 
 /// A received reel in its position on a slot.
 fn mount_of(held: &Held, minute: Minute, slot: &Id, position: u64, name: &Id) -> Mount
-    ensures { (H : History) → IsHeld H name.now held.now → now_of H ≡ minute → result ≡ mount_of H slot.now (position, name.now) }
+    ensures { (H : History) → IsHeld H name.now held.now → now_of H ≡ minute
+        → result ≡ mount_of H slot.now (position, name.now) }
 {
     Mount {
         slot: *slot,
@@ -88,7 +89,8 @@ fn put_tape(
     slot: &Id,
     tape: &Tape,
 ) -> Result<(), AllocError>
-    ensures { (H : History) → AreHeld H reels.now → now_of H ≡ minute → All (λ name. is_some (held_at reels.now name) ≡ true) tape.now
+    ensures { (H : History) → AreHeld H reels.now → now_of H ≡ minute
+        → All (λ name. is_some (held_at reels.now name) ≡ true) tape.now
         → OnOk result (mounts.new.items ≡ mounts.old.items ++ map (mount_of H slot.now) (enumerate_from 1 tape.now)) }
 {
     for index in 0..tape.reels.len() {
@@ -108,7 +110,9 @@ fn put_slots(
     minute: Minute,
     machine: &Id,
 ) -> Result<(), AllocError>
-    ensures { (H : History) → IsTold H floor.now (Some minute) → OnOk result (mounts.new.items ≡ mounts.old.items ++ flat_map (slot_mounts H machine.now) (loaded_slots H machine.now)) }
+    ensures { (H : History) → IsTold H floor.now (Some minute)
+        → OnOk result
+        (mounts.new.items ≡ mounts.old.items ++ flat_map (slot_mounts H machine.now) (loaded_slots H machine.now)) }
 {
     for (key, tape) in &floor.tapes {
         if key.0 == *machine {
@@ -127,7 +131,8 @@ pub fn slots_of(
     has_sheet: bool,
     machine: &Id,
 ) -> Result<Option<Mounts>, AllocError>
-    ensures { (H : History) → IsTold H floor.now minute → has_sheet ≡ is_on_sheet H machine.now → IfOk result (λ mounts. mounts ≡ mounts_on H machine.now) }
+    ensures { (H : History) → IsTold H floor.now minute → has_sheet ≡ is_on_sheet H machine.now
+        → IfOk result (λ mounts. mounts ≡ mounts_on H machine.now) }
 {
     if !has_sheet {
         return Ok(None);

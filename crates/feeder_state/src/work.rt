@@ -115,7 +115,8 @@ impl Work {
 
 /// The boards by machine after a command.
 fn note_running(running: &mut BTreeMap<Id, Id>, command: &Command) -> Result<(), AllocError>
-    ensures { (m : Name) → OnOk result (running_at running.new m ≡ unwrap_or (work_by m command.now) (running_at running.old m)) }
+    ensures { (m : Name)
+        → OnOk result (running_at running.new m ≡ unwrap_or (work_by m command.now) (running_at running.old m)) }
 {
     match command {
         Command::WorkStarted { machine, board } => {
@@ -151,7 +152,9 @@ fn note_product(
     selected: Option<Id>,
     command: &Command,
 ) -> Result<(), AllocError>
-    ensures { (b : Name) → OnOk result (product_at products.new b ≡ option_or (product_at products.old b) (product_by selected b command.now)) }
+    ensures { (b : Name)
+        → OnOk result
+        (product_at products.new b ≡ option_or (product_at products.old b) (product_by selected b command.now)) }
 {
     let Command::WorkStarted { board, .. } = command else {
         return Ok(());
@@ -172,7 +175,10 @@ fn place(
     board: &Id,
     designators: &[Designator],
 ) -> Result<(), AllocError>
-    ensures { (b d : Name) → OnOk result (is_placed_at placed.new b d ≡ (same board.now b && list_any (same d) designators.now || is_placed_at placed.old b d)) }
+    ensures { (b d : Name)
+        → OnOk result
+        (is_placed_at placed.new b d ≡ (same board.now b && list_any
+        (same d) designators.now || is_placed_at placed.old b d)) }
 {
     match placed.get_mut(board) {
         Some(names) => names.add_all(designators)?,
@@ -191,7 +197,8 @@ fn note_placed(
     placed: &mut BTreeMap<Id, Placed>,
     command: &Command,
 ) -> Result<(), AllocError>
-    ensures { (b d : Name) → OnOk result (is_placed_at placed.new b d ≡ (places b d command.now || is_placed_at placed.old b d)) }
+    ensures { (b d : Name)
+        → OnOk result (is_placed_at placed.new b d ≡ (places b d command.now || is_placed_at placed.old b d)) }
 {
     if let Command::MaterialsInstalled {
         board,

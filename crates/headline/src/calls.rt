@@ -29,7 +29,8 @@ pub fn feed<R: Read, W: Write, L: ReportedOwner>(
     requires write_failures { failures_of output.old < 2 ^ 63 }
     requires ready { L.Ready owner.old }
     ensures { CallsOnce L.reports L.Stands L.Trusts owner.old
-        (fed (R.remaining (inner_of input.old)) (W.contents (inner_of output.old)) (W.contents (inner_of output.new)) result) owner.new }
+        (fed (R.remaining (inner_of input.old)) (W.contents (inner_of output.old))
+        (W.contents (inner_of output.new)) result) owner.new }
 {
     desk_feed::feed(alloc, input, output, owner)
 }
@@ -46,7 +47,8 @@ pub fn serve<R: Read, W: Write, L: ReportedOwner>(
     requires write_failures { failures_of output.old < 2 ^ 63 }
     requires ready { L.Ready (owner_of gateway.old) }
     ensures { CallsOnce L.reports L.Stands L.Trusts (owner_of gateway.old)
-        (connected (R.remaining (inner_of input.old)) (R.remaining (inner_of input.new)) (W.contents (inner_of output.old)) (W.contents (inner_of output.new)) result) (owner_of gateway.new) }
+        (connected (R.remaining (inner_of input.old)) (R.remaining (inner_of input.new))
+        (W.contents (inner_of output.old)) (W.contents (inner_of output.new)) result) (owner_of gateway.new) }
 {
     http_stream::serve(alloc, input, output, gateway)
 }
@@ -62,7 +64,8 @@ pub fn command<L: ReportedOwner>(owner: &mut L, stamped: &Stamped) -> Answer
 /// A call of `ask`: a report.
 pub fn ask<L: ReportedOwner>(alloc: Global, gateway: &mut Gateway<L>, target: &[u8]) -> Response
     requires ready { L.Ready (owner_of gateway.old) }
-    ensures { CallsOnce L.reports L.Stands L.Trusts (owner_of gateway.old) (asked target.now (response_told result)) (owner_of gateway.new) }
+    ensures { CallsOnce L.reports L.Stands L.Trusts (owner_of gateway.old) (asked target.now (response_told result))
+        (owner_of gateway.new) }
 {
     gateway.ask(alloc, target)
 }

@@ -23,8 +23,10 @@ use http_answers::ReportedOwner;
 /// is that of the list of accepted commands alone. That list is lawful and consistent, and what was
 /// called stands for it; a store stands for a list by its tables.
 pub fn headline<L: ReportedOwner>(first: &L, last: &L)
-    ensures { (calls : List Call) → Calls L.reports L.Stands L.Trusts first.now calls last.now → (G : Ledger) → L.Stands first.now G → L.Trusts last.now
-        → (H : History) × L.Stands last.now (record G { history = H }) × AnswersByTheList L.reports G calls H × IsLawful G.rules G.greatest H × IsConsistent H }
+    ensures { (calls : List Call) → Calls L.reports L.Stands L.Trusts first.now calls last.now → (G : Ledger)
+        → L.Stands first.now G → L.Trusts last.now
+        → (H : History) × L.Stands last.now (record G { history = H }) × AnswersByTheList L.reports G calls H
+        × IsLawful G.rules G.greatest H × IsConsistent H }
 {
     last.is_lawful();
 }

@@ -44,7 +44,8 @@ pub fn answer_request<L: ReportedOwner>(
     requires ready { L.Ready owner.old }
     ensures ready { L.Ready owner.new }
     ensures trusts { L.Trusts owner.new → L.Trusts owner.old }
-    ensures told { Meets L.Stands L.Trusts owner.old owner.new result (λ G. asked_outcome L.reports G body.now (asked_of method.now target.now)) }
+    ensures told { Meets L.Stands L.Trusts owner.old owner.new result
+        (λ G. asked_outcome L.reports G body.now (asked_of method.now target.now)) }
 {
     match routes.read_request(alloc, method, target) {
         Ok(Asked::Message) => answer_message(alloc, owner, body),
@@ -100,7 +101,8 @@ fn answer_setup<L: Owner>(
     requires ready { L.Ready owner.old }
     ensures ready { L.Ready owner.new }
     ensures trusts { L.Trusts owner.new → L.Trusts owner.old }
-    ensures told { Meets L.Stands L.Trusts owner.old owner.new result (λ G. file_outcome G stamp (setup_said product machine body.now)) }
+    ensures told { Meets L.Stands L.Trusts owner.old owner.new result
+        (λ G. file_outcome G stamp (setup_said product machine body.now)) }
 {
     match read_setup(alloc, body, product, machine) {
         Ok(command) => answer_command(alloc, owner, &stamped_by(stamp, command)),
@@ -119,7 +121,8 @@ fn answer_counts<L: Owner>(
     requires ready { L.Ready owner.old }
     ensures ready { L.Ready owner.new }
     ensures trusts { L.Trusts owner.new → L.Trusts owner.old }
-    ensures told { Meets L.Stands L.Trusts owner.old owner.new result (λ G. file_outcome G stamp (counts_said body.now)) }
+    ensures told { Meets L.Stands L.Trusts owner.old owner.new result
+        (λ G. file_outcome G stamp (counts_said body.now)) }
 {
     match read_counts(alloc, body) {
         Ok(command) => answer_command(alloc, owner, &stamped_by(stamp, command)),
@@ -167,7 +170,8 @@ fn answer_report<L: ReportedOwner>(
     requires ready { L.Ready owner.old }
     ensures ready { L.Ready owner.new }
     ensures trusts { L.Trusts owner.new → L.Trusts owner.old }
-    ensures told { Meets L.Stands L.Trusts owner.old owner.new result (λ G. outcome_leaving G (report_told report (L.reports report G.history))) }
+    ensures told { Meets L.Stands L.Trusts owner.old owner.new result
+        (λ G. outcome_leaving G (report_told report (L.reports report G.history))) }
 {
     match owner.report(alloc, report)? {
         Some(text) => Ok(Response {

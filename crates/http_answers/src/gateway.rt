@@ -42,8 +42,10 @@ impl<L: ReportedOwner> Gateway<L> {
         requires ready { L.Ready (owner_of self.old) }
         ensures ready { L.Ready (owner_of self.new) }
         ensures trusts { L.Trusts (owner_of self.new) → L.Trusts (owner_of self.old) }
-        ensures told { (G : Ledger) → L.Stands (owner_of self.old) G → L.Trusts (owner_of self.new) → AnswersGet L.reports G target.now (response_told result) }
-        ensures stands { (G : Ledger) → L.Stands (owner_of self.old) G → L.Trusts (owner_of self.new) → L.Stands (owner_of self.new) G }
+        ensures told { (G : Ledger) → L.Stands (owner_of self.old) G → L.Trusts (owner_of self.new)
+            → AnswersGet L.reports G target.now (response_told result) }
+        ensures stands { (G : Ledger) → L.Stands (owner_of self.old) G → L.Trusts (owner_of self.new)
+            → L.Stands (owner_of self.new) G }
     {
         self.handle(alloc, b"GET", target, &[])
     }

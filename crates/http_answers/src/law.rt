@@ -10,10 +10,12 @@ ghost use Rattle.http_answers.specs.Requests.{Reports, request_rule};
 /// A message or a file whose command was accepted before leaves the list, by the rule of every
 /// gateway. So the law of `http_stream` that repeats act once holds of the gateway.
 pub fn repeats_leave_the_list()
-    ensures { (reports : Reports) (rules : Rules) (greatest : ℕ) → LeavesTheList (request_rule reports rules greatest) is_repeat }
+    ensures { (reports : Reports) (rules : Rules) (greatest : ℕ)
+        → LeavesTheList (request_rule reports rules greatest) is_repeat }
 {}
 
 /// A GET leaves the list.
 pub fn questions_leave_the_list()
-    ensures { (reports : Reports) (rules : Rules) (greatest : ℕ) (H : History) (target : List ℕ) → (request_rule reports rules greatest H (get_of target)).after ≡ H }
+    ensures { (reports : Reports) (rules : Rules) (greatest : ℕ) (H : History) (target : List ℕ)
+        → (request_rule reports rules greatest H (get_of target)).after ≡ H }
 {}

@@ -30,10 +30,14 @@ pub fn send_answer<W: Write>(
     has_body: bool,
 ) -> Result<(), WriteFailed>
     requires few_failures { failures_of wire.old < 2 ^ 63 }
-    ensures ok { OnOk result (Appends (W.contents (inner_of wire.old)) (W.contents (inner_of wire.new)) (answer_bytes closes has_body (reply_told reply.now))) }
+    ensures ok { OnOk result
+        (Appends (W.contents (inner_of wire.old)) (W.contents (inner_of wire.new))
+        (answer_bytes closes has_body (reply_told reply.now))) }
     ensures kept { OnOk result (failures_of wire.new ≡ failures_of wire.old) }
     ensures failed { OnErr result (failures_of wire.new ≡ failures_of wire.old + 1) }
-    ensures front { OnErr result (SendsFront (W.contents (inner_of wire.old)) (W.contents (inner_of wire.new)) (answer_bytes closes has_body (reply_told reply.now))) }
+    ensures front { OnErr result
+        (SendsFront (W.contents (inner_of wire.old)) (W.contents (inner_of wire.new))
+        (answer_bytes closes has_body (reply_told reply.now))) }
 {
     let mut letter = Letter::new();
     letter.put_head(reply, closes);
@@ -81,10 +85,14 @@ impl Letter {
     fn send_with<W: Write>(&mut self, wire: &mut Wire<W>, body: &[u8]) -> Result<(), WriteFailed>
         requires short { self.old.end ≤ ONE_WRITE }
         requires few_failures { failures_of wire.old < 2 ^ 63 }
-        ensures ok { OnOk result (Appends (W.contents (inner_of wire.old)) (W.contents (inner_of wire.new)) (take self.old.end self.old.block ++ body.now)) }
+        ensures ok { OnOk result
+            (Appends (W.contents (inner_of wire.old)) (W.contents (inner_of wire.new))
+            (take self.old.end self.old.block ++ body.now)) }
         ensures kept { OnOk result (failures_of wire.new ≡ failures_of wire.old) }
         ensures failed { OnErr result (failures_of wire.new ≡ failures_of wire.old + 1) }
-        ensures front { OnErr result (SendsFront (W.contents (inner_of wire.old)) (W.contents (inner_of wire.new)) (take self.old.end self.old.block ++ body.now)) }
+        ensures front { OnErr result
+            (SendsFront (W.contents (inner_of wire.old)) (W.contents (inner_of wire.new))
+            (take self.old.end self.old.block ++ body.now)) }
     {
         if body.len() <= ONE_WRITE - self.end {
             self.put(body);

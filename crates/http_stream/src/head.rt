@@ -111,7 +111,8 @@ fn values_of(bytes: &[u8], headers: &[HeaderSpan], name: &[u8]) -> Values
 /// The values with those of one line more.
 fn next_values(bytes: &[u8], found: Values, header: &HeaderSpan, name: &[u8]) -> Values
     requires within { IsHeaderWithin (length bytes.now) header.now }
-    ensures { (vs : List (List ℕ)) → HasValues bytes.now found vs → HasValues bytes.now result (after_header name.now vs (header_bytes bytes.now header.now)) }
+    ensures { (vs : List (List ℕ)) → HasValues bytes.now found vs
+        → HasValues bytes.now result (after_header name.now vs (header_bytes bytes.now header.now)) }
 {
     if is_name(header.name.of(bytes), name) {
         match found {

@@ -77,14 +77,19 @@ impl Inbox {
         requires few_failures { failures_of wire.old < 2 ^ 63 }
         requires few_reads { reads_of wire.old ≤ most_reads }
         ensures valid { IsInbox self.new }
-        ensures source { OnOk result (Keeps (source self.old (R.remaining (inner_of wire.old))) (source self.new (R.remaining (inner_of wire.new)))) }
-        ensures unread { OnErr result (ReadsInside (source self.old (R.remaining (inner_of wire.old))) (R.remaining (inner_of wire.new))) }
+        ensures source { OnOk result
+            (Keeps (source self.old (R.remaining (inner_of wire.old)))
+            (source self.new (R.remaining (inner_of wire.new)))) }
+        ensures unread { OnErr result
+            (ReadsInside (source self.old (R.remaining (inner_of wire.old))) (R.remaining (inner_of wire.new))) }
         ensures front { IfOk result (λ front. IsFront self.new (R.remaining (inner_of wire.new)) front) }
-        ensures falls { OnOk result (fuel most_reads (reads_of wire.new) self.new ≤ fuel most_reads (reads_of wire.old) self.old) }
+        ensures falls { OnOk result
+            (fuel most_reads (reads_of wire.new) self.new ≤ fuel most_reads (reads_of wire.old) self.old) }
         ensures few_reads { reads_of wire.new ≤ most_reads }
         ensures kept { OnOk result (failures_of wire.new ≡ failures_of wire.old) }
         ensures read { result ≡ Err InboxFault.Read → failures_of wire.new ≡ failures_of wire.old + 1 }
-        ensures too_many { result ≡ Err InboxFault.TooManyReads → (reads_of wire.new ≡ most_reads) × (failures_of wire.new ≡ failures_of wire.old) }
+        ensures too_many { result ≡ Err InboxFault.TooManyReads
+            → (reads_of wire.new ≡ most_reads) × (failures_of wire.new ≡ failures_of wire.old) }
     {
         'looks: loop {
             let to = self.end.min(self.at + HEAD_LIMIT);
@@ -116,14 +121,19 @@ impl Inbox {
         requires few_failures { failures_of wire.old < 2 ^ 63 }
         requires few_reads { reads_of wire.old ≤ most_reads }
         ensures valid { IsInbox self.new }
-        ensures source { OnOk result (Keeps (source self.old (R.remaining (inner_of wire.old))) (source self.new (R.remaining (inner_of wire.new)))) }
-        ensures end { result ≡ Ok false → IsAtEnd (R.remaining (inner_of wire.new)) × (pending_bytes self.new ≡ pending_bytes self.old) }
+        ensures source { OnOk result
+            (Keeps (source self.old (R.remaining (inner_of wire.old)))
+            (source self.new (R.remaining (inner_of wire.new)))) }
+        ensures end { result ≡ Ok false
+            → IsAtEnd (R.remaining (inner_of wire.new)) × (pending_bytes self.new ≡ pending_bytes self.old) }
         ensures unread { OnErr result (Keeps (R.remaining (inner_of wire.old)) (R.remaining (inner_of wire.new))) }
-        ensures falls { OnOk result (fuel most_reads (reads_of wire.new) self.new < fuel most_reads (reads_of wire.old) self.old) }
+        ensures falls { OnOk result
+            (fuel most_reads (reads_of wire.new) self.new < fuel most_reads (reads_of wire.old) self.old) }
         ensures few_reads { reads_of wire.new ≤ most_reads }
         ensures kept { OnOk result (failures_of wire.new ≡ failures_of wire.old) }
         ensures read { result ≡ Err InboxFault.Read → failures_of wire.new ≡ failures_of wire.old + 1 }
-        ensures too_many { result ≡ Err InboxFault.TooManyReads → (reads_of wire.new ≡ most_reads) × (failures_of wire.new ≡ failures_of wire.old) }
+        ensures too_many { result ≡ Err InboxFault.TooManyReads
+            → (reads_of wire.new ≡ most_reads) × (failures_of wire.new ≡ failures_of wire.old) }
     {
         if wire.reads() >= most_reads {
             return Err(InboxFault::TooManyReads);
@@ -166,13 +176,18 @@ impl Inbox {
         requires few_reads { reads_of wire.old ≤ most_reads }
         ensures valid { IsInbox self.new }
         ensures block { self.new.block ≡ self.old.block }
-        ensures unread { OnErr result (ReadsFewer (source self.old (R.remaining (inner_of wire.old))) (R.remaining (inner_of wire.new)) length) }
-        ensures body { IfOk result (λ body. TakesBody (source self.old (R.remaining (inner_of wire.old))) length body (source self.new (R.remaining (inner_of wire.new)))) }
-        ensures falls { OnOk result (fuel most_reads (reads_of wire.new) self.new ≤ fuel most_reads (reads_of wire.old) self.old) }
+        ensures unread { OnErr result
+            (ReadsFewer (source self.old (R.remaining (inner_of wire.old))) (R.remaining (inner_of wire.new)) length) }
+        ensures body { IfOk result
+            (λ body. TakesBody (source self.old (R.remaining (inner_of wire.old))) length body
+            (source self.new (R.remaining (inner_of wire.new)))) }
+        ensures falls { OnOk result
+            (fuel most_reads (reads_of wire.new) self.new ≤ fuel most_reads (reads_of wire.old) self.old) }
         ensures few_reads { reads_of wire.new ≤ most_reads }
         ensures kept { OnOk result (failures_of wire.new ≡ failures_of wire.old) }
         ensures read { result ≡ Err InboxFault.Read → failures_of wire.new ≡ failures_of wire.old + 1 }
-        ensures too_many { result ≡ Err InboxFault.TooManyReads → (reads_of wire.new ≡ most_reads) × (failures_of wire.new ≡ failures_of wire.old) }
+        ensures too_many { result ≡ Err InboxFault.TooManyReads
+            → (reads_of wire.new ≡ most_reads) × (failures_of wire.new ≡ failures_of wire.old) }
     {
         if length == 0 {
             return Ok(BodyTaken::Whole(Vec::new(alloc)));
@@ -199,15 +214,23 @@ impl Inbox {
         requires few_reads { reads_of wire.old ≤ most_reads }
         ensures valid { IsInbox self.new }
         ensures block { self.new.block ≡ self.old.block }
-        ensures whole { result ≡ Ok true → Consumes (source self.old (R.remaining (inner_of wire.old))) (source self.new (R.remaining (inner_of wire.new))) room.new }
-        ensures unread { OnErr result (ReadsFewer (source self.old (R.remaining (inner_of wire.old))) (R.remaining (inner_of wire.new)) (length room.old)) }
+        ensures whole { result ≡ Ok true
+            → Consumes (source self.old (R.remaining (inner_of wire.old)))
+            (source self.new (R.remaining (inner_of wire.new))) room.new }
+        ensures unread { OnErr result
+            (ReadsFewer (source self.old (R.remaining (inner_of wire.old))) (R.remaining (inner_of wire.new))
+            (length room.old)) }
         ensures end { result ≡ Ok false → (gone : List ℕ) × (length gone < length room.old)
-            × Consumes (source self.old (R.remaining (inner_of wire.old))) (source self.new (R.remaining (inner_of wire.new))) gone × IsAtEnd (source self.new (R.remaining (inner_of wire.new))) }
-        ensures falls { OnOk result (fuel most_reads (reads_of wire.new) self.new ≤ fuel most_reads (reads_of wire.old) self.old) }
+            × Consumes (source self.old (R.remaining (inner_of wire.old)))
+            (source self.new (R.remaining (inner_of wire.new))) gone
+            × IsAtEnd (source self.new (R.remaining (inner_of wire.new))) }
+        ensures falls { OnOk result
+            (fuel most_reads (reads_of wire.new) self.new ≤ fuel most_reads (reads_of wire.old) self.old) }
         ensures few_reads { reads_of wire.new ≤ most_reads }
         ensures kept { OnOk result (failures_of wire.new ≡ failures_of wire.old) }
         ensures read { result ≡ Err InboxFault.Read → failures_of wire.new ≡ failures_of wire.old + 1 }
-        ensures too_many { result ≡ Err InboxFault.TooManyReads → (reads_of wire.new ≡ most_reads) × (failures_of wire.new ≡ failures_of wire.old) }
+        ensures too_many { result ≡ Err InboxFault.TooManyReads
+            → (reads_of wire.new ≡ most_reads) × (failures_of wire.new ≡ failures_of wire.old) }
     {
         let have = room.len().min(self.end - self.at);
         let (front, rest) = room.split_at_mut(have);
@@ -238,7 +261,8 @@ fn read_behind<R: Read>(
     requires len { length block.old ≡ BLOCK }
     ensures len { length block.new ≡ BLOCK }
     ensures bound { IfOk result (λ count. end + count ≤ BLOCK) }
-    ensures bytes { IfOk result (λ count. (gone : List ℕ) × (take (end + count) block.new ≡ take end block.old ++ gone) × (length gone ≡ count)
+    ensures bytes { IfOk result (λ count. (gone : List ℕ) × (take (end + count) block.new ≡ take end block.old ++ gone)
+        × (length gone ≡ count)
         × Consumes (R.remaining (inner_of wire.old)) (R.remaining (inner_of wire.new)) gone) }
     ensures end { result ≡ Ok 0 → IsAtEnd (R.remaining (inner_of wire.new)) }
     ensures unread { OnErr result (Keeps (R.remaining (inner_of wire.old)) (R.remaining (inner_of wire.new))) }
@@ -260,15 +284,19 @@ fn read_whole<R: Read>(
 ) -> Result<bool, InboxFault>
     requires few_failures { failures_of wire.old < 2 ^ 63 }
     requires few_reads { reads_of wire.old ≤ most_reads }
-    ensures whole { result ≡ Ok true → Consumes (R.remaining (inner_of wire.old)) (R.remaining (inner_of wire.new)) room.new }
-    ensures unread { OnErr result (ReadsFewer (R.remaining (inner_of wire.old)) (R.remaining (inner_of wire.new)) (length room.old)) }
+    ensures whole { result ≡ Ok true
+        → Consumes (R.remaining (inner_of wire.old)) (R.remaining (inner_of wire.new)) room.new }
+    ensures unread { OnErr result
+        (ReadsFewer (R.remaining (inner_of wire.old)) (R.remaining (inner_of wire.new)) (length room.old)) }
     ensures end { result ≡ Ok false → (gone : List ℕ) × (length gone < length room.old)
-        × Consumes (R.remaining (inner_of wire.old)) (R.remaining (inner_of wire.new)) gone × IsAtEnd (R.remaining (inner_of wire.new)) }
+        × Consumes (R.remaining (inner_of wire.old)) (R.remaining (inner_of wire.new)) gone
+        × IsAtEnd (R.remaining (inner_of wire.new)) }
     ensures few_reads { reads_of wire.new ≤ most_reads }
     ensures more_reads { reads_of wire.old ≤ reads_of wire.new }
     ensures kept { OnOk result (failures_of wire.new ≡ failures_of wire.old) }
     ensures read { result ≡ Err InboxFault.Read → failures_of wire.new ≡ failures_of wire.old + 1 }
-    ensures too_many { result ≡ Err InboxFault.TooManyReads → (reads_of wire.new ≡ most_reads) × (failures_of wire.new ≡ failures_of wire.old) }
+    ensures too_many { result ≡ Err InboxFault.TooManyReads
+        → (reads_of wire.new ≡ most_reads) × (failures_of wire.new ≡ failures_of wire.old) }
 {
     let mut got = 0;
     while got < room.len() {

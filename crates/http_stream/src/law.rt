@@ -15,7 +15,8 @@ pub fn bytes_decide()
         → is_starved p ≡ false → is_starved q ≡ false → IsOpen input ⊎ IsOnePortion p l q m }
     ensures not_both { (input : List ℕ) (p : Portion) (l : List ℕ) → EndsInside input → IsPortion input p l
         → is_starved p ≡ false → IsOpen input }
-    ensures one_cut { (input : List ℕ) (ps qs : List Portion) → IsCut input ps → IsCut input qs → NoneStarved ps → NoneStarved qs
+    ensures one_cut { (input : List ℕ) (ps qs : List Portion) → IsCut input ps → IsCut input qs → NoneStarved ps
+        → NoneStarved qs
         → IsClear input → ps ≡ qs }
 {}
 

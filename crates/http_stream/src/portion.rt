@@ -37,15 +37,19 @@ pub fn take_portion<R: Read>(
     requires few_reads { reads_of input.old ≤ most_reads }
     ensures valid { IsInbox inbox.new }
     ensures taken { IfOk result (λ next. IfSome next (λ taken. IsTaken inbox.new.block taken)) }
-    ensures portion { IfOk result (λ next. MatchOption next (IfSome (source inbox.old (R.remaining (inner_of input.old))) EndsInside)
-        (λ taken. TakesPortion (source inbox.old (R.remaining (inner_of input.old))) (portion_of inbox.new.block taken) (source inbox.new (R.remaining (inner_of input.new))))) }
-    ensures unread { OnErr result (ReadsInside (source inbox.old (R.remaining (inner_of input.old))) (R.remaining (inner_of input.new))) }
+    ensures portion { IfOk result
+        (λ next. MatchOption next (IfSome (source inbox.old (R.remaining (inner_of input.old))) EndsInside)
+        (λ taken. TakesPortion (source inbox.old (R.remaining (inner_of input.old))) (portion_of inbox.new.block taken)
+        (source inbox.new (R.remaining (inner_of input.new))))) }
+    ensures unread { OnErr result
+        (ReadsInside (source inbox.old (R.remaining (inner_of input.old))) (R.remaining (inner_of input.new))) }
     ensures falls { IfOk result (λ next. IfSome next (λ taken. is_last (portion_of inbox.new.block taken) ≡ false
         → fuel most_reads (reads_of input.new) inbox.new < fuel most_reads (reads_of input.old) inbox.old)) }
     ensures few_reads { reads_of input.new ≤ most_reads }
     ensures kept { OnOk result (failures_of input.new ≡ failures_of input.old) }
     ensures read { result ≡ Err InboxFault.Read → failures_of input.new ≡ failures_of input.old + 1 }
-    ensures too_many { result ≡ Err InboxFault.TooManyReads → (reads_of input.new ≡ most_reads) × (failures_of input.new ≡ failures_of input.old) }
+    ensures too_many { result ≡ Err InboxFault.TooManyReads
+        → (reads_of input.new ≡ most_reads) × (failures_of input.new ≡ failures_of input.old) }
 {
     match inbox.front(input, most_reads)? {
         Front::End => Ok(None),
@@ -69,15 +73,19 @@ fn take_request<R: Read>(
     requires few_reads { reads_of input.old ≤ most_reads }
     ensures valid { IsInbox inbox.new }
     ensures taken { IfOk result (λ next. IfSome next (λ taken. IsTaken inbox.new.block taken)) }
-    ensures portion { IfOk result (λ next. MatchOption next (IfSome (source inbox.old (R.remaining (inner_of input.old))) EndsInside)
-        (λ taken. TakesPortion (source inbox.old (R.remaining (inner_of input.old))) (portion_of inbox.new.block taken) (source inbox.new (R.remaining (inner_of input.new))))) }
-    ensures unread { OnErr result (ReadsInside (source inbox.old (R.remaining (inner_of input.old))) (R.remaining (inner_of input.new))) }
+    ensures portion { IfOk result
+        (λ next. MatchOption next (IfSome (source inbox.old (R.remaining (inner_of input.old))) EndsInside)
+        (λ taken. TakesPortion (source inbox.old (R.remaining (inner_of input.old))) (portion_of inbox.new.block taken)
+        (source inbox.new (R.remaining (inner_of input.new))))) }
+    ensures unread { OnErr result
+        (ReadsInside (source inbox.old (R.remaining (inner_of input.old))) (R.remaining (inner_of input.new))) }
     ensures falls { IfOk result (λ next. IfSome next (λ taken. is_last (portion_of inbox.new.block taken) ≡ false
         → fuel most_reads (reads_of input.new) inbox.new < fuel most_reads (reads_of input.old) inbox.old)) }
     ensures few_reads { reads_of input.new ≤ most_reads }
     ensures kept { OnOk result (failures_of input.new ≡ failures_of input.old) }
     ensures read { result ≡ Err InboxFault.Read → failures_of input.new ≡ failures_of input.old + 1 }
-    ensures too_many { result ≡ Err InboxFault.TooManyReads → (reads_of input.new ≡ most_reads) × (failures_of input.new ≡ failures_of input.old) }
+    ensures too_many { result ≡ Err InboxFault.TooManyReads
+        → (reads_of input.new ≡ most_reads) × (failures_of input.new ≡ failures_of input.old) }
 {
     match seen.head.body {
         Err(fault) => Ok(Some(Taken::Unread(seen, fault))),

@@ -43,7 +43,10 @@ pub trait Handler {
         requires ready { Ready self.old }
         ensures ready { Ready self.new }
         ensures trusts { Trusts self.new → Trusts self.old }
-        ensures told { ForLists Stands Trusts self.old self.new (λ G H. AnswersRequest (rule G.rules G.greatest) (record { method = method.now; target = target.now; body = body.now }) G.history (response_told result) H) };
+        ensures told { ForLists Stands Trusts self.old self.new
+            (λ G H. AnswersRequest (rule G.rules G.greatest)
+            (record { method = method.now; target = target.now; body = body.now }) G.history
+            (response_told result) H) };
 }
 
 /// What a portion is answered, and how the answer is written.
@@ -72,18 +75,28 @@ pub fn serve<R: Read, W: Write, A: Handler>(
     requires ready { A.Ready handler.old }
     ensures ready { A.Ready handler.new }
     ensures trusts { A.Trusts handler.new → A.Trusts handler.old }
-    ensures ok { IfOk result (λ served. ForLists A.Stands A.Trusts handler.old handler.new (λ G H. AnsweredAll (A.rule G.rules G.greatest) (R.remaining (inner_of input.old))
+    ensures ok { IfOk result
+        (λ served. ForLists A.Stands A.Trusts handler.old handler.new
+        (λ G H. AnsweredAll (A.rule G.rules G.greatest) (R.remaining (inner_of input.old))
         G.history (W.contents (inner_of output.old)) H (W.contents (inner_of output.new)) served)) }
     ensures kept { OnOk result (FailsNever input.old input.new output.old output.new) }
     ensures few_reads { reads_of input.new ≤ reads_of input.old + MOST_READS }
-    ensures read { (served : Served) → result ≡ Err (ServeFault.Read served) → IsShown (ServeFault.Read served) input.old input.new output.old output.new
-        × ForLists A.Stands A.Trusts handler.old handler.new (λ G H. AnsweredFront (A.rule G.rules G.greatest) (R.remaining (inner_of input.old)) (R.remaining (inner_of input.new))
+    ensures read { (served : Served) → result ≡ Err (ServeFault.Read served)
+        → IsShown (ServeFault.Read served) input.old input.new output.old output.new
+        × ForLists A.Stands A.Trusts handler.old handler.new
+        (λ G H. AnsweredFront (A.rule G.rules G.greatest) (R.remaining (inner_of input.old))
+        (R.remaining (inner_of input.new))
         G.history (W.contents (inner_of output.old)) H (W.contents (inner_of output.new)) served) }
-    ensures too_many { (served : Served) → result ≡ Err (ServeFault.TooManyReads served) → IsShown (ServeFault.TooManyReads served) input.old input.new output.old output.new
-        × ForLists A.Stands A.Trusts handler.old handler.new (λ G H. AnsweredFront (A.rule G.rules G.greatest) (R.remaining (inner_of input.old)) (R.remaining (inner_of input.new))
+    ensures too_many { (served : Served) → result ≡ Err (ServeFault.TooManyReads served)
+        → IsShown (ServeFault.TooManyReads served) input.old input.new output.old output.new
+        × ForLists A.Stands A.Trusts handler.old handler.new
+        (λ G H. AnsweredFront (A.rule G.rules G.greatest) (R.remaining (inner_of input.old))
+        (R.remaining (inner_of input.new))
         G.history (W.contents (inner_of output.old)) H (W.contents (inner_of output.new)) served) }
-    ensures write { (served : Served) → result ≡ Err (ServeFault.Write served) → IsShown (ServeFault.Write served) input.old input.new output.old output.new
-        × ForLists A.Stands A.Trusts handler.old handler.new (λ G H. AnsweredInto (A.rule G.rules G.greatest) (R.remaining (inner_of input.old))
+    ensures write { (served : Served) → result ≡ Err (ServeFault.Write served)
+        → IsShown (ServeFault.Write served) input.old input.new output.old output.new
+        × ForLists A.Stands A.Trusts handler.old handler.new
+        (λ G H. AnsweredInto (A.rule G.rules G.greatest) (R.remaining (inner_of input.old))
         G.history (W.contents (inner_of output.old)) H (W.contents (inner_of output.new)) served) }
 {
     let most_reads = input.reads() + MOST_READS;
@@ -124,10 +137,14 @@ fn serve_portion<W: Write, A: Handler>(
     requires ready { A.Ready handler.old }
     ensures ready { A.Ready handler.new }
     ensures trusts { A.Trusts handler.new → A.Trusts handler.old }
-    ensures ok { OnOk result (ForLists A.Stands A.Trusts handler.old handler.new (λ G H. Serves (A.rule G.rules G.greatest) (portion_of block.now taken ∷ [])
+    ensures ok { OnOk result
+        (ForLists A.Stands A.Trusts handler.old handler.new
+        (λ G H. Serves (A.rule G.rules G.greatest) (portion_of block.now taken ∷ [])
         G.history (W.contents (inner_of output.old)) served.old H (W.contents (inner_of output.new)) served.new)) }
     ensures last { IfOk result (λ last. last ≡ is_last (portion_of block.now taken)) }
-    ensures err { OnErr result (ForLists A.Stands A.Trusts handler.old handler.new (λ G H. Breaks (A.rule G.rules G.greatest) (portion_of block.now taken)
+    ensures err { OnErr result
+        (ForLists A.Stands A.Trusts handler.old handler.new
+        (λ G H. Breaks (A.rule G.rules G.greatest) (portion_of block.now taken)
         G.history (W.contents (inner_of output.old)) served.old H (W.contents (inner_of output.new)) served.new)) }
     ensures few_answers { OnOk result (served.new.answered ≤ served.old.answered + 1) }
     ensures refused { served.new.refused ≤ served.new.answered }
@@ -146,7 +163,9 @@ fn answer_portion<A: Handler>(alloc: Global, handler: &mut A, block: &[u8], take
     requires ready { A.Ready handler.old }
     ensures ready { A.Ready handler.new }
     ensures trusts { A.Trusts handler.new → A.Trusts handler.old }
-    ensures told { ForLists A.Stands A.Trusts handler.old handler.new (λ G H. AnswersPortion (A.rule G.rules G.greatest) (portion_of block.now taken) G.history (reply_told result.reply) H) }
+    ensures told { ForLists A.Stands A.Trusts handler.old handler.new
+        (λ G H. AnswersPortion (A.rule G.rules G.greatest) (portion_of block.now taken) G.history
+        (reply_told result.reply) H) }
     ensures closes { result.closes ≡ is_last (portion_of block.now taken) }
     ensures has_body { result.has_body ≡ has_body (portion_of block.now taken) }
 {

@@ -22,7 +22,8 @@ pub fn picks_of_install<F: Facts>(
     board: &Id,
     designators: &Designators,
 ) -> Result<Result<Listing<Pick>, Refusal>, AllocError>
-    ensures { (H : History) → F.Stands facts.now H → IfOk result (IsPicked (install_refusal H machine.now board.now designators.now)
+    ensures { (H : History) → F.Stands facts.now H
+        → IfOk result (IsPicked (install_refusal H machine.now board.now designators.now)
         (picks_of H (MaterialsInstalled machine.now board.now designators.now))) }
 {
     if !is_in_work_on(facts, machine, board) {

@@ -41,7 +41,8 @@ fn command_refusal<F: Facts>(
 ) -> Result<Option<Refusal>, AllocError>
     requires known { TakesNone command.now }
     requires by { IsBy F.Stands facts.now minute }
-    ensures { (rules : Ruling) (H : History) → F.Stands facts.now H → IfOk result (λ refusal. refusal ≡ command_refusal rules H minute command.now) }
+    ensures { (rules : Ruling) (H : History) → F.Stands facts.now H
+        → IfOk result (λ refusal. refusal ≡ command_refusal rules H minute command.now) }
 {
     Ok(match command {
         Command::PartDefined { part } => part_refusal(facts, part),
@@ -84,7 +85,8 @@ fn command_picks<F: Facts>(
     command: &Command,
 ) -> Result<Result<Listing<Pick>, Refusal>, AllocError>
     requires { IsBy F.Stands facts.now minute }
-    ensures { (H : History) → F.Stands facts.now H → IfOk result (IsPicked (command_refusal rules H minute command.now) (picks_of H command.now)) }
+    ensures { (H : History) → F.Stands facts.now H
+        → IfOk result (IsPicked (command_refusal rules H minute command.now) (picks_of H command.now)) }
 {
     match command {
         Command::MaterialsInstalled {

@@ -76,7 +76,8 @@ pub fn load_refusal<F: Facts>(
 ) -> Option<Refusal>
     requires { IsBy F.Stands facts.now minute }
     ensures { (H : History) → F.Stands facts.now H
-        → result ≡ mounting_refusal H minute machine.now slot.now reel.now (not (is_vacant H machine.now slot.now), SlotTaken slot.now) }
+        → result ≡ mounting_refusal H minute machine.now slot.now reel.now
+        (not (is_vacant H machine.now slot.now), SlotTaken slot.now) }
 {
     let slot_refusal = if is_vacant(facts, machine, slot) {
         None
@@ -96,7 +97,8 @@ pub fn splice_refusal<F: Facts>(
 ) -> Option<Refusal>
     requires { IsBy F.Stands facts.now minute }
     ensures { (H : History) → F.Stands facts.now H
-        → result ≡ mounting_refusal H minute machine.now slot.now reel.now (is_vacant H machine.now slot.now, SlotEmpty slot.now) }
+        → result ≡ mounting_refusal H minute machine.now slot.now reel.now
+        (is_vacant H machine.now slot.now, SlotEmpty slot.now) }
 {
     let slot_refusal = if is_vacant(facts, machine, slot) {
         Some(Refusal::SlotEmpty(*slot))

@@ -42,7 +42,9 @@ enum Given {
 /// One piece off the reel in hand of the slot.
 fn take_in_hand(feeds: &mut BTreeMap<Id, Feed>, slot: &Id) -> Given
     ensures given { result ≡ given_by (feed_at feeds.old slot.now) }
-    ensures lowered { (s : Name) → feed_at feeds.new s ≡ (if same slot.now s then option_map one_less (feed_at feeds.old s) else feed_at feeds.old s) }
+    ensures lowered { (s : Name)
+        → feed_at feeds.new s ≡ (if same slot.now s then option_map one_less
+        (feed_at feeds.old s) else feed_at feeds.old s) }
 {
     let Some(feed) = feeds.get_mut(slot) else {
         return Given::Nothing(0);
@@ -56,8 +58,11 @@ fn take_in_hand(feeds: &mut BTreeMap<Id, Feed>, slot: &Id) -> Given
 
 /// The first reel of the slot with pieces left, past so many of its reels: each of the others is asked.
 fn later_reel<F: Facts>(facts: &F, machine: &Id, slot: &Id, past: usize) -> Option<Feed>
-    ensures live { (H : History) → F.Stands facts.now H → live_past (left_of H) (F.reels_on facts.now machine.now slot.now) past
-        ≡ option_map_or (λ (feed : Feeding). feed.reel ∷ live_past (left_of H) (F.reels_on facts.now machine.now slot.now) feed.passed) result [] }
+    ensures live { (H : History) → F.Stands facts.now H
+        → live_past (left_of H) (F.reels_on facts.now machine.now slot.now) past
+        ≡ option_map_or
+        (λ (feed : Feeding). feed.reel ∷ live_past (left_of H)
+        (F.reels_on facts.now machine.now slot.now) feed.passed) result [] }
     ensures pieces { (H : History) → F.Stands facts.now H → IfSome result (λ feed. feed.pieces ≡ left_of H feed.reel) }
     ensures some { IfSome result (λ feed. 0 < feed.pieces) }
 {
@@ -80,8 +85,11 @@ fn later_reel<F: Facts>(facts: &F, machine: &Id, slot: &Id, past: usize) -> Opti
 /// The first reel of the slot with pieces left, past so many of its reels. Mostly that is the next one, so
 /// the reels are counted only where this one is spent.
 fn next_reel<F: Facts>(facts: &F, machine: &Id, slot: &Id, past: usize) -> Option<Feed>
-    ensures live { (H : History) → F.Stands facts.now H → live_past (left_of H) (F.reels_on facts.now machine.now slot.now) past
-        ≡ option_map_or (λ (feed : Feeding). feed.reel ∷ live_past (left_of H) (F.reels_on facts.now machine.now slot.now) feed.passed) result [] }
+    ensures live { (H : History) → F.Stands facts.now H
+        → live_past (left_of H) (F.reels_on facts.now machine.now slot.now) past
+        ≡ option_map_or
+        (λ (feed : Feeding). feed.reel ∷ live_past (left_of H)
+        (F.reels_on facts.now machine.now slot.now) feed.passed) result [] }
     ensures pieces { (H : History) → F.Stands facts.now H → IfSome result (λ feed. feed.pieces ≡ left_of H feed.reel) }
     ensures some { IfSome result (λ feed. 0 < feed.pieces) }
 {
@@ -110,10 +118,13 @@ fn take_piece<F: Facts>(
 ) -> Result<Option<Id>, AllocError>
     ensures front { (H : History) (picks : List Picking) → F.Stands facts.now H
         → IsFeeding (live_on H machine.now) (left_of H) (F.reels_on facts.now machine.now) picks feeds.old
-        → IfOk result (λ reel. reel ≡ find (λ r. nat_lt (pieces_picked picks r) (left_of H r)) (tape_of H machine.now slot.now)) }
+        → IfOk result
+        (λ reel. reel ≡ find (λ r. nat_lt (pieces_picked picks r) (left_of H r)) (tape_of H machine.now slot.now)) }
     ensures feeds { (H : History) (picks : List Picking) (p : Picking) → F.Stands facts.now H
         → IsFeeding (live_on H machine.now) (left_of H) (F.reels_on facts.now machine.now) picks feeds.old
-        → IfOk result (λ reel. IsOnePiece reel p → IsFeeding (live_on H machine.now) (left_of H) (F.reels_on facts.now machine.now) (picks ++ p ∷ []) feeds.new) }
+        → IfOk result (λ reel. IsOnePiece reel p
+        → IsFeeding (live_on H machine.now) (left_of H) (F.reels_on facts.now machine.now)
+        (picks ++ p ∷ []) feeds.new) }
 {
     facts.is_judged();
     facts.tells_live();
@@ -186,11 +197,15 @@ fn place<F: Facts>(
     board: &Id,
     designator: &Designator,
 ) -> Result<Result<Feeder, Refusal>, AllocError>
-    requires look_ups { (H : History) → F.Stands facts.now H → IsSome sheet → option_copied sheet ≡ sheet_on H machine.now }
+    requires look_ups { (H : History) → F.Stands facts.now H → IsSome sheet
+        → option_copied sheet ≡ sheet_on H machine.now }
     requires names { (H : History) → F.Stands facts.now H → IfSome placed (λ names. ArePlacedOn H board.now names.now) }
     ensures { (H : History) (before : Before) → F.Stands facts.now H
-        → IsFeeding (live_on H machine.now) (left_of H) (F.reels_on facts.now machine.now) before.picks feeds.old → HasSeen seen.old before.designators
-        → IfOk result (λ placing. IsPlacing (bench_of (F.reels_on facts.now) H machine.now board.now) before designator.now placing feeds.new seen.new) }
+        → IsFeeding (live_on H machine.now) (left_of H) (F.reels_on facts.now machine.now) before.picks feeds.old
+        → HasSeen seen.old before.designators
+        → IfOk result
+        (λ placing. IsPlacing
+        (bench_of (F.reels_on facts.now) H machine.now board.now) before designator.now placing feeds.new seen.new) }
 {
     let name = Id::from(*designator);
     let Some(slot) = slot_for(facts, sheet, machine, designator) else {
@@ -217,8 +232,12 @@ pub fn place_all<F: Facts>(
     designators: &[Designator],
 ) -> Result<Result<Listing<Pick>, Refusal>, AllocError>
     ensures { (H : History) → F.Stands facts.now H
-        → IfOk result (IsPicked (designators_refusal (slot_on H machine.now) (tape_of H machine.now) (left_of H) (is_placed_on H board.now) machine.now board.now [] [] designators.now)
-        (install_picks (slot_on H machine.now) (tape_of H machine.now) (left_of H) machine.now board.now [] designators.now)) }
+        → IfOk result
+        (IsPicked
+        (designators_refusal (slot_on H machine.now) (tape_of H machine.now) (left_of H)
+        (is_placed_on H board.now) machine.now board.now [] [] designators.now)
+        (install_picks (slot_on H machine.now) (tape_of H machine.now)
+        (left_of H) machine.now board.now [] designators.now)) }
 {
     facts.tells_live();
     let sheet = facts.look_ups_on(machine);

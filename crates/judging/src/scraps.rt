@@ -49,7 +49,8 @@ fn scrap<F: Facts>(
     quantity: u64,
 ) -> Result<Scrapping, AllocError>
     ensures { (H : History) → F.Stands facts.now H
-        → IfOk result (IsScrapped (left_of H) (Rejected machine.now slot.now) (F.reels_on facts.now machine.now slot.now) quantity) }
+        → IfOk result
+        (IsScrapped (left_of H) (Rejected machine.now slot.now) (F.reels_on facts.now machine.now slot.now) quantity) }
 {
     let mut picks = Vec::new(alloc);
     let mut wanting = quantity;
@@ -78,7 +79,8 @@ pub fn picks_of_scrap<F: Facts>(
     slot: &Id,
     quantity: Quantity,
 ) -> Result<Result<Listing<Pick>, Refusal>, AllocError>
-    ensures { (H : History) → F.Stands facts.now H → IfOk result (IsPicked (scrap_refusal H machine.now slot.now quantity)
+    ensures { (H : History) → F.Stands facts.now H
+        → IfOk result (IsPicked (scrap_refusal H machine.now slot.now quantity)
         (picks_of H (MaterialsScrapped machine.now slot.now quantity))) }
 {
     facts.tells_live();

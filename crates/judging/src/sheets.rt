@@ -17,7 +17,8 @@ pub fn definition_refusal<F: Facts>(
     machine: &Id,
     rows: &SheetRows,
 ) -> Result<Option<Refusal>, AllocError>
-    ensures { (H : History) → F.Stands facts.now H → IfOk result (λ refusal. refusal ≡ definition_refusal H machine.now rows.now) }
+    ensures { (H : History) → F.Stands facts.now H
+        → IfOk result (λ refusal. refusal ≡ definition_refusal H machine.now rows.now) }
 {
     if facts.in_work_on(machine).is_some() {
         return Ok(Some(Refusal::MachineBusy(*machine)));

@@ -23,7 +23,8 @@ fn slots_refusal<F: Facts>(
 ) -> Result<Option<Refusal>, AllocError>
     requires { IsBy F.Stands facts.now minute }
     ensures { (H : History) → F.Stands facts.now H
-        → IfOk result (λ refusal. refusal ≡ slots_refusal H minute machine.now (unwrap_or (sheet_on H machine.now) [])) }
+        → IfOk result
+        (λ refusal. refusal ≡ slots_refusal H minute machine.now (unwrap_or (sheet_on H machine.now) [])) }
 {
     facts.is_judged();
     let Some(rows) = sheet_on(facts, machine) else {
@@ -38,7 +39,8 @@ fn slots_refusal<F: Facts>(
 
 /// Whether the board is of another product than that which is selected on the machine.
 fn is_other_product<F: Facts>(facts: &F, machine: &Id, board: &Id) -> bool
-    ensures { (H : History) → F.Stands facts.now H → result ≡ differ (product_of H board.now) (selected_on H machine.now) }
+    ensures { (H : History) → F.Stands facts.now H
+        → result ≡ differ (product_of H board.now) (selected_on H machine.now) }
 {
     match (facts.product_of(board), facts.selected_on(machine)) {
         (Some(product), Some(selected)) => product != selected,
@@ -56,7 +58,8 @@ pub fn start_refusal<F: Facts>(
     board: &Id,
 ) -> Result<Option<Refusal>, AllocError>
     requires { IsBy F.Stands facts.now minute }
-    ensures { (H : History) → F.Stands facts.now H → IfOk result (λ refusal. refusal ≡ start_refusal H minute machine.now board.now) }
+    ensures { (H : History) → F.Stands facts.now H
+        → IfOk result (λ refusal. refusal ≡ start_refusal H minute machine.now board.now) }
 {
     if facts.selected_on(machine).is_none() {
         return Ok(Some(Refusal::NoProduct(*machine)));

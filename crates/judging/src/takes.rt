@@ -23,7 +23,8 @@ fn put_take(
     pick: &Pick,
 ) -> Result<(), AllocError>
     requires { reel.now.last ≤ minute }
-    ensures { (H : History) → StandsFor H pick.now.reel reel.now → OnOk result (takes.new.items ≡ takes.old.items ++ take_of H minute pick.now ∷ []) }
+    ensures { (H : History) → StandsFor H pick.now.reel reel.now
+        → OnOk result (takes.new.items ≡ takes.old.items ++ take_of H minute pick.now ∷ []) }
 {
     let purpose: Purpose = pick.purpose;
     let overdue = is_placed(&purpose) && reel.is_expired(minute);

@@ -28,7 +28,8 @@ use sqlite_disk::Disk;
 /// makes their calls. So every answer of every run is that of one list of accepted commands, which is
 /// lawful and consistent, and the files hold its tables.
 pub fn many_runs_are_one()
-    ensures { (reports : Reports) (run : Run) (runs : List Run) → IsRun reports run → AreRuns reports run.last runs → IsRun reports (as_one run runs) }
+    ensures { (reports : Reports) (run : Run) (runs : List Run) → IsRun reports run → AreRuns reports run.last runs
+        → IsRun reports (as_one run runs) }
 {
     next_run_goes_on();
 }
@@ -36,11 +37,15 @@ pub fn many_runs_are_one()
 /// A law: a run of the program that closed its desk's file is a run, with the calls that its contracts
 /// tell.
 pub fn closed_runs_are_runs<T: Start>(desk: &FileDesk<T, StateDesk>, files: &Files<FileFrom<T>>)
-    ensures feeds { (make : Option ℕ) (input out out' : Option (List ℕ)) (ended : Ended) (image : Image) → RunsOn T.Start make (Desk desk.now) (λ G H. Feeds G input out out' ended H)
-        → ClosesTo desk.now files.now image → IsRun report_of (run_of T.Start make (fed input out out' ended ∷ []) image) }
-    ensures serves { (make : Option ℕ) (ends : List Ended) (image : Image) → RunsOn T.Start make (Desk desk.now) (ServesEach ends)
+    ensures feeds { (make : Option ℕ) (input out out' : Option (List ℕ)) (ended : Ended) (image : Image)
+        → RunsOn T.Start make (Desk desk.now) (λ G H. Feeds G input out out' ended H)
+        → ClosesTo desk.now files.now image
+        → IsRun report_of (run_of T.Start make (fed input out out' ended ∷ []) image) }
+    ensures serves { (make : Option ℕ) (ends : List Ended) (image : Image)
+        → RunsOn T.Start make (Desk desk.now) (ServesEach ends)
         → ClosesTo desk.now files.now image → IsRun report_of (run_of T.Start make (connections_of ends) image) }
-    ensures reports { (make : Option ℕ) (target : List ℕ) (told : Told) (image : Image) → RunsOn T.Start make (Desk desk.now) (AnswersReport report_of target told)
+    ensures reports { (make : Option ℕ) (target : List ℕ) (told : Told) (image : Image)
+        → RunsOn T.Start make (Desk desk.now) (AnswersReport report_of target told)
         → ClosesTo desk.now files.now image → IsRun report_of (run_of T.Start make (asked target told ∷ []) image) }
     ensures stays { (make : Option ℕ) (image : Image) → RunsOn T.Start make (Desk desk.now) StaysSame
         → ClosesTo desk.now files.now image → IsRun report_of (run_of T.Start make [] image) }
@@ -49,12 +54,19 @@ pub fn closed_runs_are_runs<T: Start>(desk: &FileDesk<T, StateDesk>, files: &Fil
 /// A law: a whole run of the program that closed its desk's file is a run, with the calls that its
 /// contract tells.
 pub fn whole_runs_are_runs<T: Start>(files: &Files<FileFrom<T>>)
-    ensures feeds { (make : Option ℕ) (input out out' : Option (List ℕ)) (ended : Ended) (image : Image) → RunsTo whole T.Start ⟦<FileFrom<T> as Disk>⟧ (Some files.now) make (λ G H. Feeds G input out out' ended H)
-        → ReadsClean ⟦<FileFrom<T> as Disk>⟧ files.now image → IsRun report_of (run_of T.Start make (fed input out out' ended ∷ []) image) }
-    ensures serves { (make : Option ℕ) (ends : List Ended) (image : Image) → RunsTo whole T.Start ⟦<FileFrom<T> as Disk>⟧ (Some files.now) make (ServesEach ends)
-        → ReadsClean ⟦<FileFrom<T> as Disk>⟧ files.now image → IsRun report_of (run_of T.Start make (connections_of ends) image) }
-    ensures reports { (make : Option ℕ) (target : List ℕ) (told : Told) (image : Image) → RunsTo whole T.Start ⟦<FileFrom<T> as Disk>⟧ (Some files.now) make (AnswersReport report_of target told)
-        → ReadsClean ⟦<FileFrom<T> as Disk>⟧ files.now image → IsRun report_of (run_of T.Start make (asked target told ∷ []) image) }
-    ensures stays { (make : Option ℕ) (image : Image) → RunsTo whole T.Start ⟦<FileFrom<T> as Disk>⟧ (Some files.now) make StaysSame
+    ensures feeds { (make : Option ℕ) (input out out' : Option (List ℕ)) (ended : Ended) (image : Image)
+        → RunsTo whole T.Start ⟦<FileFrom<T> as Disk>⟧ (Some files.now) make (λ G H. Feeds G input out out' ended H)
+        → ReadsClean ⟦<FileFrom<T> as Disk>⟧ files.now image
+        → IsRun report_of (run_of T.Start make (fed input out out' ended ∷ []) image) }
+    ensures serves { (make : Option ℕ) (ends : List Ended) (image : Image)
+        → RunsTo whole T.Start ⟦<FileFrom<T> as Disk>⟧ (Some files.now) make (ServesEach ends)
+        → ReadsClean ⟦<FileFrom<T> as Disk>⟧ files.now image
+        → IsRun report_of (run_of T.Start make (connections_of ends) image) }
+    ensures reports { (make : Option ℕ) (target : List ℕ) (told : Told) (image : Image)
+        → RunsTo whole T.Start ⟦<FileFrom<T> as Disk>⟧ (Some files.now) make (AnswersReport report_of target told)
+        → ReadsClean ⟦<FileFrom<T> as Disk>⟧ files.now image
+        → IsRun report_of (run_of T.Start make (asked target told ∷ []) image) }
+    ensures stays { (make : Option ℕ) (image : Image)
+        → RunsTo whole T.Start ⟦<FileFrom<T> as Disk>⟧ (Some files.now) make StaysSame
         → ReadsClean ⟦<FileFrom<T> as Disk>⟧ files.now image → IsRun report_of (run_of T.Start make [] image) }
 {}

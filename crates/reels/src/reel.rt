@@ -64,7 +64,8 @@ impl Reel {
         ensures receipt { IsOfReceipt part lot moisture result }
         ensures life { IsInNewBag result }
         ensures last { result.last ≡ at }
-        ensures stands { (H : History) (name : Name) (e : Entry) → IsUntouched H name → e.stamped.command ≡ ReelReceived name part lot moisture quantity
+        ensures stands { (H : History) (name : Name) (e : Entry) → IsUntouched H name
+            → e.stamped.command ≡ ReelReceived name part lot moisture quantity
             → e.effective ≡ at → StandsFor (e ∷ H) name result }
     {
         let pieces = quantity.get();
@@ -92,7 +93,8 @@ impl Reel {
         ensures pieces { SamePieces self.old self.new }
         ensures life { IsOpened at self.old self.new }
         ensures last { self.new.last ≡ at }
-        ensures stands { (H : History) (name : Name) (e : Entry) → StandsFor H name self.old → open_by name e.stamped.command ≡ Some true
+        ensures stands { (H : History) (name : Name) (e : Entry) → StandsFor H name self.old
+            → open_by name e.stamped.command ≡ Some true
             → e.effective ≡ at → StandsFor (e ∷ H) name self.new }
     {
         self.open_since = Some(self.open_since.unwrap_or(at));
@@ -106,7 +108,8 @@ impl Reel {
         ensures pieces { SamePieces self.old self.new }
         ensures life { IsSealed at self.old self.new }
         ensures last { self.new.last ≡ at }
-        ensures stands { (H : History) (name : Name) (e : Entry) → StandsFor H name self.old → e.stamped.command ≡ ReelSealed name
+        ensures stands { (H : History) (name : Name) (e : Entry) → StandsFor H name self.old
+            → e.stamped.command ≡ ReelSealed name
             → e.effective ≡ at → StandsFor (e ∷ H) name self.new }
     {
         self.used = self.exposure(at);
@@ -121,7 +124,8 @@ impl Reel {
         ensures pieces { SamePieces self.old self.new }
         ensures life { IsBaked self.new }
         ensures last { self.new.last ≡ at }
-        ensures stands { (H : History) (name : Name) (e : Entry) → StandsFor H name self.old → e.stamped.command ≡ ReelBaked name
+        ensures stands { (H : History) (name : Name) (e : Entry) → StandsFor H name self.old
+            → e.stamped.command ≡ ReelBaked name
             → e.effective ≡ at → StandsFor (e ∷ H) name self.new }
     {
         self.used = 0;
@@ -188,7 +192,8 @@ impl Reel {
     pub fn usable(&self, at: Minute) -> bool
         requires { self.now.last ≤ at }
         ensures value { result ≡ (not (is_unbaked_reel self.now) && not (is_expired_at self.now at)) }
-        ensures stands { (H : History) (name : Name) → StandsFor H name self.now → result ≡ (not (is_unbaked H name) && not (is_expired H name at)) }
+        ensures stands { (H : History) (name : Name) → StandsFor H name self.now
+            → result ≡ (not (is_unbaked H name) && not (is_expired H name at)) }
     {
         !self.is_unbaked() && !self.is_expired(at)
     }
@@ -253,6 +258,7 @@ impl Reel {
     /// A law: a command on another reel, or on none, changes nothing of what the reel stands for. It is
     /// for proofs, and does nothing when it runs.
     pub fn stays(&self)
-        ensures { (H : History) (name : Name) (e : Entry) → StandsFor H name self.now → open_by name e.stamped.command ≡ None → StandsFor (e ∷ H) name self.now }
+        ensures { (H : History) (name : Name) (e : Entry) → StandsFor H name self.now
+            → open_by name e.stamped.command ≡ None → StandsFor (e ∷ H) name self.now }
     {}
 }

@@ -100,7 +100,8 @@ fn enough(
     reels: &[ReelView],
 ) -> Result<Vec<ReelView>, AllocError>
     ensures { (names : List Name) → HasSeen given.now names
-        → IfOk result (λ chosen. chosen.items ≡ enough needed (filter (λ (r : ReelView). not (is_among names r.reel)) reels.now)) }
+        → IfOk result
+        (λ chosen. chosen.items ≡ enough needed (filter (λ (r : ReelView). not (is_among names r.reel)) reels.now)) }
 {
     let mut chosen = Vec::new(alloc);
     let mut missing = needed;
@@ -125,7 +126,8 @@ fn put_rows(
     kit: &mut Vec<KitRow>,
 ) -> Result<(), AllocError>
     ensures rows { OnOk result (kit.new.items ≡ kit.old.items ++ rows_for row.now needed reels.now) }
-    ensures given { (names : List Name) → HasSeen given.old names → OnOk result (HasSeen given.new (names ++ map (λ (r : ReelView). r.reel) reels.now)) }
+    ensures given { (names : List Name) → HasSeen given.old names
+        → OnOk result (HasSeen given.new (names ++ map (λ (r : ReelView). r.reel) reels.now)) }
 {
     let mut missing = needed;
     for reel in reels {
@@ -189,7 +191,8 @@ pub fn kit_list<D: Desk>(
     machine: &Id,
     boards: Boards,
 ) -> Result<Option<Text>, AllocError>
-    ensures { (H : History) → D.Stands desk.now H → IfOk result (λ text. text ≡ kit_list H product.now machine.now boards) }
+    ensures { (H : History) → D.Stands desk.now H
+        → IfOk result (λ text. text ≡ kit_list H product.now machine.now boards) }
 {
     match desk.sheet_of(product, machine)? {
         Some(sheet) => {

@@ -26,15 +26,21 @@ pub fn texts_read_back()
 /// A kit names no reel twice, neither for one row of the sheet nor for two. This holds of every judged
 /// list, so of every list for which a desk stands.
 pub fn no_reel_is_given_twice()
-    ensures { (rules : Rules) (H : History) (boards : ℕ) (sheet : List SheetRow) → IsJudged rules H → IsDistinct same (reels_in (kit_rows H boards [] sheet)) }
+    ensures { (rules : Rules) (H : History) (boards : ℕ) (sheet : List SheetRow) → IsJudged rules H
+        → IsDistinct same (reels_in (kit_rows H boards [] sheet)) }
 {}
 
 /// `csv`'s reader gives the header and the rows of a trace or an overdue list back from its text, whatever
 /// stands in their names: a comma, a quote. So reports with different rows have different texts.
 pub fn reports_read_back()
-    ensures board { (detail : TraceDetail) (pieces : List Placement) → records default_config (board_text detail pieces) ≡ project (board_columns detail) board_header ∷ board_rows detail pieces }
-    ensures lot { (detail : TraceDetail) (pieces : List Placement) → records default_config (lot_text detail pieces) ≡ project (lot_columns detail) lot_header ∷ lot_rows detail pieces }
-    ensures overdue { (pieces : List Placement) → records default_config (overdue_text pieces) ≡ overdue_header ∷ map overdue_row pieces }
+    ensures board { (detail : TraceDetail) (pieces : List Placement)
+        → records default_config (board_text detail pieces) ≡ project
+        (board_columns detail) board_header ∷ board_rows detail pieces }
+    ensures lot { (detail : TraceDetail) (pieces : List Placement)
+        → records default_config (lot_text detail pieces) ≡ project
+        (lot_columns detail) lot_header ∷ lot_rows detail pieces }
+    ensures overdue { (pieces : List Placement)
+        → records default_config (overdue_text pieces) ≡ overdue_header ∷ map overdue_row pieces }
 {
     texts_read_back();
 }
@@ -43,10 +49,13 @@ pub fn reports_read_back()
 /// detail 1 of the lot lists the board; it has the part and the lot exactly where detail 2 of the lot has
 /// the board and the part; and detail 3 of the one has the reel exactly where detail 3 of the other has.
 pub fn traces_are_converse()
-    ensures lots { (pieces : List Placement) (board lot : Name) → ((part : Name) × Contains (board_rows Two (pieces_on board pieces)) (part ∷ lot ∷ []))
+    ensures lots { (pieces : List Placement) (board lot : Name)
+        → ((part : Name) × Contains (board_rows Two (pieces_on board pieces)) (part ∷ lot ∷ []))
         ↔ Contains (lot_rows One (pieces_of_lot lot pieces)) (board ∷ []) }
-    ensures parts { (pieces : List Placement) (board part lot : Name) → Contains (board_rows Two (pieces_on board pieces)) (part ∷ lot ∷ [])
+    ensures parts { (pieces : List Placement) (board part lot : Name)
+        → Contains (board_rows Two (pieces_on board pieces)) (part ∷ lot ∷ [])
         ↔ Contains (lot_rows Two (pieces_of_lot lot pieces)) (board ∷ part ∷ []) }
-    ensures reels { (pieces : List Placement) (board part lot reel : Name) → Contains (board_rows Three (pieces_on board pieces)) (part ∷ lot ∷ reel ∷ [])
+    ensures reels { (pieces : List Placement) (board part lot reel : Name)
+        → Contains (board_rows Three (pieces_on board pieces)) (part ∷ lot ∷ reel ∷ [])
         ↔ Contains (lot_rows Three (pieces_of_lot lot pieces)) (board ∷ part ∷ reel ∷ []) }
 {}

@@ -26,16 +26,19 @@ pub trait Report<T> {
 
     /// Writes the header as a record.
     fn write_header(&self, writer: &mut TextWriter) -> Result<(), AllocError>
-        ensures { (text : List ℕ) → HasWritten writer.old text → OnOk result (HasWritten writer.new (text ++ record_text (header self.now))) };
+        ensures { (text : List ℕ) → HasWritten writer.old text
+            → OnOk result (HasWritten writer.new (text ++ record_text (header self.now))) };
 
     /// Writes the fields of the row as a record.
     fn write_row(&self, row: &T, writer: &mut TextWriter) -> Result<(), AllocError>
-        ensures { (text : List ℕ) → HasWritten writer.old text → OnOk result (HasWritten writer.new (text ++ record_text (fields self.now row.now))) };
+        ensures { (text : List ℕ) → HasWritten writer.old text
+            → OnOk result (HasWritten writer.new (text ++ record_text (fields self.now row.now))) };
 }
 
 /// Writes one record of these fields. After an `Err` the writer is of no use.
 pub fn write_fields(writer: &mut TextWriter, fields: &[&[u8]]) -> Result<(), AllocError>
-    ensures { (text : List ℕ) → HasWritten writer.old text → OnOk result (HasWritten writer.new (text ++ record_text (map (λ f. f.now) fields.now))) }
+    ensures { (text : List ℕ) → HasWritten writer.old text
+        → OnOk result (HasWritten writer.new (text ++ record_text (map (λ f. f.now) fields.now))) }
 {
     match writer.write_fields(fields) {
         Ok(()) => Ok(()),

@@ -15,10 +15,12 @@ pub struct WriteFailed;
 /// Writes a text and a line feed: in one write where the text is short, which is most of the speed.
 pub fn send_line<W: Write>(wire: &mut Wire<W>, text: &[u8]) -> Result<(), WriteFailed>
     requires few_failures { failures_of wire.old < 2 ^ 63 }
-    ensures ok { OnOk result (Appends (W.contents (inner_of wire.old)) (W.contents (inner_of wire.new)) (text.now ++ 10 ∷ [])) }
+    ensures ok { OnOk result
+        (Appends (W.contents (inner_of wire.old)) (W.contents (inner_of wire.new)) (text.now ++ 10 ∷ [])) }
     ensures kept { OnOk result (failures_of wire.new ≡ failures_of wire.old) }
     ensures failed { OnErr result (failures_of wire.new ≡ failures_of wire.old + 1) }
-    ensures front { OnErr result (SendsFront (W.contents (inner_of wire.old)) (W.contents (inner_of wire.new)) (text.now ++ 10 ∷ [])) }
+    ensures front { OnErr result
+        (SendsFront (W.contents (inner_of wire.old)) (W.contents (inner_of wire.new)) (text.now ++ 10 ∷ [])) }
 {
     if text.len() < ONE_WRITE {
         let line = with_line_feed(text);
@@ -45,7 +47,8 @@ pub fn send<W: Write>(wire: &mut Wire<W>, bytes: &[u8]) -> Result<(), WriteFaile
     ensures ok { OnOk result (Appends (W.contents (inner_of wire.old)) (W.contents (inner_of wire.new)) bytes.now) }
     ensures kept { OnOk result (failures_of wire.new ≡ failures_of wire.old) }
     ensures failed { OnErr result (failures_of wire.new ≡ failures_of wire.old + 1) }
-    ensures front { OnErr result (SendsFront (W.contents (inner_of wire.old)) (W.contents (inner_of wire.new)) bytes.now) }
+    ensures front { OnErr result
+        (SendsFront (W.contents (inner_of wire.old)) (W.contents (inner_of wire.new)) bytes.now) }
 {
     let mut at = 0;
     while at < bytes.len() {

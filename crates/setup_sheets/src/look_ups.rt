@@ -86,7 +86,10 @@ fn places_in(alloc: Global, rows: &[SheetRow]) -> Result<BTreeMap<Id, usize>, Al
 
 /// The designators of a row go to its slot.
 fn note_row(slots: &mut BTreeMap<Designator, Id>, row: &SheetRow) -> Result<(), AllocError>
-    ensures { (d : Name) → OnOk result (slot_at slots.new d ≡ (if list_any (same d) row.now.designators then Some row.now.slot else slot_at slots.old d)) }
+    ensures { (d : Name)
+        → OnOk result
+        (slot_at slots.new d ≡ (if list_any
+        (same d) row.now.designators then Some row.now.slot else slot_at slots.old d)) }
 {
     for designator in row.designators.as_slice() {
         slots.insert(*designator, row.slot)?;

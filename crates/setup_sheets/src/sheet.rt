@@ -83,8 +83,10 @@ fn twice_in(
     seen: &mut BTreeSet<Designator>,
     designators: &[Designator],
 ) -> Result<Option<Designator>, AllocError>
-    ensures twice { (before : List Name) → HasSeen seen.old before → IfOk result (λ twice. twice ≡ name_twice before designators.now) }
-    ensures seen { (before : List Name) → HasSeen seen.old before → result ≡ Ok None → HasSeen seen.new (before ++ designators.now) }
+    ensures twice { (before : List Name) → HasSeen seen.old before
+        → IfOk result (λ twice. twice ≡ name_twice before designators.now) }
+    ensures seen { (before : List Name) → HasSeen seen.old before → result ≡ Ok None
+        → HasSeen seen.new (before ++ designators.now) }
 {
     for designator in designators {
         if !seen.insert(*designator)? {

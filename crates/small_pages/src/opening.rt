@@ -28,7 +28,8 @@ pub fn open_files<D: Disk + Drop>(
     requires log { IsTrue (D.Disk.is_usable files.log) }
     requires db { IsTrue (D.Disk.is_usable files.db) }
     ensures opened { IfOk result (λ conn. HasCleanDisk (file_state conn) → IsOpened conn) }
-    ensures found { IfOk result (λ conn. HasCleanDisk (file_state conn) → FindsAs (image_of D.Disk files) (file_state conn)) }
+    ensures found { IfOk result (λ conn. HasCleanDisk (file_state conn)
+        → FindsAs (image_of D.Disk files) (file_state conn)) }
     ensures mode { IfOk result (λ conn. conn.in_transaction ≡ false) }
 {
     let size = PageSize::new(PAGE_SIZE).unwrap();

@@ -18,7 +18,8 @@ pub fn open<T: Start>(
     start: T,
 ) -> Result<Connection<FileStore<FileFrom<T>>>, Error>
     ensures opened { IfOk result (λ conn. HasCleanDisk (file_state conn) → IsOpened conn) }
-    ensures found { IfOk result (λ conn. HasCleanDisk (file_state conn) → FindsAs (image_at T.Start) (file_state conn)) }
+    ensures found { IfOk result (λ conn. HasCleanDisk (file_state conn)
+        → FindsAs (image_at T.Start) (file_state conn)) }
     ensures mode { IfOk result (λ conn. conn.in_transaction ≡ false) }
 {
     let Ok(files) = sqlite_std_file::open(rt, path, start) else {

@@ -55,7 +55,8 @@ fn note(edits: &mut Vec<RowEdit>, view: &ReelView, pieces: u64) -> Result<(), Al
 fn count_row<D: Desk>(edits: &mut Vec<RowEdit>, desk: &D, row: &CountRow) -> Result<(), AllocError>
     requires room { HasRoom D.Stands desk.now 1 }
     requires judged { (H : History) → D.Stands desk.now H → IsJudged Two H }
-    ensures { (H : History) → D.Stands desk.now H → OnOk result (edits.new.items ≡ edits.old.items ++ count_edits H row.now) }
+    ensures { (H : History) → D.Stands desk.now H
+        → OnOk result (edits.new.items ≡ edits.old.items ++ count_edits H row.now) }
 {
     let pieces = row.quantity.get();
     match desk.reel(&row.reel) {
@@ -75,7 +76,8 @@ pub fn count<D: Desk>(
 ) -> Result<Vec<RowEdit>, AllocError>
     requires room { HasRoom D.Stands desk.now 1 }
     requires judged { (H : History) → D.Stands desk.now H → IsJudged Two H }
-    ensures { (H : History) → D.Stands desk.now H → IfOk result (λ edits. edits.items ≡ flat_map (count_edits H) rows.now) }
+    ensures { (H : History) → D.Stands desk.now H
+        → IfOk result (λ edits. edits.items ≡ flat_map (count_edits H) rows.now) }
 {
     let mut edits = Vec::new(alloc);
     for row in rows {

@@ -43,14 +43,17 @@ impl Mounts {
 
     /// Takes the reel's row out.
     pub fn take(&mut self, reel: &Id)
-        ensures { (r : Name) → row_at by_name self.new r ≡ (if same reel.now r then None else row_at by_name self.old r) }
+        ensures { (r : Name)
+            → row_at by_name self.new r ≡ (if same reel.now r then None else row_at by_name self.old r) }
     {
         take_both(&mut self.by_reel, &mut self.by_since, reel);
     }
 
     /// Puts a row in the place of its reel's. After an `Err` the reel has none.
     pub fn put(&mut self, row: &MountRow) -> Result<(), AllocError>
-        ensures { (r : Name) → OnOk result (row_at by_name self.new r ≡ (if same row.now.reel r then Some row.now else row_at by_name self.old r)) }
+        ensures { (r : Name)
+            → OnOk result
+            (row_at by_name self.new r ≡ (if same row.now.reel r then Some row.now else row_at by_name self.old r)) }
     {
         take_both(&mut self.by_reel, &mut self.by_since, &row.reel);
         put_both(&mut self.by_reel, &mut self.by_since, row)?;
@@ -78,8 +81,11 @@ fn take_both(
     by_since: &mut BTreeMap<(u64, Id), MountRow>,
     reel: &Id,
 )
-    ensures taken { (r : Name) → row_at by_name by_reel.new.entries r ≡ (if same reel.now r then None else row_at by_name by_reel.old.entries r) }
-    ensures alike { AreTheSame by_since.old.entries by_reel.old.entries → AreTheSame by_since.new.entries by_reel.new.entries }
+    ensures taken { (r : Name)
+        → row_at by_name by_reel.new.entries r
+        ≡ (if same reel.now r then None else row_at by_name by_reel.old.entries r) }
+    ensures alike { AreTheSame by_since.old.entries by_reel.old.entries
+        → AreTheSame by_since.new.entries by_reel.new.entries }
 {
     if let Some(row) = by_reel.remove(reel) {
         by_since.remove(&(row.since, *reel));
@@ -92,8 +98,12 @@ fn put_both(
     by_since: &mut BTreeMap<(u64, Id), MountRow>,
     row: &MountRow,
 ) -> Result<(), AllocError>
-    ensures put { (r : Name) → OnOk result (row_at by_name by_reel.new.entries r ≡ (if same row.now.reel r then Some row.now else row_at by_name by_reel.old.entries r)) }
-    ensures alike { row_at by_name by_reel.old.entries row.now.reel ≡ None → AreTheSame by_since.old.entries by_reel.old.entries → AreTheSame by_since.new.entries by_reel.new.entries }
+    ensures put { (r : Name)
+        → OnOk result
+        (row_at by_name by_reel.new.entries r
+        ≡ (if same row.now.reel r then Some row.now else row_at by_name by_reel.old.entries r)) }
+    ensures alike { row_at by_name by_reel.old.entries row.now.reel ≡ None
+        → AreTheSame by_since.old.entries by_reel.old.entries → AreTheSame by_since.new.entries by_reel.new.entries }
 {
     by_reel.insert(row.reel, *row)?;
     match by_since.insert((row.since, row.reel), *row) {

@@ -56,7 +56,8 @@ fn opened_row(row: ReelRow, minute: Minute) -> ReelRow
 
 /// The exposure at the minute.
 fn exposure_at(row: &ReelRow, minute: Minute) -> u64
-    ensures { row.now.used + option_map_or (λ from. minute - from) row.now.open_since 0 < 2 ^ 64 → result ≡ row.now.used + option_map_or (λ from. minute - from) row.now.open_since 0 }
+    ensures { row.now.used + option_map_or (λ from. minute - from) row.now.open_since 0 < 2 ^ 64
+        → result ≡ row.now.used + option_map_or (λ from. minute - from) row.now.open_since 0 }
 {
     match row.open_since {
         Some(since) => row
@@ -68,7 +69,8 @@ fn exposure_at(row: &ReelRow, minute: Minute) -> u64
 
 /// The row of a reel that is put into its bag.
 fn sealed_row(row: ReelRow, minute: Minute) -> ReelRow
-    ensures { row.used + option_map_or (λ from. minute - from) row.open_since 0 < 2 ^ 64 → result ≡ sealed_row minute row }
+    ensures { row.used + option_map_or (λ from. minute - from) row.open_since 0 < 2 ^ 64
+        → result ≡ sealed_row minute row }
 {
     let used = exposure_at(&row, minute);
     ReelRow {
@@ -97,7 +99,8 @@ pub fn open<D: Desk>(
     reel: &Id,
     minute: Minute,
 ) -> Result<Vec<RowEdit>, AllocError>
-    ensures { (H : History) → D.Stands desk.now H → IfOk result (λ edits. edits.items ≡ reel_edit (opened_row minute) (reel_row H reel.now)) }
+    ensures { (H : History) → D.Stands desk.now H
+        → IfOk result (λ edits. edits.items ≡ reel_edit (opened_row minute) (reel_row H reel.now)) }
 {
     let mut edits = Vec::new(alloc);
     match row(desk, reel) {
@@ -116,7 +119,8 @@ pub fn seal<D: Desk>(
     reel: &Id,
     minute: Minute,
 ) -> Result<Vec<RowEdit>, AllocError>
-    ensures { (H : History) → IsJudged Two H → D.Stands desk.now H → now_of H ≤ minute → IfOk result (λ edits. edits.items ≡ reel_edit (sealed_row minute) (reel_row H reel.now)) }
+    ensures { (H : History) → IsJudged Two H → D.Stands desk.now H → now_of H ≤ minute
+        → IfOk result (λ edits. edits.items ≡ reel_edit (sealed_row minute) (reel_row H reel.now)) }
 {
     let _ = minute.get();
     let mut edits = Vec::new(alloc);
@@ -131,7 +135,8 @@ pub fn seal<D: Desk>(
 
 /// The edit of a baked reel.
 pub fn bake<D: Desk>(alloc: Global, desk: &D, reel: &Id) -> Result<Vec<RowEdit>, AllocError>
-    ensures { (H : History) → D.Stands desk.now H → IfOk result (λ edits. edits.items ≡ reel_edit baked_row (reel_row H reel.now)) }
+    ensures { (H : History) → D.Stands desk.now H
+        → IfOk result (λ edits. edits.items ≡ reel_edit baked_row (reel_row H reel.now)) }
 {
     let mut edits = Vec::new(alloc);
     match row(desk, reel) {
@@ -150,7 +155,8 @@ pub fn mount<D: Desk>(
     put: MountRow,
     minute: Minute,
 ) -> Result<Vec<RowEdit>, AllocError>
-    ensures { (H : History) → D.Stands desk.now H → IfOk result (λ edits. edits.items ≡ PutMount put ∷ reel_edit (opened_row minute) (reel_row H put.reel)) }
+    ensures { (H : History) → D.Stands desk.now H
+        → IfOk result (λ edits. edits.items ≡ PutMount put ∷ reel_edit (opened_row minute) (reel_row H put.reel)) }
 {
     let mut edits = Vec::new(alloc);
     edits.push(RowEdit::PutMount(put))?;
@@ -165,7 +171,9 @@ pub fn mount<D: Desk>(
 
 /// The row of a reel that is received.
 pub fn fresh_row(reel: Id, part: Id, lot: Id, moisture: Moisture, quantity: Quantity) -> ReelRow
-    ensures { (minute : ℕ) → result ≡ fresh_row reel (record { part = part; lot = lot; moisture = moisture; quantity = quantity; effective = minute }) }
+    ensures { (minute : ℕ)
+        → result ≡ fresh_row reel
+        (record { part = part; lot = lot; moisture = moisture; quantity = quantity; effective = minute }) }
 {
     ReelRow {
         reel,

@@ -39,7 +39,8 @@ fn edits_of<D: Desk>(
     requires judged { (H : History) → D.Stands desk.now H → IsJudged Two H }
     requires not_before { (H : History) → D.Stands desk.now H → now_of H ≤ minute }
     requires fits { (H : History) × D.Stands desk.now H × ArePiecesFitting H (map pick_of takes.now) }
-    ensures { (H : History) → D.Stands desk.now H → IfOk result (λ edits. AreEditsOf H number minute takes.now command.now edits.items) }
+    ensures { (H : History) → D.Stands desk.now H
+        → IfOk result (λ edits. AreEditsOf H number minute takes.now command.now edits.items) }
 {
     match command {
         Command::PartDefined { part } => one(alloc, RowEdit::PutPart { part: *part }),
@@ -119,9 +120,12 @@ pub fn rows_of<D: Desk>(
     number: u64,
 ) -> Result<RowEdits, AllocError>
     requires room { HasRoom D.Stands desk.now 1 }
-    requires judged { (H : History) → D.Stands desk.now H → IsChange (D.kept_rules desk.now) H change.now.stamped change.now }
-    ensures lead { (H : History) → D.Stands desk.now H → number ≡ length H + 1 → IfOk result (λ edits. with_edits edits (tables_of H) ≡ tables_of (accept H change.now.stamped)) }
-    ensures new { (H : History) → D.Stands desk.now H → number ≡ length H + 1 → IfOk result (λ edits. AreNew edits (tables_of H)) }
+    requires judged { (H : History) → D.Stands desk.now H
+        → IsChange (D.kept_rules desk.now) H change.now.stamped change.now }
+    ensures lead { (H : History) → D.Stands desk.now H → number ≡ length H + 1
+        → IfOk result (λ edits. with_edits edits (tables_of H) ≡ tables_of (accept H change.now.stamped)) }
+    ensures new { (H : History) → D.Stands desk.now H → number ≡ length H + 1
+        → IfOk result (λ edits. AreNew edits (tables_of H)) }
     ensures takes_first { IfOk result (λ edits. AreTakesFirst edits) }
     ensures balanced { IfOk result (λ edits. AreBalanced edits) }
 {

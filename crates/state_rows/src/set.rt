@@ -80,7 +80,8 @@ impl RowSet {
     /// Makes the edits of all tables but `placement`, whose rows are as before. After an `Err`
     /// nothing is known of the set.
     pub fn apply_but_placements(&mut self, edits: &[RowEdit]) -> Result<(), AllocError>
-        ensures { OnOk result (tables_in self.new ≡ but_placements (with_edits edits.now (tables_in self.old)) (tables_in self.old)) }
+        ensures { OnOk result
+            (tables_in self.new ≡ but_placements (with_edits edits.now (tables_in self.old)) (tables_in self.old)) }
     {
         for edit in edits {
             self.make_but_placement(edit)?;
@@ -90,7 +91,8 @@ impl RowSet {
 
     /// Makes one edit, where it is not of `placement`.
     fn make_but_placement(&mut self, edit: &RowEdit) -> Result<(), AllocError>
-        ensures { OnOk result (tables_in self.new ≡ but_placements (with_edit edit.now (tables_in self.old)) (tables_in self.old)) }
+        ensures { OnOk result
+            (tables_in self.new ≡ but_placements (with_edit edit.now (tables_in self.old)) (tables_in self.old)) }
     {
         if is_placement(edit) {
             return Ok(());
@@ -166,7 +168,8 @@ impl RowSet {
         place: u64,
         row: &SheetRow,
     ) -> Result<(), AllocError>
-        ensures { OnOk result (tables_in self.new ≡ with_edit (PutSheetRow product machine place row.now) (tables_in self.old)) }
+        ensures { OnOk result
+            (tables_in self.new ≡ with_edit (PutSheetRow product machine place row.now) (tables_in self.old)) }
     {
         let copy = row.clone()?;
         self.sheets.insert((product, machine, place), copy)?;

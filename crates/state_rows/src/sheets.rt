@@ -57,7 +57,10 @@ pub fn define<D: Desk>(
     machine: &Id,
     rows: &[SheetRow],
 ) -> Result<Vec<RowEdit>, AllocError>
-    ensures { (H : History) → D.Stands desk.now H → IfOk result (λ edits. edits.items ≡ taken_rows product.now machine.now 1 (unwrap_or (sheet_of H product.now machine.now) []) ++ put_rows product.now machine.now 1 rows.now) }
+    ensures { (H : History) → D.Stands desk.now H
+        → IfOk result
+        (λ edits. edits.items ≡ taken_rows product.now machine.now 1
+        (unwrap_or (sheet_of H product.now machine.now) []) ++ put_rows product.now machine.now 1 rows.now) }
 {
     let mut edits = Vec::new(alloc);
     match desk.sheet_of(product, machine)? {

@@ -34,7 +34,8 @@ fn take_if(edits: &mut Vec<RowEdit>, reel: Option<Id>) -> Result<(), AllocError>
 
 /// The reels on the slot are taken off it.
 fn take_mounts(edits: &mut Vec<RowEdit>, slot: &Id, mounts: &[Mount]) -> Result<(), AllocError>
-    ensures { OnOk result (edits.new.items ≡ edits.old.items ++ map (λ r. TakeMount r) (filter_map (reel_on_slot slot.now) mounts.now)) }
+    ensures { OnOk result
+        (edits.new.items ≡ edits.old.items ++ map (λ r. TakeMount r) (filter_map (reel_on_slot slot.now) mounts.now)) }
 {
     for mount in mounts {
         take_if(edits, on_slot(slot, mount))?;
@@ -49,7 +50,8 @@ pub fn unload<D: Desk>(
     machine: &Id,
     slot: &Id,
 ) -> Result<Vec<RowEdit>, AllocError>
-    ensures { (H : History) → D.Stands desk.now H → IfOk result (λ edits. edits.items ≡ map (λ r. TakeMount r) (reels_on H machine.now slot.now)) }
+    ensures { (H : History) → D.Stands desk.now H
+        → IfOk result (λ edits. edits.items ≡ map (λ r. TakeMount r) (reels_on H machine.now slot.now)) }
 {
     let mut edits = Vec::new(alloc);
     match desk.slots_of(machine)? {
@@ -69,7 +71,8 @@ pub fn board<D: Desk>(
     board: &Id,
     at: Option<Id>,
 ) -> Result<Vec<RowEdit>, AllocError>
-    ensures { (H : History) → D.Stands desk.now H → IfOk result (λ edits. edits.items ≡ board_edit board.now at (selected_on H machine.now)) }
+    ensures { (H : History) → D.Stands desk.now H
+        → IfOk result (λ edits. edits.items ≡ board_edit board.now at (selected_on H machine.now)) }
 {
     let mut edits = Vec::new(alloc);
     match desk.selected(machine) {

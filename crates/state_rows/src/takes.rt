@@ -43,9 +43,11 @@ fn lessen(row: &mut ReelRow, take: &Take)
 /// Takes a take's pieces off the row of its reel: that among the rows, or else the desk's.
 fn note<D: Desk>(rows: &mut BTreeMap<Id, ReelRow>, desk: &D, take: &Take) -> Result<(), AllocError>
     requires fits { (H : History) × D.Stands desk.now H
-        × ((row : ReelRow) → option_or (get by_name rows.old take.now.reel) (reel_row H take.now.reel) ≡ Some row → LessFits (pick_of take.now) row) }
+        × ((row : ReelRow) → option_or (get by_name rows.old take.now.reel) (reel_row H take.now.reel) ≡ Some row
+        → LessFits (pick_of take.now) row) }
     ensures { (H : History) → D.Stands desk.now H → (r : Name) → OnOk result (get by_name rows.new r
-        ≡ (if same take.now.reel r then option_map (less_by (pick_of take.now)) (option_or (get by_name rows.old r) (reel_row H r)) else get by_name rows.old r)) }
+        ≡ (if same take.now.reel r then option_map (less_by (pick_of take.now))
+        (option_or (get by_name rows.old r) (reel_row H r)) else get by_name rows.old r)) }
 {
     if let Some(row) = rows.get_mut(&take.reel) {
         lessen(row, take);
@@ -66,7 +68,8 @@ fn gather<D: Desk>(
     takes: &[Take],
 ) -> Result<BTreeMap<Id, ReelRow>, AllocError>
     requires fits { (H : History) × D.Stands desk.now H × ArePiecesFitting H (map pick_of takes.now) }
-    ensures { (H : History) → D.Stands desk.now H → IfOk result (λ rows. (r : Name) → get by_name rows r ≡ picked_rows (reel_row H) (map pick_of takes.now) r) }
+    ensures { (H : History) → D.Stands desk.now H
+        → IfOk result (λ rows. (r : Name) → get by_name rows r ≡ picked_rows (reel_row H) (map pick_of takes.now) r) }
 {
     let mut rows = BTreeMap::new(alloc);
     for take in takes {
@@ -133,7 +136,8 @@ fn placed_row(number: u64, place: u64, take: &Take) -> Option<PlacementRow>
 
 /// The row, where there is one, is put in.
 fn place_if(edits: &mut Vec<RowEdit>, row: Option<PlacementRow>) -> Result<(), AllocError>
-    ensures { OnOk result (edits.new.items ≡ edits.old.items ++ option_to_list (option_map (λ (r : PlacementRow). PutPlacement r) row)) }
+    ensures { OnOk result
+        (edits.new.items ≡ edits.old.items ++ option_to_list (option_map (λ (r : PlacementRow). PutPlacement r) row)) }
 {
     match row {
         Some(row) => {

@@ -67,7 +67,9 @@ impl TraceLists {
     /// Notes the change, accepted under this number. After an `Err` nothing is known of the lists: drop
     /// them.
     pub fn note(&mut self, number: u32, change: &Change) -> Result<(), AllocError>
-        ensures listed { (H : History) → IsListed self.old H → number ≡ length H + 1 → change.now ≡ change_of H change.now.stamped → OnOk result (IsListed self.new (accept H change.now.stamped)) }
+        ensures listed { (H : History) → IsListed self.old H → number ≡ length H + 1
+            → change.now ≡ change_of H change.now.stamped
+            → OnOk result (IsListed self.new (accept H change.now.stamped)) }
     {
         let takes = change.takes();
         let Ok(pieces) = u32::try_from(takes.len()) else {
@@ -93,14 +95,16 @@ impl TraceLists {
 
     /// The placed pieces of the lot.
     pub fn of_lot(&self, lot: &Id) -> &[PieceKey]
-        ensures listed { (H : History) → IsListed self.now H → map key_of result.now ≡ keys_where (λ p. same p.lot lot.now) H }
+        ensures listed { (H : History) → IsListed self.now H
+            → map key_of result.now ≡ keys_where (λ p. same p.lot lot.now) H }
     {
         kept_under(&self.lots, lot)
     }
 
     /// The installs on the board.
     pub fn of_board(&self, board: &Id) -> &[Install]
-        ensures listed { (H : History) → IsListed self.now H → keys_of_installs result.now ≡ keys_where (λ p. same p.board board.now) H }
+        ensures listed { (H : History) → IsListed self.now H
+            → keys_of_installs result.now ≡ keys_where (λ p. same p.board board.now) H }
     {
         kept_under(&self.boards, board)
     }

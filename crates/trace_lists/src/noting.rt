@@ -61,7 +61,10 @@ pub fn note_install(
     command: &Command,
     install: Install,
 ) -> Result<(), AllocError>
-    ensures { (n : Name) → OnOk result (keys_of_installs (kept_at boards.new n) ≡ keys_of_installs (kept_at boards.old n) ++ install_keys n command.now install) }
+    ensures { (n : Name)
+        → OnOk result
+        (keys_of_installs (kept_at boards.new n) ≡ keys_of_installs
+        (kept_at boards.old n) ++ install_keys n command.now install) }
 {
     if let Command::MaterialsInstalled { board, .. } = command {
         keep(alloc, boards, board, install)?;
@@ -78,8 +81,14 @@ pub fn note_pieces(
     takes: &[Take],
 ) -> Result<(), AllocError>
     requires { install.pieces ≡ length takes.now }
-    ensures lots { (n : Name) (minute : ℕ) → OnOk result (map key_of (kept_at lots.new n) ≡ map key_of (kept_at lots.old n) ++ keys_in (λ p. same p.lot n) install.number minute 1 takes.now) }
-    ensures overdue { (minute : ℕ) → OnOk result (map key_of overdue.new.items ≡ map key_of overdue.old.items ++ keys_in (λ p. p.overdue) install.number minute 1 takes.now) }
+    ensures lots { (n : Name) (minute : ℕ)
+        → OnOk result
+        (map key_of (kept_at lots.new n) ≡ map key_of (kept_at lots.old n) ++ keys_in
+        (λ p. same p.lot n) install.number minute 1 takes.now) }
+    ensures overdue { (minute : ℕ)
+        → OnOk result
+        (map key_of overdue.new.items ≡ map key_of overdue.old.items ++ keys_in
+        (λ p. p.overdue) install.number minute 1 takes.now) }
 {
     for i in 0..install.pieces {
         let piece = PieceKey {
@@ -99,8 +108,13 @@ fn note_piece(
     piece: PieceKey,
     take: &Take,
 ) -> Result<(), AllocError>
-    ensures lots { (n : Name) → OnOk result (kept_at lots.new n ≡ kept_at lots.old n ++ (if is_placed take.now.purpose && same take.now.lot n then piece ∷ [] else [])) }
-    ensures overdue { OnOk result (overdue.new.items ≡ overdue.old.items ++ (if is_placed take.now.purpose && take.now.overdue then piece ∷ [] else [])) }
+    ensures lots { (n : Name)
+        → OnOk result
+        (kept_at lots.new n ≡ kept_at lots.old n ++
+        (if is_placed take.now.purpose && same take.now.lot n then piece ∷ [] else [])) }
+    ensures overdue { OnOk result
+        (overdue.new.items ≡ overdue.old.items ++
+        (if is_placed take.now.purpose && take.now.overdue then piece ∷ [] else [])) }
 {
     if !is_placed(take) {
         return Ok(());

@@ -72,7 +72,8 @@ fn wordless<E: Write>(error: &io::Error, errors: &mut Wire<E>) -> u8
     ensures unavailable { error_kind error.now ≡ ErrorKind.OutOfMemory → result ≡ 3 }
     ensures bad { error_kind error.now ≢ ErrorKind.OutOfMemory → result ≡ 2 }
     ensures told_unavailable { result ≡ 3 → TellsLine E.contents errors.old errors.new (refusal_line Unavailable) }
-    ensures told_bad { result ≡ 2 → TellsLine E.contents errors.old errors.new (codes "tracedesk: a word of the command line is not UTF-8") }
+    ensures told_bad { result ≡ 2
+        → TellsLine E.contents errors.old errors.new (codes "tracedesk: a word of the command line is not UTF-8") }
 {
     if error.kind() == ErrorKind::OutOfMemory {
         return unavailable(errors);

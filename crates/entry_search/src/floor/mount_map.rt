@@ -16,7 +16,8 @@ fn put(
     machine: Id,
     slot: Id,
 ) -> Result<(), AllocError>
-    ensures { (r : Name) → OnOk result (mount_at mounts.new r ≡ (if same reel r then Some (machine, slot) else mount_at mounts.old r)) }
+    ensures { (r : Name)
+        → OnOk result (mount_at mounts.new r ≡ (if same reel r then Some (machine, slot) else mount_at mounts.old r)) }
 {
     mounts.insert(reel, (machine, slot))?;
     Ok(())
@@ -24,7 +25,8 @@ fn put(
 
 /// The slots after a command.
 pub fn note_mount(mounts: &mut BTreeMap<Id, (Id, Id)>, command: &Command) -> Result<(), AllocError>
-    ensures { (r : Name) → OnOk result (mount_at mounts.new r ≡ option_or (mount_by r command.now) (mount_at mounts.old r)) }
+    ensures { (r : Name)
+        → OnOk result (mount_at mounts.new r ≡ option_or (mount_by r command.now) (mount_at mounts.old r)) }
 {
     match command {
         Command::MaterialsLoaded {

@@ -43,7 +43,8 @@ pub fn reel_in(reels: &BTreeMap<Id, Reel>, name: &Id) -> Option<Reel>
 /// The reels after an entry.
 pub fn note_reel(reels: &mut BTreeMap<Id, Reel>, entry: &Entry) -> Result<(), AllocError>
     requires { AreReelsBy reels.old entry.now.effective }
-    ensures { (H : History) → IsJudged Two (entry.now ∷ H) → AreReels H reels.old → OnOk result (AreReels (entry.now ∷ H) reels.new) }
+    ensures { (H : History) → IsJudged Two (entry.now ∷ H) → AreReels H reels.old
+        → OnOk result (AreReels (entry.now ∷ H) reels.new) }
 {
     let Some(name) = handled_reel(&entry.stamped.command) else {
         return Ok(());

@@ -64,7 +64,10 @@ pub fn note_stock(
     command: &Command,
     takes: &[Take],
 ) -> Result<(), AllocError>
-    ensures { (r : Name) → OnOk result (pieces_at stock.new r ≡ unwrap_or (pieces_by r command.now) (pieces_at stock.old r - pieces_taken takes.now r)) }
+    ensures { (r : Name)
+        → OnOk result
+        (pieces_at stock.new r ≡ unwrap_or (pieces_by r command.now)
+        (pieces_at stock.old r - pieces_taken takes.now r)) }
 {
     lower_all(stock, takes);
     match command {

@@ -85,7 +85,9 @@ fn load(
     slot: Id,
     reel: Id,
 ) -> Result<(), AllocError>
-    ensures { (m s : Name) → OnOk result (tape_at tapes.new m s ≡ (if same machine m && same slot s then reel ∷ [] else tape_at tapes.old m s)) }
+    ensures { (m s : Name)
+        → OnOk result
+        (tape_at tapes.new m s ≡ (if same machine m && same slot s then reel ∷ [] else tape_at tapes.old m s)) }
 {
     let tape = Tape::of(alloc, reel)?;
     tapes.insert((machine, slot), tape)?;
@@ -99,7 +101,10 @@ fn splice(
     slot: Id,
     reel: Id,
 ) -> Result<(), AllocError>
-    ensures { (m s : Name) → OnOk result (tape_at tapes.new m s ≡ (if same machine m && same slot s then tape_with (tape_at tapes.old m s) reel else tape_at tapes.old m s)) }
+    ensures { (m s : Name)
+        → OnOk result
+        (tape_at tapes.new m s ≡ (if same machine m && same slot s then tape_with
+        (tape_at tapes.old m s) reel else tape_at tapes.old m s)) }
 {
     if let Some(tape) = tapes.get_mut(&(machine, slot)) {
         tape.join(reel)?;
@@ -109,7 +114,8 @@ fn splice(
 
 /// Ends a slot's tape.
 fn unload(tapes: &mut BTreeMap<(Id, Id), Tape>, machine: Id, slot: Id)
-    ensures { (m s : Name) → tape_at tapes.new m s ≡ (if same machine m && same slot s then [] else tape_at tapes.old m s) }
+    ensures { (m s : Name)
+        → tape_at tapes.new m s ≡ (if same machine m && same slot s then [] else tape_at tapes.old m s) }
 {
     tapes.remove(&(machine, slot));
 }

@@ -25,8 +25,10 @@ use std::collections::{BTreeMap, VecDeque};
 
 /// The reel of a row at the desk minute, which stands for the minute of its last command.
 fn reel_of(row: &ReelRow, found: u64, minute: Minute) -> Reel
-    requires { (H : History) × (name : Name) × IsJudged Two H × (reel_row H name ≡ Some row.now) × (now_of H ≡ minute) × (found ≡ found_of H name) }
-    ensures { (H : History) (name : Name) → IsJudged Two H → reel_row H name ≡ Some row.now → now_of H ≡ minute → found ≡ found_of H name
+    requires { (H : History) × (name : Name) × IsJudged Two H × (reel_row H name ≡ Some row.now) × (now_of H ≡ minute)
+        × (found ≡ found_of H name) }
+    ensures { (H : History) (name : Name) → IsJudged Two H → reel_row H name ≡ Some row.now → now_of H ≡ minute
+        → found ≡ found_of H name
         → IsHeld H name (record { reel = result; on_slot = is_mounted H name }) }
 {
     Reel {
@@ -55,7 +57,8 @@ fn restore_reel(
     row: &ReelRow,
 ) -> Result<(), AllocError>
     requires { (H : History) × AreRowsOf H rows.now × (now_of H ≡ minute) × (reel_row H name.now ≡ Some row.now) }
-    ensures held { (H : History) → AreRowsOf H rows.now → now_of H ≡ minute → reel_row H name.now ≡ Some row.now → OnOk result (IsHeldOf H name.now (held_at reels.new name.now)) }
+    ensures held { (H : History) → AreRowsOf H rows.now → now_of H ≡ minute → reel_row H name.now ≡ Some row.now
+        → OnOk result (IsHeldOf H name.now (held_at reels.new name.now)) }
     ensures others { (q : Name) → same name.now q ≡ false → OnOk result (held_at reels.new q ≡ held_at reels.old q) }
 {
     let reel = reel_of(row, rows.found_on(name), minute);
@@ -82,7 +85,11 @@ fn join(
     tapes: &mut BTreeMap<(Id, Id), Tape>,
     row: &MountRow,
 ) -> Result<(), AllocError>
-    ensures { (m s : Name) → OnOk result (tape_at tapes.new m s ≡ (if same row.now.machine m && same row.now.slot s then tape_at tapes.old m s ++ row.now.reel ∷ [] else tape_at tapes.old m s)) }
+    ensures { (m s : Name)
+        → OnOk result
+        (tape_at tapes.new m s
+        ≡ (if same row.now.machine m && same row.now.slot s then tape_at tapes.old m s ++ row.now.reel ∷ []
+            else tape_at tapes.old m s)) }
 {
     let key = (row.machine, row.slot);
     if let Some(tape) = tapes.get_mut(&key) {
@@ -97,7 +104,8 @@ fn join(
 
 /// The live reels of the slots of the rows.
 fn tapes_of(alloc: Global, rows: &RowSet) -> Result<BTreeMap<(Id, Id), Tape>, AllocError>
-    ensures { (H : History) → AreRowsOf H rows.now → (m s : Name) → IfOk result (λ tapes. tape_at tapes m s ≡ live_on H m s) }
+    ensures { (H : History) → AreRowsOf H rows.now → (m s : Name)
+        → IfOk result (λ tapes. tape_at tapes m s ≡ live_on H m s) }
 {
     let mut tapes = BTreeMap::new(alloc);
     for (_, row) in rows.mounts() {

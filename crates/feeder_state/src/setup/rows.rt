@@ -35,7 +35,8 @@ pub fn parts_of(alloc: Global, rows: &RowSet) -> Result<Parts, AllocError>
 
 /// The alternates of the rows.
 pub fn alternates_of(alloc: Global, rows: &RowSet) -> Result<Alternates, AllocError>
-    ensures { (p q : Name) → IfOk result (λ alternates. is_pair_among alternates p q ≡ (tables_in rows.now).alternates p q) }
+    ensures { (p q : Name)
+        → IfOk result (λ alternates. is_pair_among alternates p q ≡ (tables_in rows.now).alternates p q) }
 {
     let mut alternates = Alternates::new(alloc);
     for pair in rows.alternates() {
@@ -60,7 +61,8 @@ fn sheet_rows(
     alloc: Global,
     rows: &RowSet,
 ) -> Result<BTreeMap<(Id, Id), Group<SheetRow>>, AllocError>
-    ensures { (H : History) → AreRowsOf H rows.now → (p m : Name) → IfOk result (λ groups. sheet_in (group_at by_pair groups (p, m)) ≡ sheet_of H p m) }
+    ensures { (H : History) → AreRowsOf H rows.now → (p m : Name)
+        → IfOk result (λ groups. sheet_in (group_at by_pair groups (p, m)) ≡ sheet_of H p m) }
 {
     let mut groups = BTreeMap::new(alloc);
     for (key, row) in rows.sheets() {
@@ -78,7 +80,10 @@ fn put_group(
     machine: Id,
     group: Group<SheetRow>,
 ) -> Result<(), AllocError>
-    ensures { (p m : Name) → OnOk result (sheet_at sheets.new p m ≡ (if same product p && same machine m then option_or (sheet_in group) (sheet_at sheets.old p m) else sheet_at sheets.old p m)) }
+    ensures { (p m : Name)
+        → OnOk result
+        (sheet_at sheets.new p m ≡ (if same product p && same machine m then option_or (sheet_in group)
+        (sheet_at sheets.old p m) else sheet_at sheets.old p m)) }
 {
     if let Some(rows) = Bounded::new(group.items) {
         put_sheet(sheets, product, machine, Sheet::new(alloc, rows)?)?;
@@ -88,7 +93,8 @@ fn put_group(
 
 /// The sheets of the rows.
 pub fn sheets_of(alloc: Global, rows: &RowSet) -> Result<BTreeMap<(Id, Id), Sheet>, AllocError>
-    ensures { (H : History) → AreRowsOf H rows.now → (p m : Name) → IfOk result (λ sheets. sheet_at sheets p m ≡ sheet_of H p m) }
+    ensures { (H : History) → AreRowsOf H rows.now → (p m : Name)
+        → IfOk result (λ sheets. sheet_at sheets p m ≡ sheet_of H p m) }
 {
     let mut sheets = BTreeMap::new(alloc);
     for (key, group) in sheet_rows(alloc, rows)? {
@@ -99,7 +105,8 @@ pub fn sheets_of(alloc: Global, rows: &RowSet) -> Result<BTreeMap<(Id, Id), Shee
 
 /// The machines of which the rows have a sheet.
 pub fn sheeted_of(alloc: Global, rows: &RowSet) -> Result<BTreeSet<Id>, AllocError>
-    ensures { (H : History) → AreRowsOf H rows.now → (m : Name) → IfOk result (λ sheeted. is_sheeted sheeted m ≡ has_sheet H m) }
+    ensures { (H : History) → AreRowsOf H rows.now → (m : Name)
+        → IfOk result (λ sheeted. is_sheeted sheeted m ≡ has_sheet H m) }
 {
     let mut sheeted = BTreeSet::new(alloc);
     for (key, _) in rows.sheets() {

@@ -19,7 +19,8 @@ use std::collections::{BTreeMap, BTreeSet};
 
 /// The products of the boards of the rows.
 pub fn products_of(alloc: Global, rows: &RowSet) -> Result<BTreeMap<Id, Id>, AllocError>
-    ensures { (H : History) → AreRowsOf H rows.now → (b : Name) → IfOk result (λ products. product_at products b ≡ product_of H b) }
+    ensures { (H : History) → AreRowsOf H rows.now → (b : Name)
+        → IfOk result (λ products. product_at products b ≡ product_of H b) }
 {
     let mut products = BTreeMap::new(alloc);
     for (board, row) in rows.boards() {
@@ -30,7 +31,8 @@ pub fn products_of(alloc: Global, rows: &RowSet) -> Result<BTreeMap<Id, Id>, All
 
 /// The boards that the rows have in work.
 pub fn busy_of(alloc: Global, rows: &RowSet) -> Result<BTreeSet<Id>, AllocError>
-    ensures { (H : History) → AreRowsOf H rows.now → (b : Name) → IfOk result (λ busy. is_busy busy b ≡ is_in_work H b) }
+    ensures { (H : History) → AreRowsOf H rows.now → (b : Name)
+        → IfOk result (λ busy. is_busy busy b ≡ is_in_work H b) }
 {
     let mut busy = BTreeSet::new(alloc);
     for (board, row) in rows.boards() {
@@ -43,7 +45,8 @@ pub fn busy_of(alloc: Global, rows: &RowSet) -> Result<BTreeSet<Id>, AllocError>
 
 /// The board that the rows have in work on each machine.
 pub fn running_of(alloc: Global, rows: &RowSet) -> Result<BTreeMap<Id, Id>, AllocError>
-    ensures { (H : History) → AreRowsOf H rows.now → (m : Name) → IfOk result (λ running. running_at running m ≡ in_work_on H m) }
+    ensures { (H : History) → AreRowsOf H rows.now → (m : Name)
+        → IfOk result (λ running. running_at running m ≡ in_work_on H m) }
 {
     let mut running = BTreeMap::new(alloc);
     for (board, row) in rows.boards() {
@@ -59,7 +62,8 @@ fn designators_of(
     alloc: Global,
     rows: &RowSet,
 ) -> Result<BTreeMap<Id, Group<Designator>>, AllocError>
-    ensures { (H : History) → AreRowsOf H rows.now → (b d : Name) → IfOk result (λ groups. list_any (same d) (group_at by_name groups b) ≡ is_placed_on H b d) }
+    ensures { (H : History) → AreRowsOf H rows.now → (b d : Name)
+        → IfOk result (λ groups. list_any (same d) (group_at by_name groups b) ≡ is_placed_on H b d) }
 {
     let mut groups = BTreeMap::new(alloc);
     for (_, row) in rows.placements() {
@@ -70,7 +74,8 @@ fn designators_of(
 
 /// What is placed on each board, by the rows.
 pub fn placed_of(alloc: Global, rows: &RowSet) -> Result<BTreeMap<Id, Placed>, AllocError>
-    ensures { (H : History) → AreRowsOf H rows.now → (b d : Name) → IfOk result (λ placed. is_placed_at placed b d ≡ is_placed_on H b d) }
+    ensures { (H : History) → AreRowsOf H rows.now → (b d : Name)
+        → IfOk result (λ placed. is_placed_at placed b d ≡ is_placed_on H b d) }
 {
     let groups = designators_of(alloc, rows)?;
     let mut placed = BTreeMap::new(alloc);
