@@ -62,9 +62,3 @@ left P (x ∷ xs) ys h = (h.0, left P xs ys h.1)
 right : {X : Type 0} (P : X → Type 0) (xs ys : List X) → AllByRecursion P (xs ++ ys) → AllByRecursion P ys
 right P [] ys h = h
 right P (x ∷ xs) ys h = right P xs ys h.1
-
-}
-  where
-    go : (c : Bool) → a ≡ c → (a && b) ≡ false → AreAlone has_piece (λ _ row. placement_columns row) (rows_in line.placement db) (xs ++ ys) → ⊥
-    go true e is alone = y.missing (subst (λ z. (z && b) ≡ false) e is) (right _ xs ys alone)
-    go false e is alone = x.missing e (left _ xs ys alone)
