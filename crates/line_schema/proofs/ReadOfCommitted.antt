@@ -68,8 +68,6 @@ module _ (rules : Rules) (old : State) where
   version_fault v o (Err f) some (inl (is, none)) read = subst (IsFaultBy rules old) (sym is) (no_greatest v none (subst (λ (x : Option Version). Reads old (λ db. IsVersionOf (version_in db) x)) some read))
   version_fault v o (Err f) some (inr (is, other, greatest, great)) read = subst (IsFaultBy rules old) (sym is) (other_version v greatest other great (subst (λ (x : Option Version). Reads old (λ db. IsVersionOf (version_in db) x)) some read))
 
--- ---- which faults are told of which files
-
 -- ---- the list after it
 
 module _ (rules : Rules) (old mid : State) (greatest : ℕ) (kept : KeepsCommit old mid) (version : Reads old (λ db. IsVersion db (pos (version_of rules)) greatest)) where

@@ -1,4 +1,4 @@
--- What the rows of boards and of sheets say of the desk whose rows they are.
+-- What the rows of boards say of the desk whose rows they are.
 use Rattle.std.proofs.Common.{◌≡◌, ◌↔◌, Bool, true, false, Option, Some, None, [], refl, sym, ap, ◌∙◌, unwrap_or}
 use Rattle.std.specs.Prelude.{if◌then◌else◌, is_some}
 use Rattle.std.specs.Option.{option_map, option_map_or, option_and_then}
@@ -60,5 +60,3 @@ in_work-row H board judged =
     back : (o : Option Name) → machine_in (board_row H board) ≡ o → is_some o ≡ true → is_in_work H board ≡ true
     back None says is = cc
     back (Some machine) says is = somewhere-in_work H board (machine, row-work H machine board says)
-
--- ---- sheets
