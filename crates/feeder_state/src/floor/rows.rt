@@ -89,7 +89,7 @@ fn join(
         → OnOk result
         (tape_at tapes.new m s
         ≡ (if same row.now.machine m && same row.now.slot s then tape_at tapes.old m s ++ row.now.reel ∷ []
-            else tape_at tapes.old m s)) }
+        else tape_at tapes.old m s)) }
 {
     let key = (row.machine, row.slot);
     if let Some(tape) = tapes.get_mut(&key) {
