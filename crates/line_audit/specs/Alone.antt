@@ -1,9 +1,7 @@
 -- Rows that are looked up by their keys.
-use Rattle.std.specs.Prelude.{◌≡◌, ◌↔◌, ◌⊎◌, ◌+◌, ⊤, ℕ, length, Bool, true, IsTrue, Option, Some, List, [], ◌∷◌, map, filter}
+use Rattle.std.specs.Prelude.{◌≡◌, ◌↔◌, ◌⊎◌, ◌+◌, ⊤, ℕ, length, Bool, true, IsTrue, Option, Some, List, [], ◌∷◌, filter}
 use Rattle.std.specs.List.{AllByRecursion}
 use Rattle.std.specs.Iterator.{AlwaysYields}
-use Rattle.sqlite_value.specs.declared.value.ValueRef.{ValueRef}
-use Rattle.sqlite_value.specs.Value.{owned}
 use Rattle.sqlite_value.specs.Order.{Row}
 use Rattle.sqlite_schema.specs.declared.schema.Table.{Table}
 use Rattle.sqlite_trees.specs.declared.store.Store.{Ghosts}
@@ -12,10 +10,6 @@ use Rattle.sqlite.specs.State.{State}
 use Rattle.sqlite.specs.Effect.{Database}
 use Rattle.line_tables.specs.Calls.{Selects, Reads}
 use Rattle.line_tables.specs.StateRows.{AreRows, rows_in}
-
--- the values that are lent
-abbrev pub values_of : List ValueRef → Row
-values_of values = map owned values
 
 -- the query shows this row and no other
 abbrev pub ShowsOnly : {S : Type 0} → Ghosts S → List ℕ → Row → Held S → Row → Bool → Type 0

@@ -2,9 +2,9 @@
 
 use crate::expected::ExpectedRow;
 use crate::shown::shows_only;
-use crate::values::{level, text, text_or_empty, yes_or_no};
 use desk_types::{BoardRow, Id, MountRow, ReelRow};
-use line_tables::values::{int, since};
+use line_tables::row_values::{board_values, mount_values, reel_values};
+use line_tables::values::text;
 use sqlite::{Alter, Connection, Error};
 use std::alloc::Global;
 
@@ -31,20 +31,7 @@ impl<'a> ExpectedRow for (&'a Id, &'a ReelRow) {
             conn,
             "SELECT reel, part, lot, level, label, received, placed, scrapped, remaining, used, open_since, baked FROM reel WHERE reel = ?1",
             &[text(reel)],
-            &[
-                text(&row.reel),
-                text(&row.part),
-                text(&row.lot),
-                level(row.level),
-                int(row.label)?,
-                int(row.received)?,
-                int(row.placed)?,
-                int(row.scrapped)?,
-                int(row.remaining)?,
-                int(row.used)?,
-                since(row.open_since),
-                yes_or_no(row.baked),
-            ],
+            &reel_values(row)?.values,
         )
     }
 }
@@ -72,12 +59,7 @@ impl<'a> ExpectedRow for (&'a (u64, Id), &'a MountRow) {
             conn,
             "SELECT since, machine, slot, reel FROM mount WHERE reel = ?1",
             &[text(&at.1)],
-            &[
-                int(row.since)?,
-                text(&row.machine),
-                text(&row.slot),
-                text(&row.reel),
-            ],
+            &mount_values(row)?.values,
         )
     }
 }
@@ -105,11 +87,7 @@ impl<'a> ExpectedRow for (&'a Id, &'a BoardRow) {
             conn,
             "SELECT board, product, machine FROM board WHERE board = ?1",
             &[text(board)],
-            &[
-                text(&row.board),
-                text(&row.product),
-                text_or_empty(&row.machine),
-            ],
+            &board_values(row),
         )
     }
 }

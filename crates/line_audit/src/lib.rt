@@ -12,7 +12,6 @@ mod setup;
 mod sheets;
 mod shown;
 mod table;
-mod values;
 
 pub use auditing::{Placed, audit};
 pub use placements::has_placements;

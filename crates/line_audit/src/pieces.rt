@@ -2,9 +2,8 @@
 
 use crate::expected::ExpectedRow;
 use crate::shown::shows_only;
-use crate::values::text;
 use desk_types::Id;
-use line_tables::values::int;
+use line_tables::values::{int, text};
 use sqlite::{Alter, Connection, Error};
 use std::alloc::Global;
 

@@ -10,9 +10,9 @@ ghost use Rattle.line_audit.specs.Alone.{FindsAlone};
 ghost use Rattle.line_audit.specs.Placed.{has_placement};
 
 use crate::shown::shows_only;
-use crate::values::{designator, text, yes_or_no};
 use desk_types::PlacementRow;
-use line_tables::values::int;
+use line_tables::row_values::placement_values;
+use line_tables::values::{designator, int, text};
 use sqlite::{Alter, Connection, Error};
 
 /// Whether the row is the one of its board, its designator, its number and its place. It is looked up
@@ -32,15 +32,6 @@ pub fn has_placement<S: Alter>(conn: &mut Connection<S>, row: &PlacementRow) -> 
             int(row.number)?,
             int(row.place)?,
         ],
-        &[
-            int(row.number)?,
-            int(row.place)?,
-            text(&row.board),
-            designator(&row.designator),
-            text(&row.machine),
-            text(&row.slot),
-            text(&row.reel),
-            yes_or_no(row.overdue),
-        ],
+        &placement_values(row)?.values,
     )
 }

@@ -1,6 +1,6 @@
 //! The placements of one entry.
 
-ghost use Rattle.std.specs.Prelude.{◌≡◌, ◌⊎◌, ◌<◌, ◌≤◌, ◌^◌, ◌↔◌, length, map, IsTrue, IfOk, IfErr};
+ghost use Rattle.std.specs.Prelude.{◌≡◌, ◌<◌, length, map, IsTrue, IfOk};
 ghost use Rattle.sqlite.specs.State.{HasCleanDisk};
 ghost use Rattle.sqlite.specs.Held.{state};
 ghost use Rattle.line_tables.specs.Calls.{Reads};
@@ -10,8 +10,9 @@ ghost use Rattle.line_audit.specs.Audit.{ArePlaced, piece_of};
 ghost use Rattle.line_audit.specs.Placed.{AreHere};
 
 use crate::placed::has_placement;
-use crate::values::{designator, is_row, text, yes_or_no};
+use crate::shown::is_row;
 use desk_types::PlacementRow;
+use line_tables::row_values::placement_values;
 use line_tables::select::select;
 use line_tables::values::int;
 use sqlite::{Alter, Connection, Error, Row};
@@ -60,30 +61,11 @@ fn are_rows(shown: &[Row], rows: &[PlacementRow]) -> Result<bool, Error>
         return Ok(false);
     }
     for at in 0..rows.len() {
-        if !is_placement(&shown[at], &rows[at])? {
+        if !is_row(&shown[at], &placement_values(&rows[at])?.values) {
             return Ok(false);
         }
     }
     Ok(true)
-}
-
-fn is_placement(shown: &Row, row: &PlacementRow) -> Result<bool, Error>
-    ensures ok { IfOk result (λ is. IsTrue is ↔ (shown.now ≡ placement_columns row.now)) }
-    ensures err { IfErr result (λ _. (2 ^ 63 ≤ row.now.number) ⊎ (2 ^ 63 ≤ row.now.place)) }
-{
-    Ok(is_row(
-        shown,
-        &[
-            int(row.number)?,
-            int(row.place)?,
-            text(&row.board),
-            designator(&row.designator),
-            text(&row.machine),
-            text(&row.slot),
-            text(&row.reel),
-            yes_or_no(row.overdue),
-        ],
-    ))
 }
 
 fn has_each<S: Alter>(conn: &mut Connection<S>, rows: &[PlacementRow]) -> Result<bool, Error>

@@ -2,9 +2,8 @@
 
 use crate::expected::ExpectedRow;
 use crate::shown::shows_only;
-use crate::values::text;
 use desk_types::{Id, SheetRow};
-use line_tables::values::{designators_text, int};
+use line_tables::values::{designators_text, int, text};
 use sqlite::types::ValueRef;
 use sqlite::{Alter, Connection, Error};
 use std::alloc::Global;

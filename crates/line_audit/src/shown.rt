@@ -4,16 +4,17 @@ ghost use Rattle.std.specs.Prelude.{◌≡◌, ◌↔◌, ◌++◌, codes, [], �
 ghost use Rattle.sqlite.specs.State.{HasCleanDisk};
 ghost use Rattle.sqlite.specs.Values.{bound};
 ghost use Rattle.sqlite.specs.Held.{state};
-ghost use Rattle.line_audit.specs.Alone.{values_of, ShowsOnly, Counts};
+ghost use Rattle.line_audit.specs.Alone.{ShowsOnly, Counts};
 ghost use Rattle.line_audit.specs.TableNames.{name_of, table_of};
+ghost use Rattle.line_tables.specs.StateRows.{values_of};
 ghost use Rattle.line_tables.specs.Frames.{ReadsOnly};
 
 use crate::table::StateTable;
-use crate::values::is_row;
 use line_tables::count_of;
 use line_tables::select::select;
 use sqlite::types::ValueRef;
 use sqlite::{Alter, Connection, Error, Row};
+use sqlite_value::order::is_same;
 
 /// Whether the query shows just one row, which has these values.
 pub fn shows_only<S: Alter>(
@@ -37,6 +38,26 @@ fn is_only(rows: &[Row], wanted: &[ValueRef<'_>]) -> bool
         [row] => is_row(row, wanted),
         _ => false,
     }
+}
+
+/// Whether the row has just these values.
+pub fn is_row(row: &Row, wanted: &[ValueRef<'_>]) -> bool
+    ensures { IsTrue result ↔ (row.now ≡ values_of wanted.now) }
+{
+    if row.column_count() != wanted.len() {
+        return false;
+    }
+    for at in 0..wanted.len() {
+        match row.get_ref(at) {
+            Ok(value) => {
+                if !is_same(value, wanted[at]) {
+                    return false;
+                }
+            }
+            Err(_) => return false,
+        }
+    }
+    true
 }
 
 /// How many rows the table has.

@@ -2,6 +2,10 @@
 use Rattle.std.proofs.Common.{◌≡◌, ◌∙◌, inl, inr, ◌||◌, ◌&&◌, ◌==◌, not, if◌then◌else◌, ℕ, ℤ, pos, Bool, List, [], ◌∷◌, map, drop, length, slice_get, true, false, IsTrue, Option, Some, None, refl, ap, ap₂, subst, sym}
 use Rattle.std.proofs.lemmas.Bool.{and_parts, and_from}
 use Rattle.sqlite.specs.declared.types.Value.TheVariants.{Null, Int, Real, Text, Blob}
+use Rattle.std.proofs.lemmas.Simd.{map-map}
+use Rattle.sqlite.specs.Values.{bound, bound_value}
+use Rattle.sqlite_value.specs.declared.value.ValueRef.{ValueRef}
+use Rattle.sqlite_value.specs.Value.{owned}
 use Rattle.sqlite.specs.declared.types.Value.{Value}
 use Rattle.sqlite.specs.Ops.{binary}
 use Rattle.sqlite.specs.Collation.TheVariants.{Binary}
@@ -34,7 +38,7 @@ use Rattle.desk_types.specs.declared.row.MountRow.{MountRow}
 use Rattle.desk_types.specs.declared.row.BoardRow.{BoardRow}
 use Rattle.desk_types.specs.declared.rules.Rules.TheVariants.{Two}
 use Rattle.line_tables.specs.Line.{schema_of, schema_tables, part, alternate, sheet_row, selected, reel, mount, board, found, found_by, found_tree}
-use Rattle.line_tables.specs.StateRows.{AreRows, columns, rows_in, has_text, has_pair, has_sheet_place, unit_if, part_columns, alternate_columns, sheet_columns, selected_columns, reel_columns, mount_columns, board_columns, found_columns, since_or_none, flag}
+use Rattle.line_tables.specs.StateRows.{values_of, AreRows, columns, rows_in, has_text, has_pair, has_sheet_place, unit_if, part_columns, alternate_columns, sheet_columns, selected_columns, reel_columns, mount_columns, board_columns, found_columns, since_or_none, flag}
 use Rattle.line_tables.specs.Calls.{Runs, Changes, ChangesOrPuts, WritesRow}
 use Rattle.line_tables.proofs.Inserts.{Inserted, insert_does}
 use Rattle.line_tables.proofs.Puts.{quiet, cast_int, cast_null}
@@ -44,6 +48,10 @@ use Rattle.line_tables.proofs.Altering.{without, put_in, rows_at, found_kept, fa
 use Rattle.line_tables.proofs.Keyed.{changed, added, one_text, one_pair, one_sheet_place, own_text, own_int, same_pair, same_sheet_place, tells_text, tells_pair, tells_sheet_place}
 use Rattle.line_tables.proofs.Alterations.{deletes, inserts, updates_none, updates_one}
 use Rattle.line_tables.proofs.RowTexts.{delete_part, part_tests, delete_part_is, delete_alternate, alternate_tests, delete_alternate_is, delete_sheet_row, sheet_row_tests, delete_sheet_row_is, delete_mount, mount_tests, delete_mount_is, insert_part, part_terms, insert_part_is, insert_alternate, alternate_terms, insert_alternate_is, insert_sheet_row, sheet_row_terms, insert_sheet_row_is, insert_selected, selected_terms, insert_selected_is, insert_reel, reel_terms, insert_reel_is, insert_board, board_terms, insert_board_is, insert_found, found_terms, insert_found_is, insert_mount, mount_terms, insert_mount_is, key_tests, update_selected, selected_renewed, update_selected_is, update_reel, reel_renewed, update_reel_is, update_board, board_renewed, update_board_is, update_found, found_renewed, update_found_is}
+
+-- values are bound as they are lent, but for a NaN
+pub bound_as : (lent : List ValueRef) (row : Row) → values_of lent ≡ row → bound lent ≡ map bound_value row
+bound_as lent row is = sym (map-map bound_value owned lent) ∙ ap (map bound_value) is
 
 module _ (i : Bool) (old new : State) where
   pub takes_part : (p : Name) → Runs delete_part (Text p ∷ []) old new → Alters i part (without (has_text 0 p)) old new

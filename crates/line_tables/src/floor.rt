@@ -7,11 +7,11 @@ ghost use Rattle.desk_types.specs.declared.edit.RowEdit.TheVariants as RowEdit;
 ghost use Rattle.line_tables.specs.Calls.{WritesRow};
 ghost use Rattle.line_tables.specs.Frames.{InTransaction};
 
+use crate::row_values::{board_values, mount_values, reel_values};
 use crate::statement::{change_or_put, run};
-use crate::values::{int, or_empty, since};
+use crate::values::text;
 use desk_types::{BoardRow, Id, MountRow, ReelRow};
-use sqlite::types::ToSql;
-use sqlite::{Alter, Error, Transaction, params};
+use sqlite::{Alter, Error, Transaction};
 
 /// A reel's row is changed in its place, since placements refer to it. Two rows of one reel are an
 /// error.
@@ -25,20 +25,7 @@ pub fn put_reel<S: Alter>(tx: &mut Transaction<'_, S>, row: &ReelRow) -> Result<
         tx,
         "UPDATE reel SET part = ?2, lot = ?3, level = ?4, label = ?5, received = ?6, placed = ?7, scrapped = ?8, remaining = ?9, used = ?10, open_since = ?11, baked = ?12 WHERE reel = ?1",
         "INSERT INTO reel VALUES (?1, ?2, ?3, ?4, ?5, ?6, ?7, ?8, ?9, ?10, ?11, ?12)",
-        &[
-            row.reel.as_str().to_sql(),
-            row.part.as_str().to_sql(),
-            row.lot.as_str().to_sql(),
-            row.level.as_str().to_sql(),
-            int(row.label)?,
-            int(row.received)?,
-            int(row.placed)?,
-            int(row.scrapped)?,
-            int(row.remaining)?,
-            int(row.used)?,
-            since(row.open_since),
-            row.baked.to_sql(),
-        ],
+        &reel_values(row)?.values,
     )
 }
 
@@ -49,11 +36,7 @@ pub fn take_mount<S: Alter>(tx: &mut Transaction<'_, S>, reel: &Id) -> Result<()
         (WritesRow (RowEdit.TakeMount reel.now) (state S.Store tx.old.conn.now) (state S.Store tx.new.conn.now)) }
     ensures within { InTransaction S.Store tx.old tx.new }
 {
-    run(
-        tx,
-        "DELETE FROM mount WHERE reel = ?1",
-        params![reel.as_str()],
-    )
+    run(tx, "DELETE FROM mount WHERE reel = ?1", &[text(reel)])
 }
 
 /// A mounted reel, where the reel is mounted nowhere and no row has its number.
@@ -66,12 +49,7 @@ pub fn put_mount<S: Alter>(tx: &mut Transaction<'_, S>, row: &MountRow) -> Resul
     run(
         tx,
         "INSERT INTO mount VALUES (?1, ?2, ?3, ?4)",
-        &[
-            int(row.since)?,
-            row.machine.as_str().to_sql(),
-            row.slot.as_str().to_sql(),
-            row.reel.as_str().to_sql(),
-        ],
+        &mount_values(row)?.values,
     )
 }
 
@@ -86,10 +64,6 @@ pub fn put_board<S: Alter>(tx: &mut Transaction<'_, S>, row: &BoardRow) -> Resul
         tx,
         "UPDATE board SET product = ?2, machine = ?3 WHERE board = ?1",
         "INSERT INTO board VALUES (?1, ?2, ?3)",
-        params![
-            row.board.as_str(),
-            row.product.as_str(),
-            or_empty(&row.machine)
-        ],
+        &board_values(row),
     )
 }

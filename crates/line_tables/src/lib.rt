@@ -9,6 +9,7 @@ mod migrating;
 mod naming;
 mod pieces;
 mod reading;
+pub mod row_values;
 mod rowids;
 mod rows;
 pub mod select;

@@ -12,11 +12,12 @@ ghost use Rattle.line_tables.specs.Calls.{Writes, WritesRow};
 ghost use Rattle.line_tables.specs.Frames.{InTransaction};
 
 use crate::edit::Edit;
+use crate::row_values::placement_values;
 use crate::statement::{change_or_put, run};
-use crate::values::{int, placement_id};
+use crate::values::{int, placement_id, text};
 use desk_types::{Id, PlacementRow, RowEdit};
-use sqlite::types::{ToSql, ValueRef};
-use sqlite::{Alter, Error, Transaction, params};
+use sqlite::types::ValueRef;
+use sqlite::{Alter, Error, Transaction};
 use std::alloc::Global;
 
 /// A placed piece, where no row has its number and place, nor its board and designator. Its reel has a row.
@@ -78,18 +79,9 @@ pub fn values_of_all<'a>(
 fn add_values<'a>(values: &mut Vec<ValueRef<'a>>, row: &'a PlacementRow) -> Result<(), Error>
     ensures { OnOk result (bound values.new.items ≡ bound values.old.items ++ placement_kept row.now) }
 {
-    let row = [
-        placement_id(row.number, row.place)?,
-        int(row.number)?,
-        int(row.place)?,
-        row.board.as_str().to_sql(),
-        row.designator.as_str().to_sql(),
-        row.machine.as_str().to_sql(),
-        row.slot.as_str().to_sql(),
-        row.reel.as_str().to_sql(),
-        row.overdue.to_sql(),
-    ];
-    values.extend_from_slice(&row)?;
+    values.reserve(9)?;
+    values.push(placement_id(row.number, row.place)?)?;
+    values.extend_from_slice(&placement_values(row)?.values)?;
     Ok(())
 }
 
@@ -104,6 +96,6 @@ pub fn put_found<S: Alter>(tx: &mut Transaction<'_, S>, reel: &Id, pieces: u64) 
         tx,
         "UPDATE found SET pieces = ?2 WHERE reel = ?1",
         "INSERT INTO found VALUES (?1, ?2)",
-        &[reel.as_str().to_sql(), int(pieces)?],
+        &[text(reel), int(pieces)?],
     )
 }

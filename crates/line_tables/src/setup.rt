@@ -8,10 +8,10 @@ ghost use Rattle.line_tables.specs.Calls.{WritesRow};
 ghost use Rattle.line_tables.specs.Frames.{InTransaction};
 
 use crate::statement::{change_or_put, run};
-use crate::values::{designators_text, int};
+use crate::values::{designators_text, int, text};
 use desk_types::{Id, SheetRow};
-use sqlite::types::{ToSql, ValueRef};
-use sqlite::{Alter, Error, Transaction, params};
+use sqlite::types::ValueRef;
+use sqlite::{Alter, Error, Transaction};
 use std::alloc::Global;
 
 /// A part, in the place of its row where it has one.
@@ -21,12 +21,8 @@ pub fn put_part<S: Alter>(tx: &mut Transaction<'_, S>, part: &Id) -> Result<(), 
         (WritesRow (RowEdit.PutPart part.now) (state S.Store tx.old.conn.now) (state S.Store tx.new.conn.now)) }
     ensures within { InTransaction S.Store tx.old tx.new }
 {
-    run(
-        tx,
-        "DELETE FROM part WHERE part = ?1",
-        params![part.as_str()],
-    )?;
-    run(tx, "INSERT INTO part VALUES (?1)", params![part.as_str()])
+    run(tx, "DELETE FROM part WHERE part = ?1", &[text(part)])?;
+    run(tx, "INSERT INTO part VALUES (?1)", &[text(part)])
 }
 
 /// An alternate of a part, in the place of its row where it has one.
@@ -44,12 +40,12 @@ pub fn put_alternate<S: Alter>(
     run(
         tx,
         "DELETE FROM alternate WHERE part = ?1 AND alternate = ?2",
-        params![part.as_str(), alternate.as_str()],
+        &[text(part), text(alternate)],
     )?;
     run(
         tx,
         "INSERT INTO alternate VALUES (?1, ?2)",
-        params![part.as_str(), alternate.as_str()],
+        &[text(part), text(alternate)],
     )
 }
 
@@ -69,11 +65,7 @@ pub fn take_sheet_row<S: Alter>(
     run(
         tx,
         "DELETE FROM sheet_row WHERE product = ?1 AND machine = ?2 AND place = ?3",
-        &[
-            product.as_str().to_sql(),
-            machine.as_str().to_sql(),
-            int(place)?,
-        ],
+        &[text(product), text(machine), int(place)?],
     )
 }
 
@@ -97,11 +89,11 @@ pub fn put_sheet_row<'x, S: Alter>(
         tx,
         "INSERT INTO sheet_row VALUES (?1, ?2, ?3, ?4, ?5, ?6)",
         &[
-            product.as_str().to_sql(),
-            machine.as_str().to_sql(),
+            text(product),
+            text(machine),
             int(place)?,
-            row.slot.as_str().to_sql(),
-            row.part.as_str().to_sql(),
+            text(&row.slot),
+            text(&row.part),
             ValueRef::Text(designators.as_slice()),
         ],
     )
@@ -123,6 +115,6 @@ pub fn put_selected<S: Alter>(
         tx,
         "UPDATE selected SET product = ?2 WHERE machine = ?1",
         "INSERT INTO selected VALUES (?1, ?2)",
-        params![machine.as_str(), product.as_str()],
+        &[text(machine), text(product)],
     )
 }

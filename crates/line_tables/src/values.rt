@@ -2,12 +2,13 @@
 
 ghost use Rattle.std.specs.Prelude.{◌≡◌, ◌≤◌, ◌^◌, unwrap_or, [], ◌∷◌, ◌++◌, pos, IfOk, IfErr, OnOk, MatchResult};
 ghost use Rattle.std.specs.List.{flat_map, join_with_byte};
-ghost use Rattle.sqlite.specs.declared.types.Value.TheVariants.{Int};
+ghost use Rattle.sqlite.specs.declared.types.Value.TheVariants.{Int, Text};
 ghost use Rattle.sqlite_value.specs.Value.{owned};
+ghost use Rattle.desk_types.specs.Level.{text_of};
 ghost use Rattle.line_tables.specs.Rowids.{placement_id};
-ghost use Rattle.line_tables.specs.StateRows.{since_or_none};
+ghost use Rattle.line_tables.specs.StateRows.{flag, since_or_none};
 
-use desk_types::{Designator, Id, Minute};
+use desk_types::{Designator, Id, Level, Minute};
 use sqlite::Error;
 use sqlite::types::ValueRef;
 use std::alloc::{AllocError, Global};
@@ -32,14 +33,42 @@ pub fn since<'a>(minute: Option<Minute>) -> ValueRef<'a>
     }
 }
 
-/// The name, or the empty text.
-pub fn or_empty(name: &Option<Id>) -> &str
-    ensures { result.now ≡ unwrap_or name.now [] }
+/// A name as text.
+pub fn text(name: &Id) -> ValueRef<'_>
+    ensures { owned result ≡ Text name.now }
+{
+    ValueRef::Text(name.as_bytes())
+}
+
+/// A name as text, or the empty text.
+pub fn text_or_empty(name: &Option<Id>) -> ValueRef<'_>
+    ensures { owned result ≡ Text (unwrap_or name.now []) }
 {
     match name {
-        Some(name) => name.as_str(),
-        None => "",
+        Some(name) => text(name),
+        None => ValueRef::Text(b""),
     }
+}
+
+/// A designator as text.
+pub fn designator(designator: &Designator) -> ValueRef<'_>
+    ensures { owned result ≡ Text designator.now }
+{
+    ValueRef::Text(designator.as_bytes())
+}
+
+/// A level as its text.
+pub fn level(level: Level) -> ValueRef<'static>
+    ensures { owned result ≡ Text (text_of level) }
+{
+    ValueRef::Text(level.as_str().as_bytes())
+}
+
+/// Yes or no as 1 or 0.
+pub fn yes_or_no(b: bool) -> ValueRef<'static>
+    ensures { owned result ≡ Int (flag b) }
+{
+    ValueRef::Int(i64::from(b))
 }
 
 /// The rowid of a placement: rows in its order are in that of numbers and then of places, of which

@@ -4,5 +4,5 @@ use Rattle.line_audit.proofs.placed.has_placement.Goals as goal
 
 pub returns-clause-found : goal.returns-clause-found
 returns-clause-found g c clean =
-    let shown = rw (c.text.ensures, c.designator.ensures, c.in_ok-int.ensures, c.in_ok-int-2.ensures, c.in_ok-int-3.ensures, c.in_ok-int-4.ensures, c.text-2.ensures, c.designator-2.ensures, c.text-3.ensures, c.text-4.ensures, c.text-5.ensures, c.yes_or_no.ensures) at (c.shows_only.ensures.shown clean) in
+    let shown = rw (c.text.ensures, c.designator.ensures, c.in_ok-int.ensures, c.in_ok-int-2.ensures, c.in_ok-placement_values.ensures.ok) at (c.shows_only.ensures.shown clean) in
     IfOk-weaker c.shows_only.result _ _ (λ b h. placement_alone g.S.Store c.args.conn.now _ b c.args.row.now h) shown

@@ -13,5 +13,5 @@ loop-at-preserved c =
     let as_many : length shown ≡ length rows = search rules in
     let within : i < length rows = c.loop-at-test.true in
     let one : get_or shown i s ≡ get_or (map placement_columns rows) i s =
-    sym c.index-shown-at.is ∙ c.in_ok-is_placement.ensures.ok.0 c.if-not-branch.false ∙ ap placement_columns c.index-rows-at.is ∙ sym (get_or-map placement_columns rows i r s within) in
+    sym c.index-shown-at.is ∙ c.is_row.ensures.0 c.if-not-is_row.false ∙ c.in_ok-placement_values.ensures.ok ∙ ap placement_columns c.index-rows-at.is ∙ sym (get_or-map placement_columns rows i r s within) in
     take_more_same shown (map placement_columns rows) i s (omega (arith, as_many, within)) (omega (arith, within, length-map rows placement_columns)) c.loop-at.invariant one

@@ -6,4 +6,4 @@ use Rattle.line_tables.proofs.pieces.put_found.Goals as goal
 pub returns-clause-done : goal.returns-clause-done
 returns-clause-done g c clean =
     on_ok_weaker c.change_or_put.result (λ did. found_put g.S.Store c.args.reel.now c.args.pieces (state g.S.Store c.args.tx.now.conn.now) (state g.S.Store c.change_or_put.new.tx.conn.now)
-    (rw (c.to_sql.ensures, c.as_str.ensures, c.in_ok-int.ensures) at did)) (c.change_or_put.ensures.done clean)
+    (rw (c.text.ensures, c.in_ok-int.ensures) at did)) (c.change_or_put.ensures.done clean)

@@ -1,0 +1,15 @@
+use Rattle.std.proofs.Common.{◌≡◌, ◌∷◌, [], refl}
+use Rattle.std.proofs.lemmas.List.{map-append, append_assoc}
+use Rattle.sqlite.specs.Values.{bound, bound_value}
+use Rattle.sqlite_value.specs.Value.{owned}
+use Rattle.line_tables.specs.Placing.{placement_kept}
+use Rattle.line_tables.proofs.RowPuts.{bound_as}
+use Rattle.line_tables.proofs.pieces.add_values.Goals as goal
+
+pub returns : goal.returns
+returns c =
+    let was = c.args.values.now.items in
+    let id = c.in_ok-placement_id.field-0 in
+    let rest = c.in_ok-placement_values.field-0.values in
+    let kept : bound (id ∷ rest) ≡ placement_kept c.args.row.now = bound_as (id ∷ rest) (placement_kept c.args.row.now) (rw (c.in_ok-placement_id.ensures.ok, c.in_ok-placement_values.ensures.ok) refl) in
+    rw (c.in_ok-extend_from_slice.ensures.items, c.in_ok-push.ensures.items, c.in_ok-reserve.ensures.items, append_assoc was (id ∷ []) rest, map-append (λ v. bound_value (owned v)) was (id ∷ rest), kept) refl
