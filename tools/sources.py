@@ -5,6 +5,7 @@ LITERAL = re.compile(
     r"""(//[^\n]*|/\*.*?\*/)|b?r(#*)".*?"\2|b?"(?:[^"\\]|\\.)*"|b?'(?:[^'\\\n]|\\[^\n][^'\n]*)'""", re.S
 )
 HEAD = re.compile(r"\bfn\s+(\w+)|\bimpl\b([^{;]*)")
+END = re.compile(r";(?![^\[\]{}]*\])")  # not that of an array
 
 
 def blanked(text, start, end):
@@ -42,8 +43,8 @@ def spans_of(code):
     spans = []
     for found in HEAD.finditer(code):
         begin = code.find("{", found.end())
-        ends = code.find(";", found.end())
-        if begin >= 0 and (ends < 0 or begin < ends):
+        ends = END.search(code, found.end())
+        if begin >= 0 and (not ends or begin < ends.start()):
             of = re.sub(r"<[^<>]*>", "", (found[2] or "").rpartition(" for ")[2]).split("::")[-1].strip()
             spans.append((found.start(), closing(code, begin), found[1], of))
     return spans
