@@ -37,7 +37,7 @@ use Rattle.line_replay.specs.Replay.{IsReplayed, IsFaultOf as IsReplayFault}
 use Rattle.line_replay.proofs.ReadOfCommitted.{reads_as, reads_back}
 use Rattle.trace_lists.specs.Lists.{IsListed}
 use Rattle.line_schema.specs.declared.fault.OpenFault.{OpenFault}
-use Rattle.line_schema.specs.declared.fault.OpenFault.TheVariants.{NotADesk, OtherVersion, NotLawful, TableDiffers, Unavailable}
+use Rattle.line_schema.specs.declared.fault.OpenFault.TheVariants.{NotADesk, OtherVersion, TableDiffers}
 use Rattle.line_schema.specs.declared.opening.Opened.{Opened}
 use Rattle.line_schema.specs.Opening.{IsGreatest, IsVersion, IsNoDeskBy, IsFaultBy, IsOpened, IsNamedBy, opening_fault}
 

@@ -1,4 +1,5 @@
 pub mod Opening
 pub mod Stands
 pub mod Traces
+pub mod Frames
 pub mod Versions

@@ -63,6 +63,10 @@ conn_of store = store.conn
 abbrev pub state_of : {S D : Type 0} → Ghosts S → LineStore S D → State
 state_of g store = state g store.conn
 
+-- What holds of each list for which a store stood, where its disk is honest still and its tables are its own.
+abbrev pub ForKept : {S D : Type 0} → Ghosts S → (D → History → Type 0) → (D → Rules) → LineStore S D → LineStore S D → (Kept → Type 0) → Type 0
+ForKept g StandsFor kept_rules old new Fact = (L : Kept) → Stands g StandsFor kept_rules old L → HasCleanDisk (state_of g new) → IsTrue L.own → Fact L
+
 -- whether the store has a desk at hand, or has to make it again from its tables
 abbrev pub has_desk : {S D : Type 0} → LineStore S D → Bool
 has_desk store = is_some store.desk

@@ -3,7 +3,7 @@
 ghost use Rattle.std.specs.Prelude.{◌≡◌, ◌<◌, ◌≤◌, ◌⊎◌, ⊤, [], true, false, IsTrue, IfOk, IfErr, OnOk, OnErr, IfSome, IsSomeAnd, is_some, length, None, Err, ◌≢◌};
 ghost use Rattle.std.specs.List.{list_any};
 ghost use Rattle.sqlite_trees.specs.Tree.{Trees};
-ghost use Rattle.sqlite.specs.State.{HasCleanDisk, KeepsCommit, Survives};
+ghost use Rattle.sqlite.specs.State.{HasCleanDisk, Survives};
 ghost use Rattle.sqlite.specs.Held.{state};
 ghost use Rattle.desk_types.specs.declared.answer.Reply.TheVariants as Reply;
 ghost use Rattle.desk_types.specs.declared.limits.TheConstants.{MOST_ENTRIES};
@@ -14,13 +14,15 @@ ghost use Rattle.desk_types.specs.Outcome.{reply_to, after_command};
 ghost use Rattle.desk_answers.specs.Commands.{earlier_answer, judged_answer, command_answer, command_after};
 ghost use Rattle.desk_answers.specs.Ledger.{IsAnswer};
 ghost use Rattle.line_tables.specs.Calls.{Reads, LeavesBlank};
+ghost use Rattle.line_tables.specs.Frames.{ReadsOnly};
 ghost use Rattle.line_tables.specs.Line.{is_blank, is_ours};
 ghost use Rattle.line_tables.specs.Names.{has_name};
 ghost use Rattle.line_tables.specs.Rows.{Holds, HoldsAt, blank};
 ghost use Rattle.line_rows.specs.Rows.{ledger_tables};
 ghost use Rattle.line_schema.specs.declared.fault.OpenFault.TheVariants as Fault;
 ghost use Rattle.line_schema.specs.Opening.{IsFaultOf, IsNamed, IsToldOf};
-ghost use Rattle.line_schema.specs.Stands.{Kept, Stands, ShowsTables, state_of, conn_of, has_desk, with_command, ledger, kept_after, answer_in, NewlyLeaves, Leaves};
+ghost use Rattle.line_schema.specs.Stands.{Kept, ForKept, Stands, ShowsTables, state_of, conn_of, has_desk, with_command, ledger, kept_after, answer_in, NewlyLeaves, Leaves};
+ghost use Rattle.line_schema.specs.Frames.{MakesDesk, LeavesUnmade};
 
 mod migration;
 mod traces;
@@ -79,11 +81,7 @@ impl<S: Alter, D: Desk + Drop> LineStore<S, D> {
             ⊎ ((e.0 ≡ Fault.NotBlank) × (list_any has_name (state S.Store conn).now.schema.tables ≡ true))) }
         ensures untouched { IfErr result (λ e. e.0 ≡ Fault.NotBlank → e.1 ≡ conn) }
         ensures inside { IsTrue conn.in_transaction → result ≡ Err (Fault.Unavailable, conn) }
-        ensures mode { IfErr result (λ e. conn.in_transaction ≡ false → e.1.in_transaction ≡ false) }
-        ensures unchanged { IfErr result (λ e. HasCleanDisk (state S.Store e.1)
-            → KeepsCommit (state S.Store conn) (state S.Store e.1)) }
-        ensures survives { IfErr result
-            (λ e. Survives (state S.Store conn) (state S.Store e.1) (LeavesBlank greatest (state S.Store conn))) }
+        ensures unmade { IfErr result (λ e. LeavesUnmade S.Store greatest conn e.1) }
     {
         let mut conn = conn;
         if !conn.is_autocommit() {
@@ -121,13 +119,8 @@ impl<S: Alter, D: Desk + Drop> LineStore<S, D> {
         ensures told { IfErr result (λ e. IsToldOf (state S.Store conn) e.0) }
         ensures never { IfErr result (λ e. e.0 ≢ Fault.NotBlank) }
         ensures inside { IsTrue conn.in_transaction → result ≡ Err (Fault.Unavailable, conn) }
-        ensures mode { IfErr result (λ e. conn.in_transaction ≡ false → e.1.in_transaction ≡ false) }
-        ensures same { IfOk result (λ store. HasCleanDisk (state_of S.Store store)
-            → KeepsCommit (state S.Store conn) (state_of S.Store store)) }
-        ensures unchanged { IfErr result (λ e. HasCleanDisk (state S.Store e.1)
-            → KeepsCommit (state S.Store conn) (state S.Store e.1)) }
-        ensures leaves { IfOk result (λ store. Survives (state S.Store conn) (state_of S.Store store) (λ _. ⊥)) }
-        ensures survives { IfErr result (λ e. Survives (state S.Store conn) (state S.Store e.1) (λ _. ⊥)) }
+        ensures reads { IfOk result (λ store. ReadsOnly S.Store conn (conn_of store)) }
+        ensures refused { IfErr result (λ e. ReadsOnly S.Store conn e.1) }
     {
         let mut conn = conn;
         if !conn.is_autocommit() {
@@ -188,13 +181,8 @@ impl<S: Alter, D: Desk + Drop> LineStore<S, D> {
     /// aren't.
     pub fn ready(&mut self) -> Result<(), Unavailable>
         requires stands { (L : Kept) × Stands S.Store D.Stands D.kept_rules self.old L }
-        ensures at_hand { IsTrue (has_desk self.old) → self.new ≡ self.old }
         ensures ok { OnOk result (IsTrue (has_desk self.new)) }
-        ensures kept { (L : Kept) × Stands S.Store D.Stands D.kept_rules self.new L }
-        ensures stands { (L : Kept) → Stands S.Store D.Stands D.kept_rules self.old L
-            → HasCleanDisk (state_of S.Store self.new) → IsTrue L.own
-            → Stands S.Store D.Stands D.kept_rules self.new L }
-        ensures survives { Survives (state_of S.Store self.old) (state_of S.Store self.new) (λ _. ⊥) }
+        ensures makes_desk { MakesDesk S.Store D.Stands D.kept_rules self.old self.new }
     {
         if self.desk.is_some() {
             return Ok(());
@@ -207,9 +195,8 @@ impl<S: Alter, D: Desk + Drop> LineStore<S, D> {
         requires stands { (L : Kept) × Stands S.Store D.Stands D.kept_rules self.old L }
         ensures ok { OnOk result (IsTrue (has_desk self.new)) }
         ensures kept { (L : Kept) × Stands S.Store D.Stands D.kept_rules self.new L }
-        ensures stands { (L : Kept) → Stands S.Store D.Stands D.kept_rules self.old L
-            → HasCleanDisk (state_of S.Store self.new) → IsTrue L.own
-            → Stands S.Store D.Stands D.kept_rules self.new L }
+        ensures stands { ForKept S.Store D.Stands D.kept_rules self.old self.new
+            (Stands S.Store D.Stands D.kept_rules self.new) }
         ensures survives { Survives (state_of S.Store self.old) (state_of S.Store self.new) (λ _. ⊥) }
     {
         match rebuild(self.alloc, &mut self.conn, Rules::Two, self.greatest) {
@@ -236,17 +223,15 @@ impl<S: Alter, D: Desk + Drop> LineStore<S, D> {
     pub fn command(&mut self, stamped: &Stamped) -> Answer
         requires stands { (L : Kept) × Stands S.Store D.Stands D.kept_rules self.old L }
         ensures kept { (L : Kept) × Stands S.Store D.Stands D.kept_rules self.new L }
-        ensures answer { (L : Kept) → Stands S.Store D.Stands D.kept_rules self.old L
-            → HasCleanDisk (state_of S.Store self.new) → IsTrue L.own → IsAnswer (ledger L) stamped.now result }
-        ensures stands { (L : Kept) → Stands S.Store D.Stands D.kept_rules self.old L
-            → HasCleanDisk (state_of S.Store self.new) → IsTrue L.own
-            → Stands S.Store D.Stands D.kept_rules self.new (kept_after L stamped.now result) }
+        ensures answer { ForKept S.Store D.Stands D.kept_rules self.old self.new
+            (λ L. IsAnswer (ledger L) stamped.now result) }
+        ensures stands { ForKept S.Store D.Stands D.kept_rules self.old self.new
+            (λ L. Stands S.Store D.Stands D.kept_rules self.new (kept_after L stamped.now result)) }
         ensures tables { (L : Kept) → Stands S.Store D.Stands D.kept_rules self.old L
             → ShowsTables S.Store self.new (kept_after L stamped.now result) }
-        ensures crash { (L : Kept) → Stands S.Store D.Stands D.kept_rules self.old L
-            → HasCleanDisk (state_of S.Store self.new) → IsTrue L.own → (trees : Trees)
-            → (state_of S.Store self.new).may_leave trees
-            → Leaves L stamped.now result ((state_of S.Store self.old).may_leave trees) trees }
+        ensures crash { ForKept S.Store D.Stands D.kept_rules self.old self.new
+            (λ L. (trees : Trees) → (state_of S.Store self.new).may_leave trees
+            → Leaves L stamped.now result ((state_of S.Store self.old).may_leave trees) trees) }
         ensures clean { HasCleanDisk (state_of S.Store self.new) → HasCleanDisk (state_of S.Store self.old) }
         ensures survives { Survives (state_of S.Store self.old) (state_of S.Store self.new) (λ _. ⊤) }
     {
@@ -259,21 +244,17 @@ impl<S: Alter, D: Desk + Drop> LineStore<S, D> {
     fn answer(&mut self, stamped: &Stamped) -> Result<Answer, Unavailable>
         requires stands { (L : Kept) × Stands S.Store D.Stands D.kept_rules self.old L }
         ensures kept { (L : Kept) × Stands S.Store D.Stands D.kept_rules self.new L }
-        ensures answer { (L : Kept) → Stands S.Store D.Stands D.kept_rules self.old L
-            → HasCleanDisk (state_of S.Store self.new) → IsTrue L.own
-            → IfOk result (λ answer. answer ≡ command_answer Two L.greatest L.history stamped.now) }
-        ensures ok { (L : Kept) → Stands S.Store D.Stands D.kept_rules self.old L
-            → HasCleanDisk (state_of S.Store self.new) → IsTrue L.own
-            → OnOk result
+        ensures answer { ForKept S.Store D.Stands D.kept_rules self.old self.new
+            (λ L. IfOk result (λ answer. answer ≡ command_answer Two L.greatest L.history stamped.now)) }
+        ensures ok { ForKept S.Store D.Stands D.kept_rules self.old self.new
+            (λ L. OnOk result
             (Stands S.Store D.Stands D.kept_rules self.new
-            (record L { history = command_after Two L.greatest L.history stamped.now })) }
-        ensures err { (L : Kept) → Stands S.Store D.Stands D.kept_rules self.old L
-            → HasCleanDisk (state_of S.Store self.new) → IsTrue L.own
-            → OnErr result (Stands S.Store D.Stands D.kept_rules self.new L) }
-        ensures crash { (L : Kept) → Stands S.Store D.Stands D.kept_rules self.old L
-            → HasCleanDisk (state_of S.Store self.new) → IsTrue L.own → (trees : Trees)
-            → (state_of S.Store self.new).may_leave trees
-            → Leaves L stamped.now (answer_in result) ((state_of S.Store self.old).may_leave trees) trees }
+            (record L { history = command_after Two L.greatest L.history stamped.now }))) }
+        ensures err { ForKept S.Store D.Stands D.kept_rules self.old self.new
+            (λ L. OnErr result (Stands S.Store D.Stands D.kept_rules self.new L)) }
+        ensures crash { ForKept S.Store D.Stands D.kept_rules self.old self.new
+            (λ L. (trees : Trees) → (state_of S.Store self.new).may_leave trees
+            → Leaves L stamped.now (answer_in result) ((state_of S.Store self.old).may_leave trees) trees) }
         ensures survives { Survives (state_of S.Store self.old) (state_of S.Store self.new) (λ _. ⊤) }
     {
         if let Some(answer) = self.earlier(stamped)? {
@@ -288,9 +269,8 @@ impl<S: Alter, D: Desk + Drop> LineStore<S, D> {
     /// The answer by the row that has the UniqueID, where there is one.
     fn earlier(&mut self, stamped: &Stamped) -> Result<Option<Answer>, Unavailable>
         requires stands { (L : Kept) × Stands S.Store D.Stands D.kept_rules self.old L }
-        ensures answer { (L : Kept) → Stands S.Store D.Stands D.kept_rules self.old L
-            → HasCleanDisk (state_of S.Store self.new) → IsTrue L.own
-            → IfOk result (λ answer. answer ≡ earlier_answer L.history stamped.now) }
+        ensures answer { ForKept S.Store D.Stands D.kept_rules self.old self.new
+            (λ L. IfOk result (λ answer. answer ≡ earlier_answer L.history stamped.now)) }
         ensures stands { (L : Kept) → Stands S.Store D.Stands D.kept_rules self.old L
             → Stands S.Store D.Stands D.kept_rules self.new L }
         ensures survives { Survives (state_of S.Store self.old) (state_of S.Store self.new) (λ _. ⊥) }
@@ -306,22 +286,19 @@ impl<S: Alter, D: Desk + Drop> LineStore<S, D> {
     fn answer_new(&mut self, stamped: &Stamped) -> Result<Answer, Unavailable>
         requires stands { (L : Kept) × Stands S.Store D.Stands D.kept_rules self.old L }
         ensures kept { (L : Kept) × Stands S.Store D.Stands D.kept_rules self.new L }
-        ensures answer { (L : Kept) → Stands S.Store D.Stands D.kept_rules self.old L
-            → HasCleanDisk (state_of S.Store self.new) → IsTrue L.own
-            → IfOk result
-            (λ answer. answer ≡ judged_answer L.history stamped.now (reply_to Two L.history stamped.now)) }
-        ensures ok { (L : Kept) → Stands S.Store D.Stands D.kept_rules self.old L
-            → HasCleanDisk (state_of S.Store self.new) → IsTrue L.own → earlier_answer L.history stamped.now ≡ None
+        ensures answer { ForKept S.Store D.Stands D.kept_rules self.old self.new
+            (λ L. IfOk result
+            (λ answer. answer ≡ judged_answer L.history stamped.now (reply_to Two L.history stamped.now))) }
+        ensures ok { ForKept S.Store D.Stands D.kept_rules self.old self.new
+            (λ L. earlier_answer L.history stamped.now ≡ None
             → OnOk result
             (Stands S.Store D.Stands D.kept_rules self.new
-            (record L { history = after_command Two L.history stamped.now })) }
-        ensures err { (L : Kept) → Stands S.Store D.Stands D.kept_rules self.old L
-            → HasCleanDisk (state_of S.Store self.new) → IsTrue L.own
-            → OnErr result (Stands S.Store D.Stands D.kept_rules self.new L) }
-        ensures crash { (L : Kept) → Stands S.Store D.Stands D.kept_rules self.old L
-            → HasCleanDisk (state_of S.Store self.new) → IsTrue L.own → (trees : Trees)
-            → (state_of S.Store self.new).may_leave trees
-            → NewlyLeaves L stamped.now (answer_in result) ((state_of S.Store self.old).may_leave trees) trees }
+            (record L { history = after_command Two L.history stamped.now }))) }
+        ensures err { ForKept S.Store D.Stands D.kept_rules self.old self.new
+            (λ L. OnErr result (Stands S.Store D.Stands D.kept_rules self.new L)) }
+        ensures crash { ForKept S.Store D.Stands D.kept_rules self.old self.new
+            (λ L. (trees : Trees) → (state_of S.Store self.new).may_leave trees
+            → NewlyLeaves L stamped.now (answer_in result) ((state_of S.Store self.old).may_leave trees) trees) }
         ensures survives { Survives (state_of S.Store self.old) (state_of S.Store self.new) (λ _. ⊤) }
     {
         self.ready()?;
@@ -342,10 +319,9 @@ impl<S: Alter, D: Desk + Drop> LineStore<S, D> {
             (record L { history = after_command Two L.history stamped.now })) }
         ensures err { (L : Kept) → Stands S.Store D.Stands D.kept_rules self.old L
             → OnErr result (Stands S.Store D.Stands D.kept_rules self.new L) }
-        ensures crash { (L : Kept) → Stands S.Store D.Stands D.kept_rules self.old L
-            → HasCleanDisk (state_of S.Store self.new) → IsTrue L.own → (trees : Trees)
-            → (state_of S.Store self.new).may_leave trees
-            → NewlyLeaves L stamped.now (answer_in result) ((state_of S.Store self.old).may_leave trees) trees }
+        ensures crash { ForKept S.Store D.Stands D.kept_rules self.old self.new
+            (λ L. (trees : Trees) → (state_of S.Store self.new).may_leave trees
+            → NewlyLeaves L stamped.now (answer_in result) ((state_of S.Store self.old).may_leave trees) trees) }
         ensures survives { Survives (state_of S.Store self.old) (state_of S.Store self.new) (λ _. ⊤) }
     {
         if self.count >= self.greatest {
@@ -378,10 +354,9 @@ impl<S: Alter, D: Desk + Drop> LineStore<S, D> {
         ensures survives { (L : Kept) → Stands S.Store D.Stands D.kept_rules self.old L → IsTrue L.own
             → Survives (state_of S.Store self.old) (state_of S.Store self.new)
             (HoldsAt (ledger_tables L.greatest (with_command L change.stamped).history)) }
-        ensures alone { (L : Kept) → Stands S.Store D.Stands D.kept_rules self.old L
-            → HasCleanDisk (state_of S.Store self.new) → IsTrue L.own
-            → OnOk result ((trees : Trees) → (state_of S.Store self.new).may_leave trees
-            → HoldsAt (ledger_tables L.greatest (with_command L change.stamped).history) trees) }
+        ensures alone { ForKept S.Store D.Stands D.kept_rules self.old self.new
+            (λ L. OnOk result ((trees : Trees) → (state_of S.Store self.new).may_leave trees
+            → HoldsAt (ledger_tables L.greatest (with_command L change.stamped).history) trees)) }
         ensures faults { Survives (state_of S.Store self.old) (state_of S.Store self.new) (λ _. ⊤) }
     {
         change.stamped.ranges_hold();

@@ -1,8 +1,8 @@
 //! The lists of a desk: the card of a reel, the slot list of a machine, the kit of a product.
 
-ghost use Rattle.std.specs.Prelude.{◌≡◌, IsTrue, Option, List, ℕ};
-ghost use Rattle.sqlite.specs.State.{HasCleanDisk, Survives};
-ghost use Rattle.line_schema.specs.Stands.{Kept, Stands, state_of, has_desk};
+ghost use Rattle.std.specs.Prelude.{Option, List, ℕ};
+ghost use Rattle.line_schema.specs.Stands.{ForKept, Kept, Stands};
+ghost use Rattle.line_schema.specs.Frames.{MakesDesk};
 ghost use Rattle.report_texts.specs.Card.{reel_card};
 ghost use Rattle.report_texts.specs.Slots.{slot_list};
 ghost use Rattle.report_texts.specs.Kit.{kit_list};
@@ -33,14 +33,9 @@ pub fn reel_card<S: Alter, D: Desk + Drop>(
     reel: &Id,
 ) -> Result<Text, ReportFault>
     requires stands { (L : Kept) × Stands S.Store D.Stands D.kept_rules store.old L }
-    ensures card { (L : Kept) → Stands S.Store D.Stands D.kept_rules store.old L
-        → HasCleanDisk (state_of S.Store store.new) → IsTrue L.own
-        → Answers Kind.Reel (reel_card L.history reel.now) result }
-    ensures at_hand { IsTrue (has_desk store.old) → store.new ≡ store.old }
-    ensures kept { (L : Kept) × Stands S.Store D.Stands D.kept_rules store.new L }
-    ensures stands { (L : Kept) → Stands S.Store D.Stands D.kept_rules store.old L
-        → HasCleanDisk (state_of S.Store store.new) → IsTrue L.own → Stands S.Store D.Stands D.kept_rules store.new L }
-    ensures survives { Survives (state_of S.Store store.old) (state_of S.Store store.new) (λ _. ⊥) }
+    ensures card { ForKept S.Store D.Stands D.kept_rules store.old store.new
+        (λ L. Answers Kind.Reel (reel_card L.history reel.now) result) }
+    ensures makes_desk { MakesDesk S.Store D.Stands D.kept_rules store.old store.new }
 {
     store.ready()?;
     let Some(desk) = store.desk() else {
@@ -57,14 +52,9 @@ pub fn slot_list<S: Alter, D: Desk + Drop>(
     machine: &Id,
 ) -> Result<Text, ReportFault>
     requires stands { (L : Kept) × Stands S.Store D.Stands D.kept_rules store.old L }
-    ensures list { (L : Kept) → Stands S.Store D.Stands D.kept_rules store.old L
-        → HasCleanDisk (state_of S.Store store.new) → IsTrue L.own
-        → Answers Kind.Machine (slot_list L.history machine.now) result }
-    ensures at_hand { IsTrue (has_desk store.old) → store.new ≡ store.old }
-    ensures kept { (L : Kept) × Stands S.Store D.Stands D.kept_rules store.new L }
-    ensures stands { (L : Kept) → Stands S.Store D.Stands D.kept_rules store.old L
-        → HasCleanDisk (state_of S.Store store.new) → IsTrue L.own → Stands S.Store D.Stands D.kept_rules store.new L }
-    ensures survives { Survives (state_of S.Store store.old) (state_of S.Store store.new) (λ _. ⊥) }
+    ensures list { ForKept S.Store D.Stands D.kept_rules store.old store.new
+        (λ L. Answers Kind.Machine (slot_list L.history machine.now) result) }
+    ensures makes_desk { MakesDesk S.Store D.Stands D.kept_rules store.old store.new }
 {
     store.ready()?;
     let Some(desk) = store.desk() else {
@@ -86,14 +76,9 @@ pub fn kit_list<S: Alter, D: Desk + Drop>(
     boards: Boards,
 ) -> Result<Text, ReportFault>
     requires stands { (L : Kept) × Stands S.Store D.Stands D.kept_rules store.old L }
-    ensures list { (L : Kept) → Stands S.Store D.Stands D.kept_rules store.old L
-        → HasCleanDisk (state_of S.Store store.new) → IsTrue L.own
-        → Answers Kind.Sheet (kit_list L.history product.now machine.now boards) result }
-    ensures at_hand { IsTrue (has_desk store.old) → store.new ≡ store.old }
-    ensures kept { (L : Kept) × Stands S.Store D.Stands D.kept_rules store.new L }
-    ensures stands { (L : Kept) → Stands S.Store D.Stands D.kept_rules store.old L
-        → HasCleanDisk (state_of S.Store store.new) → IsTrue L.own → Stands S.Store D.Stands D.kept_rules store.new L }
-    ensures survives { Survives (state_of S.Store store.old) (state_of S.Store store.new) (λ _. ⊥) }
+    ensures list { ForKept S.Store D.Stands D.kept_rules store.old store.new
+        (λ L. Answers Kind.Sheet (kit_list L.history product.now machine.now boards) result) }
+    ensures makes_desk { MakesDesk S.Store D.Stands D.kept_rules store.old store.new }
 {
     store.ready()?;
     let Some(desk) = store.desk() else {

@@ -1,9 +1,7 @@
 //! Traces of boards and lots, and the overdue list, from the tables of a store.
 
-ghost use Rattle.std.specs.Prelude.{◌≡◌, IsTrue};
-ghost use Rattle.sqlite.specs.State.{HasCleanDisk, KeepsCommit, Survives};
-ghost use Rattle.line_schema.specs.Stands.{Kept, Stands, state_of};
-ghost use Rattle.line_schema.specs.Traces.{desk_of};
+ghost use Rattle.line_schema.specs.Stands.{ForKept};
+ghost use Rattle.line_schema.specs.Frames.{ReadsStore};
 ghost use Rattle.report_texts.specs.declared.kind.Kind.TheVariants as Kind;
 ghost use Rattle.trace_reports.specs.Reports.{board_trace, lot_trace, overdue_list, Answers, AnswersAlways};
 
@@ -21,15 +19,9 @@ pub fn board_trace<S: Alter, D: Desk + Drop>(
     board: &Id,
     detail: TraceDetail,
 ) -> Result<Text, ReportFault>
-    ensures trace { (L : Kept) → Stands S.Store D.Stands D.kept_rules store.old L
-        → HasCleanDisk (state_of S.Store store.new) → IsTrue L.own
-        → Answers Kind.Board (board_trace detail L.history board.now) result }
-    ensures stands { (L : Kept) → Stands S.Store D.Stands D.kept_rules store.old L
-        → Stands S.Store D.Stands D.kept_rules store.new L }
-    ensures desk { desk_of store.new ≡ desk_of store.old }
-    ensures unchanged { HasCleanDisk (state_of S.Store store.new)
-        → KeepsCommit (state_of S.Store store.old) (state_of S.Store store.new) }
-    ensures survives { Survives (state_of S.Store store.old) (state_of S.Store store.new) (λ _. ⊥) }
+    ensures trace { ForKept S.Store D.Stands D.kept_rules store.old store.new
+        (λ L. Answers Kind.Board (board_trace detail L.history board.now) result) }
+    ensures reads { ReadsStore S.Store D.Stands D.kept_rules store.old store.new }
 {
     let Some(pieces) = store.board_rows(board)? else {
         return Err(ReportFault::NotFound(Kind::Board));
@@ -45,15 +37,9 @@ pub fn lot_trace<S: Alter, D: Desk + Drop>(
     lot: &Id,
     detail: TraceDetail,
 ) -> Result<Text, ReportFault>
-    ensures trace { (L : Kept) → Stands S.Store D.Stands D.kept_rules store.old L
-        → HasCleanDisk (state_of S.Store store.new) → IsTrue L.own
-        → Answers Kind.Lot (lot_trace detail L.history lot.now) result }
-    ensures stands { (L : Kept) → Stands S.Store D.Stands D.kept_rules store.old L
-        → Stands S.Store D.Stands D.kept_rules store.new L }
-    ensures desk { desk_of store.new ≡ desk_of store.old }
-    ensures unchanged { HasCleanDisk (state_of S.Store store.new)
-        → KeepsCommit (state_of S.Store store.old) (state_of S.Store store.new) }
-    ensures survives { Survives (state_of S.Store store.old) (state_of S.Store store.new) (λ _. ⊥) }
+    ensures trace { ForKept S.Store D.Stands D.kept_rules store.old store.new
+        (λ L. Answers Kind.Lot (lot_trace detail L.history lot.now) result) }
+    ensures reads { ReadsStore S.Store D.Stands D.kept_rules store.old store.new }
 {
     let Some(pieces) = store.lot_rows(lot)? else {
         return Err(ReportFault::NotFound(Kind::Lot));
@@ -67,14 +53,9 @@ pub fn overdue_list<S: Alter, D: Desk + Drop>(
     alloc: Global,
     store: &mut LineStore<S, D>,
 ) -> Result<Text, ReportFault>
-    ensures list { (L : Kept) → Stands S.Store D.Stands D.kept_rules store.old L
-        → HasCleanDisk (state_of S.Store store.new) → IsTrue L.own → AnswersAlways (overdue_list L.history) result }
-    ensures stands { (L : Kept) → Stands S.Store D.Stands D.kept_rules store.old L
-        → Stands S.Store D.Stands D.kept_rules store.new L }
-    ensures desk { desk_of store.new ≡ desk_of store.old }
-    ensures unchanged { HasCleanDisk (state_of S.Store store.new)
-        → KeepsCommit (state_of S.Store store.old) (state_of S.Store store.new) }
-    ensures survives { Survives (state_of S.Store store.old) (state_of S.Store store.new) (λ _. ⊥) }
+    ensures list { ForKept S.Store D.Stands D.kept_rules store.old store.new
+        (λ L. AnswersAlways (overdue_list L.history) result) }
+    ensures reads { ReadsStore S.Store D.Stands D.kept_rules store.old store.new }
 {
     let pieces = store.overdue_rows()?;
     Ok(overdue_text(alloc, pieces.as_slice())?)

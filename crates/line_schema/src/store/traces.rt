@@ -1,13 +1,12 @@
 //! The pieces of a board, of a lot, and of overdue reels, by the tables that a store keeps. The desk and
 //! the lists beside it say where to look, where they are at hand; they need not be, and are let be.
 
-ghost use Rattle.std.specs.Prelude.{◌≡◌, IsTrue, IfOk};
-ghost use Rattle.sqlite.specs.State.{HasCleanDisk, KeepsCommit, Survives};
+ghost use Rattle.std.specs.Prelude.{◌≡◌, IfOk};
 ghost use Rattle.desk_types.specs.Id.{Name};
 ghost use Rattle.desk_types.specs.Placements.{overdue_of};
 ghost use Rattle.line_traces.specs.Pieces.{board_trace, lot_trace, lot_board_names, AreConverse};
-ghost use Rattle.line_schema.specs.Stands.{Kept, Stands, state_of};
-ghost use Rattle.line_schema.specs.Traces.{desk_of};
+ghost use Rattle.line_schema.specs.Stands.{ForKept};
+ghost use Rattle.line_schema.specs.Frames.{ReadsStore};
 
 use crate::store::LineStore;
 use crate::unavailable::Unavailable;
@@ -18,18 +17,12 @@ use sqlite::Alter;
 impl<S: Alter, D: Desk + Drop> LineStore<S, D> {
     /// The pieces on a board by number, then place; none where no accepted command started the board.
     pub fn board_rows(&mut self, board: &Id) -> Result<Option<PlacedRows>, Unavailable>
-        ensures trace { (L : Kept) → Stands S.Store D.Stands D.kept_rules self.old L
-            → HasCleanDisk (state_of S.Store self.new) → IsTrue L.own
-            → IfOk result (λ pieces. pieces ≡ board_trace L.history board.now) }
-        ensures converse { (L : Kept) → Stands S.Store D.Stands D.kept_rules self.old L
-            → HasCleanDisk (state_of S.Store self.new) → IsTrue L.own
-            → IfOk result (λ pieces. (lot : Name) → AreConverse board.now pieces lot (lot_board_names L.history lot)) }
-        ensures stands { (L : Kept) → Stands S.Store D.Stands D.kept_rules self.old L
-            → Stands S.Store D.Stands D.kept_rules self.new L }
-        ensures desk { desk_of self.new ≡ desk_of self.old }
-        ensures unchanged { HasCleanDisk (state_of S.Store self.new)
-            → KeepsCommit (state_of S.Store self.old) (state_of S.Store self.new) }
-        ensures survives { Survives (state_of S.Store self.old) (state_of S.Store self.new) (λ _. ⊥) }
+        ensures trace { ForKept S.Store D.Stands D.kept_rules self.old self.new
+            (λ L. IfOk result (λ pieces. pieces ≡ board_trace L.history board.now)) }
+        ensures converse { ForKept S.Store D.Stands D.kept_rules self.old self.new
+            (λ L. IfOk result
+            (λ pieces. (lot : Name) → AreConverse board.now pieces lot (lot_board_names L.history lot))) }
+        ensures reads { ReadsStore S.Store D.Stands D.kept_rules self.old self.new }
     {
         let lists = self.lists.as_ref();
         let desk = self.desk.as_ref();
@@ -39,15 +32,9 @@ impl<S: Alter, D: Desk + Drop> LineStore<S, D> {
     /// The pieces of a lot by number, then place; none where no accepted command received a reel of the
     /// lot.
     pub fn lot_rows(&mut self, lot: &Id) -> Result<Option<PlacedRows>, Unavailable>
-        ensures trace { (L : Kept) → Stands S.Store D.Stands D.kept_rules self.old L
-            → HasCleanDisk (state_of S.Store self.new) → IsTrue L.own
-            → IfOk result (λ pieces. pieces ≡ lot_trace L.history lot.now) }
-        ensures stands { (L : Kept) → Stands S.Store D.Stands D.kept_rules self.old L
-            → Stands S.Store D.Stands D.kept_rules self.new L }
-        ensures desk { desk_of self.new ≡ desk_of self.old }
-        ensures unchanged { HasCleanDisk (state_of S.Store self.new)
-            → KeepsCommit (state_of S.Store self.old) (state_of S.Store self.new) }
-        ensures survives { Survives (state_of S.Store self.old) (state_of S.Store self.new) (λ _. ⊥) }
+        ensures trace { ForKept S.Store D.Stands D.kept_rules self.old self.new
+            (λ L. IfOk result (λ pieces. pieces ≡ lot_trace L.history lot.now)) }
+        ensures reads { ReadsStore S.Store D.Stands D.kept_rules self.old self.new }
     {
         let lists = self.lists.as_ref();
         let desk = self.desk.as_ref();
@@ -57,18 +44,12 @@ impl<S: Alter, D: Desk + Drop> LineStore<S, D> {
     /// The boards that hold a piece of a lot, each once and in byte order; none where no accepted
     /// command received a reel of the lot.
     pub fn lot_boards(&mut self, lot: &Id) -> Result<Option<IdList>, Unavailable>
-        ensures boards { (L : Kept) → Stands S.Store D.Stands D.kept_rules self.old L
-            → HasCleanDisk (state_of S.Store self.new) → IsTrue L.own
-            → IfOk result (λ boards. boards ≡ lot_board_names L.history lot.now) }
-        ensures converse { (L : Kept) → Stands S.Store D.Stands D.kept_rules self.old L
-            → HasCleanDisk (state_of S.Store self.new) → IsTrue L.own
-            → IfOk result (λ boards. (board : Name) → AreConverse board (board_trace L.history board) lot.now boards) }
-        ensures stands { (L : Kept) → Stands S.Store D.Stands D.kept_rules self.old L
-            → Stands S.Store D.Stands D.kept_rules self.new L }
-        ensures desk { desk_of self.new ≡ desk_of self.old }
-        ensures unchanged { HasCleanDisk (state_of S.Store self.new)
-            → KeepsCommit (state_of S.Store self.old) (state_of S.Store self.new) }
-        ensures survives { Survives (state_of S.Store self.old) (state_of S.Store self.new) (λ _. ⊥) }
+        ensures boards { ForKept S.Store D.Stands D.kept_rules self.old self.new
+            (λ L. IfOk result (λ boards. boards ≡ lot_board_names L.history lot.now)) }
+        ensures converse { ForKept S.Store D.Stands D.kept_rules self.old self.new
+            (λ L. IfOk result
+            (λ boards. (board : Name) → AreConverse board (board_trace L.history board) lot.now boards)) }
+        ensures reads { ReadsStore S.Store D.Stands D.kept_rules self.old self.new }
     {
         let lists = self.lists.as_ref();
         let desk = self.desk.as_ref();
@@ -77,15 +58,9 @@ impl<S: Alter, D: Desk + Drop> LineStore<S, D> {
 
     /// The pieces of reels whose floor life was used up, by number, then place.
     pub fn overdue_rows(&mut self) -> Result<PlacedRows, Unavailable>
-        ensures rows { (L : Kept) → Stands S.Store D.Stands D.kept_rules self.old L
-            → HasCleanDisk (state_of S.Store self.new) → IsTrue L.own
-            → IfOk result (λ pieces. pieces ≡ overdue_of L.history) }
-        ensures stands { (L : Kept) → Stands S.Store D.Stands D.kept_rules self.old L
-            → Stands S.Store D.Stands D.kept_rules self.new L }
-        ensures desk { desk_of self.new ≡ desk_of self.old }
-        ensures unchanged { HasCleanDisk (state_of S.Store self.new)
-            → KeepsCommit (state_of S.Store self.old) (state_of S.Store self.new) }
-        ensures survives { Survives (state_of S.Store self.old) (state_of S.Store self.new) (λ _. ⊥) }
+        ensures rows { ForKept S.Store D.Stands D.kept_rules self.old self.new
+            (λ L. IfOk result (λ pieces. pieces ≡ overdue_of L.history)) }
+        ensures reads { ReadsStore S.Store D.Stands D.kept_rules self.old self.new }
     {
         let lists = self.lists.as_ref();
         let desk = self.desk.as_ref();

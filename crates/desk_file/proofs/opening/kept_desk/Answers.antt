@@ -12,7 +12,7 @@ use Rattle.desk_file.proofs.opening.kept_desk.Goals as goal
 pub returns-in-Ok-clause-begins : goal.returns-in-Ok-clause-begins
 returns-in-Ok-clause-begins g c = λ clean alone.
     let conn = c.in_ok-conn.conn in
-    let before : HasCleanDisk (file_state conn) = omega (arith, c.in-Ok.ensures.leaves.clean, clean) in
+    let before : HasCleanDisk (file_state conn) = omega (arith, c.in-Ok.ensures.reads.survives.clean, clean) in
     let opened = c.in_ok-conn.ensures.opened before in
     let L = c.in-Ok.ensures.stands.0 in
     let begins = opened_begins (image_at g.T.Start) (file_state conn) (c.in_ok-conn.ensures.found before) opened.0 opened.1 None L.greatest L.history c.in-Ok.ensures.named
@@ -29,5 +29,5 @@ returns-in-Err-clause-refused g c =
     let image = image_at g.T.Start in
     let first = c.in_ok-conn in
     let told = c.in-Err.ensures in
-    let stands = fault_in image first.conn c.in-Err.conn (λ _ _. ⊥) first.ensures.opened first.ensures.found told.unchanged told.survives Two c.in-Err.fault told.fault told.told in
-    refused image first.conn c.in-Err.conn (λ _ _. ⊥) first.ensures.opened first.ensures.found told.unchanged told.survives (IsFaultIn image Two) ⊥ c.in-Err.fault stands (λ none. absurd none)
+    let stands = fault_in image first.conn c.in-Err.conn (λ _ _. ⊥) first.ensures.opened first.ensures.found told.refused.kept told.refused.survives Two c.in-Err.fault told.fault told.told in
+    refused image first.conn c.in-Err.conn (λ _ _. ⊥) first.ensures.opened first.ensures.found told.refused.kept told.refused.survives (IsFaultIn image Two) ⊥ c.in-Err.fault stands (λ none. absurd none)

@@ -32,5 +32,5 @@ returns-in-Err-clause-refused g c =
     let made = Some c.args.greatest in
     let first = c.in_ok-conn in
     let told = c.in-Err.ensures in
-    let stands = unmade image first.conn c.in-Err.conn (LeavesMade made) first.ensures.opened first.ensures.found told.unchanged told.survives c.args.greatest c.in-Err.fault told.fault in
-    refused image first.conn c.in-Err.conn (LeavesMade made) first.ensures.opened first.ensures.found told.unchanged told.survives (IsFaultFor image made) (made ≡ None) c.in-Err.fault stands (λ none. absurd (cc))
+    let stands = unmade image first.conn c.in-Err.conn (LeavesMade made) first.ensures.opened first.ensures.found told.unmade.kept told.unmade.survives c.args.greatest c.in-Err.fault told.fault in
+    refused image first.conn c.in-Err.conn (LeavesMade made) first.ensures.opened first.ensures.found told.unmade.kept told.unmade.survives (IsFaultFor image made) (made ≡ None) c.in-Err.fault stands (λ none. absurd (cc))

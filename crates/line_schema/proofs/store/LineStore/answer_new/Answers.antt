@@ -9,5 +9,5 @@ returns-clause-crash g c L stands clean own trees left =
     let mid = c.ready.new.self in
     let early : HasCleanDisk (state g.S.Store mid.conn) = omega (arith, c.answer_at_hand.ensures.survives.clean, clean) in
     newly_weaker L c.args.stamped.now _ _ _ trees
-    (λ before. elim (c.ready.ensures.survives.crash early trees before) [ inl at_entry ↦ at_entry | inr none ↦ absurd none ])
-    (c.answer_at_hand.ensures.crash L (c.ready.ensures.stands L stands early own) clean own trees left)
+    (λ before. elim (c.ready.ensures.makes_desk.survives.crash early trees before) [ inl at_entry ↦ at_entry | inr none ↦ absurd none ])
+    (c.answer_at_hand.ensures.crash L (c.ready.ensures.makes_desk.stands L stands early own) clean own trees left)
