@@ -1,3 +1,4 @@
 pub mod Connections
 pub mod Runs
 pub mod Told
+pub mod Wires

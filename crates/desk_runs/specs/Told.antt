@@ -64,6 +64,11 @@ Tells contents errors errors' text =
 abbrev pub TellsLine : {E : Type 0} → (E → Option (List ℕ)) → Wire E → Wire E → List ℕ → Type 0
 TellsLine contents errors errors' line = Tells contents errors errors' (line ++ 10 ∷ [])
 
+-- one write to the output failed, and that is told
+abbrev pub TellsUnwritten : {W E : Type 0} → (E → Option (List ℕ)) → Wire W → Wire W → Wire E → Wire E → Type 0
+TellsUnwritten contents output output' errors errors' =
+    (failures_of output' ≡ failures_of output + 1) × TellsLine contents errors errors' (fault_line (Write none_served))
+
 -- why no further connection is served is told: a line could not be written, which the output's count shows, or none could be accepted
 abbrev pub TellsEnd : {W E : Type 0} → (E → Option (List ℕ)) → Wire W → Wire W → Wire E → Wire E → Type 0
 TellsEnd contents output output' errors errors' =

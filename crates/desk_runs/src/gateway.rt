@@ -11,7 +11,8 @@ ghost use Rattle.http_stream.specs.Answers.{Told, code_of, response_told};
 ghost use Rattle.desk_answers.specs.Ledger.{ForLists};
 ghost use Rattle.desk_runs.specs.Connections.{ConnectedEach, Ended, TellsConnections};
 ghost use Rattle.desk_runs.specs.Runs.{AnswersReport};
-ghost use Rattle.desk_runs.specs.Told.{fault_line, report_output, TellsEnd, TellsLine};
+ghost use Rattle.desk_runs.specs.Told.{fault_line, report_output, TellsEnd, TellsLine, TellsUnwritten};
+ghost use Rattle.desk_runs.specs.Wires.{GoesWell, HaveFewFailures};
 
 use crate::exit::{Exit, tell_line};
 use crate::serving::serve_listener;
@@ -34,8 +35,7 @@ pub fn serve_port<A: Handler, W: Write, E: Write>(
     handler: &mut A,
 ) -> u8
     requires some { 1 ≤ connections }
-    requires write_failures { failures_of output.old < 2 ^ 63 }
-    requires error_failures { failures_of errors.old < 2 ^ 63 }
+    requires few { HaveFewFailures output.old errors.old }
     requires ready { A.Ready handler.old }
     ensures ready { A.Ready handler.new }
     ensures trusts { A.Trusts handler.new → A.Trusts handler.old }
@@ -46,8 +46,7 @@ pub fn serve_port<A: Handler, W: Write, E: Write>(
         × ForLists A.Stands A.Trusts handler.old handler.new
         (λ G H. ConnectedEach (A.rule G.rules G.greatest) G.history ends H) }
     ensures failed { result ≡ 4 → TellsEnd E.contents output.old output.new errors.old errors.new }
-    ensures kept { (result ≡ 0) ⊎ (result ≡ 1) → failures_of output.new ≡ failures_of output.old }
-    ensures quiet { (result ≡ 0) ⊎ (result ≡ 1) → errors.new ≡ errors.old }
+    ensures well { (result ≡ 0) ⊎ (result ≡ 1) → GoesWell output.old output.new errors.old errors.new }
 {
     let Ok(listener) = TcpListener::bind(rt, ("127.0.0.1", port)) else {
         tell_line(errors, "tracedesk: Read");
@@ -83,8 +82,7 @@ pub fn tell_report<L: ReportedOwner, W: Write, E: Write>(
     errors: &mut Wire<E>,
     gateway: &mut Gateway<L>,
 ) -> u8
-    requires write_failures { failures_of output.old < 2 ^ 63 }
-    requires error_failures { failures_of errors.old < 2 ^ 63 }
+    requires few { HaveFewFailures output.old errors.old }
     requires ready { L.Ready (owner_of gateway.old) }
     ensures ready { L.Ready (owner_of gateway.new) }
     ensures trusts { L.Trusts (owner_of gateway.new) → L.Trusts (owner_of gateway.old) }
@@ -100,14 +98,12 @@ pub fn tell_report<L: ReportedOwner, W: Write, E: Write>(
         × ForLists L.Stands L.Trusts (owner_of gateway.old) (owner_of gateway.new)
         (AnswersReport L.reports target.now answer) }
     ensures failed { result ≡ 4
-        → (failures_of output.new ≡ failures_of output.old + 1)
-        × TellsLine E.contents errors.old errors.new (fault_line (WriteFault none_served))
+        → TellsUnwritten E.contents output.old output.new errors.old errors.new
         × (answer : Told)
         × SendsFront (W.contents (inner_of output.old)) (W.contents (inner_of output.new)) (report_output answer)
         × ForLists L.Stands L.Trusts (owner_of gateway.old) (owner_of gateway.new)
         (AnswersReport L.reports target.now answer) }
-    ensures kept { (result ≡ 0) ⊎ (result ≡ 1) → failures_of output.new ≡ failures_of output.old }
-    ensures quiet { (result ≡ 0) ⊎ (result ≡ 1) → errors.new ≡ errors.old }
+    ensures well { (result ≡ 0) ⊎ (result ≡ 1) → GoesWell output.old output.new errors.old errors.new }
 {
     let response = gateway.ask(alloc, target.as_bytes());
     match send_report(output, &response) {

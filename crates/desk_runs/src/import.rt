@@ -1,12 +1,12 @@
 //! An import, answered.
 
-ghost use Rattle.std.specs.Prelude.{◌≡◌, ◌⊎◌, ◌+◌, ◌^◌, ◌<◌, true, false};
-ghost use Rattle.desk_types.specs.Wire.{failures_of};
-ghost use Rattle.served.specs.declared.serving.ServeFault.TheVariants.{Read as ReadFault, Write as WriteFault};
+ghost use Rattle.std.specs.Prelude.{◌≡◌, ◌⊎◌, true, false};
+ghost use Rattle.served.specs.declared.serving.ServeFault.TheVariants.{Read as ReadFault};
 ghost use Rattle.served.specs.Counts.{none_served};
 ghost use Rattle.desk_answers.specs.Ledger.{ForLists};
 ghost use Rattle.desk_runs.specs.Runs.{AnswersImport, CutsImport, StaysSame};
-ghost use Rattle.desk_runs.specs.Told.{fault_line, unavailable_line, TellsLine};
+ghost use Rattle.desk_runs.specs.Told.{fault_line, unavailable_line, TellsLine, TellsUnwritten};
+ghost use Rattle.desk_runs.specs.Wires.{GoesWell, HaveFewFailures};
 
 use crate::exit::{Exit, tell_line, unavailable};
 use desk_answers::Owner;
@@ -25,8 +25,7 @@ pub fn import_rows<F: Folder, W: Write, E: Write, L: Owner>(
     output: &mut Wire<W>,
     errors: &mut Wire<E>,
 ) -> u8
-    requires write_failures { failures_of output.old < 2 ^ 63 }
-    requires error_failures { failures_of errors.old < 2 ^ 63 }
+    requires few { HaveFewFailures output.old errors.old }
     requires ready { L.Ready owner.old }
     ensures ready { L.Ready owner.new }
     ensures trusts { L.Trusts owner.new → L.Trusts owner.old }
@@ -40,15 +39,13 @@ pub fn import_rows<F: Folder, W: Write, E: Write, L: Owner>(
     ensures no_memory { result ≡ 3 → TellsLine E.contents errors.old errors.new unavailable_line }
     ensures untouched { result ≡ 3 → (owner.new ≡ owner.old) × (output.new ≡ output.old) }
     ensures failed { result ≡ 4
-        → ((failures_of output.new ≡ failures_of output.old + 1)
-        × TellsLine E.contents errors.old errors.new (fault_line (WriteFault none_served))
+        → (TellsUnwritten E.contents output.old output.new errors.old errors.new
         × ForLists L.Stands L.Trusts owner.old owner.new
         (CutsImport W.contents output.old output.new import.now (F.holds folder.now from.now)))
         ⊎ (F.may_fail folder.now from.now × (output.new ≡ output.old)
         × TellsLine E.contents errors.old errors.new (fault_line (ReadFault none_served))
         × ForLists L.Stands L.Trusts owner.old owner.new StaysSame) }
-    ensures kept { (result ≡ 0) ⊎ (result ≡ 1) → failures_of output.new ≡ failures_of output.old }
-    ensures quiet { (result ≡ 0) ⊎ (result ≡ 1) → errors.new ≡ errors.old }
+    ensures well { (result ≡ 0) ⊎ (result ≡ 1) → GoesWell output.old output.new errors.old errors.new }
 {
     let bytes = match folder.read(alloc, from) {
         Ok(bytes) => bytes,

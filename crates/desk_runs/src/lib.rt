@@ -1,7 +1,8 @@
 //! What each command does at an open desk, and what a run tells of it.
 //!
 //! `specs/Told.antt` has the lines that are told, `specs/Runs.antt` what is answered by the list of a
-//! desk, `specs/Connections.antt` what connections leave. Nothing here knows in what the desk is kept.
+//! desk, `specs/Connections.antt` what connections leave, and `specs/Wires.antt` how readers and writers
+//! are left. Nothing here knows in what the desk is kept.
 #![tactic(auto)]
 
 mod exit;

@@ -1,16 +1,16 @@
 //! The lines of an input, answered.
 
-ghost use Rattle.std.specs.Prelude.{◌≡◌, ◌⊎◌, ◌+◌, ◌^◌, ◌<◌, ◌≤◌};
-ghost use Rattle.std.specs.Io.KnownBytes.{IsAtEnd};
-ghost use Rattle.desk_types.specs.Wire.{inner_of, reads_of, failures_of};
+ghost use Rattle.std.specs.Prelude.{◌≡◌, ◌⊎◌, ◌+◌, ◌<◌, ◌≤◌};
+ghost use Rattle.desk_types.specs.Wire.{inner_of, reads_of};
 ghost use Rattle.desk_feed.specs.Stream.{LeavesNone};
 ghost use Rattle.served.specs.declared.serving.Served.{Served};
 ghost use Rattle.served.specs.declared.serving.ServeFault.{ServeFault};
 ghost use Rattle.desk_types.specs.declared.limits.TheConstants.{MOST_READS};
-ghost use Rattle.served.specs.Shown.{FailsNever, IsShown};
+ghost use Rattle.served.specs.Shown.{IsShown};
 ghost use Rattle.desk_answers.specs.Ledger.{ForLists};
 ghost use Rattle.desk_runs.specs.Runs.{AnswersAll, AnswersUpTo};
 ghost use Rattle.desk_runs.specs.Told.{fault_line, TellsLine};
+ghost use Rattle.desk_runs.specs.Wires.{FeedsWell, HaveFewCounts};
 
 use crate::exit::{Exit, tell_failure};
 use desk_answers::Owner;
@@ -27,10 +27,7 @@ pub fn feed_lines<R: Read, W: Write, E: Write, L: Owner>(
     errors: &mut Wire<E>,
     owner: &mut L,
 ) -> u8
-    requires reads { reads_of input.old < 2 ^ 63 }
-    requires read_failures { failures_of input.old < 2 ^ 63 }
-    requires write_failures { failures_of output.old < 2 ^ 63 }
-    requires error_failures { failures_of errors.old < 2 ^ 63 }
+    requires few { HaveFewCounts input.old output.old errors.old }
     requires ready { L.Ready owner.old }
     ensures ready { L.Ready owner.new }
     ensures status { (result ≡ 0) ⊎ (result ≡ 1) ⊎ (result ≡ 4) }
@@ -48,9 +45,8 @@ pub fn feed_lines<R: Read, W: Write, E: Write, L: Owner>(
         × TellsLine E.contents errors.old errors.new (fault_line fault)
         × ForLists L.Stands L.Trusts owner.old owner.new
         (AnswersUpTo R.remaining W.contents input.old output.old output.new fault) }
-    ensures end { (result ≡ 0) ⊎ (result ≡ 1) → IsAtEnd (R.remaining (inner_of input.new)) }
-    ensures kept { (result ≡ 0) ⊎ (result ≡ 1) → FailsNever input.old input.new output.old output.new }
-    ensures quiet { (result ≡ 0) ⊎ (result ≡ 1) → errors.new ≡ errors.old }
+    ensures well { (result ≡ 0) ⊎ (result ≡ 1)
+        → FeedsWell R.remaining input.old input.new output.old output.new errors.old errors.new }
     ensures few_reads { reads_of input.new ≤ reads_of input.old + MOST_READS }
     ensures trusts { L.Trusts owner.new → L.Trusts owner.old }
 {

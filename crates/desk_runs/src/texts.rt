@@ -1,12 +1,11 @@
 //! Texts on standard output.
 
-ghost use Rattle.std.specs.Prelude.{◌≡◌, ◌⊎◌, ◌+◌, ◌^◌, ◌<◌};
+ghost use Rattle.std.specs.Prelude.{◌≡◌, ◌⊎◌};
 ghost use Rattle.std.specs.Io.KnownBytes.{Appends};
-ghost use Rattle.desk_types.specs.Wire.{inner_of, failures_of};
-ghost use Rattle.served.specs.declared.serving.ServeFault.TheVariants.{Write as WriteFault};
-ghost use Rattle.served.specs.Counts.{none_served};
+ghost use Rattle.desk_types.specs.Wire.{inner_of};
 ghost use Rattle.served.specs.Sent.{SendsFront};
-ghost use Rattle.desk_runs.specs.Told.{fault_line, lawful_line, unavailable_line, TellsLine};
+ghost use Rattle.desk_runs.specs.Told.{lawful_line, unavailable_line, TellsLine, TellsUnwritten};
+ghost use Rattle.desk_runs.specs.Wires.{GoesWell, HaveFewFailures};
 
 use crate::exit::{Exit, tell_line, unavailable};
 use desk_types::Wire;
@@ -21,20 +20,16 @@ pub fn tell_lawful<W: Write, E: Write>(
     output: &mut Wire<W>,
     errors: &mut Wire<E>,
 ) -> u8
-    requires write_failures { failures_of output.old < 2 ^ 63 }
-    requires error_failures { failures_of errors.old < 2 ^ 63 }
+    requires few { HaveFewFailures output.old errors.old }
     ensures status { (result ≡ 0) ⊎ (result ≡ 3) ⊎ (result ≡ 4) }
     ensures done { result ≡ 0
         → Appends (W.contents (inner_of output.old)) (W.contents (inner_of output.new)) (lawful_line count) }
     ensures no_desk { result ≡ 3 → TellsLine E.contents errors.old errors.new unavailable_line }
     ensures untouched { result ≡ 3 → output.new ≡ output.old }
-    ensures failed { result ≡ 4
-        → (failures_of output.new ≡ failures_of output.old + 1)
-        × TellsLine E.contents errors.old errors.new (fault_line (WriteFault none_served)) }
+    ensures failed { result ≡ 4 → TellsUnwritten E.contents output.old output.new errors.old errors.new }
     ensures front { result ≡ 4
         → SendsFront (W.contents (inner_of output.old)) (W.contents (inner_of output.new)) (lawful_line count) }
-    ensures kept { result ≡ 0 → failures_of output.new ≡ failures_of output.old }
-    ensures quiet { result ≡ 0 → errors.new ≡ errors.old }
+    ensures well { result ≡ 0 → GoesWell output.old output.new errors.old errors.new }
 {
     match format!(in alloc; "lawful {count}\n") {
         Ok(line) => send_text(line.as_str(), output, errors),
@@ -44,17 +39,13 @@ pub fn tell_lawful<W: Write, E: Write>(
 
 /// Sends a text to standard output: the exit status.
 pub fn send_text<W: Write, E: Write>(text: &str, output: &mut Wire<W>, errors: &mut Wire<E>) -> u8
-    requires write_failures { failures_of output.old < 2 ^ 63 }
-    requires error_failures { failures_of errors.old < 2 ^ 63 }
+    requires few { HaveFewFailures output.old errors.old }
     ensures status { (result ≡ 0) ⊎ (result ≡ 4) }
     ensures done { result ≡ 0 → Appends (W.contents (inner_of output.old)) (W.contents (inner_of output.new)) text.now }
-    ensures failed { result ≡ 4
-        → (failures_of output.new ≡ failures_of output.old + 1)
-        × TellsLine E.contents errors.old errors.new (fault_line (WriteFault none_served)) }
+    ensures failed { result ≡ 4 → TellsUnwritten E.contents output.old output.new errors.old errors.new }
     ensures front { result ≡ 4
         → SendsFront (W.contents (inner_of output.old)) (W.contents (inner_of output.new)) text.now }
-    ensures kept { result ≡ 0 → failures_of output.new ≡ failures_of output.old }
-    ensures quiet { result ≡ 0 → errors.new ≡ errors.old }
+    ensures well { result ≡ 0 → GoesWell output.old output.new errors.old errors.new }
 {
     match send(output, text.as_bytes()) {
         Ok(()) => Exit::Done as u8,

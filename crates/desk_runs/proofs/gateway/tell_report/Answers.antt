@@ -25,4 +25,4 @@ returns-clause-failed g c = λ is.
     let asked = c.ask-response in
     let list = tells_staying g.L.Owner.Stands g.L.Owner.Trusts (owner_of c.args.gateway.now) (owner_of asked.new.self) (λ G. AnswersGet g.L.ReportedOwner.reports G c.args.target.now (response_told asked.result))
     (λ G stands trusts. subst (λ (at : List ℕ). AnswersGet g.L.ReportedOwner.reports G at (response_told asked.result)) c.as_bytes.ensures.value (asked.ensures.told G stands trusts)) asked.ensures.stands in
-    (c.in-Err.ensures.failed, c.tell_line.ensures, response_told asked.result, c.in-Err.ensures.front, list)
+    ((c.in-Err.ensures.failed, c.tell_line.ensures), response_told asked.result, c.in-Err.ensures.front, list)

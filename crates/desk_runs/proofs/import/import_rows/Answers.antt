@@ -35,4 +35,4 @@ returns-clause-failed g c = λ is.
     let out = g.W.Write.contents (inner_of c.args.output.now) in
     let out' = g.W.Write.contents (inner_of c.serve_import.new.output) in
     let read : IsRead file bytes = subst (λ (b : List ℕ). IsRead file b) (sym c.deref.ensures.value) c.in-Ok.ensures.bytes in
-    inl (c.in-Err.ensures.failed, c.tell_line-in-Err.ensures, says_all g.L.Owner.Stands g.L.Owner.Trusts c.args.owner.now c.serve_import.new.owner c.args.import.now file bytes (λ said. IsCutOff said out out') read c.in-Err.ensures.err)
+    inl ((c.in-Err.ensures.failed, c.tell_line-in-Err.ensures), says_all g.L.Owner.Stands g.L.Owner.Trusts c.args.owner.now c.serve_import.new.owner c.args.import.now file bytes (λ said. IsCutOff said out out') read c.in-Err.ensures.err)
