@@ -1,20 +1,20 @@
 //! Messages and files, answered by a desk in memory or in a file.
 
-ghost use Rattle.std.specs.Prelude.{◌≡◌, ◌⊎◌, ◌+◌, ◌^◌, ◌<◌, ◌≤◌, true, false, None, Some};
-ghost use Rattle.std.specs.Io.KnownBytes.{IsAtEnd};
+ghost use Rattle.std.specs.Prelude.{◌≡◌, ◌⊎◌, ◌+◌, ◌<◌, ◌≤◌, true, false, None, Some};
 ghost use Rattle.desk_types.specs.declared.limits.TheConstants.{MOST_ENTRIES, MOST_READS};
 ghost use Rattle.desk_types.specs.History.{History};
 ghost use Rattle.desk_laws.specs.Consistent.{IsConsistent};
-ghost use Rattle.desk_types.specs.Wire.{inner_of, reads_of, failures_of};
+ghost use Rattle.desk_types.specs.Wire.{inner_of, reads_of};
 ghost use Rattle.line_schema.specs.declared.fault.OpenFault.TheVariants.{Unavailable};
 ghost use Rattle.desk_feed.specs.Stream.{LeavesNone};
 ghost use Rattle.served.specs.declared.serving.Served.{Served};
 ghost use Rattle.served.specs.declared.serving.ServeFault.{ServeFault};
-ghost use Rattle.served.specs.declared.serving.ServeFault.TheVariants.{Read as ReadFault, Write as WriteFault};
+ghost use Rattle.served.specs.declared.serving.ServeFault.TheVariants.{Read as ReadFault};
 ghost use Rattle.served.specs.Counts.{none_served};
-ghost use Rattle.served.specs.Shown.{FailsNever, IsShown};
+ghost use Rattle.served.specs.Shown.{IsShown};
 ghost use Rattle.desk_runs.specs.Runs.{AnswersAll, AnswersImport, AnswersUpTo, CutsImport, StaysSame};
-ghost use Rattle.desk_runs.specs.Told.{fault_line, TellsLine};
+ghost use Rattle.desk_runs.specs.Told.{fault_line, TellsLine, TellsUnwritten};
+ghost use Rattle.desk_runs.specs.Wires.{FeedsWell, GoesWell, HaveFewCounts, HaveFewFailures};
 ghost use Rattle.desk_commands.specs.Runs.{HasNoDesk, LeavesDesk, Refuses, RunsOn, fresh, refusal_line};
 
 use crate::left::Left;
@@ -39,10 +39,7 @@ pub fn feed_in_memory<R: Read, W: Write, E: Write>(
 ) -> u8
     requires least { 1 ≤ greatest }
     requires most { greatest ≤ MOST_ENTRIES }
-    requires reads { reads_of input.old < 2 ^ 63 }
-    requires read_failures { failures_of input.old < 2 ^ 63 }
-    requires write_failures { failures_of output.old < 2 ^ 63 }
-    requires error_failures { failures_of errors.old < 2 ^ 63 }
+    requires few { HaveFewCounts input.old output.old errors.old }
     ensures status { (result ≡ 0) ⊎ (result ≡ 1) ⊎ (result ≡ 3) ⊎ (result ≡ 4) }
     ensures done { result ≡ 0
         → (served : Served) × (served.refused ≡ 0) × (H : History) × IsConsistent H
@@ -58,9 +55,8 @@ pub fn feed_in_memory<R: Read, W: Write, E: Write>(
         × TellsLine E.contents errors.old errors.new (fault_line fault)
         × (H : History) × IsConsistent H
         × AnswersUpTo R.remaining W.contents input.old output.old output.new fault (fresh greatest) H }
-    ensures end { (result ≡ 0) ⊎ (result ≡ 1) → IsAtEnd (R.remaining (inner_of input.new)) }
-    ensures kept { (result ≡ 0) ⊎ (result ≡ 1) → FailsNever input.old input.new output.old output.new }
-    ensures quiet { (result ≡ 0) ⊎ (result ≡ 1) → errors.new ≡ errors.old }
+    ensures well { (result ≡ 0) ⊎ (result ≡ 1)
+        → FeedsWell R.remaining input.old input.new output.old output.new errors.old errors.new }
     ensures few_reads { reads_of input.new ≤ reads_of input.old + MOST_READS }
 {
     match in_memory::<StateDesk>(alloc, greatest) {
@@ -87,10 +83,7 @@ pub fn feed_in_file<T: Start, R: Read, W: Write, E: Write>(
 ) -> (u8, Left<FileFrom<T>>)
     requires least { 1 ≤ greatest }
     requires most { greatest ≤ MOST_ENTRIES }
-    requires reads { reads_of input.old < 2 ^ 63 }
-    requires read_failures { failures_of input.old < 2 ^ 63 }
-    requires write_failures { failures_of output.old < 2 ^ 63 }
-    requires error_failures { failures_of errors.old < 2 ^ 63 }
+    requires few { HaveFewCounts input.old output.old errors.old }
     ensures status { (result.0 ≡ 0) ⊎ (result.0 ≡ 1) ⊎ (result.0 ≡ 3) ⊎ (result.0 ≡ 4) }
     ensures done { result.0 ≡ 0
         → (served : Served) × (served.refused ≡ 0)
@@ -110,9 +103,8 @@ pub fn feed_in_file<T: Start, R: Read, W: Write, E: Write>(
         × TellsLine E.contents errors.old errors.new (fault_line fault)
         × RunsOn T.Start (Some greatest) result.1
         (AnswersUpTo R.remaining W.contents input.old output.old output.new fault) }
-    ensures end { (result.0 ≡ 0) ⊎ (result.0 ≡ 1) → IsAtEnd (R.remaining (inner_of input.new)) }
-    ensures kept { (result.0 ≡ 0) ⊎ (result.0 ≡ 1) → FailsNever input.old input.new output.old output.new }
-    ensures quiet { (result.0 ≡ 0) ⊎ (result.0 ≡ 1) → errors.new ≡ errors.old }
+    ensures well { (result.0 ≡ 0) ⊎ (result.0 ≡ 1)
+        → FeedsWell R.remaining input.old input.new output.old output.new errors.old errors.new }
     ensures few_reads { reads_of input.new ≤ reads_of input.old + MOST_READS }
 {
     match open_desk::<T, StateDesk>(rt, file, start, Some(greatest)) {
@@ -139,8 +131,7 @@ pub fn import_in_file<T: Start, F: Folder, W: Write, E: Write>(
     output: &mut Wire<W>,
     errors: &mut Wire<E>,
 ) -> (u8, Left<FileFrom<T>>)
-    requires write_failures { failures_of output.old < 2 ^ 63 }
-    requires error_failures { failures_of errors.old < 2 ^ 63 }
+    requires few { HaveFewFailures output.old errors.old }
     ensures status { (result.0 ≡ 0) ⊎ (result.0 ≡ 1) ⊎ (result.0 ≡ 3) ⊎ (result.0 ≡ 4) }
     ensures done { result.0 ≡ 0
         → RunsOn T.Start None result.1
@@ -154,15 +145,13 @@ pub fn import_in_file<T: Start, F: Folder, W: Write, E: Write>(
     ensures left { LeavesDesk result.1 }
     ensures untouched { result.0 ≡ 3 → output.new ≡ output.old }
     ensures failed { result.0 ≡ 4
-        → ((failures_of output.new ≡ failures_of output.old + 1)
-        × TellsLine E.contents errors.old errors.new (fault_line (WriteFault none_served))
+        → (TellsUnwritten E.contents output.old output.new errors.old errors.new
         × RunsOn T.Start None result.1
         (CutsImport W.contents output.old output.new import.now (F.holds folder.now from.now)))
         ⊎ (F.may_fail folder.now from.now × (output.new ≡ output.old)
         × TellsLine E.contents errors.old errors.new (fault_line (ReadFault none_served))
         × RunsOn T.Start None result.1 StaysSame) }
-    ensures kept { (result.0 ≡ 0) ⊎ (result.0 ≡ 1) → failures_of output.new ≡ failures_of output.old }
-    ensures quiet { (result.0 ≡ 0) ⊎ (result.0 ≡ 1) → errors.new ≡ errors.old }
+    ensures well { (result.0 ≡ 0) ⊎ (result.0 ≡ 1) → GoesWell output.old output.new errors.old errors.new }
 {
     let opened = open_desk::<T, StateDesk>(rt, file, start, None);
     match opened {

@@ -1,17 +1,16 @@
 //! Requests, answered by a desk in a file.
 
-ghost use Rattle.std.specs.Prelude.{◌≡◌, ◌≢◌, ◌⊎◌, ◌+◌, ◌^◌, ◌<◌, ◌≤◌, None, Some, List};
+ghost use Rattle.std.specs.Prelude.{◌≡◌, ◌≢◌, ◌⊎◌, ◌≤◌, None, Some, List};
 ghost use Rattle.std.specs.Io.KnownBytes.{Appends};
 ghost use Rattle.desk_types.specs.declared.limits.TheConstants.{MOST_ENTRIES};
 ghost use Rattle.desk_types.specs.Wire.{inner_of, failures_of};
-ghost use Rattle.served.specs.declared.serving.ServeFault.TheVariants.{Write as WriteFault};
-ghost use Rattle.served.specs.Counts.{none_served};
 ghost use Rattle.served.specs.Sent.{SendsFront};
 ghost use Rattle.http_stream.specs.Answers.{Told, code_of};
 ghost use Rattle.gateway_http.specs.Reports.{report_of};
 ghost use Rattle.desk_runs.specs.Connections.{Ended, TellsConnections};
 ghost use Rattle.desk_runs.specs.Runs.{AnswersReport};
-ghost use Rattle.desk_runs.specs.Told.{fault_line, report_output, TellsEnd, TellsLine};
+ghost use Rattle.desk_runs.specs.Told.{report_output, TellsEnd, TellsLine, TellsUnwritten};
+ghost use Rattle.desk_runs.specs.Wires.{GoesWell, HaveFewFailures};
 ghost use Rattle.desk_commands.specs.declared.left.Left.TheVariants.{Nothing};
 ghost use Rattle.desk_commands.specs.Runs.{HasNoDesk, LeavesDesk, Refuses, RunsOn, ServesEach};
 
@@ -42,8 +41,7 @@ pub fn serve_in_file<T: Start, W: Write, E: Write>(
     requires some { 1 ≤ connections }
     requires least { 1 ≤ greatest }
     requires most { greatest ≤ MOST_ENTRIES }
-    requires write_failures { failures_of output.old < 2 ^ 63 }
-    requires error_failures { failures_of errors.old < 2 ^ 63 }
+    requires few { HaveFewFailures output.old errors.old }
     ensures status { (result.0 ≡ 0) ⊎ (result.0 ≡ 1) ⊎ (result.0 ≡ 3) ⊎ (result.0 ≡ 4) }
     ensures served { (result.0 ≡ 0) ⊎ (result.0 ≡ 1) ⊎ (result.0 ≡ 4)
         → (ends : List Ended)
@@ -56,8 +54,7 @@ pub fn serve_in_file<T: Start, W: Write, E: Write>(
     ensures left { LeavesDesk result.1 }
     ensures untouched { result.0 ≡ 3 → output.new ≡ output.old }
     ensures failed { result.0 ≡ 4 → TellsEnd E.contents output.old output.new errors.old errors.new }
-    ensures kept { (result.0 ≡ 0) ⊎ (result.0 ≡ 1) → failures_of output.new ≡ failures_of output.old }
-    ensures quiet { (result.0 ≡ 0) ⊎ (result.0 ≡ 1) → errors.new ≡ errors.old }
+    ensures well { (result.0 ≡ 0) ⊎ (result.0 ≡ 1) → GoesWell output.old output.new errors.old errors.new }
 {
     let Ok(routes) = RouteTable::new(rt.alloc()) else {
         return (unavailable(errors), Left::Nothing);
@@ -85,8 +82,7 @@ pub fn report_in_file<T: Start, W: Write, E: Write>(
     output: &mut Wire<W>,
     errors: &mut Wire<E>,
 ) -> (u8, Left<FileFrom<T>>)
-    requires write_failures { failures_of output.old < 2 ^ 63 }
-    requires error_failures { failures_of errors.old < 2 ^ 63 }
+    requires few { HaveFewFailures output.old errors.old }
     ensures status { (result.0 ≡ 0) ⊎ (result.0 ≡ 1) ⊎ (result.0 ≡ 3) ⊎ (result.0 ≡ 4) }
     ensures done { result.0 ≡ 0
         → (answer : Told) × (code_of answer.status ≡ 200)
@@ -101,13 +97,11 @@ pub fn report_in_file<T: Start, W: Write, E: Write>(
     ensures left { LeavesDesk result.1 }
     ensures untouched { result.0 ≡ 3 → output.new ≡ output.old }
     ensures failed { result.0 ≡ 4
-        → (failures_of output.new ≡ failures_of output.old + 1)
-        × TellsLine E.contents errors.old errors.new (fault_line (WriteFault none_served))
+        → TellsUnwritten E.contents output.old output.new errors.old errors.new
         × (answer : Told)
         × SendsFront (W.contents (inner_of output.old)) (W.contents (inner_of output.new)) (report_output answer)
         × RunsOn T.Start None result.1 (AnswersReport report_of target.now answer) }
-    ensures kept { (result.0 ≡ 0) ⊎ (result.0 ≡ 1) → failures_of output.new ≡ failures_of output.old }
-    ensures quiet { (result.0 ≡ 0) ⊎ (result.0 ≡ 1) → errors.new ≡ errors.old }
+    ensures well { (result.0 ≡ 0) ⊎ (result.0 ≡ 1) → GoesWell output.old output.new errors.old errors.new }
 {
     let Ok(routes) = RouteTable::new(rt.alloc()) else {
         return (unavailable(errors), Left::Nothing);

@@ -1,13 +1,12 @@
 //! A desk in a file, audited or migrated.
 
-ghost use Rattle.std.specs.Prelude.{◌≡◌, ◌⊎◌, ◌+◌, ◌^◌, ◌<◌, None, ℕ};
+ghost use Rattle.std.specs.Prelude.{◌≡◌, ◌⊎◌, None, ℕ};
 ghost use Rattle.std.specs.Io.KnownBytes.{Appends};
-ghost use Rattle.desk_types.specs.Wire.{inner_of, failures_of};
-ghost use Rattle.served.specs.declared.serving.ServeFault.TheVariants.{Write as WriteFault};
-ghost use Rattle.served.specs.Counts.{none_served};
+ghost use Rattle.desk_types.specs.Wire.{inner_of};
 ghost use Rattle.served.specs.Sent.{SendsFront};
 ghost use Rattle.desk_runs.specs.Runs.{StaysSame};
-ghost use Rattle.desk_runs.specs.Told.{fault_line, lawful_line, version_line, TellsLine};
+ghost use Rattle.desk_runs.specs.Told.{lawful_line, version_line, TellsLine, TellsUnwritten};
+ghost use Rattle.desk_runs.specs.Wires.{GoesWell, HaveFewFailures};
 ghost use Rattle.desk_commands.specs.Runs.{Audits, HasNoDesk, LeavesDesk, LeavesFile, Migrates, Refuses, RefusesToMigrate, RunsOn};
 
 use crate::left::Left;
@@ -28,8 +27,7 @@ pub fn audit_file<T: Start, W: Write, E: Write>(
     output: &mut Wire<W>,
     errors: &mut Wire<E>,
 ) -> (u8, Left<FileFrom<T>>)
-    requires write_failures { failures_of output.old < 2 ^ 63 }
-    requires error_failures { failures_of errors.old < 2 ^ 63 }
+    requires few { HaveFewFailures output.old errors.old }
     ensures status { (result.0 ≡ 0) ⊎ (result.0 ≡ 3) ⊎ (result.0 ≡ 4) }
     ensures done { result.0 ≡ 0
         → (count : ℕ)
@@ -41,13 +39,11 @@ pub fn audit_file<T: Start, W: Write, E: Write>(
     ensures left { LeavesDesk result.1 }
     ensures untouched { result.0 ≡ 3 → output.new ≡ output.old }
     ensures failed { result.0 ≡ 4
-        → (failures_of output.new ≡ failures_of output.old + 1)
-        × TellsLine E.contents errors.old errors.new (fault_line (WriteFault none_served))
+        → TellsUnwritten E.contents output.old output.new errors.old errors.new
         × (count : ℕ)
         × SendsFront (W.contents (inner_of output.old)) (W.contents (inner_of output.new)) (lawful_line count)
         × Audits T.Start result.1 count }
-    ensures kept { result.0 ≡ 0 → failures_of output.new ≡ failures_of output.old }
-    ensures quiet { result.0 ≡ 0 → errors.new ≡ errors.old }
+    ensures well { result.0 ≡ 0 → GoesWell output.old output.new errors.old errors.new }
 {
     match open_desk::<T, StateDesk>(rt, file, start, None) {
         Ok(store) => {
@@ -70,8 +66,7 @@ pub fn migrate_file<T: Start, W: Write, E: Write>(
     output: &mut Wire<W>,
     errors: &mut Wire<E>,
 ) -> (u8, Left<FileFrom<T>>)
-    requires write_failures { failures_of output.old < 2 ^ 63 }
-    requires error_failures { failures_of errors.old < 2 ^ 63 }
+    requires few { HaveFewFailures output.old errors.old }
     ensures status { (result.0 ≡ 0) ⊎ (result.0 ≡ 3) ⊎ (result.0 ≡ 4) }
     ensures done { result.0 ≡ 0
         → Appends (W.contents (inner_of output.old)) (W.contents (inner_of output.new)) version_line
@@ -81,12 +76,10 @@ pub fn migrate_file<T: Start, W: Write, E: Write>(
     ensures left { LeavesFile result.1 }
     ensures untouched { result.0 ≡ 3 → output.new ≡ output.old }
     ensures failed { result.0 ≡ 4
-        → (failures_of output.new ≡ failures_of output.old + 1)
-        × TellsLine E.contents errors.old errors.new (fault_line (WriteFault none_served))
+        → TellsUnwritten E.contents output.old output.new errors.old errors.new
         × SendsFront (W.contents (inner_of output.old)) (W.contents (inner_of output.new)) version_line
         × Migrates T.Start result.1 }
-    ensures kept { result.0 ≡ 0 → failures_of output.new ≡ failures_of output.old }
-    ensures quiet { result.0 ≡ 0 → errors.new ≡ errors.old }
+    ensures well { result.0 ≡ 0 → GoesWell output.old output.new errors.old errors.new }
 {
     match migrate_desk::<T, StateDesk>(rt, file, start) {
         Ok(conn) => {

@@ -17,7 +17,7 @@ pub returns-in-Ok-clause-failed : goal.returns-in-Ok-clause-failed
 returns-in-Ok-clause-failed g c = λ is.
     let row = c.import_rows-status in
     elim (row.ensures.failed is) [
-      | inl cut ↦ inl (cut.0, cut.1, runs_on g.T.Start None c.in-Ok.store row.new.owner (CutsImport g.W.Write.contents c.args.output.now row.new.output c.args.import.now (g.F.Folder.holds c.args.folder.now c.args.from.now)) row.ensures.trusts c.in-Ok.ensures.begins cut.2)
+      | inl cut ↦ inl (cut.0, runs_on g.T.Start None c.in-Ok.store row.new.owner (CutsImport g.W.Write.contents c.args.output.now row.new.output c.args.import.now (g.F.Folder.holds c.args.folder.now c.args.from.now)) row.ensures.trusts c.in-Ok.ensures.begins cut.1)
       | inr unread ↦ inr (unread.0, unread.1, unread.2, runs_on g.T.Start None c.in-Ok.store row.new.owner StaysSame row.ensures.trusts c.in-Ok.ensures.begins unread.3)
     ]
 

@@ -21,7 +21,7 @@ pub returns-in-Ok-open_desk-clause-failed : goal.returns-in-Ok-open_desk-clause-
 returns-in-Ok-open_desk-clause-failed g c = λ is.
     let run = c.tell_report-status in
     let told = run.ensures.failed is in
-    (told.0, told.1, told.2, told.3, runs_behind g.T.Start None c.in-Ok-open_desk.store c.into_store.result c.new-gateway.result run.new.gateway (AnswersReport report_of c.args.target.now told.2) (ap store_of c.new-gateway.ensures ∙ c.new-in-Ok-open_desk.ensures) (c.into_store.ensures ∙ ap store_of c.into_owner.ensures) run.ensures.trusts c.in-Ok-open_desk.ensures.begins told.4)
+    (told.0, told.1, told.2, runs_behind g.T.Start None c.in-Ok-open_desk.store c.into_store.result c.new-gateway.result run.new.gateway (AnswersReport report_of c.args.target.now told.1) (ap store_of c.new-gateway.ensures ∙ c.new-in-Ok-open_desk.ensures) (c.into_store.ensures ∙ ap store_of c.into_owner.ensures) run.ensures.trusts c.in-Ok-open_desk.ensures.begins told.3)
 
 pub tell_report-status-requires-clause-ready : goal.tell_report-status-requires-clause-ready
 tell_report-status-requires-clause-ready g c = stands_behind c.in-Ok-open_desk.store c.new-gateway.result (ap store_of c.new-gateway.ensures ∙ c.new-in-Ok-open_desk.ensures) c.in-Ok-open_desk.ensures.stands

@@ -9,8 +9,7 @@ returns-in-Ok-clause-done g c = λ is.
 pub returns-in-Ok-clause-failed : goal.returns-in-Ok-clause-failed
 returns-in-Ok-clause-failed g c = λ is.
     let told = c.tell_lawful-status.ensures in
-    let fault = told.failed is in
-    (fault.0, fault.1, c.count.result, told.front is, audits g.T.Start c.in-Ok.store c.count.result c.in-Ok.ensures.stands c.in-Ok.ensures.begins c.count.ensures)
+    (told.failed is, c.count.result, told.front is, audits g.T.Start c.in-Ok.store c.count.result c.in-Ok.ensures.stands c.in-Ok.ensures.begins c.count.ensures)
 
 pub returns-in-Ok-clause-no_desk : goal.returns-in-Ok-clause-no_desk
 returns-in-Ok-clause-no_desk g c = λ is. inr (stays g.T.Start None c.in-Ok.store c.in-Ok.store refl c.in-Ok.ensures.begins, c.tell_lawful-status.ensures.no_desk is)
