@@ -6,6 +6,7 @@ ghost use Rattle.desk_types.specs.Wire.{inner_of, reads_of, failures_of};
 ghost use Rattle.desk_types.specs.declared.limits.TheConstants.{MOST_READS};
 ghost use Rattle.served.specs.Shown.{FailsNever};
 ghost use Rattle.desk_words.specs.CommandLine.{AsksForFeed};
+ghost use Rattle.desk_runs.specs.Wires.{HaveFewCounts};
 ghost use Rattle.desk_commands.specs.declared.left.Left.TheVariants.{Nothing};
 ghost use Rattle.desk_commands.specs.Closed.{ClosesLeft, failed, whole};
 ghost use Rattle.tracedesk.specs.Program.{Bad, Done, Failed, Names, NamesFile, NoDesk, Refused, Unclosed};
@@ -132,10 +133,7 @@ fn program<T: Start, F: Folder, R: Read, W: Write, E: Write>(
     output: &mut Wire<W>,
     errors: &mut Wire<E>,
 ) -> (u8, Left<FileFrom<T>>)
-    requires reads { reads_of input.old < 2 ^ 63 }
-    requires read_failures { failures_of input.old < 2 ^ 63 }
-    requires write_failures { failures_of output.old < 2 ^ 63 }
-    requires error_failures { failures_of errors.old < 2 ^ 63 }
+    requires few { HaveFewCounts input.old output.old errors.old }
     ensures status { result.0 ≤ 4 }
     ensures done { result.0 ≡ 0
         → Done (ways_when_open T.Start result.1) (F.holds folder.now)

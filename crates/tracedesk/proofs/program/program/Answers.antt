@@ -46,7 +46,7 @@ pub returns-in-Ok-Audit-clause-failed : goal.returns-in-Ok-Audit-clause-failed
 returns-in-Ok-Audit-clause-failed g c = λ is.
     let asks : AsksForAudit (map string_bytes c.args.words.now) (string_bytes c.in-Ok-Audit.file) = search rules in
     let fault = c.audit_file.ensures.failed is in
-    inl (Write none_served, (fault.0, refl), fault.1, inr (inl (string_bytes c.in-Ok-Audit.file, asks, fault.2, fault.3, fault.4)))
+    inl (Write none_served, (fault.0.0, refl), fault.0.1, inr (inl (string_bytes c.in-Ok-Audit.file, asks, fault.1, fault.2, fault.3)))
 
 pub returns-in-Ok-Text-clause-done : goal.returns-in-Ok-Text-clause-done
 returns-in-Ok-Text-clause-done g c = λ is.
@@ -69,7 +69,7 @@ pub returns-in-Ok-Migrate-clause-failed : goal.returns-in-Ok-Migrate-clause-fail
 returns-in-Ok-Migrate-clause-failed g c = λ is.
     let asks : AsksForMigration (map string_bytes c.args.words.now) (string_bytes c.in-Ok-Migrate.file) = search rules in
     let fault = c.migrate_file.ensures.failed is in
-    inl (Write none_served, (fault.0, refl), fault.1, inr (inr (inl (string_bytes c.in-Ok-Migrate.file, asks, fault.2, fault.3))))
+    inl (Write none_served, (fault.0.0, refl), fault.0.1, inr (inr (inl (string_bytes c.in-Ok-Migrate.file, asks, fault.1, fault.2))))
 
 pub returns-in-Ok-Import-clause-done : goal.returns-in-Ok-Import-clause-done
 returns-in-Ok-Import-clause-done g c = λ is.
@@ -85,7 +85,7 @@ pub returns-in-Ok-Import-clause-failed : goal.returns-in-Ok-Import-clause-failed
 returns-in-Ok-Import-clause-failed g c = λ is.
     let asks : AsksForImport (map string_bytes c.args.words.now) (string_bytes c.in-Ok-Import.file) c.in-Ok-Import.import (string_bytes c.in-Ok-Import.from) = search rules in
     elim (c.import_in_file.ensures.failed is) [
-      | inl cut ↦ inl (Write none_served, (cut.0, refl), cut.1, inr (inr (inr (inl (runs_import (ways_when_open g.T.Start c.import_in_file.result.1) (map string_bytes c.args.words.now) (λ import from. CutsImport g.W.Write.contents c.args.output.now c.import_in_file.new.output import (g.F.Folder.holds c.args.folder.now from)) (string_bytes c.in-Ok-Import.file) c.in-Ok-Import.import (string_bytes c.in-Ok-Import.from) c.as_str-in-Ok-Import-2.result.now asks c.as_str-in-Ok-Import-2.ensures.value cut.2)))))
+      | inl cut ↦ inl (Write none_served, (cut.0.0, refl), cut.0.1, inr (inr (inr (inl (runs_import (ways_when_open g.T.Start c.import_in_file.result.1) (map string_bytes c.args.words.now) (λ import from. CutsImport g.W.Write.contents c.args.output.now c.import_in_file.new.output import (g.F.Folder.holds c.args.folder.now from)) (string_bytes c.in-Ok-Import.file) c.in-Ok-Import.import (string_bytes c.in-Ok-Import.from) c.as_str-in-Ok-Import-2.result.now asks c.as_str-in-Ok-Import-2.ensures.value cut.1)))))
       | inr unread ↦ inr (inl (refl, unread.1, unread.2, (string_bytes c.in-Ok-Import.file, c.in-Ok-Import.import, string_bytes c.in-Ok-Import.from, asks, subst (λ (at : List ℕ). g.F.Folder.may_fail c.args.folder.now at) c.as_str-in-Ok-Import-2.ensures.value unread.0, unread.3)))
     ]
 
@@ -144,7 +144,7 @@ returns-in-Ok-Report-clause-failed g c = λ is.
     let out' = g.W.Write.contents (inner_of run.new.output) in
     let path = c.as_str-in-Ok-Report-2 in
     let told = run.ensures.failed is in
-    inl (Write none_served, (told.0, refl), told.1, inr (inr (inr (inr (inr (runs_report (ways_when_open g.T.Start run.result.1) (map string_bytes c.args.words.now) (λ answer. SendsFront out out' (report_output answer)) (string_bytes asked.file) (string_bytes asked.target) path.result.now told.2 asks path.ensures.value told.3 told.4))))))
+    inl (Write none_served, (told.0.0, refl), told.0.1, inr (inr (inr (inr (inr (runs_report (ways_when_open g.T.Start run.result.1) (map string_bytes c.args.words.now) (λ answer. SendsFront out out' (report_output answer)) (string_bytes asked.file) (string_bytes asked.target) path.result.now told.1 asks path.ensures.value told.2 told.3))))))
 
 pub returns-in-Some-clause-unread : goal.returns-in-Some-clause-unread
 returns-in-Some-clause-unread g c = λ no_feed.
