@@ -1,6 +1,6 @@
 -- The numbers of the crate, computed.
 use Rattle.std.specs.Prelude.{◌≡◌, refl}
-use Rattle.desk_feed.specs.declared.inbox.TheConstants.{LONGEST_RAW}
+use Rattle.desk_feed.specs.declared.taking.TheConstants.{LONGEST_RAW}
 
 pub longest_with_its_return : LONGEST_RAW ≡ 1_048_577
 longest_with_its_return = refl

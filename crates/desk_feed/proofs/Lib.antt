@@ -1,6 +1,6 @@
 pub mod AnsweredLines
 pub mod ConstantRows
-pub mod InboxSources
 pub mod LinesOfInputs
 pub mod OwnersOfLines
+pub mod TakenLines
 pub mod WithoutRepeats

@@ -2,13 +2,11 @@
 use Rattle.std.proofs.Common.{◌≡◌, ◌∙◌, ℕ, Bool, true, false, not, cond, map, List, [], ◌∷◌, ◌++◌, sym, ap, refl, subst, Option, Some, None, IfSome, append_assoc, append-nil}
 use Rattle.std.proofs.lemmas.List.Splits.{slice_split_at, slice_split_none, length-slice_split}
 use Rattle.std.specs.List.{filter, slice_split}
-use Rattle.std.proofs.Common.{arith, take, drop, suc, length, length-append, count_by, ◌+◌}
-use Rattle.std.proofs.lemmas.List.{drop_all, length-take}
+use Rattle.std.proofs.Common.{arith, take, suc, length, length-append, count_by, ◌+◌}
 use Rattle.std.specs.Io.KnownBytes.{Consumes, IsAtEnd, prepend_known}
 use Rattle.std.proofs.KnownBytes.{Consumes-trans}
-use Rattle.desk_feed.specs.declared.inbox.Inbox.{Inbox}
 use Rattle.desk_feed.specs.Lines.{is_feed, is_empty, without_return, lines_in, lines_of, ended_lines}
-use Rattle.desk_feed.specs.Inbox.{HasNoFeed, TakesLine, LinesGone, source}
+use Rattle.desk_feed.specs.Taking.{HasNoFeed, TakesLine, LinesGone}
 use Rattle.served.specs.declared.serving.Served.{Served}
 use Rattle.desk_feed.specs.Stream.{IsFront, AnswersEnded}
 
@@ -66,11 +64,9 @@ next_first a b c lines raw line false p q e =
     subst (λ l. IfSome a (λ bytes. IsFront (lines ++ l) (lines_of bytes))) e (gone_first a c (lines ++ lines_in raw) (lines_go a b c lines raw p q))
 
 -- at the start none is gone
-pub start_gone : (b : Inbox) (a : Option (List ℕ)) → b.at ≡ 0 → b.end ≡ 0 → LinesGone a [] (source b a)
-start_gone b None p q = tt
-start_gone b (Some xs) p q =
-    let none : drop b.at (take b.end b.block) ≡ [] = drop_all b.at (take b.end b.block) (omega (arith, length-take {A = ℕ} b.end b.block, p, q)) in
-    ap (λ l. lines_of (l ++ xs)) (sym none)
+pub start_gone : (a : Option (List ℕ)) → LinesGone a [] a
+start_gone None = tt
+start_gone (Some xs) = refl
 
 -- where nothing is left to give, the reader is at its end
 pub end_behind : (xs : List ℕ) (known : Option (List ℕ)) → IsAtEnd (prepend_known xs known) → IsAtEnd known
@@ -97,12 +93,10 @@ ended_lines-none rest h =
 abbrev pub EndsGone : Option (List ℕ) → ℕ → Option (List ℕ) → Type 0
 EndsGone old count new = (gone : List ℕ) × Consumes old new gone × ((more : List ℕ) → length (ended_lines (gone ++ more)) ≡ count + length (ended_lines more))
 
-pub no_end : (b : Inbox) (a : Option (List ℕ)) → b.at ≡ 0 → b.end ≡ 0 → EndsGone a 0 (source b a)
-no_end b a p q =
-    let none : drop b.at (take b.end b.block) ≡ [] = drop_all b.at (take b.end b.block) (omega (arith, length-take {A = ℕ} b.end b.block, p, q)) in
-    ([], subst (λ l. Consumes a (prepend_known l a) []) (sym none) (same a), λ more. omega arith)
+pub no_end : (a : Option (List ℕ)) → EndsGone a 0 a
+no_end a = ([], same a, λ more. omega arith)
   where
-    same : (a : Option (List ℕ)) → Consumes a (prepend_known [] a) []
+    same : (a : Option (List ℕ)) → Consumes a a []
     same None = tt
     same (Some xs) = refl
 

@@ -1,7 +1,6 @@
 -- An owner of a list whose lines are answered one after another.
 use Rattle.std.proofs.Common.{◌≡◌, ℕ, List, [], ◌∷◌, ◌++◌, Option, IfSome, sym, subst}
 use Rattle.std.proofs.KnownBytes.{Appends-nil}
-use Rattle.desk_types.specs.History.{History}
 use Rattle.desk_answers.specs.Ledger.{Ledger, ForLists}
 use Rattle.served.specs.declared.serving.Served.{Served}
 use Rattle.desk_feed.specs.LineAnswers.{Serves, Breaks}

@@ -1,6 +1,6 @@
-pub mod Inbox
 pub mod LineAnswers
 pub mod Lines
 pub mod Messages
 pub mod Repeats
 pub mod Stream
+pub mod Taking

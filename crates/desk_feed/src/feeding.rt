@@ -5,17 +5,18 @@ ghost use Rattle.std.specs.Io.KnownBytes.{IsAtEnd};
 ghost use Rattle.desk_types.specs.History.{History};
 ghost use Rattle.desk_types.specs.Wire.{inner_of, reads_of, failures_of};
 ghost use Rattle.desk_answers.specs.Ledger.{Ledger};
-ghost use Rattle.desk_feed.specs.Inbox.{HoldsLine};
+ghost use Rattle.desk_feed.specs.Taking.{HoldsLine};
 ghost use Rattle.desk_feed.specs.LineAnswers.{Serves, Breaks};
 ghost use Rattle.desk_feed.specs.Lines.{lines_in};
-ghost use Rattle.served.specs.Shown.{FailsNever, IsShown};
+ghost use Rattle.served.specs.Counts.{CanCountOne, CountsUpToOne};
+ghost use Rattle.served.specs.Shown.{CanCountRun, FailsNever, IsShown};
 ghost use Rattle.desk_feed.specs.Stream.{AnsweredAll, AnsweredFront, AnsweredInto, LeavesNone};
 
-use crate::inbox::{Inbox, InboxFault, RawLine, Taken};
 use crate::line::answer_line;
+use crate::taking::{RawLine, Taken, take_line};
 use desk_answers::Owner;
 use desk_types::{MOST_READS, Wire};
-use served::{ServeFault, Served, WriteFailed, send_line};
+use served::{Block, ReadFault, ServeFault, Served, WriteFailed, send_line};
 use std::alloc::Global;
 use std::io::{Read, Write};
 
@@ -32,9 +33,7 @@ pub fn feed<R: Read, W: Write, L: Owner>(
     output: &mut Wire<W>,
     owner: &mut L,
 ) -> Result<Served, ServeFault>
-    requires read_failures { failures_of input.old < 2 ^ 63 }
-    requires reads { reads_of input.old < 2 ^ 63 }
-    requires write_failures { failures_of output.old < 2 ^ 63 }
+    requires counts { CanCountRun input.old output.old }
     requires ready { L.Ready owner.old }
     ensures ready { L.Ready owner.new }
     ensures trusts { L.Trusts owner.new → L.Trusts owner.old }
@@ -67,13 +66,13 @@ pub fn feed<R: Read, W: Write, L: Owner>(
         G.history (W.contents (inner_of output.old)) H (W.contents (inner_of output.new)) served) }
 {
     let most_reads = input.reads() + MOST_READS;
-    let mut inbox = Inbox::new();
+    let mut block = Block::new();
     let mut served = Served {
         answered: 0,
         refused: 0,
     };
     'lines: loop {
-        match inbox.next_line(alloc, input, most_reads) {
+        match take_line(alloc, &mut block, input, most_reads) {
             Ok(Taken { line: raw, last }) => {
                 match serve_line(alloc, output, owner, raw, &mut served) {
                     Ok(()) if last => return Ok(served),
@@ -81,8 +80,8 @@ pub fn feed<R: Read, W: Write, L: Owner>(
                     Err(WriteFailed) => return Err(ServeFault::Write(served)),
                 }
             }
-            Err(InboxFault::Read) => return Err(ServeFault::Read(served)),
-            Err(InboxFault::TooManyReads) => return Err(ServeFault::TooManyReads(served)),
+            Err(ReadFault::Failed) => return Err(ServeFault::Read(served)),
+            Err(ReadFault::TooMany) => return Err(ServeFault::TooManyReads(served)),
         }
     }
 }
@@ -96,8 +95,7 @@ fn serve_line<W: Write, L: Owner>(
     served: &mut Served,
 ) -> Result<(), WriteFailed>
     requires few_failures { failures_of output.old < 2 ^ 63 }
-    requires few_answers { served.old.answered < 2 ^ 63 }
-    requires refused { served.old.refused ≤ served.old.answered }
+    requires counts { CanCountOne served.old }
     requires ready { L.Ready owner.old }
     ensures ready { L.Ready owner.new }
     ensures trusts { L.Trusts owner.new → L.Trusts owner.old }
@@ -109,10 +107,9 @@ fn serve_line<W: Write, L: Owner>(
         → OnErr result ((H : History) × L.Stands owner.new (record G { history = H })
         × Breaks G.rules G.greatest (lines_in bytes)
         G.history (W.contents (inner_of output.old)) served.old H (W.contents (inner_of output.new)) served.new) }
-    ensures few_answers { OnOk result (served.new.answered ≤ served.old.answered + 1) }
+    ensures counts { CountsUpToOne served.old served.new }
     ensures counted { (bytes : List ℕ) → HoldsLine raw bytes
         → OnOk result (served.new.answered ≡ served.old.answered + length (lines_in bytes)) }
-    ensures refused { served.new.refused ≤ served.new.answered }
     ensures kept { OnOk result (failures_of output.new ≡ failures_of output.old) }
     ensures failed { OnErr result (failures_of output.new ≡ failures_of output.old + 1) }
 {

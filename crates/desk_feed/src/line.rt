@@ -3,13 +3,13 @@
 ghost use Rattle.std.specs.Prelude.{◌≡◌, ◌∷◌, [], ℕ, List, MatchOption};
 ghost use Rattle.desk_types.specs.History.{History};
 ghost use Rattle.desk_answers.specs.Ledger.{Ledger};
-ghost use Rattle.desk_feed.specs.Inbox.{HoldsLine};
+ghost use Rattle.desk_feed.specs.Taking.{HoldsLine};
 ghost use Rattle.desk_feed.specs.LineAnswers.{line_told, AnswersRaw};
 ghost use Rattle.desk_feed.specs.Lines.{lines_in, without_return};
 ghost use Rattle.desk_feed.specs.Stream.{too_long_text};
 
-use crate::inbox::{RawLine, without_return};
 use crate::message::{Told, answer_message};
+use crate::taking::{RawLine, without_return};
 use cfx_profile::unavailable_text;
 use desk_answers::Owner;
 use desk_types::LONGEST_INPUT;

@@ -1,8 +1,6 @@
 -- What stands at the front of a stream, from what was seen of it.
-use Rattle.std.proofs.Common.{◌≡◌, ◌∙◌, ◌<◌, ◌≤◌, ◌+◌, ◌-◌, ℕ, true, false, List, [], ◌∷◌, ◌++◌, sym, ap, refl, subst, take, drop, length, length-append, Option, Some, None, IfSome, Ok, Err, arith, inl, inr, append_assoc, append-nil}
-use Rattle.std.proofs.lemmas.List.{length-take, take-append-drop, take-append-le, take-take, take_min, drop_all, drop-drop, drop-append-le}
-use Rattle.std.specs.List.{slice_range}
-use Rattle.http_stream.proofs.Sources.{split_pending}
+use Rattle.std.proofs.Common.{◌≡◌, ◌∙◌, ◌<◌, ◌≤◌, ℕ, true, false, List, [], ◌∷◌, ◌++◌, min, sym, ap, refl, subst, take, drop, length, length-append, Option, Some, None, IfSome, Ok, Err, arith, inl, inr, append_assoc, append-nil}
+use Rattle.std.proofs.lemmas.List.{length-take, take-append-drop, take-append-le, take-take, take_min, drop-append-le}
 use Rattle.std.specs.Io.KnownBytes.{prepend_known, Consumes, Keeps, IsAtEnd}
 use Rattle.httparse.specs.Grammar.{RequestHead, ReadsRequest, HasNoRequest, NeverHasRequest, print_request}
 use Rattle.httparse.specs.Spans.{RequestOverflows, RequestExceeds}
@@ -11,9 +9,13 @@ use Rattle.http_stream.specs.declared.head.LengthFault.{LengthFault}
 use Rattle.desk_types.specs.declared.limits.TheConstants.{HEAD_LIMIT, MOST_HEADERS}
 use Rattle.http_stream.specs.Heads.{window, TakesHead, IsBadHead, IsUnfinished}
 use Rattle.http_stream.specs.Looks.{IsHeadOf}
-use Rattle.http_stream.specs.Inbox.{ReadsFewer}
+use Rattle.http_stream.specs.Bodies.{ReadsFewer}
 use Rattle.http_stream.specs.Cut.{Portion, whole, bad_head, head_too_large, unread, starved, IsPortion, EndsInside, ReadsInside, TakesPortion, PortionsGone, Leads, IsCut, is_last}
 use Rattle.httparse.specs.Spans.{span_bytes}
+
+-- what is looked at is the window of what is pending
+pub window_is : (bytes pend : List ℕ) (n : ℕ) → bytes ≡ pend → n ≡ min HEAD_LIMIT (length bytes) → take n bytes ≡ window pend
+window_is bytes pend n same least = ap (λ k. take k bytes) least ∙ take_min HEAD_LIMIT bytes ∙ ap (take HEAD_LIMIT) same
 
 -- ---- what is known of the bytes at hand stays known of more bytes
 
@@ -75,63 +77,52 @@ takes_head bytes more us head h is few =
     ap (λ l. (l ++ more) ++ us) is.reads.1 ∙ simp append_assoc in
     ((is.reads.0, e), omega (arith, is.len, is.in_bytes, few), is.few)
 
--- what was seen of the stream, whose pending bytes are at hand: those that were looked at, and more
-pub record Sees (pend bytes more behind : List ℕ) (head : Head) (h : RequestHead) : Type 0 where
+-- what was seen of the bytes at hand: the window, which begins with this head; and what is left of them behind it
+pub record Sees (pend bytes behind : List ℕ) (head : Head) (h : RequestHead) : Type 0 where
   pub is : IsHeadOf bytes head h
-  pub few : length bytes ≤ HEAD_LIMIT
-  pub split : pend ≡ bytes ++ more
-  pub left : behind ≡ drop head.len bytes ++ more
+  pub all : bytes ≡ window pend
+  pub left : behind ≡ drop head.len pend
 
-pub sees : (block : List ℕ) (at end from to : ℕ) (head : Head) (h : RequestHead) → IsHeadOf (slice_range block from to) head h → from ≡ at → from ≤ to → to ≤ end → to - from ≤ HEAD_LIMIT
-    → Sees (drop at (take end block)) (slice_range block from to) (drop to (take end block)) (drop (at + head.len) (take end block)) head h
-sees block at end from to head h is same le fits few =
-    let bytes = slice_range block from to in
-    let more = drop to (take end block) in
-    let e : from + (to - from) ≡ to = omega arith in
-    let cut = subst (λ (n : ℕ). drop from (take end block) ≡ slice_range block from n ++ drop n (take end block)) e (split_pending block from (to - from) end (omega (arith, fits, e))) in
-    let split = ap (λ n. drop n (take end block)) (sym same) ∙ cut in record {
-      is = is;
-      few = omega (arith, few, length-take (to - from) (drop from block));
-      split = split;
-      left = sym (drop-drop head.len at (take end block)) ∙ ap (drop head.len) split ∙ drop-append-le head.len bytes more is.in_bytes;
-    }
+head_of : (pend bytes behind us : List ℕ) (head : Head) (h : RequestHead) → Sees pend bytes behind head h → TakesHead (pend ++ us) h (behind ++ us)
+head_of pend bytes behind us head h s =
+    let more = drop HEAD_LIMIT pend in
+    let split : pend ≡ bytes ++ more = sym (take-append-drop HEAD_LIMIT pend) ∙ ap (λ l. l ++ more) (sym s.all) in
+    let left : behind ≡ drop head.len bytes ++ more = s.left ∙ ap (drop head.len) split ∙ drop-append-le head.len bytes more s.is.in_bytes in
+    let few : length bytes ≤ HEAD_LIMIT = omega (arith, ap length s.all, length-take HEAD_LIMIT pend) in
+    subst (λ l. TakesHead (l ++ us) h (behind ++ us)) (sym split)
+    (subst (λ l. TakesHead ((bytes ++ more) ++ us) h (l ++ us)) (sym left) (takes_head bytes more us head h s.is few))
 
-head_of : (pend bytes more behind us : List ℕ) (head : Head) (h : RequestHead) → Sees pend bytes more behind head h → TakesHead (pend ++ us) h (behind ++ us)
-head_of pend bytes more behind us head h s =
-    subst (λ l. TakesHead (l ++ us) h (behind ++ us)) (sym s.split)
-    (subst (λ l. TakesHead ((bytes ++ more) ++ us) h (l ++ us)) (sym s.left) (takes_head bytes more us head h s.is s.few))
-
-pub takes_whole : (pend bytes more behind : List ℕ) (head : Head) (h : RequestHead) (known new : Option (List ℕ)) (body : List ℕ) → Sees pend bytes more behind head h
+pub takes_whole : (pend bytes behind : List ℕ) (head : Head) (h : RequestHead) (known new : Option (List ℕ)) (body : List ℕ) → Sees pend bytes behind head h
     → head.body ≡ Ok (length body) → Consumes (prepend_known behind known) new body
     → TakesPortion (prepend_known pend known) (whole (record { method = span_bytes bytes head.method; target = span_bytes bytes head.target; body = body }) head.closes) new
-takes_whole pend bytes more behind head h None new body s n p = tt
-takes_whole pend bytes more behind head h (Some us) None body s n p = absurd p
-takes_whole pend bytes more behind head h (Some us) (Some zs) body s n p =
-    (h, (subst (TakesHead (pend ++ us) h) p (head_of pend bytes more behind us head h s), sym s.is.body ∙ n), s.is.method, s.is.target, s.is.closes)
+takes_whole pend bytes behind head h None new body s n p = tt
+takes_whole pend bytes behind head h (Some us) None body s n p = absurd p
+takes_whole pend bytes behind head h (Some us) (Some zs) body s n p =
+    (h, (subst (TakesHead (pend ++ us) h) p (head_of pend bytes behind us head h s), sym s.is.body ∙ n), s.is.method, s.is.target, s.is.closes)
 
-pub takes_starved : (pend bytes more behind : List ℕ) (head : Head) (h : RequestHead) (known new : Option (List ℕ)) (n : ℕ) → Sees pend bytes more behind head h
+pub takes_starved : (pend bytes behind : List ℕ) (head : Head) (h : RequestHead) (known new : Option (List ℕ)) (n : ℕ) → Sees pend bytes behind head h
     → head.body ≡ Ok n → 0 < n → Keeps (prepend_known behind known) new
     → TakesPortion (prepend_known pend known) starved new
-takes_starved pend bytes more behind head h None new n s e some k = tt
-takes_starved pend bytes more behind head h (Some us) None n s e some k = absurd k
-takes_starved pend bytes more behind head h (Some us) (Some vs) n s e some k =
-    (h, behind ++ us, n, (head_of pend bytes more behind us head h s, sym s.is.body ∙ e), some)
+takes_starved pend bytes behind head h None new n s e some k = tt
+takes_starved pend bytes behind head h (Some us) None n s e some k = absurd k
+takes_starved pend bytes behind head h (Some us) (Some vs) n s e some k =
+    (h, behind ++ us, n, (head_of pend bytes behind us head h s, sym s.is.body ∙ e), some)
 
-pub takes_unread : (pend bytes more behind : List ℕ) (head : Head) (h : RequestHead) (known : Option (List ℕ)) (fault : LengthFault) → Sees pend bytes more behind head h
+pub takes_unread : (pend bytes behind : List ℕ) (head : Head) (h : RequestHead) (known : Option (List ℕ)) (fault : LengthFault) → Sees pend bytes behind head h
     → head.body ≡ Err fault
     → TakesPortion (prepend_known pend known) (unread (span_bytes bytes head.method) fault) (prepend_known pend known)
-takes_unread pend bytes more behind head h None fault s e = tt
-takes_unread pend bytes more behind head h (Some us) fault s e =
-    (h, behind ++ us, head_of pend bytes more behind us head h s, sym s.is.body ∙ e, s.is.method)
+takes_unread pend bytes behind head h None fault s e = tt
+takes_unread pend bytes behind head h (Some us) fault s e =
+    (h, behind ++ us, head_of pend bytes behind us head h s, sym s.is.body ∙ e, s.is.method)
 
-pub ends_in_body : (pend bytes more behind : List ℕ) (head : Head) (h : RequestHead) (known new : Option (List ℕ)) (n : ℕ) (gone : List ℕ) → Sees pend bytes more behind head h
+pub ends_in_body : (pend bytes behind : List ℕ) (head : Head) (h : RequestHead) (known new : Option (List ℕ)) (n : ℕ) (gone : List ℕ) → Sees pend bytes behind head h
     → head.body ≡ Ok n → length gone < n → Consumes (prepend_known behind known) new gone → IsAtEnd new
     → IfSome (prepend_known pend known) EndsInside
-ends_in_body pend bytes more behind head h None new n gone s e few p end = tt
-ends_in_body pend bytes more behind head h (Some us) None n gone s e few p end = absurd p
-ends_in_body pend bytes more behind head h (Some us) (Some zs) n gone s e few p end =
+ends_in_body pend bytes behind head h None new n gone s e few p end = tt
+ends_in_body pend bytes behind head h (Some us) None n gone s e few p end = absurd p
+ends_in_body pend bytes behind head h (Some us) (Some zs) n gone s e few p end =
     let all : behind ++ us ≡ gone = p ∙ ap (λ l. gone ++ l) end ∙ append-nil gone in
-    inr (h, behind ++ us, n, (head_of pend bytes more behind us head h s, sym s.is.body ∙ e), omega (arith, few, ap length all))
+    inr (h, behind ++ us, n, (head_of pend bytes behind us head h s, sym s.is.body ∙ e), omega (arith, few, ap length all))
 
 -- ---- what was read of a portion that is not all read
 
@@ -155,17 +146,17 @@ stops_in_head a pend known new k l short un = (pend, keeps_consumes a (prepend_k
     pending_goes pend (Some us) (Some vs) l = ap (λ l. pend ++ l) (sym l)
 
 -- behind the head is no whole body
-pub stops_in_body : (pend bytes more behind : List ℕ) (head : Head) (h : RequestHead) (known new : Option (List ℕ)) (n : ℕ) → Sees pend bytes more behind head h
+pub stops_in_body : (pend bytes behind : List ℕ) (head : Head) (h : RequestHead) (known new : Option (List ℕ)) (n : ℕ) → Sees pend bytes behind head h
     → head.body ≡ Ok n → ReadsFewer (prepend_known behind known) new n → ReadsInside (prepend_known pend known) new
-stops_in_body pend bytes more behind head h known new n s e (gone, few, p) =
-    let seen = head_of pend bytes more behind [] head h s in
+stops_in_body pend bytes behind head h known new n s e (gone, few, p) =
+    let seen = head_of pend bytes behind [] head h s in
     (print_request h ++ gone, body_goes known new p, inr (h, gone, n, (((seen.0.0, refl), seen.1, seen.2), sym s.is.body ∙ e), few))
   where
     body_goes : (known new : Option (List ℕ)) → Consumes (prepend_known behind known) new gone → Consumes (prepend_known pend known) new (print_request h ++ gone)
     body_goes None new p = tt
     body_goes (Some us) None p = absurd p
     body_goes (Some us) (Some zs) p =
-        (head_of pend bytes more behind us head h s).0.1 ∙ ap (λ l. print_request h ++ l) p ∙ sym (append_assoc (print_request h) gone zs)
+        (head_of pend bytes behind us head h s).0.1 ∙ ap (λ l. print_request h ++ l) p ∙ sym (append_assoc (print_request h) gone zs)
 
 -- ---- portions one after another
 
@@ -214,8 +205,6 @@ next_first (Some xs) (Some ys) None ps p g t = absurd t
 next_first (Some xs) (Some ys) (Some zs) ps p g t = (ys, zs, g, t)
 
 -- at the start none is gone
-pub start_gone : (at end : ℕ) (block : List ℕ) (a : Option (List ℕ)) → at ≡ 0 → end ≡ 0 → PortionsGone a [] (prepend_known (drop at (take end block)) a)
-start_gone at end block None p q = tt
-start_gone at end block (Some xs) p q =
-    let none : drop at (take end block) ≡ [] = drop_all at (take end block) (omega (arith, length-take end block, p, q)) in
-    ap (λ l. l ++ xs) none
+pub start_gone : (a : Option (List ℕ)) → PortionsGone a [] a
+start_gone None = tt
+start_gone (Some xs) = refl

@@ -1,7 +1,8 @@
 pub mod Answers
+pub mod Bodies
 pub mod Cut
+pub mod Fronts
 pub mod Heads
-pub mod Inbox
 pub mod Looks
 pub mod Portions
 pub mod Repeats

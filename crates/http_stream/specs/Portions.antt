@@ -1,11 +1,11 @@
 -- What the code keeps of a portion.
 use Rattle.std.specs.Prelude.{◌≤◌, List, ℕ, length}
 use Rattle.httparse.specs.Spans.{span_bytes, IsWithin}
-use Rattle.http_stream.specs.declared.inbox.Seen.{Seen}
+use Rattle.http_stream.specs.declared.front.Seen.{Seen}
 use Rattle.http_stream.specs.declared.portion.Taken.{Taken}
 use Rattle.http_stream.specs.declared.portion.Taken.TheVariants as taken
 use Rattle.http_stream.specs.Cut.{Request, Portion, whole, bad_head, head_too_large, unread, starved}
-use Rattle.http_stream.specs.Inbox.{seen_bytes}
+use Rattle.http_stream.specs.Fronts.{seen_bytes}
 
 -- the method of a head that was seen in the block
 abbrev pub method_of : List ℕ → Seen → List ℕ

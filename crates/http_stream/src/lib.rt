@@ -7,8 +7,9 @@
 #![tactic(auto)]
 
 mod answer;
+mod body;
+mod front;
 mod head;
-mod inbox;
 mod law;
 mod portion;
 mod reply;

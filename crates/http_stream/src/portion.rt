@@ -1,14 +1,18 @@
 //! One portion of a stream at a time.
 
-ghost use Rattle.std.specs.Prelude.{◌≡◌, ◌+◌, ◌-◌, ◌^◌, ◌<◌, ◌≤◌, ℕ, List, length, false, IfOk, IfSome, OnOk, OnErr, MatchOption, Err};
-ghost use Rattle.desk_types.specs.Wire.{inner_of, reads_of, failures_of};
+ghost use Rattle.std.specs.Prelude.{◌≡◌, ◌<◌, false, IfOk, IfSome, OnErr, MatchOption};
+ghost use Rattle.desk_types.specs.Wire.{inner_of, reads_of};
+ghost use Rattle.served.specs.Block.{IsBlock, fuel, source};
+ghost use Rattle.served.specs.Reads.{MayRead, ReadsUpTo};
 ghost use Rattle.http_stream.specs.Cut.{EndsInside, ReadsInside, TakesPortion, is_last};
-ghost use Rattle.http_stream.specs.Inbox.{IsFront, IsInbox, fuel, source};
+ghost use Rattle.http_stream.specs.Fronts.{IsFront};
 ghost use Rattle.http_stream.specs.Portions.{IsSeen, IsTaken, method_of, portion_of, target_of};
 
+use crate::body::{BodyTaken, take_body};
+use crate::front::{Front, Seen, find_front};
 use crate::head::LengthFault;
-use crate::inbox::{BodyTaken, Front, Inbox, InboxFault, Seen};
 use desk_types::Wire;
+use served::{Block, ReadFault};
 use std::alloc::Global;
 use std::io::Read;
 
@@ -28,70 +32,60 @@ pub enum Taken {
 /// Takes the next portion; none where the input ends inside a request or before one.
 pub fn take_portion<R: Read>(
     alloc: Global,
-    inbox: &mut Inbox,
+    block: &mut Block,
     input: &mut Wire<R>,
     most_reads: u64,
-) -> Result<Option<Taken>, InboxFault>
-    requires valid { IsInbox inbox.old }
-    requires few_failures { failures_of input.old < 2 ^ 63 }
-    requires few_reads { reads_of input.old ≤ most_reads }
-    ensures valid { IsInbox inbox.new }
-    ensures taken { IfOk result (λ next. IfSome next (λ taken. IsTaken inbox.new.block taken)) }
+) -> Result<Option<Taken>, ReadFault>
+    requires valid { IsBlock block.old }
+    requires reads { MayRead most_reads input.old }
+    ensures valid { IsBlock block.new }
+    ensures taken { IfOk result (λ next. IfSome next (λ taken. IsTaken block.new.bytes taken)) }
     ensures portion { IfOk result
-        (λ next. MatchOption next (IfSome (source inbox.old (R.remaining (inner_of input.old))) EndsInside)
-        (λ taken. TakesPortion (source inbox.old (R.remaining (inner_of input.old))) (portion_of inbox.new.block taken)
-        (source inbox.new (R.remaining (inner_of input.new))))) }
+        (λ next. MatchOption next (IfSome (source block.old (R.remaining (inner_of input.old))) EndsInside)
+        (λ taken. TakesPortion (source block.old (R.remaining (inner_of input.old))) (portion_of block.new.bytes taken)
+        (source block.new (R.remaining (inner_of input.new))))) }
     ensures unread { OnErr result
-        (ReadsInside (source inbox.old (R.remaining (inner_of input.old))) (R.remaining (inner_of input.new))) }
-    ensures falls { IfOk result (λ next. IfSome next (λ taken. is_last (portion_of inbox.new.block taken) ≡ false
-        → fuel most_reads (reads_of input.new) inbox.new < fuel most_reads (reads_of input.old) inbox.old)) }
-    ensures few_reads { reads_of input.new ≤ most_reads }
-    ensures kept { OnOk result (failures_of input.new ≡ failures_of input.old) }
-    ensures read { result ≡ Err InboxFault.Read → failures_of input.new ≡ failures_of input.old + 1 }
-    ensures too_many { result ≡ Err InboxFault.TooManyReads
-        → (reads_of input.new ≡ most_reads) × (failures_of input.new ≡ failures_of input.old) }
+        (ReadsInside (source block.old (R.remaining (inner_of input.old))) (R.remaining (inner_of input.new))) }
+    ensures falls { IfOk result (λ next. IfSome next (λ taken. is_last (portion_of block.new.bytes taken) ≡ false
+        → fuel most_reads (reads_of input.new) block.new < fuel most_reads (reads_of input.old) block.old)) }
+    ensures reads { ReadsUpTo most_reads result input.old input.new }
 {
-    match inbox.front(input, most_reads)? {
+    match find_front(block, input, most_reads)? {
         Front::End => Ok(None),
         Front::Bad => Ok(Some(Taken::BadHead)),
         Front::TooLarge => Ok(Some(Taken::HeadTooLarge)),
-        Front::Head(seen) => take_request(alloc, inbox, input, seen, most_reads),
+        Front::Head(seen) => take_request(alloc, block, input, seen, most_reads),
     }
 }
 
 /// Takes the request whose head was seen.
 fn take_request<R: Read>(
     alloc: Global,
-    inbox: &mut Inbox,
+    block: &mut Block,
     input: &mut Wire<R>,
     seen: Seen,
     most_reads: u64,
-) -> Result<Option<Taken>, InboxFault>
-    requires valid { IsInbox inbox.old }
-    requires seen { IsFront inbox.old (R.remaining (inner_of input.old)) (Front.Head seen) }
-    requires few_failures { failures_of input.old < 2 ^ 63 }
-    requires few_reads { reads_of input.old ≤ most_reads }
-    ensures valid { IsInbox inbox.new }
-    ensures taken { IfOk result (λ next. IfSome next (λ taken. IsTaken inbox.new.block taken)) }
+) -> Result<Option<Taken>, ReadFault>
+    requires valid { IsBlock block.old }
+    requires seen { IsFront block.old (R.remaining (inner_of input.old)) (Front.Head seen) }
+    requires reads { MayRead most_reads input.old }
+    ensures valid { IsBlock block.new }
+    ensures taken { IfOk result (λ next. IfSome next (λ taken. IsTaken block.new.bytes taken)) }
     ensures portion { IfOk result
-        (λ next. MatchOption next (IfSome (source inbox.old (R.remaining (inner_of input.old))) EndsInside)
-        (λ taken. TakesPortion (source inbox.old (R.remaining (inner_of input.old))) (portion_of inbox.new.block taken)
-        (source inbox.new (R.remaining (inner_of input.new))))) }
+        (λ next. MatchOption next (IfSome (source block.old (R.remaining (inner_of input.old))) EndsInside)
+        (λ taken. TakesPortion (source block.old (R.remaining (inner_of input.old))) (portion_of block.new.bytes taken)
+        (source block.new (R.remaining (inner_of input.new))))) }
     ensures unread { OnErr result
-        (ReadsInside (source inbox.old (R.remaining (inner_of input.old))) (R.remaining (inner_of input.new))) }
-    ensures falls { IfOk result (λ next. IfSome next (λ taken. is_last (portion_of inbox.new.block taken) ≡ false
-        → fuel most_reads (reads_of input.new) inbox.new < fuel most_reads (reads_of input.old) inbox.old)) }
-    ensures few_reads { reads_of input.new ≤ most_reads }
-    ensures kept { OnOk result (failures_of input.new ≡ failures_of input.old) }
-    ensures read { result ≡ Err InboxFault.Read → failures_of input.new ≡ failures_of input.old + 1 }
-    ensures too_many { result ≡ Err InboxFault.TooManyReads
-        → (reads_of input.new ≡ most_reads) × (failures_of input.new ≡ failures_of input.old) }
+        (ReadsInside (source block.old (R.remaining (inner_of input.old))) (R.remaining (inner_of input.new))) }
+    ensures falls { IfOk result (λ next. IfSome next (λ taken. is_last (portion_of block.new.bytes taken) ≡ false
+        → fuel most_reads (reads_of input.new) block.new < fuel most_reads (reads_of input.old) block.old)) }
+    ensures reads { ReadsUpTo most_reads result input.old input.new }
 {
     match seen.head.body {
         Err(fault) => Ok(Some(Taken::Unread(seen, fault))),
         Ok(length) => {
-            inbox.pass(seen.head.len);
-            match inbox.body(alloc, input, length, most_reads)? {
+            block.give(seen.head.len);
+            match take_body(alloc, block, input, length, most_reads)? {
                 BodyTaken::Whole(bytes) => Ok(Some(Taken::Whole(seen, bytes))),
                 BodyTaken::End => Ok(None),
                 BodyTaken::NoMemory => Ok(Some(Taken::Starved)),

@@ -2,7 +2,8 @@
 
 ghost use Rattle.std.specs.Prelude.{◌≡◌, ◌+◌, ◌^◌, ◌<◌, ◌≤◌, ◌∷◌, [], true, IfOk, OnOk, OnErr, Err};
 ghost use Rattle.desk_types.specs.Wire.{inner_of, reads_of, failures_of};
-ghost use Rattle.served.specs.Shown.{FailsNever, IsShown};
+ghost use Rattle.served.specs.Counts.{CanCountOne, CountsUpToOne};
+ghost use Rattle.served.specs.Shown.{CanCountRun, FailsNever, IsShown};
 ghost use Rattle.http_stream.specs.Answers.{reply_told};
 ghost use Rattle.http_stream.specs.Cut.{is_head, is_last};
 ghost use Rattle.http_stream.specs.Portions.{IsTaken, portion_of};
@@ -10,12 +11,11 @@ ghost use Rattle.desk_answers.specs.Ledger.{ForLists};
 ghost use Rattle.http_stream.specs.Stream.{AnsweredAll, AnsweredFront, AnsweredInto, Breaks, Serves, AnswersPortion, has_body};
 
 use crate::answer::send_answer;
-use crate::inbox::{Inbox, InboxFault};
 use crate::portion::{Taken, method_of, take_portion, target_of};
 use crate::reply::Reply;
 use crate::response::Response;
 use desk_types::{MOST_READS, Wire};
-use served::{ServeFault, Served, WriteFailed};
+use served::{Block, ReadFault, ServeFault, Served, WriteFailed};
 use std::alloc::Global;
 use std::io::{Read, Write};
 
@@ -69,9 +69,7 @@ pub fn serve<R: Read, W: Write, A: Handler>(
     output: &mut Wire<W>,
     handler: &mut A,
 ) -> Result<Served, ServeFault>
-    requires read_failures { failures_of input.old < 2 ^ 63 }
-    requires reads { reads_of input.old < 2 ^ 63 }
-    requires write_failures { failures_of output.old < 2 ^ 63 }
+    requires counts { CanCountRun input.old output.old }
     requires ready { A.Ready handler.old }
     ensures ready { A.Ready handler.new }
     ensures trusts { A.Trusts handler.new → A.Trusts handler.old }
@@ -100,23 +98,23 @@ pub fn serve<R: Read, W: Write, A: Handler>(
         G.history (W.contents (inner_of output.old)) H (W.contents (inner_of output.new)) served) }
 {
     let most_reads = input.reads() + MOST_READS;
-    let mut inbox = Inbox::new();
+    let mut block = Block::new();
     let mut served = Served {
         answered: 0,
         refused: 0,
     };
     'portions: loop {
-        match take_portion(alloc, &mut inbox, input, most_reads) {
+        match take_portion(alloc, &mut block, input, most_reads) {
             Ok(Some(taken)) => {
-                match serve_portion(alloc, output, handler, &inbox.block, taken, &mut served) {
+                match serve_portion(alloc, output, handler, &block.bytes, taken, &mut served) {
                     Ok(true) => return Ok(served),
                     Ok(false) => {}
                     Err(WriteFailed) => return Err(ServeFault::Write(served)),
                 }
             }
             Ok(None) => return Ok(served),
-            Err(InboxFault::Read) => return Err(ServeFault::Read(served)),
-            Err(InboxFault::TooManyReads) => return Err(ServeFault::TooManyReads(served)),
+            Err(ReadFault::Failed) => return Err(ServeFault::Read(served)),
+            Err(ReadFault::TooMany) => return Err(ServeFault::TooManyReads(served)),
         }
     }
 }
@@ -132,8 +130,7 @@ fn serve_portion<W: Write, A: Handler>(
 ) -> Result<bool, WriteFailed>
     requires taken { IsTaken block.now taken }
     requires few_failures { failures_of output.old < 2 ^ 63 }
-    requires few_answers { served.old.answered < 2 ^ 63 }
-    requires refused { served.old.refused ≤ served.old.answered }
+    requires counts { CanCountOne served.old }
     requires ready { A.Ready handler.old }
     ensures ready { A.Ready handler.new }
     ensures trusts { A.Trusts handler.new → A.Trusts handler.old }
@@ -146,8 +143,7 @@ fn serve_portion<W: Write, A: Handler>(
         (ForLists A.Stands A.Trusts handler.old handler.new
         (λ G H. Breaks (A.rule G.rules G.greatest) (portion_of block.now taken)
         G.history (W.contents (inner_of output.old)) served.old H (W.contents (inner_of output.new)) served.new)) }
-    ensures few_answers { OnOk result (served.new.answered ≤ served.old.answered + 1) }
-    ensures refused { served.new.refused ≤ served.new.answered }
+    ensures counts { CountsUpToOne served.old served.new }
     ensures kept { OnOk result (failures_of output.new ≡ failures_of output.old) }
     ensures failed { OnErr result (failures_of output.new ≡ failures_of output.old + 1) }
 {

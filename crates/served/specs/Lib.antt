@@ -1,3 +1,5 @@
+pub mod Block
 pub mod Counts
+pub mod Reads
 pub mod Sent
 pub mod Shown

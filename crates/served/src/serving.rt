@@ -1,6 +1,7 @@
 //! How many answers went out, and why it stopped.
 
-ghost use Rattle.std.specs.Prelude.{◌≡◌, ◌+◌, ◌^◌, ◌<◌, ◌≤◌, if◌then◌else◌};
+ghost use Rattle.std.specs.Prelude.{◌≡◌, ◌+◌, if◌then◌else◌};
+ghost use Rattle.served.specs.Counts.{CanCountOne};
 
 /// How many answers went out, and how many of them count as refused.
 #[derive(Clone, Copy, Debug, PartialEq, Eq)]
@@ -12,8 +13,7 @@ pub struct Served {
 impl Served {
     /// One more answer.
     pub fn count(&mut self, refused: bool)
-        requires few_answers { self.old.answered < 2 ^ 63 }
-        requires refused { self.old.refused ≤ self.old.answered }
+        requires counts { CanCountOne self.old }
         ensures answered { self.new.answered ≡ self.old.answered + 1 }
         ensures refused { self.new.refused ≡ (if refused then self.old.refused + 1 else self.old.refused) }
     {

@@ -1,44 +1,48 @@
-use Rattle.std.proofs.Common.{◌≡◌, ◌∙◌, ◌++◌, true, false, subst, arith, [], refl, Bool, drop, take}
+use Rattle.std.proofs.Common.{◌≡◌, ◌∙◌, ◌++◌, true, false, sym, ap, subst, arith, length, [], refl, Bool}
 use Rattle.desk_types.specs.Wire.{inner_of}
 use Rattle.desk_feed.proofs.AnsweredLines.{same_write}
 use Rattle.desk_answers.specs.Ledger.{ForLists}
 use Rattle.desk_feed.proofs.OwnersOfLines.{goes_none, goes_on, stops_into}
-use Rattle.desk_feed.proofs.LinesOfInputs.{start_gone, lines_go, last_goes, next_first, end_behind, no_end, one_more_end, all_ended}
-use Rattle.desk_feed.specs.Inbox.{TakesLine, source}
+use Rattle.desk_feed.proofs.LinesOfInputs.{EndsGone, start_gone, lines_go, last_goes, next_first, end_behind, no_end, one_more_end, all_ended}
 use Rattle.desk_feed.specs.Lines.{lines_in}
+use Rattle.desk_feed.specs.Taking.{TakesLine, LinesGone}
+use Rattle.served.specs.Block.{pending_bytes, source}
 use Rattle.served.specs.Counts.{none_served}
 use Rattle.desk_feed.specs.Stream.{AnsweredInto}
 use Rattle.served.specs.declared.serving.Served.{Served}
+use Rattle.served.proofs.Blocks.{none_pending}
 use Rattle.desk_feed.proofs.feeding.feed.Goals as goal
 
 pub lines-init : goal.lines-init
 lines-init g c =
-    let e = c.new-inbox.ensures.empty in
+    let input = g.R.Read.remaining (inner_of c.args.input.now) in
+    let empty = c.new-block.ensures.empty in
+    let same = sym (none_pending (pending_bytes c.new-block.result) input empty) in
     let r = c.reads-most_reads.ensures in record {
-      inbox = c.new-inbox.ensures.valid;
+      block = c.new-block.ensures.valid;
       reads = omega (arith, r);
       read_failures = refl;
       write_failures = refl;
-      counted = omega (arith, e.0, e.1, r);
+      counted = omega (arith, ap length empty, r);
       refused = omega arith;
       ready = c.requires.ready;
       trusts = λ trusts. trusts;
       lines = [];
-      ended = no_end c.new-inbox.result (g.R.Read.remaining (inner_of c.args.input.now)) e.0 e.1;
-      gone = start_gone c.new-inbox.result (g.R.Read.remaining (inner_of c.args.input.now)) e.0 e.1;
+      ended = subst (EndsGone input 0) same (no_end input);
+      gone = subst (LinesGone input []) same (start_gone input);
       answered = goes_none g.L.Owner.Stands g.L.Owner.Trusts c.args.owner.now (g.W.Write.contents (inner_of c.args.output.now));
     }
 
 pub returns-in-Ok-serve_line-clause-end : goal.returns-in-Ok-serve_line-clause-end
 returns-in-Ok-serve_line-clause-end g c =
     let got = c.in-Ok.ensures.line in
-    let inbox = c.next_line.new.self in
-    let known = g.R.Read.remaining (inner_of c.next_line.new.wire) in
-    let before = source c.lines.inbox (g.R.Read.remaining (inner_of c.lines.input)) in
-    let took : TakesLine before got.0 c.in-Ok.field-0.last (source inbox known) = got.2 in
+    let block = c.take_line.new.block in
+    let known = g.R.Read.remaining (inner_of c.take_line.new.wire) in
+    let before = source c.lines.block (g.R.Read.remaining (inner_of c.lines.input)) in
+    let took : TakesLine before got.0 c.in-Ok.field-0.last (source block known) = got.2 in
     let is_last : c.in-Ok.field-0.last ≡ true = cc in
-    let took = subst (λ (b : Bool). TakesLine before got.0 b (source inbox known)) is_last took in
-    end_behind (drop inbox.at (take inbox.end inbox.block)) known took.2
+    let took = subst (λ (b : Bool). TakesLine before got.0 b (source block known)) is_last took in
+    end_behind (pending_bytes block) known took.2
 
 pub returns-in-Ok-serve_line-clause-ok : goal.returns-in-Ok-serve_line-clause-ok
 returns-in-Ok-serve_line-clause-ok g c = λ G stands trusts.
@@ -46,8 +50,8 @@ returns-in-Ok-serve_line-clause-ok g c = λ G stands trusts.
     let got = c.in-Ok.ensures.line in
     let raw = got.0 in
     let asked = g.R.Read.remaining (inner_of c.args.input.now) in
-    let before = source c.lines.inbox (g.R.Read.remaining (inner_of c.lines.input)) in
-    let behind = source c.next_line.new.self (g.R.Read.remaining (inner_of c.next_line.new.wire)) in
+    let before = source c.lines.block (g.R.Read.remaining (inner_of c.lines.input)) in
+    let behind = source c.take_line.new.block (g.R.Read.remaining (inner_of c.take_line.new.wire)) in
     let took : TakesLine before raw c.in-Ok.field-0.last behind = got.2 in
     let is_last : c.in-Ok.field-0.last ≡ true = cc in
     let took = subst (λ (b : Bool). TakesLine before raw b behind) is_last took in
@@ -63,20 +67,20 @@ lines-preserved g c =
     let got = c.in-Ok.ensures.line in
     let raw = got.0 in
     let asked = g.R.Read.remaining (inner_of c.args.input.now) in
-    let before = source c.lines.inbox (g.R.Read.remaining (inner_of c.lines.input)) in
-    let behind = source c.next_line.new.self (g.R.Read.remaining (inner_of c.next_line.new.wire)) in
+    let before = source c.lines.block (g.R.Read.remaining (inner_of c.lines.input)) in
+    let behind = source c.take_line.new.block (g.R.Read.remaining (inner_of c.take_line.new.wire)) in
     let took : TakesLine before raw c.in-Ok.field-0.last behind = got.2 in
     let not_last : c.in-Ok.field-0.last ≡ false = cc in
     let took = subst (λ (b : Bool). TakesLine before raw b behind) not_last took in
     let contents = g.W.Write.contents in
     let falls = c.in-Ok.ensures.falls in
-    let few = c.in-Ok-serve_line.ensures.few_answers in record {
-      inbox = c.next_line.ensures.valid;
-      reads = c.next_line.ensures.few_reads;
-      read_failures = c.in-Ok.ensures.kept ∙ inv.read_failures;
+    let few = c.serve_line.ensures.counts.few_answers in record {
+      block = c.take_line.ensures.valid;
+      reads = c.take_line.ensures.reads.few_reads;
+      read_failures = c.in-Ok.ensures.reads.kept ∙ inv.read_failures;
       write_failures = c.in-Ok-serve_line.ensures.kept ∙ inv.write_failures;
       counted = omega (arith, inv.counted, falls, few);
-      refused = c.serve_line.ensures.refused;
+      refused = c.serve_line.ensures.counts.refused;
       ready = c.serve_line.ensures.ready;
       trusts = λ trusts. inv.trusts (c.serve_line.ensures.trusts trusts);
       lines = inv.lines ++ lines_in raw;
@@ -93,8 +97,8 @@ returns-in-Err-clause-write g c = λ served e.
     let got = c.in-Ok.ensures.line in
     let raw = got.0 in
     let asked = g.R.Read.remaining (inner_of c.args.input.now) in
-    let before = source c.lines.inbox (g.R.Read.remaining (inner_of c.lines.input)) in
-    let behind = source c.next_line.new.self (g.R.Read.remaining (inner_of c.next_line.new.wire)) in
+    let before = source c.lines.block (g.R.Read.remaining (inner_of c.lines.input)) in
+    let behind = source c.take_line.new.block (g.R.Read.remaining (inner_of c.take_line.new.wire)) in
     let took : TakesLine before raw c.in-Ok.field-0.last behind = got.2 in
     let contents = g.W.Write.contents in
     let out₀ = contents (inner_of c.args.output.now) in
@@ -102,17 +106,17 @@ returns-in-Err-clause-write g c = λ served e.
     let failed = c.in-Err.ensures.failed in
     let into = stops_into g.L.Owner.Stands g.L.Owner.Trusts inv.lines (lines_in raw) asked c.args.owner.now c.lines.owner c.serve_line.new.owner out₀ (contents (inner_of c.lines.output)) out₂ c.lines.served c.serve_line.new.served
     c.serve_line.ensures.trusts (λ line is. next_first asked before behind inv.lines raw line c.in-Ok.field-0.last inv.gone took is) inv.answered (λ G stands trusts. c.in-Err.ensures.err G stands trusts raw got.1) in (
-      (omega (arith, failed, inv.write_failures), c.in-Ok.ensures.kept ∙ inv.read_failures),
+      (omega (arith, failed, inv.write_failures), c.in-Ok.ensures.reads.kept ∙ inv.read_failures),
       subst (λ (s : Served). ForLists g.L.Owner.Stands g.L.Owner.Trusts c.args.owner.now c.serve_line.new.owner (λ G H. AnsweredInto G.rules G.greatest asked G.history out₀ H out₂ s))
           (same_write c.serve_line.new.served served e) into,
     )
 
-pub returns-in-Err-Read-clause-unread : goal.returns-in-Err-Read-clause-unread
-returns-in-Err-Read-clause-unread g c =
+pub returns-in-Err-Failed-clause-unread : goal.returns-in-Err-Failed-clause-unread
+returns-in-Err-Failed-clause-unread g c =
     let asked = g.R.Read.remaining (inner_of c.args.input.now) in
-    all_ended asked (source c.lines.inbox (g.R.Read.remaining (inner_of c.lines.input))) (g.R.Read.remaining (inner_of c.next_line.new.wire)) c.lines.served c.lines.invariant.ended c.in-Err-Read.ensures.unread
+    all_ended asked (source c.lines.block (g.R.Read.remaining (inner_of c.lines.input))) (g.R.Read.remaining (inner_of c.take_line.new.wire)) c.lines.served c.lines.invariant.ended c.in-Err-Failed.ensures.unread
 
-pub returns-in-Err-TooManyReads-clause-unread : goal.returns-in-Err-TooManyReads-clause-unread
-returns-in-Err-TooManyReads-clause-unread g c =
+pub returns-in-Err-TooMany-clause-unread : goal.returns-in-Err-TooMany-clause-unread
+returns-in-Err-TooMany-clause-unread g c =
     let asked = g.R.Read.remaining (inner_of c.args.input.now) in
-    all_ended asked (source c.lines.inbox (g.R.Read.remaining (inner_of c.lines.input))) (g.R.Read.remaining (inner_of c.next_line.new.wire)) c.lines.served c.lines.invariant.ended c.in-Err-TooManyReads.ensures.unread
+    all_ended asked (source c.lines.block (g.R.Read.remaining (inner_of c.lines.input))) (g.R.Read.remaining (inner_of c.take_line.new.wire)) c.lines.served c.lines.invariant.ended c.in-Err-TooMany.ensures.unread

@@ -1,8 +1,8 @@
 use Rattle.std.proofs.Common.{rules, arith, ◌∙◌, length, ap, subst}
 use Rattle.desk_feed.proofs.AnsweredLines.{told_too_long, one_shorter}
-use Rattle.desk_feed.specs.Inbox.{HoldsLine}
+use Rattle.desk_feed.specs.Taking.{HoldsLine}
 use Rattle.desk_feed.specs.Lines.{without_return}
-use Rattle.desk_feed.specs.declared.inbox.RawLine.{RawLine}
+use Rattle.desk_feed.specs.declared.taking.RawLine.{RawLine}
 use Rattle.desk_feed.proofs.line.answer_line.Goals as goal
 
 pub returns-in-NoMemory-clause-answer : goal.returns-in-NoMemory-clause-answer

@@ -1,23 +1,24 @@
 use Rattle.std.proofs.Common.{subst}
 use Rattle.std.proofs.lemmas.Result.{on_err_weaker}
 use Rattle.desk_types.specs.Wire.{inner_of}
-use Rattle.http_stream.specs.Inbox.{source, pending_bytes, IsFront}
+use Rattle.served.specs.Block.{source, pending_bytes}
+use Rattle.http_stream.specs.Fronts.{IsFront}
 use Rattle.http_stream.proofs.Portions.{takes_bad, takes_large, keeps_inside}
 use Rattle.http_stream.proofs.portion.take_portion.Goals as goal
 
 pub returns-in-Bad-clause-portion : goal.returns-in-Bad-clause-portion
 returns-in-Bad-clause-portion g c =
-    let known = g.R.Read.remaining (inner_of c.front.new.wire) in
-    let told = subst (IsFront c.front.new.self known) c.in-Bad.is c.in_ok-front.ensures.front in
-    takes_bad (source c.args.inbox.now (g.R.Read.remaining (inner_of c.args.input.now))) (pending_bytes c.front.new.self) known c.in_ok-front.ensures.source told
+    let known = g.R.Read.remaining (inner_of c.find_front.new.wire) in
+    let told = subst (IsFront c.find_front.new.block known) c.in-Bad.is c.in_ok-find_front.ensures.front in
+    takes_bad (source c.args.block.now (g.R.Read.remaining (inner_of c.args.input.now))) (pending_bytes c.find_front.new.block) known c.in_ok-find_front.ensures.source told
 
 pub returns-in-TooLarge-clause-portion : goal.returns-in-TooLarge-clause-portion
 returns-in-TooLarge-clause-portion g c =
-    let known = g.R.Read.remaining (inner_of c.front.new.wire) in
-    let told = subst (IsFront c.front.new.self known) c.in-TooLarge.is c.in_ok-front.ensures.front in
-    takes_large (source c.args.inbox.now (g.R.Read.remaining (inner_of c.args.input.now))) (pending_bytes c.front.new.self) known c.in_ok-front.ensures.source told.0 told.1
+    let known = g.R.Read.remaining (inner_of c.find_front.new.wire) in
+    let told = subst (IsFront c.find_front.new.block known) c.in-TooLarge.is c.in_ok-find_front.ensures.front in
+    takes_large (source c.args.block.now (g.R.Read.remaining (inner_of c.args.input.now))) (pending_bytes c.find_front.new.block) known c.in_ok-find_front.ensures.source told.0 told.1
 
 pub returns-in-Head-clause-unread : goal.returns-in-Head-clause-unread
 returns-in-Head-clause-unread g c = on_err_weaker c.take_request.result
-    (λ inside. keeps_inside (source c.args.inbox.now (g.R.Read.remaining (inner_of c.args.input.now))) (source c.front.new.self (g.R.Read.remaining (inner_of c.front.new.wire))) (g.R.Read.remaining (inner_of c.take_request.new.input))
-    c.in_ok-front.ensures.source inside) c.take_request.ensures.unread
+    (λ inside. keeps_inside (source c.args.block.now (g.R.Read.remaining (inner_of c.args.input.now))) (source c.find_front.new.block (g.R.Read.remaining (inner_of c.find_front.new.wire))) (g.R.Read.remaining (inner_of c.take_request.new.input))
+    c.in_ok-find_front.ensures.source inside) c.take_request.ensures.unread

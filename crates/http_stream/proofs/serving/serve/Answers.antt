@@ -1,11 +1,12 @@
-use Rattle.std.proofs.Common.{Option, IfSome, MatchOption, ◌+◌, ◌<◌, ◌≡◌, ◌∙◌, ◌++◌, ◌∷◌, Some, true, false, subst, sym, arith, [], refl}
+use Rattle.std.proofs.Common.{Option, IfSome, MatchOption, ◌+◌, ◌<◌, ◌≡◌, ◌∙◌, ◌++◌, ◌∷◌, Some, true, false, subst, sym, ap, arith, length, [], refl}
 use Rattle.desk_types.specs.Wire.{inner_of, reads_of}
+use Rattle.served.specs.Block.{pending_bytes, source, fuel}
 use Rattle.served.specs.Counts.{none_served}
 use Rattle.served.specs.declared.serving.Served.{Served}
 use Rattle.desk_types.specs.declared.limits.TheConstants.{MOST_READS}
 use Rattle.http_stream.specs.declared.portion.Taken.{Taken}
-use Rattle.http_stream.specs.Cut.{EndsInside, TakesPortion, is_last}
-use Rattle.http_stream.specs.Inbox.{source, fuel}
+use Rattle.served.proofs.Blocks.{none_pending}
+use Rattle.http_stream.specs.Cut.{EndsInside, PortionsGone, TakesPortion, is_last}
 use Rattle.http_stream.specs.Portions.{portion_of}
 use Rattle.desk_answers.specs.Ledger.{ForLists}
 use Rattle.http_stream.specs.Stream.{AnsweredInto}
@@ -16,19 +17,20 @@ use Rattle.http_stream.proofs.serving.serve.Goals as goal
 
 pub portions-init : goal.portions-init
 portions-init g c =
-    let e = c.new-inbox.ensures.empty in
-    let r = c.reads-most_reads.ensures in
-    let box = c.new-inbox.result in record {
-      inbox = c.new-inbox.ensures.valid;
+    let input = g.R.Read.remaining (inner_of c.args.input.now) in
+    let empty = c.new-block.ensures.empty in
+    let same = sym (none_pending (pending_bytes c.new-block.result) input empty) in
+    let r = c.reads-most_reads.ensures in record {
+      block = c.new-block.ensures.valid;
       reads = omega (arith, r);
       read_failures = refl;
       write_failures = refl;
-      counted = omega (arith, e.0, e.1, r);
+      counted = omega (arith, ap length empty, r);
       refused = omega arith;
       ready = c.requires.ready;
       trusts = λ trusts. trusts;
       portions = [];
-      gone = start_gone box.at box.end box.block (g.R.Read.remaining (inner_of c.args.input.now)) e.0 e.1;
+      gone = subst (PortionsGone input []) same (start_gone input);
       answered = goes_none g.A.Handler.rule g.A.Handler.Stands g.A.Handler.Trusts c.args.handler.now (g.W.Write.contents (inner_of c.args.output.now));
     }
 
@@ -36,11 +38,11 @@ pub returns-in-Ok-true-clause-ok : goal.returns-in-Ok-true-clause-ok
 returns-in-Ok-true-clause-ok g c = λ G stands trusts.
     let inv = c.portions.invariant in
     let asked = g.R.Read.remaining (inner_of c.args.input.now) in
-    let before = source c.portions.inbox (g.R.Read.remaining (inner_of c.portions.input)) in
-    let behind = source c.take_portion.new.inbox (g.R.Read.remaining (inner_of c.take_portion.new.input)) in
-    let p = portion_of c.take_portion.new.inbox.block c.in-Ok-Some.taken in
+    let before = source c.portions.block (g.R.Read.remaining (inner_of c.portions.input)) in
+    let behind = source c.take_portion.new.block (g.R.Read.remaining (inner_of c.take_portion.new.input)) in
+    let p = portion_of c.take_portion.new.block.bytes c.in-Ok-Some.taken in
     let is : c.in-Ok-Some.field-0 ≡ Some c.in-Ok-Some.taken = c.in-Ok-Some.field-0-is in
-    let took = subst (λ (o : Option Taken). MatchOption o (IfSome before EndsInside) (λ t. TakesPortion before (portion_of c.take_portion.new.inbox.block t) behind)) is c.in-Ok-Some.ensures.portion in
+    let took = subst (λ (o : Option Taken). MatchOption o (IfSome before EndsInside) (λ t. TakesPortion before (portion_of c.take_portion.new.block.bytes t) behind)) is c.in-Ok-Some.ensures.portion in
     let contents = g.W.Write.contents in
     let all = goes_on g.A.Handler.rule g.A.Handler.Stands g.A.Handler.Trusts inv.portions (p ∷ []) c.args.handler.now c.portions.handler c.serve_portion.new.handler
     (contents (inner_of c.args.output.now)) (contents (inner_of c.portions.output)) (contents (inner_of c.serve_portion.new.output)) none_served c.portions.served c.serve_portion.new.served
@@ -52,9 +54,9 @@ pub returns-in-Ok-None-clause-ok : goal.returns-in-Ok-None-clause-ok
 returns-in-Ok-None-clause-ok g c = λ G stands trusts.
     let inv = c.portions.invariant in
     let asked = g.R.Read.remaining (inner_of c.args.input.now) in
-    let before = source c.portions.inbox (g.R.Read.remaining (inner_of c.portions.input)) in
-    let behind = source c.take_portion.new.inbox (g.R.Read.remaining (inner_of c.take_portion.new.input)) in
-    let ends = subst (λ (o : Option Taken). MatchOption o (IfSome before EndsInside) (λ t. TakesPortion before (portion_of c.take_portion.new.inbox.block t) behind)) c.in-Ok-None.field-0-is c.in-Ok-None.ensures.portion in
+    let before = source c.portions.block (g.R.Read.remaining (inner_of c.portions.input)) in
+    let behind = source c.take_portion.new.block (g.R.Read.remaining (inner_of c.take_portion.new.input)) in
+    let ends = subst (λ (o : Option Taken). MatchOption o (IfSome before EndsInside) (λ t. TakesPortion before (portion_of c.take_portion.new.block.bytes t) behind)) c.in-Ok-None.field-0-is c.in-Ok-None.ensures.portion in
     let all = inv.answered G stands trusts in
     (all.0, all.1, (inv.portions, all.2.0, end_comes asked before inv.portions inv.gone ends, all.2.1))
 
@@ -62,24 +64,24 @@ pub portions-preserved : goal.portions-preserved
 portions-preserved g c =
     let inv = c.portions.invariant in
     let asked = g.R.Read.remaining (inner_of c.args.input.now) in
-    let before = source c.portions.inbox (g.R.Read.remaining (inner_of c.portions.input)) in
-    let behind = source c.take_portion.new.inbox (g.R.Read.remaining (inner_of c.take_portion.new.input)) in
-    let p = portion_of c.take_portion.new.inbox.block c.in-Ok-Some.taken in
+    let before = source c.portions.block (g.R.Read.remaining (inner_of c.portions.input)) in
+    let behind = source c.take_portion.new.block (g.R.Read.remaining (inner_of c.take_portion.new.input)) in
+    let p = portion_of c.take_portion.new.block.bytes c.in-Ok-Some.taken in
     let is : c.in-Ok-Some.field-0 ≡ Some c.in-Ok-Some.taken = c.in-Ok-Some.field-0-is in
-    let took = subst (λ (o : Option Taken). MatchOption o (IfSome before EndsInside) (λ t. TakesPortion before (portion_of c.take_portion.new.inbox.block t) behind)) is c.in-Ok-Some.ensures.portion in
+    let took = subst (λ (o : Option Taken). MatchOption o (IfSome before EndsInside) (λ t. TakesPortion before (portion_of c.take_portion.new.block.bytes t) behind)) is c.in-Ok-Some.ensures.portion in
     let last : is_last p ≡ false = sym c.in-Ok-false.ensures.last ∙ c.in-Ok-false.field-0-test in
     let most = c.reads-most_reads.result + MOST_READS in
-    let falls = subst (λ (o : Option Taken). IfSome o (λ t. is_last (portion_of c.take_portion.new.inbox.block t) ≡ false
-    → fuel most (reads_of c.take_portion.new.input) c.take_portion.new.inbox < fuel most (reads_of c.portions.input) c.portions.inbox)) is c.in-Ok-Some.ensures.falls in
+    let falls = subst (λ (o : Option Taken). IfSome o (λ t. is_last (portion_of c.take_portion.new.block.bytes t) ≡ false
+    → fuel most (reads_of c.take_portion.new.input) c.take_portion.new.block < fuel most (reads_of c.portions.input) c.portions.block)) is c.in-Ok-Some.ensures.falls in
     let falls = falls last in
-    let few = c.in-Ok-false.ensures.few_answers in
+    let few = c.serve_portion.ensures.counts.few_answers in
     let contents = g.W.Write.contents in record {
-      inbox = c.take_portion.ensures.valid;
-      reads = c.take_portion.ensures.few_reads;
-      read_failures = c.in-Ok-Some.ensures.kept ∙ inv.read_failures;
+      block = c.take_portion.ensures.valid;
+      reads = c.take_portion.ensures.reads.few_reads;
+      read_failures = c.in-Ok-Some.ensures.reads.kept ∙ inv.read_failures;
       write_failures = c.in-Ok-false.ensures.kept ∙ inv.write_failures;
       counted = omega (arith, inv.counted, falls, few);
-      refused = c.serve_portion.ensures.refused;
+      refused = c.serve_portion.ensures.counts.refused;
       ready = c.serve_portion.ensures.ready;
       trusts = λ trusts. inv.trusts (c.serve_portion.ensures.trusts trusts);
       portions = inv.portions ++ p ∷ [];
@@ -93,18 +95,18 @@ pub returns-in-Err-clause-write : goal.returns-in-Err-clause-write
 returns-in-Err-clause-write g c = λ served e.
     let inv = c.portions.invariant in
     let asked = g.R.Read.remaining (inner_of c.args.input.now) in
-    let before = source c.portions.inbox (g.R.Read.remaining (inner_of c.portions.input)) in
-    let behind = source c.take_portion.new.inbox (g.R.Read.remaining (inner_of c.take_portion.new.input)) in
-    let p = portion_of c.take_portion.new.inbox.block c.in-Ok-Some.taken in
+    let before = source c.portions.block (g.R.Read.remaining (inner_of c.portions.input)) in
+    let behind = source c.take_portion.new.block (g.R.Read.remaining (inner_of c.take_portion.new.input)) in
+    let p = portion_of c.take_portion.new.block.bytes c.in-Ok-Some.taken in
     let is : c.in-Ok-Some.field-0 ≡ Some c.in-Ok-Some.taken = c.in-Ok-Some.field-0-is in
-    let took = subst (λ (o : Option Taken). MatchOption o (IfSome before EndsInside) (λ t. TakesPortion before (portion_of c.take_portion.new.inbox.block t) behind)) is c.in-Ok-Some.ensures.portion in
+    let took = subst (λ (o : Option Taken). MatchOption o (IfSome before EndsInside) (λ t. TakesPortion before (portion_of c.take_portion.new.block.bytes t) behind)) is c.in-Ok-Some.ensures.portion in
     let contents = g.W.Write.contents in
     let out₀ = contents (inner_of c.args.output.now) in
     let out₂ = contents (inner_of c.serve_portion.new.output) in
     let failed = c.in-Err.ensures.failed in
     let into = stops_into g.A.Handler.rule g.A.Handler.Stands g.A.Handler.Trusts inv.portions p asked c.args.handler.now c.portions.handler c.serve_portion.new.handler out₀ (contents (inner_of c.portions.output)) out₂ c.portions.served c.serve_portion.new.served
     c.serve_portion.ensures.trusts (next_first asked before behind inv.portions p inv.gone took) inv.answered c.in-Err.ensures.err in (
-      (omega (arith, failed, inv.write_failures), c.in-Ok-Some.ensures.kept ∙ inv.read_failures),
+      (omega (arith, failed, inv.write_failures), c.in-Ok-Some.ensures.reads.kept ∙ inv.read_failures),
       subst (λ (s : Served). ForLists g.A.Handler.Stands g.A.Handler.Trusts c.args.handler.now c.serve_portion.new.handler (λ G H. AnsweredInto (g.A.Handler.rule G.rules G.greatest) asked G.history out₀ H out₂ s))
           (same_write c.serve_portion.new.served served e) into,
     )

@@ -3,8 +3,8 @@ use Rattle.std.proofs.lemmas.List.{length-take}
 use Rattle.std.specs.Io.KnownBytes.{Consumes}
 use Rattle.std.proofs.KnownBytes.{Consumes-trans, Consumes-kept}
 use Rattle.desk_types.specs.Wire.{inner_of}
-use Rattle.http_stream.proofs.Sources.{take-put_mid_some, put_mid_room}
-use Rattle.http_stream.proofs.inbox.read_whole.Goals as goal
+use Rattle.http_stream.proofs.Bodies.{take-put_mid_some, put_mid_room}
+use Rattle.http_stream.proofs.body.read_whole.Goals as goal
 
 pub returns-in-Ok-eq0-clause-end : goal.returns-in-Ok-eq0-clause-end
 returns-in-Ok-eq0-clause-end g c = λ _.

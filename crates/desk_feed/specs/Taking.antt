@@ -1,24 +1,10 @@
--- What a reader's lines are taken from, and what is taken.
-use Rattle.std.specs.Prelude.{◌≡◌, ℕ, ◌+◌, ◌-◌, ◌*◌, ◌<◌, ◌≤◌, Bool, true, false, All, List, [], ◌∷◌, ◌++◌, length, take, drop, get_or, Option, Some, None}
-use Rattle.std.specs.Io.KnownBytes.{prepend_known, Consumes, IsAtEnd}
+-- What is taken of a reader's bytes as a line.
+use Rattle.std.specs.Prelude.{◌≡◌, ℕ, ◌<◌, ◌≤◌, Bool, true, false, All, List, [], ◌∷◌, ◌++◌, length, take, get_or, Option, Some, None}
+use Rattle.std.specs.Io.KnownBytes.{Consumes, IsAtEnd}
 use Rattle.desk_feed.specs.Lines.{is_feed, is_empty, without_return, lines_of}
-use Rattle.desk_feed.specs.declared.inbox.Inbox.{Inbox}
-use Rattle.desk_types.specs.declared.limits.TheConstants.{BLOCK}
-use Rattle.desk_feed.specs.declared.inbox.TheConstants.{LONGEST_RAW}
-use Rattle.desk_feed.specs.declared.inbox.RawLine.{RawLine}
-use Rattle.desk_feed.specs.declared.inbox.RawLine.TheVariants.{Whole, Over, NoMemory, NoMemoryReturn}
-
--- the bytes from `at` to `end` were read and not given
-abbrev pub IsInbox : Inbox → Type 0
-IsInbox inbox = (inbox.at ≤ inbox.end) × (inbox.end ≤ BLOCK)
-
--- what is still to be given: the bytes that were read, and then those that the reader has left, where they are known
-abbrev pub source : Inbox → Option (List ℕ) → Option (List ℕ)
-source inbox known = prepend_known (drop inbox.at (take inbox.end inbox.block)) known
-
--- how far a reading can go on: the bytes of the reads that may still be made, and those that were read
-abbrev pub fuel : ℕ → ℕ → Inbox → ℕ
-fuel most_reads reads inbox = (most_reads - reads) * (BLOCK + 1) + (inbox.end - inbox.at)
+use Rattle.desk_feed.specs.declared.taking.TheConstants.{LONGEST_RAW}
+use Rattle.desk_feed.specs.declared.taking.RawLine.{RawLine}
+use Rattle.desk_feed.specs.declared.taking.RawLine.TheVariants.{Whole, Over, NoMemory, NoMemoryReturn}
 
 abbrev pub HasNoFeed : List ℕ → Type 0
 HasNoFeed bytes = All (λ b. is_feed b ≡ false) bytes

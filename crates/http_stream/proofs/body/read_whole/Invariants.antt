@@ -1,7 +1,7 @@
 use Rattle.std.proofs.Common.{◌≡◌, ◌≤◌, ◌-◌, length, take}
 use Rattle.std.specs.Io.KnownBytes.{Consumes}
 use Rattle.desk_types.specs.Wire.{inner_of, reads_of, failures_of}
-use Rattle.http_stream.proofs.inbox.read_whole.Given as goal
+use Rattle.http_stream.proofs.body.read_whole.Given as goal
 
 abbrev pub invariant-loop-got : goal.invariant-loop-got
 invariant-loop-got g l = record {

@@ -1,0 +1,21 @@
+use Rattle.std.proofs.Common.{◌≡◌, ◌≤◌, ℕ, List}
+use Rattle.std.specs.Io.KnownBytes.{Consumes}
+use Rattle.desk_types.specs.Wire.{inner_of, reads_of, failures_of}
+use Rattle.served.specs.Block.{IsBlock, source, fuel}
+use Rattle.desk_feed.specs.Taking.{HasNoFeed, HoldsLine}
+use Rattle.desk_feed.proofs.taking.take_line.Given as goal
+
+abbrev pub invariant-loop-line : goal.invariant-loop-line
+invariant-loop-line g l = record {
+  block : IsBlock l.block;
+  reads : reads_of l.wire ≤ l.most_reads;
+  failures : failures_of l.wire ≡ failures_of l.fn.wire;
+  falls : fuel l.most_reads (reads_of l.wire) l.block ≤ fuel l.most_reads (reads_of l.fn.wire) l.fn.block;
+  raw : List ℕ;
+  gone : Consumes (source l.fn.block (g.R.Read.remaining (inner_of l.fn.wire))) (source l.block (g.R.Read.remaining (inner_of l.wire))) raw;
+  no_feed : HasNoFeed raw;
+  holds : HoldsLine l.line raw;
+}
+
+abbrev pub decreases-loop-line : goal.decreases-loop-line
+decreases-loop-line g l = fuel l.most_reads (reads_of l.wire) l.block

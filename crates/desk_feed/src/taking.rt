@@ -1,0 +1,145 @@
+//! Lines from a reader, out of the blocks that it gives.
+
+ghost use Rattle.std.specs.Prelude.{◌≡◌, ◌+◌, ◌<◌, ◌≤◌, ◌++◌, ℕ, List, length, true, false, IfOk, OnOk, OnErr, Ok};
+ghost use Rattle.std.specs.Io.KnownBytes.{Consumes, Keeps, IsAtEnd};
+ghost use Rattle.desk_types.specs.Wire.{inner_of, reads_of};
+ghost use Rattle.served.specs.Block.{IsBlock, pending_bytes, source, fuel};
+ghost use Rattle.served.specs.Reads.{MayRead, ReadsUpTo};
+ghost use Rattle.desk_feed.specs.Taking.{HasNoFeed, IsFirstFeed, HoldsLine, TakesLine};
+ghost use Rattle.desk_feed.specs.Lines.{without_return};
+
+use desk_types::{LONGEST_INPUT, Wire};
+use served::{Block, ReadFault};
+use std::alloc::Global;
+use std::io::Read;
+
+/// The most bytes that are kept of a line: with its carriage return.
+pub const LONGEST_RAW: usize = LONGEST_INPUT + 1;
+
+/// What is kept of a line, without the line feed that ends it.
+#[derive(Drop)]
+pub enum RawLine {
+    /// All its bytes.
+    Whole(Vec<u8>),
+    /// It is longer than a line with its carriage return may be.
+    Over,
+    /// Memory was refused for it.
+    NoMemory,
+    /// Memory was refused for it, and it is a carriage return alone: an empty line.
+    NoMemoryReturn,
+}
+
+/// A line, and whether it is what stands after the last line feed.
+#[derive(Drop)]
+pub struct Taken {
+    pub line: RawLine,
+    pub last: bool,
+}
+
+/// Takes the next line. A line of which not all can be kept is read to its end all the same,
+/// and takes no more memory.
+pub fn take_line<R: Read>(
+    alloc: Global,
+    block: &mut Block,
+    wire: &mut Wire<R>,
+    most_reads: u64,
+) -> Result<Taken, ReadFault>
+    requires valid { IsBlock block.old }
+    requires reads { MayRead most_reads wire.old }
+    ensures valid { IsBlock block.new }
+    ensures line { IfOk result (λ taken. (raw : List ℕ) × HoldsLine taken.line raw
+        × TakesLine (source block.old (R.remaining (inner_of wire.old))) raw taken.last
+        (source block.new (R.remaining (inner_of wire.new)))) }
+    ensures unread { OnErr result ((rest : List ℕ) × HasNoFeed rest
+        × Consumes (source block.old (R.remaining (inner_of wire.old))) (R.remaining (inner_of wire.new)) rest) }
+    ensures falls { OnOk result
+        (fuel most_reads (reads_of wire.new) block.new < fuel most_reads (reads_of wire.old) block.old) }
+    ensures reads { ReadsUpTo most_reads result wire.old wire.new }
+{
+    let mut line = RawLine::Whole(Vec::new(alloc));
+    while ready(block, wire, most_reads)? {
+        let bytes = block.pending();
+        let all = bytes.len();
+        match first_feed(bytes) {
+            Some(count) => {
+                let line = extend_line(line, &bytes[..count]);
+                block.give(count + 1);
+                return Ok(Taken { line, last: false });
+            }
+            None => {
+                line = extend_line(line, bytes);
+                block.give(all);
+            }
+        }
+    }
+    Ok(Taken { line, last: true })
+}
+
+/// Sees to it that there is a byte to give, by one read at most; false at the end.
+fn ready<R: Read>(block: &mut Block, wire: &mut Wire<R>, most_reads: u64) -> Result<bool, ReadFault>
+    requires valid { IsBlock block.old }
+    requires reads { MayRead most_reads wire.old }
+    ensures valid { IsBlock block.new }
+    ensures source { OnOk result
+        (Keeps (source block.old (R.remaining (inner_of wire.old)))
+        (source block.new (R.remaining (inner_of wire.new)))) }
+    ensures unread { OnErr result
+        (Keeps (source block.old (R.remaining (inner_of wire.old))) (R.remaining (inner_of wire.new))) }
+    ensures some { result ≡ Ok true → 0 < length (pending_bytes block.new) }
+    ensures end { result ≡ Ok false → IsAtEnd (source block.new (R.remaining (inner_of wire.new))) }
+    ensures falls { OnOk result
+        (fuel most_reads (reads_of wire.new) block.new ≤ fuel most_reads (reads_of wire.old) block.old) }
+    ensures falls_at_end { result ≡ Ok false
+        → fuel most_reads (reads_of wire.new) block.new < fuel most_reads (reads_of wire.old) block.old }
+    ensures reads { ReadsUpTo most_reads result wire.old wire.new }
+{
+    if block.pending().is_empty() {
+        return block.more(wire, most_reads);
+    }
+    Ok(true)
+}
+
+/// Where the first line feed is.
+fn first_feed(block: &[u8]) -> Option<usize>
+    ensures { IsFirstFeed block.now result }
+{
+    block.iter().position(|b| *b == b'\n')
+}
+
+/// The line with more bytes at its end.
+fn extend_line(line: RawLine, piece: &[u8]) -> RawLine
+    ensures { (raw : List ℕ) → HoldsLine line raw → HoldsLine result (raw ++ piece.now) }
+{
+    if piece.is_empty() {
+        return line;
+    }
+    match line {
+        RawLine::Whole(mut bytes) => {
+            if piece.len() > LONGEST_RAW.saturating_sub(bytes.len()) {
+                RawLine::Over
+            } else {
+                let is_return = bytes.is_empty() && without_return(piece).is_empty();
+                if bytes.extend_from_slice(piece).is_ok() {
+                    RawLine::Whole(bytes)
+                } else if is_return {
+                    RawLine::NoMemoryReturn
+                } else {
+                    RawLine::NoMemory
+                }
+            }
+        }
+        RawLine::Over => RawLine::Over,
+        RawLine::NoMemory | RawLine::NoMemoryReturn => RawLine::NoMemory,
+    }
+}
+
+/// Drops one carriage return at the end.
+pub fn without_return(raw: &[u8]) -> &[u8]
+    ensures { result.now ≡ without_return raw.now }
+{
+    if raw.last() == Some(&b'\r') {
+        &raw[..raw.len() - 1]
+    } else {
+        raw
+    }
+}

@@ -1,0 +1,17 @@
+use Rattle.std.proofs.Common.{◌≡◌, ◌≤◌}
+use Rattle.std.specs.Io.KnownBytes.{Keeps}
+use Rattle.desk_types.specs.Wire.{inner_of, reads_of, failures_of}
+use Rattle.served.specs.Block.{IsBlock, source, fuel}
+use Rattle.http_stream.proofs.front.find_front.Given as goal
+
+abbrev pub invariant-looks : goal.invariant-looks
+invariant-looks g l = record {
+  block : IsBlock l.block;
+  reads : reads_of l.wire ≤ l.most_reads;
+  failures : failures_of l.wire ≡ failures_of l.fn.wire;
+  falls : fuel l.most_reads (reads_of l.wire) l.block ≤ fuel l.most_reads (reads_of l.fn.wire) l.fn.block;
+  source : Keeps (source l.fn.block (g.R.Read.remaining (inner_of l.fn.wire))) (source l.block (g.R.Read.remaining (inner_of l.wire)));
+}
+
+abbrev pub decreases-looks : goal.decreases-looks
+decreases-looks g l = fuel l.most_reads (reads_of l.wire) l.block

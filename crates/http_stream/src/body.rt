@@ -1,0 +1,119 @@
+//! The body of a request, from behind its head.
+
+ghost use Rattle.std.specs.Prelude.{◌≡◌, ◌<◌, ◌≤◌, ℕ, List, length, true, false, IfOk, OnOk, OnErr, Ok};
+ghost use Rattle.std.specs.Io.KnownBytes.{Consumes, IsAtEnd};
+ghost use Rattle.desk_types.specs.Wire.{inner_of, reads_of};
+ghost use Rattle.served.specs.Block.{IsBlock, source, fuel};
+ghost use Rattle.served.specs.Reads.{MayRead, ReadsUpTo};
+ghost use Rattle.http_stream.specs.Bodies.{ReadsFewer, TakesBody};
+
+use desk_types::Wire;
+use served::{Block, ReadFault};
+use std::alloc::Global;
+use std::io::Read;
+
+/// What became of a body.
+#[derive(Drop)]
+pub enum BodyTaken {
+    Whole(Vec<u8>),
+    End,
+    NoMemory,
+}
+
+/// Takes a body of so many bytes from behind a head.
+pub fn take_body<R: Read>(
+    alloc: Global,
+    block: &mut Block,
+    wire: &mut Wire<R>,
+    length: usize,
+    most_reads: u64,
+) -> Result<BodyTaken, ReadFault>
+    requires valid { IsBlock block.old }
+    requires reads { MayRead most_reads wire.old }
+    ensures valid { IsBlock block.new }
+    ensures bytes { block.new.bytes ≡ block.old.bytes }
+    ensures unread { OnErr result
+        (ReadsFewer (source block.old (R.remaining (inner_of wire.old))) (R.remaining (inner_of wire.new)) length) }
+    ensures body { IfOk result
+        (λ body. TakesBody (source block.old (R.remaining (inner_of wire.old))) length body
+        (source block.new (R.remaining (inner_of wire.new)))) }
+    ensures falls { OnOk result
+        (fuel most_reads (reads_of wire.new) block.new ≤ fuel most_reads (reads_of wire.old) block.old) }
+    ensures reads { ReadsUpTo most_reads result wire.old wire.new }
+{
+    if length == 0 {
+        return Ok(BodyTaken::Whole(Vec::new(alloc)));
+    }
+    let Ok(mut bytes) = vec![in alloc; 0u8; length] else {
+        return Ok(BodyTaken::NoMemory);
+    };
+    if fill(block, wire, &mut bytes, most_reads)? {
+        Ok(BodyTaken::Whole(bytes))
+    } else {
+        Ok(BodyTaken::End)
+    }
+}
+
+/// Fills the room with the bytes at the front; false at the end.
+fn fill<R: Read>(
+    block: &mut Block,
+    wire: &mut Wire<R>,
+    room: &mut [u8],
+    most_reads: u64,
+) -> Result<bool, ReadFault>
+    requires valid { IsBlock block.old }
+    requires reads { MayRead most_reads wire.old }
+    ensures valid { IsBlock block.new }
+    ensures bytes { block.new.bytes ≡ block.old.bytes }
+    ensures whole { result ≡ Ok true
+        → Consumes (source block.old (R.remaining (inner_of wire.old)))
+        (source block.new (R.remaining (inner_of wire.new))) room.new }
+    ensures unread { OnErr result
+        (ReadsFewer (source block.old (R.remaining (inner_of wire.old))) (R.remaining (inner_of wire.new))
+        (length room.old)) }
+    ensures end { result ≡ Ok false → (gone : List ℕ) × (length gone < length room.old)
+        × Consumes (source block.old (R.remaining (inner_of wire.old)))
+        (source block.new (R.remaining (inner_of wire.new))) gone
+        × IsAtEnd (source block.new (R.remaining (inner_of wire.new))) }
+    ensures falls { OnOk result
+        (fuel most_reads (reads_of wire.new) block.new ≤ fuel most_reads (reads_of wire.old) block.old) }
+    ensures reads { ReadsUpTo most_reads result wire.old wire.new }
+{
+    let bytes = block.pending();
+    let have = room.len().min(bytes.len());
+    let (front, rest) = room.split_at_mut(have);
+    front.copy_from_slice(&bytes[..have]);
+    block.give(have);
+    read_whole(wire, rest, most_reads)
+}
+
+/// Reads as many bytes as there is room for; false at the end.
+fn read_whole<R: Read>(
+    wire: &mut Wire<R>,
+    room: &mut [u8],
+    most_reads: u64,
+) -> Result<bool, ReadFault>
+    requires reads { MayRead most_reads wire.old }
+    ensures whole { result ≡ Ok true
+        → Consumes (R.remaining (inner_of wire.old)) (R.remaining (inner_of wire.new)) room.new }
+    ensures unread { OnErr result
+        (ReadsFewer (R.remaining (inner_of wire.old)) (R.remaining (inner_of wire.new)) (length room.old)) }
+    ensures end { result ≡ Ok false → (gone : List ℕ) × (length gone < length room.old)
+        × Consumes (R.remaining (inner_of wire.old)) (R.remaining (inner_of wire.new)) gone
+        × IsAtEnd (R.remaining (inner_of wire.new)) }
+    ensures more_reads { reads_of wire.old ≤ reads_of wire.new }
+    ensures reads { ReadsUpTo most_reads result wire.old wire.new }
+{
+    let mut got = 0;
+    while got < room.len() {
+        if wire.reads() >= most_reads {
+            return Err(ReadFault::TooMany);
+        }
+        match wire.read(&mut room[got..]) {
+            Ok(0) => return Ok(false),
+            Ok(count) => got += count,
+            Err(_) => return Err(ReadFault::Failed),
+        }
+    }
+    Ok(true)
+}

@@ -1,0 +1,73 @@
+//! What stands at the front of a reader's bytes.
+
+ghost use Rattle.std.specs.Prelude.{◌≤◌, IfOk, OnOk, OnErr};
+ghost use Rattle.std.specs.Io.KnownBytes.{Keeps};
+ghost use Rattle.desk_types.specs.Wire.{inner_of, reads_of};
+ghost use Rattle.served.specs.Block.{IsBlock, source, fuel};
+ghost use Rattle.served.specs.Reads.{MayRead, ReadsUpTo};
+ghost use Rattle.http_stream.specs.Cut.{ReadsInside};
+ghost use Rattle.http_stream.specs.Fronts.{IsFront};
+
+use crate::head::{Glance, Head, look};
+use desk_types::{HEAD_LIMIT, Wire};
+use served::{Block, ReadFault};
+use std::io::Read;
+
+/// A head, and where in the block the bytes stand that were looked at, which begin with it.
+#[derive(Clone, Copy, Drop)]
+pub struct Seen {
+    pub from: usize,
+    /// Behind the last byte that was looked at.
+    pub to: usize,
+    pub head: Head,
+}
+
+/// What stands at the front.
+#[derive(Clone, Copy, Drop)]
+pub enum Front {
+    Head(Seen),
+    Bad,
+    TooLarge,
+    End,
+}
+
+/// Looks for a head at the front, and reads until it is told what stands there.
+pub fn find_front<R: Read>(
+    block: &mut Block,
+    wire: &mut Wire<R>,
+    most_reads: u64,
+) -> Result<Front, ReadFault>
+    requires valid { IsBlock block.old }
+    requires reads { MayRead most_reads wire.old }
+    ensures valid { IsBlock block.new }
+    ensures source { OnOk result
+        (Keeps (source block.old (R.remaining (inner_of wire.old)))
+        (source block.new (R.remaining (inner_of wire.new)))) }
+    ensures unread { OnErr result
+        (ReadsInside (source block.old (R.remaining (inner_of wire.old))) (R.remaining (inner_of wire.new))) }
+    ensures front { IfOk result (λ front. IsFront block.new (R.remaining (inner_of wire.new)) front) }
+    ensures falls { OnOk result
+        (fuel most_reads (reads_of wire.new) block.new ≤ fuel most_reads (reads_of wire.old) block.old) }
+    ensures reads { ReadsUpTo most_reads result wire.old wire.new }
+{
+    'looks: loop {
+        let bytes = block.pending();
+        let len = HEAD_LIMIT.min(bytes.len());
+        match look(&bytes[..len]) {
+            Glance::Head(head) => {
+                let from = block.start();
+                let to = from + len;
+                return Ok(Front::Head(Seen { from, to, head }));
+            }
+            Glance::Bad => return Ok(Front::Bad),
+            Glance::Unfinished => {
+                if len >= HEAD_LIMIT {
+                    return Ok(Front::TooLarge);
+                }
+                if !block.more(wire, most_reads)? {
+                    return Ok(Front::End);
+                }
+            }
+        }
+    }
+}

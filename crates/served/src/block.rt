@@ -1,0 +1,142 @@
+//! The bytes that were read last, and one read more. Nothing is read byte by byte.
+
+ghost use Rattle.std.specs.Prelude.{◌≡◌, ◌+◌, ◌-◌, ◌^◌, ◌<◌, ◌≤◌, ◌++◌, [], ℕ, List, length, take, drop, slice_range, true, false, IfOk, OnOk, OnErr, Ok};
+ghost use Rattle.std.specs.Io.KnownBytes.{Keeps, Consumes, IsAtEnd};
+ghost use Rattle.desk_types.specs.Wire.{inner_of, reads_of, failures_of};
+ghost use Rattle.served.specs.Block.{IsBlock, pending_bytes, source, fuel};
+ghost use Rattle.served.specs.Reads.{MayRead, ReadsUpTo};
+
+use desk_types::{BLOCK, Wire};
+use std::io::Read;
+
+/// The bytes that were read last, and which of them are still to be given: those are pending.
+#[derive(Drop)]
+pub struct Block {
+    pub bytes: [u8; BLOCK],
+    at: usize,
+    end: usize,
+}
+
+/// Why no more is read.
+#[derive(Drop)]
+pub enum ReadFault {
+    /// A read failed.
+    Failed,
+    /// As many reads were made as may be.
+    TooMany,
+}
+
+impl Block {
+    /// Nothing was read yet.
+    pub fn new() -> Block
+        ensures valid { IsBlock result }
+        ensures empty { pending_bytes result ≡ [] }
+    {
+        Block {
+            bytes: [0; BLOCK],
+            at: 0,
+            end: 0,
+        }
+    }
+
+    /// The bytes that were read and not given.
+    pub fn pending(&self) -> &[u8]
+        requires valid { IsBlock self.now }
+        ensures { result.now ≡ pending_bytes self.now }
+    {
+        &self.bytes[self.at..self.end]
+    }
+
+    /// Where the pending bytes begin.
+    pub fn start(&self) -> usize
+        requires valid { IsBlock self.now }
+        ensures within { result + length (pending_bytes self.now) ≤ BLOCK }
+        ensures place { pending_bytes self.now
+            ≡ slice_range self.now.bytes result (result + length (pending_bytes self.now)) }
+    {
+        self.at
+    }
+
+    /// Gives pending bytes away. They stand where they stood.
+    pub fn give(&mut self, count: usize)
+        requires valid { IsBlock self.old }
+        requires there { count ≤ length (pending_bytes self.old) }
+        ensures valid { IsBlock self.new }
+        ensures bytes { self.new.bytes ≡ self.old.bytes }
+        ensures pending { pending_bytes self.new ≡ drop count (pending_bytes self.old) }
+    {
+        self.at += count;
+    }
+
+    /// One read more, behind what is pending; false at the end.
+    pub fn more<R: Read>(&mut self, wire: &mut Wire<R>, most_reads: u64) -> Result<bool, ReadFault>
+        requires valid { IsBlock self.old }
+        requires room { length (pending_bytes self.old) < BLOCK }
+        requires reads { MayRead most_reads wire.old }
+        ensures valid { IsBlock self.new }
+        ensures source { OnOk result
+            (Keeps (source self.old (R.remaining (inner_of wire.old)))
+            (source self.new (R.remaining (inner_of wire.new)))) }
+        ensures some { result ≡ Ok true → 0 < length (pending_bytes self.new) }
+        ensures end { result ≡ Ok false
+            → IsAtEnd (R.remaining (inner_of wire.new)) × (pending_bytes self.new ≡ pending_bytes self.old) }
+        ensures unread { OnErr result (Keeps (R.remaining (inner_of wire.old)) (R.remaining (inner_of wire.new))) }
+        ensures falls { OnOk result
+            (fuel most_reads (reads_of wire.new) self.new < fuel most_reads (reads_of wire.old) self.old) }
+        ensures reads { ReadsUpTo most_reads result wire.old wire.new }
+    {
+        if wire.reads() >= most_reads {
+            return Err(ReadFault::TooMany);
+        }
+        self.move_down();
+        match read_behind(wire, &mut self.bytes, self.end) {
+            Ok(count) => {
+                self.end += count;
+                Ok(count > 0)
+            }
+            Err(_) => Err(ReadFault::Failed),
+        }
+    }
+
+    /// Moves what is pending to the start of the block.
+    fn move_down(&mut self)
+        requires valid { IsBlock self.old }
+        ensures valid { IsBlock self.new }
+        ensures at { self.new.at ≡ 0 }
+        ensures end { self.new.end ≡ self.old.end - self.old.at }
+        ensures pending { pending_bytes self.new ≡ pending_bytes self.old }
+    {
+        if self.at > 0 {
+            self.bytes.copy_within(self.at..self.end, 0);
+            self.end -= self.at;
+            self.at = 0;
+        }
+    }
+}
+
+/// One read into a block behind its first bytes.
+fn read_behind<R: Read>(
+    wire: &mut Wire<R>,
+    block: &mut [u8; BLOCK],
+    end: usize,
+) -> Result<usize, ReadFault>
+    requires room { end < BLOCK }
+    requires few_failures { failures_of wire.old < 2 ^ 63 }
+    requires few_reads { reads_of wire.old < 2 ^ 64 - 1 }
+    requires len { length block.old ≡ BLOCK }
+    ensures len { length block.new ≡ BLOCK }
+    ensures bound { IfOk result (λ count. end + count ≤ BLOCK) }
+    ensures bytes { IfOk result (λ count. (gone : List ℕ) × (take (end + count) block.new ≡ take end block.old ++ gone)
+        × (length gone ≡ count)
+        × Consumes (R.remaining (inner_of wire.old)) (R.remaining (inner_of wire.new)) gone) }
+    ensures end { result ≡ Ok 0 → IsAtEnd (R.remaining (inner_of wire.new)) }
+    ensures unread { OnErr result (Keeps (R.remaining (inner_of wire.old)) (R.remaining (inner_of wire.new))) }
+    ensures reads { reads_of wire.new ≡ reads_of wire.old + 1 }
+    ensures kept { OnOk result (failures_of wire.new ≡ failures_of wire.old) }
+    ensures failed { OnErr result (failures_of wire.new ≡ failures_of wire.old + 1) }
+{
+    match wire.read(&mut block[end..]) {
+        Ok(count) => Ok(count),
+        Err(_) => Err(ReadFault::Failed),
+    }
+}
