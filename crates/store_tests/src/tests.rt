@@ -42,7 +42,7 @@ fn refused_memory_is_made_good(rt: HostRuntime) -> Result<(), Fail> {
     let _ = migrated(alloc, &mut conn);
     let _ = migrated(alloc, &mut conn);
     let Sent { began, told, conn } = send_over(&rt, alloc, conn, FIRST_RUN);
-    conn.close()?;
+    let _ = conn.close();
     made?;
     let (first, again, told) = (first?, again?, told?);
     if first.made_again > 0 {
