@@ -16,7 +16,7 @@ build:         ## proves and builds the program, and prints its path | 40 min, t
 test:          ## the tests: proves everything from nothing, tries wrong bodies, runs the tests and the worked rows, fails calls | 1 h | rt curl, and gcc libc6-dev, or failing calls are skipped
 	$(say)
 	@tools/test
-wrong-bodies:  ## tries all wrong bodies, those outside the tests too, and the wrong programs: each has to be refused | 30 min | rt
+wrong-bodies:  ## tries all wrong bodies, those outside the tests too, and the wrong programs: each has to be refused | 1 h, and up to 40 min for each of the programs | rt
 	$(say)
 	@tools/wrong-bodies
 day:           ## feeds a made-up shift to a desk, and prints what is asked of it: docs/day.md | 10 s
