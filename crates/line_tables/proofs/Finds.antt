@@ -1,9 +1,12 @@
 -- What the queries find.
-use Rattle.std.proofs.Common.{◌≡◌, ◌∙◌, inl, inr, is_ok, IsTrue, Some, None, Option, Result, Ok, Err, IfOk, Vec, Global, ℕ, pos, List, [], ◌∷◌, ◌++◌, length, map, filter, Bool, true, false, not, ◌&&◌, ◌||◌, ◌==◌, if◌then◌else◌, unwrap_or, nat_le, ◌^◌, refl, sym, ap, ap₂, subst, subst₂, arith, true≢false}
+use Rattle.std.proofs.Common.{◌≡◌, ◌∙◌, inl, inr, is_ok, IsTrue, Some, None, Option, Result, Ok, Err, IfOk, Vec, String, Global, ℕ, pos, List, [], ◌∷◌, ◌++◌, length, map, filter, Bool, true, false, not, ◌&&◌, ◌||◌, ◌==◌, if◌then◌else◌, unwrap_or, nat_le, ◌^◌, refl, sym, ap, ap₂, subst, subst₂, arith, true≢false}
 use Rattle.std.specs.List.{flat_map, list_all, list_any}
 use Rattle.std.specs.List.Sorted.{IsPermutation}
 use Rattle.std.proofs.Math.Dec.{eqb-suc-zero}
+use Rattle.std.specs.Str.{IsUtf8}
+use Rattle.std.specs.String.{string_bytes}
 use Rattle.std.proofs.lemmas.List.{length-map}
+use Rattle.std.proofs.lemmas.Str.{IsUtf8-string_bytes}
 use Rattle.std.proofs.lemmas.List.Sorted.{IsPermutation-map, IsPermutation-sym, length_permutation}
 use Rattle.sqlite.specs.declared.types.Value.TheVariants.{Null, Int, Text}
 use Rattle.sqlite_value.specs.Order.{Row, column}
@@ -176,6 +179,10 @@ module _ {S : Type 0} (g : Ghosts S) (old : Held S) where
 
   pub finds_no_uid : (uid : List ℕ) (rows : List Row) → rows ≡ [] → Selects g select_uid (Text uid ∷ []) old rows → Reads (state g old) (λ db. filter (has_uid uid) (accepted_in db) ≡ [])
   finds_no_uid uid rows is h = finds_only (has_uid uid) (state g old) rows None is (finds_uid g uid old rows h)
+
+-- the bytes of a text are UTF-8
+pub is_text : (s : String Global) → IsUtf8 (string_bytes s)
+is_text s = IsUtf8-string_bytes s
 
 -- seven values are those of their places
 pub seven : (row : Row) → length row ≡ 7 → row ≡ column row 0 ∷ column row 1 ∷ column row 2 ∷ column row 3 ∷ column row 4 ∷ column row 5 ∷ column row 6 ∷ []

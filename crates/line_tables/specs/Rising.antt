@@ -45,7 +45,7 @@ Shows g sql old rising = (rows : List Row) × Selects g sql [] old rows × (IsTr
 abbrev pub AreApartWhere : Bool → List Table → Database → Type 0
 AreApartWhere apart tables db = IsTrue apart → AllByRecursion (λ table. AreApart (kept_in table db)) tables
 
--- so it is of the table of what counts found, where the rules have one
+-- so it is of the table of what counts found, where the rules have one; where they have none it is told so
 abbrev pub IsFoundApartWhere : Rules → Bool → State → Type 0
-IsFoundApartWhere One apart s = ⊤
+IsFoundApartWhere One apart s = apart ≡ true
 IsFoundApartWhere Two apart s = Reads s (AreApartWhere apart (found ∷ []))

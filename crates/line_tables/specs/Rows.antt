@@ -1,5 +1,5 @@
 -- The rows of the tables, and what edits make of them.
-use Rattle.std.specs.Prelude.{◌≡◌, ⊤, Bool, ℕ, pos, List, [], ◌∷◌, map, fold, string_bytes}
+use Rattle.std.specs.Prelude.{◌≡◌, ◌<◌, ◌^◌, ⊤, Bool, ℕ, pos, List, [], ◌∷◌, map, fold, string_bytes}
 use Rattle.std.specs.List.Sorted.{IsPermutation}
 use Rattle.sqlite.specs.declared.types.Value.TheVariants.{Int, Text}
 use Rattle.sqlite_value.specs.Order.{Row, column}
@@ -19,6 +19,10 @@ use Rattle.line_tables.specs.Line.{schema_of}
 -- the columns of a row of `accepted`, in their order
 abbrev pub columns_of : Accepted → Row
 columns_of a = Int (pos a.number) ∷ Text (string_bytes a.uid) ∷ Text (string_bytes a.source) ∷ Int (pos a.own) ∷ Int (pos a.effective) ∷ Text (string_bytes a.command) ∷ Text (string_bytes a.detail) ∷ []
+
+-- its numbers are such as the program has
+abbrev pub HasNumbers : Accepted → Type 0
+HasNumbers a = (a.number < 2 ^ 32) × (a.own < 2 ^ 32) × (a.effective < 2 ^ 32)
 
 -- the version of the tables
 abbrev pub version_of : Rules → ℕ

@@ -1,14 +1,16 @@
 //! Rows of where pieces went, and of what counts found.
 
-ghost use Rattle.std.specs.Prelude.{◌≡◌, OnOk, ◌++◌, IfOk, IfSome, List, map, length};
+ghost use Rattle.std.specs.Prelude.{◌≡◌, ◌≤◌, ◌⊎◌, ◌^◌, OnOk, ◌++◌, IfOk, IfErr, IfSome, List, map, length};
 ghost use Rattle.std.specs.List.{flat_map};
 ghost use Rattle.sqlite.specs.State.{HasCleanDisk};
 ghost use Rattle.sqlite.specs.Held.{state};
 ghost use Rattle.desk_types.specs.declared.edit.RowEdit.TheVariants as RowEdit;
 ghost use Rattle.desk_types.specs.declared.row.PlacementRow.{PlacementRow};
 ghost use Rattle.sqlite.specs.Values.{bound};
+ghost use Rattle.line_tables.specs.Rowids.{placement_id};
 ghost use Rattle.line_tables.specs.Placing.{placement_edit, placement_kept, ArePlacing};
 ghost use Rattle.line_tables.specs.Calls.{Writes, WritesRow};
+ghost use Rattle.line_tables.specs.Faults.{OnlyWhere};
 ghost use Rattle.line_tables.specs.Frames.{InTransaction};
 
 use crate::edit::Edit;
@@ -77,7 +79,9 @@ pub fn values_of_all<'a>(
 
 /// Adds the values of a row, its rowid first.
 fn add_values<'a>(values: &mut Vec<ValueRef<'a>>, row: &'a PlacementRow) -> Result<(), Error>
-    ensures { OnOk result (bound values.new.items ≡ bound values.old.items ++ placement_kept row.now) }
+    ensures ok { OnOk result (bound values.new.items ≡ bound values.old.items ++ placement_kept row.now) }
+    ensures err { IfErr result (OnlyWhere ((2 ^ 63 ≤ placement_id row.now.number row.now.place)
+        ⊎ (2 ^ 63 ≤ row.now.number) ⊎ (2 ^ 63 ≤ row.now.place))) }
 {
     values.reserve(9)?;
     values.push(placement_id(row.number, row.place)?)?;

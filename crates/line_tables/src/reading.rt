@@ -6,7 +6,8 @@ ghost use Rattle.std.specs.List.{list_any};
 ghost use Rattle.sqlite.specs.declared.types.Value.TheVariants.{Int};
 ghost use Rattle.sqlite.specs.State.{HasCleanDisk};
 ghost use Rattle.sqlite.specs.Held.{state};
-ghost use Rattle.line_tables.specs.Rows.{columns_of, accepted_in};
+ghost use Rattle.line_tables.specs.declared.edit.Accepted.{Accepted};
+ghost use Rattle.line_tables.specs.Rows.{columns_of, accepted_in, HasNumbers};
 ghost use Rattle.line_tables.specs.declared.reading.TheConstants.{MOST_COUNTED};
 ghost use Rattle.line_tables.specs.Calls.{Reads, has_uid, has_number, is_before, only, row_of, number_row, IsLeast};
 ghost use Rattle.line_tables.specs.Frames.{ReadsOnly, IsRefusedInside};
@@ -111,8 +112,10 @@ fn at_most_one(rows: Vec<Row>) -> Result<Option<Row>, Error>
     }
 }
 
+#[tactic(auto, using(crate::proofs::Finds::is_text))]
 fn accepted_of(row: &Row) -> Result<Accepted, Error>
-    ensures { IfOk result (λ accepted. row.now ≡ columns_of accepted) }
+    ensures ok { IfOk result (λ accepted. row.now ≡ columns_of accepted) }
+    ensures err { IfErr result (OnlyWhere ((accepted : Accepted) → HasNumbers accepted → row.now ≢ columns_of accepted)) }
 {
     if row.column_count() != 7 {
         return Err(Error::InvalidColumnIndex(7));

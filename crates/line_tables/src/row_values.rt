@@ -17,7 +17,9 @@ pub struct Columns<'a, const N: usize> {
 
 /// Of a reel.
 pub fn reel_values(row: &ReelRow) -> Result<Columns<'_, 12>, Error>
-    ensures { IfOk result (λ columns. values_of columns.values ≡ reel_columns row.now) }
+    ensures ok { IfOk result (λ columns. values_of columns.values ≡ reel_columns row.now) }
+    ensures err { IfErr result (λ _. (2 ^ 63 ≤ row.now.label) ⊎ (2 ^ 63 ≤ row.now.received) ⊎ (2 ^ 63 ≤ row.now.placed)
+        ⊎ (2 ^ 63 ≤ row.now.scrapped) ⊎ (2 ^ 63 ≤ row.now.remaining) ⊎ (2 ^ 63 ≤ row.now.used)) }
 {
     let values = [
         text(&row.reel),
@@ -38,7 +40,8 @@ pub fn reel_values(row: &ReelRow) -> Result<Columns<'_, 12>, Error>
 
 /// Of a mounted reel.
 pub fn mount_values(row: &MountRow) -> Result<Columns<'_, 4>, Error>
-    ensures { IfOk result (λ columns. values_of columns.values ≡ mount_columns row.now) }
+    ensures ok { IfOk result (λ columns. values_of columns.values ≡ mount_columns row.now) }
+    ensures err { IfErr result (λ _. 2 ^ 63 ≤ row.now.since) }
 {
     let values = [
         int(row.since)?,

@@ -6,8 +6,8 @@ use Rattle.line_tables.specs.Placing.{placement_kept}
 use Rattle.line_tables.proofs.RowPuts.{bound_as}
 use Rattle.line_tables.proofs.pieces.add_values.Goals as goal
 
-pub returns : goal.returns
-returns c =
+pub returns-clause-ok : goal.returns-clause-ok
+returns-clause-ok c =
     let was = c.args.values.now.items in
     let id = c.in_ok-placement_id.field-0 in
     let rest = c.in_ok-placement_values.field-0.values in
