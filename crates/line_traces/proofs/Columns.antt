@@ -1,5 +1,5 @@
 -- Values of rows, and when they are equal.
-use Rattle.std.proofs.Common.{◌≡◌, ◌∙◌, ℕ, pos, Bool, true, false, Some, length, map, refl, sym, ap, subst, arith, Ordering, Less, Equal, Greater, is_eq, int_cmp}
+use Rattle.std.proofs.Common.{◌≡◌, ◌≢◌, ◌∙◌, ℕ, pos, Bool, true, false, Some, length, map, refl, sym, ap, subst, arith, Ordering, Less, Equal, Greater, is_eq, int_cmp}
 use Rattle.std.specs.Prelude.{◌||◌, ◌<◌, if◌then◌else◌}
 use Rattle.std.specs.List.{range_with_len}
 use Rattle.std.proofs.lemmas.List.{same_lists, get_or_default}
@@ -15,7 +15,10 @@ use Rattle.sqlite_schema.specs.Rules.{equal}
 use Rattle.sqlite_sql.specs.Ops.{binary, is_null, is_true, from_truth}
 use Rattle.desk_types.specs.Id.{Name, same}
 use Rattle.desk_types.proofs.Keys.{same-true, is_at-by_name}
-use Rattle.line_tables.specs.StateRows.{flag}
+use Rattle.desk_types.specs.declared.placement.Placement.{Placement}
+use Rattle.desk_types.specs.declared.row.PlacementRow.{PlacementRow}
+use Rattle.line_tables.specs.StateRows.{flag, placement_columns}
+use Rattle.line_traces.specs.Committed.{placed_columns}
 
 -- ---- rows
 
@@ -24,6 +27,13 @@ pub all-columns : (row : Row) (n : ℕ) → length row ≡ n → row ≡ map (co
 all-columns row n is =
     same_lists row (map (column row) (range_with_len 0 n)) (is ∙ sym (length-map-range_with_len (column row) 0 n)) (λ k d within.
     get_or_default row k d Null within ∙ sym (get_or-map-range_with_len (column row) 0 n k k d (subst (λ m. k < m) is within) (omega arith)))
+
+-- where no flag stands in its column, the row is no piece's
+pub no_flag : (row : Row) → ((b : Bool) → column row 10 ≢ Int (flag b)) → (p : Placement) → row ≢ placed_columns p
+no_flag row none p is = none p.overdue (ap (λ r. column r 10) is)
+
+pub no_flag_in_row : (row : Row) → ((b : Bool) → column row 7 ≢ Int (flag b)) → (p : PlacementRow) → row ≢ placement_columns p
+no_flag_in_row row none p is = none p.overdue (ap (λ r. column r 7) is)
 
 -- ---- equality
 

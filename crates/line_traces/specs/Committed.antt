@@ -6,8 +6,11 @@ use Rattle.sqlite.specs.Effect.{Database}
 use Rattle.sqlite.specs.State.{State}
 use Rattle.desk_types.specs.declared.command.Entry.{Entry}
 use Rattle.desk_types.specs.declared.placement.Placement.{Placement}
+use Rattle.desk_types.specs.declared.row.PlacementRow.{PlacementRow}
 use Rattle.desk_types.specs.declared.rules.Rules.TheVariants.{Two}
-use Rattle.desk_types.specs.Id.{Name}
+use Rattle.desk_types.specs.Id.{IsId, Name}
+use Rattle.desk_types.specs.Designator.{IsDesignator}
+use Rattle.desk_types.specs.Number.{IsMinute}
 use Rattle.desk_types.specs.History.{History}
 use Rattle.desk_types.specs.Judged.{IsJudged}
 use Rattle.desk_types.specs.Tables.{tables_of}
@@ -36,6 +39,25 @@ abbrev pub placed_columns : Placement → Row
 placed_columns p =
     Int (pos p.number) ∷ Int (pos p.place) ∷ Text p.board ∷ Text p.designator ∷ Text p.part ∷ Text p.lot ∷ Text p.reel ∷ Text p.machine ∷ Text p.slot ∷ Int (pos p.effective)
     ∷ Int (flag p.overdue) ∷ []
+
+-- names, a designator and a minute stand where a placed piece has them
+pub record IsPiece (p : Placement) : Type 0 where
+  pub board : IsId p.board
+  pub designator : IsDesignator p.designator
+  pub part : IsId p.part
+  pub lot : IsId p.lot
+  pub reel : IsId p.reel
+  pub machine : IsId p.machine
+  pub slot : IsId p.slot
+  pub effective : IsMinute p.effective
+
+-- so they do where its row has them
+pub record IsPieceRow (p : PlacementRow) : Type 0 where
+  pub board : IsId p.board
+  pub designator : IsDesignator p.designator
+  pub machine : IsId p.machine
+  pub slot : IsId p.slot
+  pub reel : IsId p.reel
 
 -- a name that a query shows
 abbrev pub name_row : Name → Row

@@ -8,7 +8,9 @@ ghost use Rattle.desk_types.specs.Id.{IsId};
 ghost use Rattle.desk_types.specs.Number.{IsMinute};
 ghost use Rattle.line_tables.specs.Faults.{OnlyWhere};
 ghost use Rattle.line_tables.specs.StateRows.{flag, placement_columns};
-ghost use Rattle.line_traces.specs.Committed.{placed_columns, name_row};
+ghost use Rattle.desk_types.specs.declared.placement.Placement.{Placement};
+ghost use Rattle.desk_types.specs.declared.row.PlacementRow.{PlacementRow};
+ghost use Rattle.line_traces.specs.Committed.{placed_columns, name_row, IsPiece, IsPieceRow};
 
 use crate::row::PlacedRows;
 use desk_types::{Designator, Id, IdList, Listing, Minute, Placement, PlacementRow};
@@ -70,7 +72,8 @@ fn yes_or_no(row: &Row, at: usize) -> Result<bool, Error>
 }
 
 fn piece(row: &Row) -> Result<Placement, Error>
-    ensures { IfOk result (λ piece. row.now ≡ placed_columns piece) }
+    ensures ok { IfOk result (λ piece. row.now ≡ placed_columns piece) }
+    ensures err { IfErr result (OnlyWhere ((piece : Placement) → IsPiece piece → row.now ≢ placed_columns piece)) }
 {
     if row.column_count() != 11 {
         return Err(Error::InvalidColumnIndex(11));
@@ -104,8 +107,11 @@ pub fn pieces(alloc: Global, rows: &[Row]) -> Result<PlacedRows, Error>
 
 /// The row of `placement`. A value that is no name, number or flag is an error, and so is a row of another
 /// length.
+#[tactic(auto, using(crate::proofs::Columns::no_flag_in_row))]
 pub fn placement(row: &Row) -> Result<PlacementRow, Error>
-    ensures { IfOk result (λ placed. row.now ≡ placement_columns placed) }
+    ensures ok { IfOk result (λ placed. row.now ≡ placement_columns placed) }
+    ensures err { IfErr result (OnlyWhere ((placed : PlacementRow) → IsPieceRow placed
+        → row.now ≢ placement_columns placed)) }
 {
     if row.column_count() != 8 {
         return Err(Error::InvalidColumnIndex(8));
@@ -123,7 +129,8 @@ pub fn placement(row: &Row) -> Result<PlacementRow, Error>
 }
 
 fn only_name(row: &Row) -> Result<Id, Error>
-    ensures { IfOk result (λ id. row.now ≡ name_row id) }
+    ensures ok { IfOk result (λ id. row.now ≡ name_row id) }
+    ensures err { IfErr result (λ _. (id : List ℕ) → IsId id → row.now ≢ name_row id) }
 {
     if row.column_count() != 1 {
         return Err(Error::InvalidColumnIndex(1));
