@@ -47,5 +47,5 @@ AreApartWhere apart tables db = IsTrue apart → AllByRecursion (λ table. AreAp
 
 -- so it is of the table of what counts found, where the rules have one; where they have none it is told so
 abbrev pub IsFoundApartWhere : Rules → Bool → State → Type 0
-IsFoundApartWhere One apart s = apart ≡ true
+IsFoundApartWhere One apart s = IsTrue apart
 IsFoundApartWhere Two apart s = Reads s (AreApartWhere apart (found ∷ []))

@@ -115,7 +115,8 @@ fn at_most_one(rows: Vec<Row>) -> Result<Option<Row>, Error>
 #[tactic(auto, using(crate::proofs::Finds::is_text))]
 fn accepted_of(row: &Row) -> Result<Accepted, Error>
     ensures ok { IfOk result (λ accepted. row.now ≡ columns_of accepted) }
-    ensures err { IfErr result (OnlyWhere ((accepted : Accepted) → HasNumbers accepted → row.now ≢ columns_of accepted)) }
+    ensures err { IfErr result (OnlyWhere ((accepted : Accepted) → HasNumbers accepted
+        → row.now ≢ columns_of accepted)) }
 {
     if row.column_count() != 7 {
         return Err(Error::InvalidColumnIndex(7));
