@@ -16,5 +16,5 @@ returns g c db H beside here =
     let place : row.place ≡ c.args.key.place = search rules in
     let its : (row.number, row.place) ≡ key_of c.args.key = ap₂ (λ m n. (m, n)) number place in
     subst (λ (key : Key). piece_at H key ≡ Some (piece_with row reel effective)) its (
-    row-tells db H beside.held row (subst (Has (rows_in line.placement db)) c.in_ok-placed.ensures here) reel (c.in-Some.ensures H beside.stands) effective
+    row-tells db H beside.held row (subst (Has (rows_in line.placement db)) c.in_ok-placed.ensures.ok here) reel (c.in-Some.ensures H beside.stands) effective
     (c.in-Some-minute.ensures.listed H beside.listed ∙ ap (minute_of H) (sym number)))
