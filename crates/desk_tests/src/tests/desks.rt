@@ -4,6 +4,7 @@
 ghost use Rattle.std.specs.Prelude.{◌≡◌, IfOk, OnOk};
 ghost use Rattle.desk_types.specs.declared.rules.Rules.TheVariants.{Two};
 ghost use Rattle.desk_types.specs.Desk.{HasRoom};
+ghost use Rattle.feeder_state.specs.State.{IsState, rules_of};
 ghost use Rattle.desk_tests.specs.Beside.{AreOfOneList};
 
 use super::id;
@@ -26,66 +27,98 @@ fn replies<D: Desk>(alloc: Global, desk: &mut D, messages: &[Stamped]) -> Result
     Ok(run(alloc, desk, messages)?)
 }
 
-/// Both desks tell the same of a machine of this name.
-fn same_machine<D: Desk, E: Desk>(
-    rt: &impl Abort,
-    plain: &D,
-    state: &E,
-    name: &Id,
-) -> Result<(), Fail> {
-    assert_eq!(rt; plain.selected(name), state.selected(name));
-    let (one, other) = (plain.fronts(name)?, state.fronts(name)?);
-    assert!(rt; one == other);
-    let (one, other) = (plain.slots_of(name)?, state.slots_of(name)?);
-    assert!(rt; one == other);
-    Ok(())
+/// A desk after some messages, and what it replied.
+#[derive(Drop)]
+pub struct Ran<D: Desk> {
+    pub desk: D,
+    pub told: Replies,
 }
 
-/// Both desks tell the same of a reel, of a part and of the sheet on a machine of this name.
-fn same_stock<D: Desk, E: Desk>(
-    rt: &impl Abort,
-    plain: &D,
-    state: &E,
+/// Sends messages to a new desk.
+pub fn run_new<D: Desk + Drop>(
+    alloc: Global,
+    rules: Rules,
+    messages: &[Stamped],
+) -> Result<Ran<D>, Fail> {
+    let mut desk = D::fresh(alloc, rules);
+    let told = replies(alloc, &mut desk, messages)?;
+    Ok(Ran { desk, told })
+}
+
+// Each call stands in a function of its own, which says nothing: else the proof of what calls them carries
+// what all of them promise.
+
+fn same_minute<D: Desk, E: Desk>(one: &D, other: &E) -> bool {
+    one.minute() == other.minute()
+}
+
+fn same_selected<D: Desk, E: Desk>(one: &D, other: &E, name: &Id) -> bool {
+    one.selected(name) == other.selected(name)
+}
+
+fn same_reel<D: Desk, E: Desk>(one: &D, other: &E, name: &Id) -> bool {
+    one.reel(name) == other.reel(name)
+}
+
+fn same_fronts<D: Desk, E: Desk>(one: &D, other: &E, name: &Id) -> Result<bool, AllocError> {
+    let (one, other) = (one.fronts(name)?, other.fronts(name)?);
+    Ok(one == other)
+}
+
+fn same_slots<D: Desk, E: Desk>(one: &D, other: &E, name: &Id) -> Result<bool, AllocError> {
+    let (one, other) = (one.slots_of(name)?, other.slots_of(name)?);
+    Ok(one == other)
+}
+
+fn same_sheet<D: Desk, E: Desk>(
+    one: &D,
+    other: &E,
     product: &Id,
     name: &Id,
-) -> Result<(), Fail> {
-    assert_eq!(rt; plain.reel(name), state.reel(name));
-    let (one, other) = (
-        plain.sheet_of(product, name)?,
-        state.sheet_of(product, name)?,
-    );
-    assert!(rt; one == other);
-    let (one, other) = (plain.free_reels(name)?, state.free_reels(name)?);
-    assert!(rt; one == other);
-    Ok(())
+) -> Result<bool, AllocError> {
+    let (one, other) = (one.sheet_of(product, name)?, other.sheet_of(product, name)?);
+    Ok(one == other)
+}
+
+fn same_free<D: Desk, E: Desk>(one: &D, other: &E, name: &Id) -> Result<bool, AllocError> {
+    let (one, other) = (one.free_reels(name)?, other.free_reels(name)?);
+    Ok(one == other)
 }
 
 /// Both desks tell the same of each name, whatever it names.
-fn same_views<D: Desk, E: Desk>(rt: &impl Abort, plain: &D, state: &E) -> Result<(), Fail> {
+fn same_views<D: Desk, E: Desk>(rt: &impl Abort, one: &D, other: &E) -> Result<(), Fail> {
     let product = id("PR")?;
-    assert_eq!(rt; plain.minute(), state.minute());
+    assert!(rt; same_minute(one, other));
     for text in ["M", "N", "P", "Q", "PR", "K1", "K2", "K3", "K4", "B1", "X"] {
         let name = id(text)?;
-        same_machine(rt, plain, state, &name)?;
-        same_stock(rt, plain, state, &product, &name)?;
+        assert!(rt; same_selected(one, other, &name));
+        assert!(rt; same_reel(one, other, &name));
+        assert!(rt; same_fronts(one, other, &name)?);
+        assert!(rt; same_slots(one, other, &name)?);
+        assert!(rt; same_sheet(one, other, &product, &name)?);
+        assert!(rt; same_free(one, other, &name)?);
     }
     Ok(())
 }
 
-/// Both desks of either rules reply the same to the messages of a row, and tell the same after them.
+/// Both desks reply the same to the messages by these rules, and tell the same after them.
+fn same_under(
+    rt: &impl Abort,
+    alloc: Global,
+    rules: Rules,
+    messages: &[Stamped],
+) -> Result<(), Fail> {
+    let plain = run_new::<PlainDesk>(alloc, rules, messages)?;
+    let state = run_new::<StateDesk>(alloc, rules, messages)?;
+    assert!(rt; plain.told == state.told);
+    same_views(rt, &plain.desk, &state.desk)
+}
+
 #[test]
 fn both_desks_tell_the_same(rt: HostRuntime) -> Result<(), Fail> {
-    let alloc = rt.alloc();
-    let messages = messages(alloc, EACH_WORD)?;
-    for rules in [Rules::One, Rules::Two] {
-        let mut plain = PlainDesk::with_rules(alloc, rules);
-        let mut state = StateDesk::with_rules(alloc, rules);
-        let one = replies(alloc, &mut plain, messages.as_slice())?;
-        let other = replies(alloc, &mut state, messages.as_slice())?;
-        assert!(rt; one == other);
-        same_views(&rt, &plain, &state)?;
-    }
-    Ok(())
+    let messages = messages(rt.alloc(), EACH_WORD)?;
+    same_under(&rt, rt.alloc(), Rules::One, messages.as_slice())?;
+    same_under(&rt, rt.alloc(), Rules::Two, messages.as_slice())
 }
 
 /// Sends a message to a desk of rules Two, and where it is accepted puts its edits into the rows of the
@@ -118,66 +151,112 @@ fn send<D: Desk>(
     }
 }
 
-/// The desk that is made of the rows after each message replies to the messages that are left as the desk
-/// of the list does, and tells the same.
-fn goes_on(rt: &impl Abort, alloc: Global, messages: &[Stamped]) -> Result<(), Fail> {
-    let mut plain = PlainDesk::new(alloc);
-    let wanted = replies(alloc, &mut plain, messages)?;
+/// A desk after some messages, the rows of its list, and the number of its next entry.
+struct Listed {
+    desk: StateDesk,
+    rows: RowSet,
+    number: u64,
+}
+
+fn list_of(alloc: Global, messages: &[Stamped]) -> Result<Listed, Fail>
+    ensures one_list { IfOk result
+        (λ it. AreOfOneList (λ desk H. IsState H desk) it.desk it.rows it.number) }
+    ensures rules { IfOk result (λ it. rules_of it.desk ≡ Two) }
+{
     let (mut desk, mut rows, mut number) = (StateDesk::new(alloc), RowSet::new(alloc), 1);
-    for (i, message) in messages.iter().enumerate() {
+    for message in messages {
         number = send(alloc, &mut desk, &mut rows, number, message)?;
-        let mut restored = StateDesk::restore(alloc, &rows, desk.minute())?;
-        same_views(rt, &desk, &restored)?;
-        let told = replies(alloc, &mut restored, &messages[i + 1..])?;
-        assert!(rt;
-            wanted.as_slice().ends_with(told.as_slice()),
-            "after message {i}"
-        );
     }
-    same_views(rt, &plain, &desk)
+    Ok(Listed { desk, rows, number })
+}
+
+/// A desk after some messages, and the desk that is made of its rows.
+struct Again {
+    desk: StateDesk,
+    restored: StateDesk,
+}
+
+fn made_again(alloc: Global, messages: &[Stamped]) -> Result<Again, Fail>
+    ensures { IfOk result (λ both. HasRoom (λ desk H. IsState H desk) both.restored 1000) }
+{
+    let Listed {
+        desk,
+        rows,
+        number: _,
+    } = list_of(alloc, messages)?;
+    let restored = StateDesk::restore(alloc, &rows, desk.minute())?;
+    Ok(Again { desk, restored })
+}
+
+/// The desk that is made of the rows tells the same as the one that it was made of, and replies to the
+/// messages that are left as the desk of the list did, whose desk tells the same after them.
+fn goes_on(
+    rt: &impl Abort,
+    alloc: Global,
+    plain: &Ran<PlainDesk>,
+    desk: &StateDesk,
+    restored: &mut StateDesk,
+    left: &[Stamped],
+) -> Result<(), Fail>
+    requires { HasRoom (λ desk H. IsState H desk) restored.old 1000 }
+{
+    same_views(rt, desk, &*restored)?;
+    let told = replies(alloc, restored, left)?;
+    assert!(rt;
+        plain.told.as_slice().ends_with(told.as_slice()),
+        "with {} left",
+        left.len()
+    );
+    same_views(rt, &plain.desk, &*restored)
+}
+
+/// So it is after each message.
+fn each_goes_on(
+    rt: &impl Abort,
+    alloc: Global,
+    plain: &Ran<PlainDesk>,
+    messages: &[Stamped],
+) -> Result<(), Fail> {
+    for i in 1..=messages.len() {
+        let Again { desk, mut restored } = made_again(alloc, &messages[..i])?;
+        goes_on(rt, alloc, plain, &desk, &mut restored, &messages[i..])?;
+    }
+    Ok(())
 }
 
 #[test]
 fn a_desk_made_of_the_rows_goes_on(rt: HostRuntime) -> Result<(), Fail> {
     for row in [EACH_WORD, COUNTS, TWO_BOARDS, MOVED] {
         let messages = messages(rt.alloc(), row)?;
-        goes_on(&rt, rt.alloc(), messages.as_slice())?;
+        let plain = run_new::<PlainDesk>(rt.alloc(), Rules::Two, messages.as_slice())?;
+        each_goes_on(&rt, rt.alloc(), &plain, messages.as_slice())?;
     }
     Ok(())
 }
 
-/// Receives so many reels of a part, after the entries before this number. Answers the next number.
-fn receive<D: Desk>(
-    alloc: Global,
-    desk: &mut D,
-    rows: &mut RowSet,
-    number: u64,
-    reels: u32,
-) -> Result<u64, Fail>
-    requires one_list { AreOfOneList D.Stands desk.old rows.old number }
-    requires rules { D.kept_rules desk.old ≡ Two }
-    ensures one_list { IfOk result (AreOfOneList D.Stands desk.new rows.new) }
-    ensures rules { OnOk result (D.kept_rules desk.new ≡ Two) }
-{
-    let mut next = number;
-    for i in 0..reels {
+/// The messages that define a part, and receive so many reels of it.
+fn reels(alloc: Global, count: u32) -> Result<Vec<Stamped>, Fail> {
+    let mut messages = messages(alloc, "1\tPartDefined\tP")?;
+    for i in 0..count {
         let line = format!(in alloc; "1\tReelReceived\tK{i}\tP\tL1\t1\t9\t0")?;
-        let reel = message(alloc, 1, line.as_str())?;
-        next = send(alloc, desk, rows, next, &reel)?;
+        messages.push(message(alloc, 1, line.as_str())?)?;
     }
-    Ok(next)
+    Ok(messages)
+}
+
+/// How many reels may be loaded by the desk that is made of the rows after some messages.
+fn free_again(alloc: Global, messages: &[Stamped]) -> Result<usize, Fail> {
+    let Again {
+        desk: _desk,
+        restored,
+    } = made_again(alloc, messages)?;
+    Ok(restored.free_reels(&id("P")?)?.as_slice().len())
 }
 
 /// No desk is too large to be made of its rows: one of 10,000 reels, each of which may be loaded.
 #[test]
 fn ten_thousand_reels_are_restored(rt: HostRuntime) -> Result<(), Fail> {
-    let alloc = rt.alloc();
-    let (mut desk, mut rows) = (StateDesk::new(alloc), RowSet::new(alloc));
-    let part = message(alloc, 0, "1\tPartDefined\tP")?;
-    let number = send(alloc, &mut desk, &mut rows, 1, &part)?;
-    let number = receive(alloc, &mut desk, &mut rows, number, 10_000)?;
-    let restored = StateDesk::restore(alloc, &rows, desk.minute())?;
-    assert_eq!(rt; number, 10_002);
-    assert_eq!(rt; restored.free_reels(&id("P")?)?.as_slice().len(), 10_000);
+    let messages = reels(rt.alloc(), 10_000)?;
+    assert_eq!(rt; free_again(rt.alloc(), messages.as_slice())?, 10_000);
     Ok(())
 }

@@ -2,8 +2,8 @@ use Rattle.std.proofs.Common.{◌≡◌}
 use Rattle.desk_types.specs.declared.rules.Rules.TheVariants.{Two}
 use Rattle.feeder_state.specs.State.{IsState, rules_of}
 use Rattle.desk_tests.specs.Beside.{AreOfOneList}
-use Rattle.desk_tests.proofs.tests.desks.goes_on.Given as goal
+use Rattle.desk_tests.proofs.tests.desks.list_of.Given as goal
 
 -- the desk and the rows are of one list
-abbrev pub invariant-loop-i : goal.invariant-loop-i
-invariant-loop-i g l = AreOfOneList (λ desk H. IsState H desk) l.desk l.rows l.number × (rules_of l.desk ≡ Two)
+abbrev pub invariant-loop-message : goal.invariant-loop-message
+invariant-loop-message l = AreOfOneList (λ desk H. IsState H desk) l.desk l.rows l.number × (rules_of l.desk ≡ Two)
