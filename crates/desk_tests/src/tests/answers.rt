@@ -7,10 +7,12 @@ use desk_types::Rules;
 use look_back::PlainDesk;
 use std::test::Fail;
 
-/// Each message is judged, and appended where it isn't refused. Where memory is refused, that is told. What
-/// the desk is like then, its clauses say.
+/// A new desk has no entry. Each message is judged, and appended where it isn't refused. Where memory is
+/// refused, that is told. What the desk is like then, its clauses say.
 #[test]
 fn a_command_is_accepted_or_memory_was_refused(rt: HostRuntime) -> Result<(), Fail> {
+    let new = PlainDesk::new(rt.alloc());
+    assert!(rt; new.entries().is_empty());
     let messages = messages(rt.alloc(), EACH_WORD)?;
     let plain = run_new::<PlainDesk>(rt.alloc(), Rules::Two, messages.as_slice())?;
     desk_is_consistent(&plain.desk);
