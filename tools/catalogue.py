@@ -60,10 +60,15 @@ def minute_of(text):
 
 def sha256_of(path):
     """The checksum of a file, as sha256sum prints it."""
-    told = hashlib.sha256()
     with open(path, "rb") as file:
-        while chunk := file.read(CHUNK):
-            told.update(chunk)
+        return sha256_within(file)
+
+
+def sha256_within(file):
+    """The checksum of what is left of an open file."""
+    told = hashlib.sha256()
+    while chunk := file.read(CHUNK):
+        told.update(chunk)
     return told.hexdigest()
 
 
@@ -293,7 +298,8 @@ def write(path, archives):
     csv.writer(text, lineterminator="\n").writerows([HEADER, *map(row_of, archives)])
     read_lines(path, csv.reader(io.StringIO(text.getvalue()), strict=True))
     beside = path.with_name(path.name + ".new")
-    with open(beside, "w", encoding="utf-8", newline="") as file:
+    beside.unlink(missing_ok=True)
+    with open(beside, "x", encoding="utf-8", newline="") as file:  # where a link lies there, nothing is written through it
         file.write(text.getvalue())
         file.flush()
         owner = os.stat(path.parent)
