@@ -255,6 +255,18 @@ def newest(archives, desk):
     return ends[-1] if ends else None
 
 
+def in_turn(archives):
+    """Archives in the order of their chains: each right behind the one that it went on from, whatever their minutes say."""
+    by_file = {it.file: it for it in archives}
+    turn = []
+    for it in archives:
+        if it.went_on_from not in by_file:
+            while it:
+                turn.append(it)
+                it = by_file.get(it.went_on_to)
+    return turn
+
+
 # --- Writing
 
 
