@@ -325,7 +325,7 @@ class Service:
         end = time.monotonic() + self.drain_seconds
         while self.requests() and time.monotonic() < end:
             time.sleep(0.05)
-        met, quiet = connections(self.port)[1], time.monotonic()
+        met, quiet, end = connections(self.port)[1], time.monotonic(), time.monotonic() + self.drain_seconds
         while time.monotonic() - quiet < QUIET:
             connected, those = connections(self.port)
             if connected or those - met:
@@ -366,9 +366,12 @@ class Service:
                 self.call("start")
             self.wait(PATIENCE + 5 * start_seconds(pieces))
         finally:
-            with as_caller():
-                self.drained.unlink(missing_ok=True)
+            self.let_in()
         return time.monotonic() - self.stopped if self.stopped else 0.0
+
+    def let_in(self):
+        with as_caller():
+            self.drained.unlink(missing_ok=True)
 
     def call(self, word):
         with as_caller():
