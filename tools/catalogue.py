@@ -299,14 +299,12 @@ def newest(archives, desk):
 
 def in_turn(archives):
     """Archives in the order of their chains: each right behind the one that it went on from, whatever their minutes say."""
-    by_file = {it.file: it for it in archives}
-    turn = []
-    for it in archives:
-        if it.went_on_from not in by_file:
-            while it:
-                turn.append(it)
-                it = by_file.get(it.went_on_to)
-    return turn
+    by_file, turn = {it.file: it for it in archives}, {}
+    for it in sorted(archives, key=lambda it: it.went_on_from in by_file):  # first those that begin a chain
+        while it and it.file not in turn:
+            turn[it.file] = it
+            it = by_file.get(it.went_on_to)
+    return list(turn.values())
 
 
 # --- Writing
