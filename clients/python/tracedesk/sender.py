@@ -76,6 +76,7 @@ class Sender:
         """Sends until nothing waits; with a follower until that has ended; or for good."""
         with contextlib.ExitStack() as held:
             held.enter_context(self.spool.sending())
+            self.aside += self.spool.is_made_good
             if follower:
                 held.enter_context(follower.held())
                 follower.begin(self.news)

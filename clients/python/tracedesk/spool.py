@@ -102,6 +102,7 @@ class Spool:
         self.state: Dict[str, Any] = {}
         self.kept: Optional[Deque[Tuple[pathlib.Path, int]]] = None
         self.kept_bytes = self.dropped_early = 0
+        self.is_made_good = False  # whether this run set a message aside that one before had an answer to
         self.is_unanswered = False  # whether the run that ends leaves a message with a try and without an answer
 
     # --- Numbers. The file .lock has the last one, and the word "busy" while one more message is put in.
@@ -211,7 +212,8 @@ class Spool:
             self.state = self.read_state()
             self.move_back()
             number, answer = self.last_answer(self.state["Answers"], mends=True)
-            if answer is not None and (self.waiting / f"{spelled(number)}.json").exists():
+            self.is_made_good = answer is not None and not answers.is_taken(answer) and (self.waiting / f"{spelled(number)}.json").exists()
+            if answer is not None:
                 self.finish(spelled(number), answer)
             tried = [int(it) for it in self.names()[:1] if self.state["Runs"]]
             self.write_state(Tried=max([self.state["Tried"], *tried]), Runs=True, Answers=None)
