@@ -17,6 +17,7 @@ import uuid
 
 ROOT = pathlib.Path(__file__).resolve().parent.parent
 PEOPLE = {"op": "senders", "office": "readers"}  # their passwords are their names
+CERTIFICATES = {"m2": "sender", "auditor": "reader"}
 SETUP = {"title": "Line 1", "machines": [{"machine": "M1", "product": "CTRL-A"}, {"machine": "M2", "product": "CTRL-A"}], "boards": 50, "expires": 60}
 PATIENCE = 90  # seconds: of a machine that has much to do
 
@@ -96,10 +97,20 @@ class Site:
         at = self.room / "etc"
         subprocess.run(["openssl", "req", "-x509", "-newkey", "ec", "-pkeyopt", "ec_paramgen_curve:P-256", "-nodes", "-days", "9", "-subj", "/CN=localhost",
                         "-addext", "subjectAltName=DNS:localhost", "-keyout", at / "server.key", "-out", at / "server.crt"], check=True, capture_output=True)
-        shutil.copy(at / "server.crt", at / "clients.crt")
+        self.sign("clients", "trace desk clients")
+        for name in CERTIFICATES:
+            self.sign(name, name, "clients")
+        (at / "certificates.conf").write_text("".join(f'"CN={name}" sender;\n' for name, may in CERTIFICATES.items() if may == "sender"))
         lines = {name: f"{name}:{subprocess.run(['openssl', 'passwd', '-6', name], check=True, capture_output=True, text=True).stdout}" for name in PEOPLE}
         (at / "readers").write_text("".join(lines.values()))
         (at / "senders").write_text("".join(line for name, line in lines.items() if PEOPLE[name] == "senders"))
+
+    def sign(self, name, subject, by=None):
+        """Makes a key and a certificate; one that signs itself, or by another's key."""
+        at = self.room / "etc"
+        signed = ["-CA", at / f"{by}.crt", "-CAkey", at / f"{by}.key"] if by else []
+        subprocess.run(["openssl", "req", "-x509", "-newkey", "ec", "-pkeyopt", "ec_paramgen_curve:P-256", "-nodes", "-days", "9", "-subj", f"/CN={subject}", *signed,
+                        "-keyout", at / f"{name}.key", "-out", at / f"{name}.crt"], check=True, capture_output=True)
 
     def write_proxy(self):
         """The packaged configuration, with the paths and the ports of this folder."""
@@ -162,10 +173,17 @@ class Site:
         finally:
             link.close()
 
-    def asked(self, method, path, user=None, body=None):
-        """The status, the headers and the body of a request to nginx."""
-        link = http.client.HTTPSConnection("localhost", self.port, timeout=30, context=ssl.create_default_context(cafile=self.room / "etc/server.crt"))
-        headers = {"Authorization": "Basic " + base64.b64encode(f"{user}:{user}".encode()).decode()} if user else {}
+    def asked(self, method, path, user=None, body=None, certificate=None, **headers):
+        """The status, the headers and the body of a request to nginx. A header is named with _ in place of -; one that is None isn't sent."""
+        trust = ssl.create_default_context(cafile=self.room / "etc/server.crt")
+        if certificate:
+            trust.load_cert_chain(self.room / f"etc/{certificate}.crt", self.room / f"etc/{certificate}.key")
+        link = http.client.HTTPSConnection("localhost", self.port, timeout=30, context=trust)
+        if method == "POST":
+            headers = {"Content_Type": "application/json", **headers}
+        headers = {name.replace("_", "-"): value for name, value in headers.items() if value is not None}
+        if user:
+            headers["Authorization"] = "Basic " + base64.b64encode(f"{user}:{user}".encode()).decode()
         try:
             link.request(method, path, body, headers)
             answer = link.getresponse()
