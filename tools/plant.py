@@ -24,7 +24,7 @@ START = "systemctl reset-failed tracedesk; systemctl start tracedesk"  # it may 
 PROXY_PORT = 8081  # packaging/nginx.conf
 DRAINED = pathlib.Path("/run/tracedesk-drained")  # packaging/nginx.conf looks for it
 SECONDS_A_MILLION = 19  # of a start, for a million placed pieces: docs/figures.md, "A file's start"
-QUIET = 1.0  # seconds without a connection, after which nobody waits for an answer any more
+QUIET = float(os.environ.get("TRACEDESK_QUIET", 1))  # seconds without a connection, after which nobody waits for an answer any more; tools/evidence-faults is in a hurry
 CONNECTED, LISTENING = ("01", "08"), "0A"  # in /proc/net/tcp: open, or closed by the client alone
 LONGEST_OTHER = 3600  # seconds that another roll-over or backup may take
 PLAN = "plan.json"  # of a roll-over
@@ -289,14 +289,16 @@ class Program:
 class Service:
     """The desk's service, and the file by which the proxy knows that senders have to come again.
 
-    It is started at the end: always, or else unless somebody had stopped it before. Where that file is there an earlier call had.
+    What was stopped is started at the end: always, or unless somebody had stopped it before. An earlier call had, if it was cut off
+    or if that file is there.
     """
 
-    def __init__(self, asked, always=True):
+    def __init__(self, asked, always=True, cut_off=False):
         self.commands = {"stop": asked.stop, "start": asked.start}
         self.db, self.port, self.drained, self.drain_seconds = asked.db, asked.port, asked.drained, asked.drain_seconds
         self.proxy_port = asked.proxy_port
-        self.starts = always or is_open(asked.db) or asked.drained.exists()
+        self.cut_off = cut_off or asked.drained.exists()
+        self.starts = always or self.cut_off or is_open(asked.db)
         self.stopped = None  # since when
 
     def drain(self, gives_up=False):
@@ -312,7 +314,7 @@ class Service:
         end = time.monotonic() + self.drain_seconds
         while self.requests() and time.monotonic() < end:
             time.sleep(0.05)
-        met, quiet = connections(self.port)[1], time.monotonic()
+        met, quiet, end = connections(self.port)[1], time.monotonic(), time.monotonic() + self.drain_seconds
         while time.monotonic() - quiet < QUIET:
             connected, those = connections(self.port)
             if connected or those - met:
@@ -348,14 +350,18 @@ class Service:
         try:
             if not self.starts:
                 tell("the service did not run before, and is left so")
+            if not self.starts or self.stopped is None and not self.cut_off:
                 return 0.0
             if not is_open(self.db):
                 self.call("start")
             self.wait(PATIENCE + 5 * start_seconds(pieces))
         finally:
-            with as_caller():
-                self.drained.unlink(missing_ok=True)
+            self.let_in()
         return time.monotonic() - self.stopped if self.stopped else 0.0
+
+    def let_in(self):
+        with as_caller():
+            self.drained.unlink(missing_ok=True)
 
     def call(self, word):
         with as_caller():
