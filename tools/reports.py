@@ -12,7 +12,6 @@ import urllib.parse
 
 LIMITS = {"1": None, "2": 525_600, "2a": 40_320, "3": 10_080, "4": 4_320, "5": 2_880, "5a": 1_440}
 PLACED = "SELECT {} FROM placement JOIN reel USING (reel) WHERE {}"
-BOARDS = re.compile(r"[1-9][0-9]{0,5}")  # to 100,000, as the program takes them
 DETAILS = {  # columns of a trace by what is asked and the detail
     "board": ("part", "part,lot", "part,lot,reel", "designator,part,lot,reel,machine,slot,overdue"),
     "lot": ("board", "board,part", "board,part,reel", "board,designator,part,reel,machine,slot,overdue"),
@@ -52,7 +51,9 @@ def exists(database, kind, table, **wanted):
 
 def trace(database, by, name, detail):
     exists(database, by.title(), "board" if by == "board" else "reel", **{by: name})
-    columns = DETAILS[by]["1234".index(detail) if len(detail) == 1 else None]
+    if detail not in ("1", "2", "3", "4"):
+        raise ValueError(detail)
+    columns = DETAILS[by][int(detail) - 1]
     shown = columns.replace("overdue", "CASE overdue WHEN 1 THEN 'yes' ELSE 'no' END")
     return csv_text(columns, sorted(set(database.execute(PLACED.format(shown, f"{by} = ?"), [name]))))
 
@@ -81,7 +82,7 @@ def free_reels(database, part):
 
 
 def kit_list(database, product, machine, boards):
-    if not BOARDS.fullmatch(boards) or int(boards) > 100_000:
+    if not re.fullmatch("[0-9]{1,6}", boards) or not 1 <= int(boards) <= 100_000:
         raise ValueError(boards)
     exists(database, "Sheet", "sheet_row", product=product, machine=machine)
     given, rows = set(), []
