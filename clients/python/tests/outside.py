@@ -72,7 +72,8 @@ class Process:
     """A program that runs: what it said, and its status once it ended."""
 
     def __init__(self, world, main, words):
-        self.world, self.main, self.words, self.is_killed, self.is_interrupted, self.status, self.said, self.stops = world, main, list(map(str, words)), False, False, None, [], 0
+        self.world, self.main, self.words, self.is_killed, self.status, self.said, self.stops = world, main, list(map(str, words)), False, None, [], 0
+        self.is_interrupted = self.was_interrupted = False
         self.is_deaf = world.has_faults and world.chance.random() < 0.05  # nobody reads what it says
         self.aside = set(world.spool.set_aside())
         Task(world, self, self.run, takes_signals=True)
@@ -220,7 +221,7 @@ class World:
             return
         aside, status, told = set(self.spool.set_aside()) - process.aside, process.status, process.told()
         stopped = "--stop-at-refusal" in process.words
-        wrong = {0: bool(aside), 1: not aside and not stopped, 2: not self.has_faults, 3: "--patience" not in process.words, 4: not process.stops, 130: not self.has_faults}.get(status, True)
+        wrong = {0: bool(aside), 1: not aside and not stopped, 2: not self.has_faults, 3: "--patience" not in process.words, 4: not process.stops, 130: not process.was_interrupted}.get(status, True)
         if wrong or status == 0 and not self.has_faults and self.spool.names():
             raise Wrong(f"status {status}, set aside {sorted(aside)}, waiting {self.spool.names()}: {told}")
         said = told + "".join(it.told() for it in self.processes)
@@ -439,8 +440,8 @@ class Run:
 
     def rotate(self):
         """The file is moved away; its writer stays on it for a line or two, and the file of that name comes after the last of them."""
-        if self.log is None:
-            return
+        if self.log is None or not (self.world.room / "spool/.position").exists():
+            return  # what was moved away before the bridge ever ran is given by hand
         self.number += 1
         self.world.log.rename(self.world.room / f"said.log.{self.number}")
         self.world.sleep(self.chance.choice((0, 0.3, 3)))
@@ -488,7 +489,7 @@ class Run:
     def signal(self):
         process = self.chance.choice([it for it in (self.sender, self.bridging) if it])
         if self.chance.random() < 0.3:
-            process.is_interrupted = True
+            process.is_interrupted = process.was_interrupted = True
         else:
             self.world.kill(process)
 
