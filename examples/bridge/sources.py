@@ -13,6 +13,7 @@ LOOK = 0.2  # seconds between two looks at what is followed
 PIECE = 1 << 16  # bytes that are read at a time, and more where a line is longer
 BEFORE = 4096  # bytes at the beginning of a file, and before a position, by which it is known again
 STAYS = 600.0  # seconds without a line more, after which nobody writes to a file that was moved away
+PACKED = (".gz", ".bz2", ".xz", ".zst")  # endings of files that are no lines any more
 UNFINISHED = 5.0  # seconds that the next file waits for the end of a line of such a file
 LONGEST = 1 << 26  # bytes of a message of a broker, once it is unpacked
 HEARTBEAT = 30  # seconds
@@ -48,7 +49,7 @@ class Opened:
 
     def told(self):
         """What is kept of it."""
-        return {"At": self.at, "Head": digest(self.head), "Before": digest(self.last), "Inode": self.id[1]}
+        return {"At": self.at, "Head": digest(self.head), "Before": digest(self.last), "Inode": self.id[1], "Time": os.fstat(self.file.fileno()).st_mtime_ns}
 
     def is_of(self, told):
         """Whether it is the file of which this was kept."""
@@ -89,7 +90,8 @@ class Following:
         with contextlib.suppress(FileNotFoundError, ValueError):
             self.all = json.loads(self.place.read_text())
         told = self.all.get(str(path.absolute()), [])
-        self.files = [it for it in map(self.found, told if isinstance(told, list) else [told]) if it]
+        told = told if isinstance(told, list) else [told]
+        self.files, self.time = [it for it in map(self.found, told) if it], max((it["Time"] for it in told if "Time" in it), default=None)
         self.kept, self.is_told = None, False
 
     def found(self, told):
@@ -110,11 +112,22 @@ class Following:
         return same
 
     def look_for_another(self):
-        """Opens the file of the path, where that is another one than before."""
+        """Opens the file of the path, if that is another one than before, after those that came and were moved away meanwhile."""
         there = os.stat(self.path)
         if not self.files or (there.st_dev, there.st_ino) != self.files[-1].id:
             same = next((it for it in self.files if it.id == (there.st_dev, there.st_ino)), None)
-            self.files = [it for it in self.files if it is not same] + [same or Opened(self.path)]
+            self.files = [it for it in self.files if it is not same] + self.missed(there) + [same or Opened(self.path)]
+
+    def missed(self, newest):
+        """Files that were never seen under the path's own name: those of its folder that begin with that name, and have been written to
+        since the last one that was read."""
+        known, found = {it.id[1] for it in self.files} | {newest.st_ino}, []
+        for path in self.path.absolute().parent.iterdir() if self.time is not None else ():
+            with contextlib.suppress(OSError):
+                it = path.stat()
+                if path.name.startswith(self.path.name) and path.is_file() and path.suffix not in PACKED and it.st_ino not in known and it.st_mtime_ns >= self.time:
+                    found.append((it.st_mtime_ns, path))
+        return [Opened(path) for _, path in sorted(found)]
 
     def take_data(self, data):
         for line in data.split(b"\n"):
@@ -159,7 +172,7 @@ class Following:
             self.all[str(self.path.absolute())] = told
             spools.write_synced(self.place, json.dumps(self.all).encode())
             spools.sync_folder(self.place.parent)
-            self.kept = told
+            self.kept, self.time = told, max(it["Time"] for it in told)
 
 
 def take_file(bridge, path, follows):

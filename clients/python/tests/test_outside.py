@@ -8,7 +8,7 @@ import unittest
 import outside
 
 SHM = "/dev/shm" if os.access("/dev/shm", os.W_OK) else None
-RUNS = int(os.environ.get("TRACEDESK_RUNS", "60"))  # `run --runs N` sets it
+RUNS = int(os.environ.get("TRACEDESK_RUNS", "15"))  # `run --runs N` sets it
 FIRST = int(os.environ.get("TRACEDESK_SEED", "1"))
 
 
@@ -22,7 +22,7 @@ class Outside(unittest.TestCase):
                         counts.update(outside.run(seed, bridge, room))
                     except BaseException as fault:
                         raise AssertionError(f"seed {seed}: {fault}") from fault
-        if RUNS != 60:
+        if RUNS > 15:
             print(f"{RUNS} runs, " + ", ".join(f"{count} {name}" for name, count in counts.items()) + f"; {time.monotonic() - begun:.0f} s", flush=True)
 
 
