@@ -160,12 +160,14 @@ def each_refusal_in_words(site):
 def refused_by_a_screen(it, refused):
     """By Receive and by Changeover."""
     for refusal, part in (("UnknownPart", "NOT-A-PART"), ("ReelExists", "CAP")):
+        it.seen()
         it.go("receive")
         it.script("""const form = document.querySelector('form.receive').elements; form.reel.value = 'K-1'; form.part.value = arguments[0]; form.lot.value = 'L'; form.quantity.value = '5';
                      form.level.value = '1'; document.querySelector('form.receive button[type=submit]').click()""", part)
         it.verdict()
         refused(refusal)
     for refusal, product in (("UnknownSheet", "NO-SUCH"),):
+        it.seen()
         it.go("changeover")
         it.script("document.querySelector('form.changeover').elements.product.value = arguments[0]; document.querySelectorAll('form.changeover button')[1].click()", product)
         it.verdict()
@@ -184,6 +186,7 @@ def refused_by_a_race(site, it, refused):
         site.say("MaterialsLoaded", {"Machine": "M2", "Slot": slot, "Reel": reel})
     if site.say("WorkStarted", {"Machine": "M2", "Board": "SN-1"})["Answer"] != "Accepted":
         raise Difference("the board was not started")
+    it.seen()
     it.script("document.querySelector('form.changeover').elements.product.value = 'CTRL-A'; document.querySelectorAll('form.changeover button')[2].click()")
     it.verdict()
     refused("MachineBusy")
