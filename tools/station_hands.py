@@ -410,11 +410,11 @@ def each_verdict_at(it, size, machine, slot, good, wrong):
     time.sleep(0.3)
     pictured(it, f"{name}-refused")
     found = fits(it, "a refusal", size)
-    todo, listed = found["#verdict .todo"][0], (found["#verdict .more"] or found["#verdict .facts"])[0]
+    todo, listed = found["#verdict .todo"][0], found["#verdict .more"][0]
     if not found["#verdict h2"][0][1] <= todo[0] <= found["#verdict h2"][0][1] + 30 or todo[1] > listed[0] + 1:
         raise Difference(f"at {size} what to do is not right below what is wrong: {found}")
     top, bottom, letters = found["#verdict .close"][0]
-    if bottom - top < 56 or letters < max(16 if len(machine) > 9 else 20, found["#verdict .facts"][0][2]):
+    if bottom - top < 56 or letters < 24:
         raise Difference(f"at {size} the way out of red has {bottom - top} pixels and letters of {letters}")
     where = it.script("return document.querySelector('#verdict .where').textContent")
     if not where.startswith(f"{machine} slot {slot}"):
