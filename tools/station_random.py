@@ -7,7 +7,7 @@ import socket
 import threading
 import time
 
-from station_flows import accepted, folder, plant
+from station_flows import accepted, agrees, folder, plant
 from station_hands import DISK
 from station_site import Difference, Operator, Site, free_ports, wait_for
 
@@ -209,15 +209,17 @@ def tried(site, it, dice):
 
 def batch(program, seed, count, seconds=None):
     """So many sequences at one desk; the sums of messages, greens and reds, sequences and losses."""
-    dice, end, sums = random.Random(seed), time.monotonic() + (seconds or 10**9), [0, 0, 0]
+    dice, sums, done = random.Random(seed), [0, 0, 0], 0
     with LossySite(program, folder(), dice) as site:
         plant(site)
+        if not seconds:
+            site.last_look = agrees
         site.say("ReelReceived", {"Reel": "1000234", "PartNumber": "CAP", "Lot": "L-9", "Level": "1", "Quantity": 500}, minutes_ago=1)
         with Operator(site, begin=False) as it:
             it.open(before=WATCH)
             it.ready()
-            done = 0
-            while done < count and time.monotonic() < end:
+            end = time.monotonic() + (seconds or 10**9)
+            while done < count and (time.monotonic() < end or not done):
                 try:
                     sums = [a + b for a, b in zip(sums, tried(site, it, dice))]
                 except Difference as fault:
