@@ -121,7 +121,8 @@ class Site:
             if old not in text:
                 raise Difference(f"packaging/nginx.conf has no {old}")
             text = text.replace(old, str(new))
-        (self.room / "tracedesk.conf").write_text(text, encoding="utf-8")
+        clock = f"map $msec $station_msec {{ default $msec; include {self.room}/clock.con[f]; }}\n"
+        (self.room / "tracedesk.conf").write_text(clock + text.replace("X-Station-Now $msec", "X-Station-Now $station_msec"), encoding="utf-8")
         temporary = "".join(f"{name}_temp_path {self.room}/temporary/{name};" for name in ("client_body", "proxy", "fastcgi", "uwsgi", "scgi"))
         user = "user root;" if os.geteuid() == 0 else ""
         (self.room / "nginx.conf").write_text(f"{user} daemon off; pid {self.room}/nginx.pid; error_log {self.room}/log/error.log; events {{}}\n"
@@ -136,6 +137,14 @@ class Site:
             self.nginx.send_signal(signal.SIGTERM)
             self.nginx.wait()
             self.nginx = None
+
+    def shift_clock(self, millions):
+        """Puts the clock of the station's server so many million seconds ahead."""
+        begins = [int(time.time()) // 10**6 + more for more in (0, 1)]
+        (self.room / "clock.conf").write_text("".join(f'"~^{it}(?<below>.*)$" "{it + millions}$below";\n' for it in begins))
+        self.nginx.send_signal(signal.SIGHUP)
+        wait_for("the clock is shifted", lambda: abs(float(self.asked("GET", "/station/", "op")[1]["X-Station-Now"]) - time.time() - millions * 10**6) < 60)
+        time.sleep(0.5)
 
     def kill_nginx(self):
         """Ends nginx with its workers as a power cut does."""
@@ -332,17 +341,30 @@ class Operator:
     def text(self, name):
         return self.script("return document.getElementById(arguments[0])?.innerText ?? ''", name)
 
-    def verdict(self, kinds=("accepted", "refused", "fault"), seconds=PATIENCE):
-        """The kind and the text of the verdict, once there is one of these kinds."""
+    def turn(self):
+        """The number of what the page showed last over its screens."""
+        return self.script("return Number(document.getElementById('verdict').dataset.turn ?? 0)")
+
+    def verdict(self, kinds=("accepted", "refused", "fault"), seconds=PATIENCE, after=0):
+        """The kind and the text of the verdict, once there is one of these kinds; `after` is the turn of what was there before."""
         def shown():
-            kind, text = self.script("const v = document.getElementById('verdict'); return v.hidden ? ['', ''] : [v.className, v.innerText]")
-            return (kind, text) if kind in kinds else None
+            kind, text, turn = self.script("const v = document.getElementById('verdict'); return v.hidden ? ['', '', 0] : [v.className, v.innerText, Number(v.dataset.turn)]")
+            return (kind, text) if kind in kinds and turn > after else None
         return wait_for(f"a verdict of {kinds}: {self.text('verdict')!r}", shown, seconds)
+
+    def seen(self):
+        """Cancels until nothing is shown over the screens."""
+        from selenium.webdriver.common.keys import Keys
+        def hidden():
+            self.keys(Keys.ESCAPE)
+            return self.script("return document.getElementById('verdict').hidden")
+        wait_for("nothing is shown", hidden)
 
     def does(self, *codes, kind="accepted", holds=()):
         """Scans, and looks whether the verdict is of this kind and has these texts."""
+        after = self.turn() if codes else 0
         self.scan(*codes)
-        got, text = self.verdict()
+        got, text = self.verdict(after=after)
         lacking = [it for it in holds if it not in text]
         if got != kind or lacking:
             raise Difference(f"{codes}: wanted {kind} with {lacking or 'no more'}, got {got}: {text!r}")
