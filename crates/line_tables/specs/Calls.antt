@@ -25,7 +25,7 @@ use Rattle.desk_types.specs.declared.edit.RowEdit.{RowEdit}
 use Rattle.line_tables.specs.declared.version.Version.{Version}
 use Rattle.sqlite_catalog.specs.Change.{KeepsRows}
 use Rattle.desk_types.specs.declared.rules.Rules.TheVariants.{One, Two}
-use Rattle.line_tables.specs.Line.{no_schema, IsOurs, schema_of, schema_tables, line_schema, found_tree}
+use Rattle.line_tables.specs.Line.{no_schema, IsOurs, schema_of, schema_tables, line_schema, found_tree, Layout, alone}
 use Rattle.line_tables.specs.Rows.{Tables, Holds, HoldsBy, HoldsAt, columns_of, blank, after_edits, AreNew}
 
 -- whatever tables the one database holds, the other holds them with the edits made, in the same layout
@@ -61,8 +61,8 @@ pub record Makes (greatest : ℕ) (old new : State) : Type 0 where
 -- Whatever tables the one database holds by version 1, the other holds by version 2, in the same layout, and no table but `version` has other rows.
 pub record Migrated (before after : Database) : Type 0 where
   pub holds : (tables : Tables) → HoldsBy One before tables → Holds after tables
-  pub layout : (indexed : Bool) → before.schema ≡ schema_of One indexed → after.schema ≡ schema_of Two indexed
-  pub same : (indexed : Bool) → before.schema ≡ schema_of One indexed → KeepsRows (drop 1 (schema_tables One indexed)) before.trees after.trees
+  pub layout : (indexed : Layout) → before.schema ≡ schema_of One indexed → after.schema ≡ schema_of Two (alone indexed)
+  pub same : (indexed : Layout) → before.schema ≡ schema_of One indexed → KeepsRows (drop 1 (schema_tables One indexed)) before.trees after.trees
 
 -- the connection was open, and a database of version 1 became one of version 2 inside its transaction, whose trees list its schema
 pub record Migrates (old new : State) : Type 0 where
@@ -73,7 +73,7 @@ pub record Migrates (old new : State) : Type 0 where
 -- a crash may leave the tables of the last commit, which was of version 1, as version 2 holds them, in the same layout
 pub record LeavesMigrated (old : State) (trees : Trees) : Type 0 where
   pub was_open : IsTrue old.is_open
-  pub holds : (tables : Tables) → HoldsBy One old.committed tables → (left : HoldsAt tables trees) × ((indexed : Bool) → old.committed.schema ≡ schema_of One indexed → left.0.schema ≡ schema_of Two indexed)
+  pub holds : (tables : Tables) → HoldsBy One old.committed tables → (left : HoldsAt tables trees) × ((indexed : Layout) → old.committed.schema ≡ schema_of One indexed → left.0.schema ≡ schema_of Two (alone indexed))
 
 -- the database has this schema, and its tables have no row
 pub record IsBare (with : Schema) (db : Database) : Type 0 where
@@ -94,7 +94,7 @@ pub record Grows (before after : Schema) (tree : ℕ) (old new : Database) : Typ
 -- the connection was open, and a database of version 1 has the table `found` now, in the same layout
 pub record AddsFound (old new : State) : Type 0 where
   pub was_open : IsTrue old.is_open
-  pub added : (indexed : Bool) → old.now.schema ≡ schema_of One indexed → Grows (schema_of One indexed) (schema_of Two indexed) (found_tree indexed) old.now new.now
+  pub added : (indexed : Layout) → old.now.schema ≡ schema_of One indexed → Grows (schema_of One indexed) (schema_of Two (alone indexed)) (found_tree (alone indexed)) old.now new.now
 
 -- the statement ran inside a transaction, which goes on
 pub record Runs (sql : List ℕ) (params : Row) (old new : State) : Type 0 where

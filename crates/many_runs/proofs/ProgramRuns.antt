@@ -19,6 +19,9 @@ use Rattle.desk_commands.specs.Runs.{RunsOn, ServesEach}
 use Rattle.desk_commands.specs.Closed.{RunsTo, whole}
 use Rattle.many_runs.specs.Runs.{by_two, IsRun}
 use Rattle.many_runs.specs.Closed.{ClosesTo, ReadsClean, connections_of, run_of}
+use Rattle.many_runs.specs.Crashed.{CrashesTo}
+use Rattle.many_runs.specs.Runs.Ending.{crashed}
+use Rattle.sqlite_wal.specs.Files.{image_at}
 
 module _ {T D : Type 0} {g : disk.Ghosts D} (first : start.Ghosts T) (make : Option ℕ) (desk : LineStore (FileStore D g) StateDesk) (files : Files D) (image : Image) where
   pub is_run : (Fact : Ledger → History → Type 0) (calls : List Call) → ((G : Ledger) (H : History) → Fact G H → AnswersByTheList report_of G calls H)
@@ -69,3 +72,22 @@ serves reports G (Err (Write served)) H connected = connected
 pub serves_each : (ends : List Ended) (G : Ledger) (H : History) → ServesEach ends G H → AnswersByTheList report_of G (connections_of ends) H
 serves_each [] G H same = same
 serves_each (ended ∷ ends) G H (H₁, one, rest) = (H₁, serves report_of G ended H₁ one, serves_each ends (record G { history = H₁ }) H rest)
+
+-- a run whose desk was let go while it was open
+module _ {T D : Type 0} {g : disk.Ghosts D} (first : start.Ghosts T) (make : Option ℕ) (desk : LineStore (FileStore D g) StateDesk) (files : Files D) (image : Image) where
+  pub is_crashed_run : (Fact : Ledger → History → Type 0) (calls : List Call) → ((G : Ledger) (H : History) → Fact G H → AnswersByTheList report_of G calls H)
+      → RunsOn first make (Desk desk) Fact → CrashesTo desk files image → IsRun report_of (record { first = image_at first; make = make; calls = calls; ending = crashed; last = image })
+  is_crashed_run Fact calls tells runs (leaves, was_clean, on, clean, left) alone =
+      let (greatest, H, begins, lawful, H', stands, fact) = runs was_clean alone in (
+        greatest,
+        H,
+        H',
+        record {
+          begins = begins;
+          lawful_first = lawful;
+          answers = tells (by_two greatest H) H' fact;
+          lawful = stands.lawful was_clean refl;
+          consistent = stands.consistent;
+          ends = leaves (record { greatest = greatest; history = H'; own = true }) stands refl on clean image left;
+        },
+      )

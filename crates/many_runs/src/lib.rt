@@ -18,10 +18,16 @@ ghost use Rattle.headline.specs.Calls.{Feeds};
 ghost use Rattle.headline.specs.Calls.Call.{asked, fed};
 ghost use Rattle.many_runs.specs.Closed.{ClosesTo, ReadsClean, connections_of, run_of};
 ghost use Rattle.many_runs.specs.Runs.{AreRuns, IsRun, Run, as_one};
+ghost use Rattle.many_runs.specs.Runs.Ending.{crashed};
+ghost use Rattle.many_runs.specs.Crashed.{Crashes, CrashesTo};
+ghost use Rattle.headline.specs.Calls.{AnswersByTheList, Call};
+ghost use Rattle.sqlite_wal.specs.Files.{image_at};
 
 use desk_file::{FileDesk, next_run_goes_on};
+use desk_types::Desk as AnyDesk;
 use feeder_state::StateDesk;
-use sqlite::{FileFrom, Files, Start};
+use line_schema::LineStore;
+use sqlite::{FileFrom, FileStore, Files, Start};
 use sqlite_disk::Disk;
 
 /// A law: runs one after the other, each on the files that the one before it left, are as one run that
@@ -69,4 +75,23 @@ pub fn whole_runs_are_runs<T: Start>(files: &Files<FileFrom<T>>)
     ensures stays { (make : Option ℕ) (image : Image)
         → RunsTo whole T.Start ⟦<FileFrom<T> as Disk>⟧ (Some files.now) make StaysSame
         → ReadsClean ⟦<FileFrom<T> as Disk>⟧ files.now image → IsRun report_of (run_of T.Start make [] image) }
+{}
+
+/// Lets the files of a desk go without a close, as a kill does.
+pub fn let_go<F: Disk + Drop, D: AnyDesk + Drop>(desk: LineStore<FileStore<F>, D>) -> Files<F>
+    ensures left { Crashes D.Stands D.kept_rules desk result }
+{
+    let conn = desk.into_connection();
+    let _obeyed = conn.schema();
+    let store = conn.into_store();
+    store.close()
+}
+
+/// A law: a run that was killed while its desk was open is a run, with the calls that had returned, and
+/// the next run begins with their list.
+pub fn crashed_runs_are_runs<T: Start>(desk: &FileDesk<T, StateDesk>, files: &Files<FileFrom<T>>)
+    ensures crashed { (make : Option ℕ) (calls : List Call) (image : Image)
+        → RunsOn T.Start make (Desk desk.now) (λ G H. AnswersByTheList report_of G calls H)
+        → CrashesTo desk.now files.now image
+        → IsRun report_of (record { first = image_at T.Start; make = make; calls = calls; ending = crashed; last = image }) }
 {}
