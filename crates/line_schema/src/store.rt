@@ -24,6 +24,7 @@ ghost use Rattle.line_schema.specs.Opening.{IsFaultOf, IsNamed, IsToldOf};
 ghost use Rattle.line_schema.specs.Stands.{Kept, ForKept, Stands, ShowsTables, state_of, conn_of, has_desk, with_command, ledger, kept_after, answer_in, NewlyLeaves, Leaves};
 ghost use Rattle.line_schema.specs.Frames.{MakesDesk, LeavesUnmade};
 
+mod crash;
 mod migration;
 mod traces;
 
