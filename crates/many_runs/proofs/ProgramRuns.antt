@@ -10,7 +10,8 @@ use Rattle.desk_answers.specs.Ledger.{Ledger}
 use Rattle.feeder_state.specs.declared.desk.StateDesk.{StateDesk}
 use Rattle.line_schema.specs.declared.store.LineStore.{LineStore}
 use Rattle.http_answers.specs.Requests.{Reports, request_rule}
-use Rattle.desk_runs.specs.Connections.{Connected, ConnectedEach, Ended}
+use Rattle.desk_runs.specs.Clients.{Ended, Exchange}
+use Rattle.desk_runs.specs.Connections.{ConnectedSo}
 use Rattle.served.specs.declared.serving.ServeFault.TheVariants.{Read, Write, TooManyReads}
 use Rattle.gateway_http.specs.Reports.{report_of}
 use Rattle.headline.specs.Calls.{AnswersByTheList, Call, Serves}
@@ -60,18 +61,18 @@ module _ {T D : Type 0} (g : disk.Ghosts D) (first : start.Ghosts T) (make : Opt
         },
       )
 
--- a connection of which no socket says the bytes
-serves : (reports : Reports) (G : Ledger) (ended : Ended) (H : History) → Connected (request_rule reports G.rules G.greatest) G.history ended H
-    → Serves (request_rule reports G.rules G.greatest) G.history None None None None ended H
-serves reports G (Ok served) H connected = connected
-serves reports G (Err (Read served)) H connected = connected
-serves reports G (Err (TooManyReads served)) H connected = connected
-serves reports G (Err (Write served)) H connected = connected
+-- a connection, however it ended
+serves : (reports : Reports) (G : Ledger) (sent unread before after : Option (List ℕ)) (ended : Ended) (H : History) → ConnectedSo (request_rule reports G.rules G.greatest) sent unread G.history before ended H after
+    → Serves (request_rule reports G.rules G.greatest) G.history sent unread before after ended H
+serves reports G sent unread before after (Ok served) H connected = connected
+serves reports G sent unread before after (Err (Read served)) H connected = connected
+serves reports G sent unread before after (Err (TooManyReads served)) H connected = connected
+serves reports G sent unread before after (Err (Write served)) H connected = connected
 
 -- connections one after the other are calls one after the other
-pub serves_each : (ends : List Ended) (G : Ledger) (H : History) → ServesEach ends G H → AnswersByTheList report_of G (connections_of ends) H
+pub serves_each : (exchanges : List Exchange) (G : Ledger) (H : History) → ServesEach exchanges G H → AnswersByTheList report_of G (connections_of exchanges) H
 serves_each [] G H same = same
-serves_each (ended ∷ ends) G H (H₁, one, rest) = (H₁, serves report_of G ended H₁ one, serves_each ends (record G { history = H₁ }) H rest)
+serves_each (e ∷ es) G H (H₁, one, rest) = (H₁, serves report_of G e.sent e.unread e.before e.after e.ended H₁ one, serves_each es (record G { history = H₁ }) H rest)
 
 -- a run whose desk was let go while it was open
 module _ {T D : Type 0} {g : disk.Ghosts D} (first : start.Ghosts T) (make : Option ℕ) (desk : LineStore (FileStore D g) StateDesk) (files : Files D) (image : Image) where

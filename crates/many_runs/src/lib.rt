@@ -9,7 +9,7 @@ ghost use Rattle.sqlite_wal.specs.Recovery.{Image};
 ghost use Rattle.http_answers.specs.Requests.{Reports};
 ghost use Rattle.http_stream.specs.Answers.{Told};
 ghost use Rattle.gateway_http.specs.Reports.{report_of};
-ghost use Rattle.desk_runs.specs.Connections.{Ended};
+ghost use Rattle.desk_runs.specs.Clients.{Ended, Exchange};
 ghost use Rattle.desk_runs.specs.Runs.{StaysSame, AnswersReport};
 ghost use Rattle.desk_commands.specs.declared.left.Left.TheVariants.{Desk};
 ghost use Rattle.desk_commands.specs.Runs.{RunsOn, ServesEach};
@@ -47,9 +47,9 @@ pub fn closed_runs_are_runs<T: Start>(desk: &FileDesk<T, StateDesk>, files: &Fil
         → RunsOn T.Start make (Desk desk.now) (λ G H. Feeds G input out out' ended H)
         → ClosesTo desk.now files.now image
         → IsRun report_of (run_of T.Start make (fed input out out' ended ∷ []) image) }
-    ensures serves { (make : Option ℕ) (ends : List Ended) (image : Image)
-        → RunsOn T.Start make (Desk desk.now) (ServesEach ends)
-        → ClosesTo desk.now files.now image → IsRun report_of (run_of T.Start make (connections_of ends) image) }
+    ensures serves { (make : Option ℕ) (exchanges : List Exchange) (image : Image)
+        → RunsOn T.Start make (Desk desk.now) (ServesEach exchanges)
+        → ClosesTo desk.now files.now image → IsRun report_of (run_of T.Start make (connections_of exchanges) image) }
     ensures reports { (make : Option ℕ) (target : List ℕ) (told : Told) (image : Image)
         → RunsOn T.Start make (Desk desk.now) (AnswersReport report_of target told)
         → ClosesTo desk.now files.now image → IsRun report_of (run_of T.Start make (asked target told ∷ []) image) }
@@ -64,10 +64,10 @@ pub fn whole_runs_are_runs<T: Start>(files: &Files<FileFrom<T>>)
         → RunsTo whole T.Start ⟦<FileFrom<T> as Disk>⟧ (Some files.now) make (λ G H. Feeds G input out out' ended H)
         → ReadsClean ⟦<FileFrom<T> as Disk>⟧ files.now image
         → IsRun report_of (run_of T.Start make (fed input out out' ended ∷ []) image) }
-    ensures serves { (make : Option ℕ) (ends : List Ended) (image : Image)
-        → RunsTo whole T.Start ⟦<FileFrom<T> as Disk>⟧ (Some files.now) make (ServesEach ends)
+    ensures serves { (make : Option ℕ) (exchanges : List Exchange) (image : Image)
+        → RunsTo whole T.Start ⟦<FileFrom<T> as Disk>⟧ (Some files.now) make (ServesEach exchanges)
         → ReadsClean ⟦<FileFrom<T> as Disk>⟧ files.now image
-        → IsRun report_of (run_of T.Start make (connections_of ends) image) }
+        → IsRun report_of (run_of T.Start make (connections_of exchanges) image) }
     ensures reports { (make : Option ℕ) (target : List ℕ) (told : Told) (image : Image)
         → RunsTo whole T.Start ⟦<FileFrom<T> as Disk>⟧ (Some files.now) make (AnswersReport report_of target told)
         → ReadsClean ⟦<FileFrom<T> as Disk>⟧ files.now image

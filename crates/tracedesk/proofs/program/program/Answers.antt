@@ -94,7 +94,7 @@ returns-in-Ok-Serve-clause-done g c = λ is.
     let asked = c.in-Ok-Serve in
     let run = c.serve_in_file in
     let asks : AsksForServing (map string_bytes c.args.words.now) (string_bytes asked.file) asked.port asked.connections asked.greatest = search rules in
-    let serves = runs_serving (ways_when_open g.T.Start run.result.1) (map string_bytes c.args.words.now) g.W.Write.contents c.args.output.now run.new.output (string_bytes asked.file) asked.port asked.connections asked.greatest run.result.0 0 asks is (run.ensures.served (inl is)) in
+    let serves = runs_serving (ways_when_open g.T.Start run.result.1) (map string_bytes c.args.words.now) (ServesAt g.C.Clients.Saw c.args.clients.now run.new.clients) g.W.Write.contents c.args.output.now run.new.output (string_bytes asked.file) asked.port asked.connections asked.greatest run.result.0 0 asks is (run.ensures.served (inl is)) in
     inr (inr (inr (inr (inr (inl serves)))))
 
 pub returns-in-Ok-Serve-clause-refused : goal.returns-in-Ok-Serve-clause-refused
@@ -102,7 +102,7 @@ returns-in-Ok-Serve-clause-refused g c = λ is.
     let asked = c.in-Ok-Serve in
     let run = c.serve_in_file in
     let asks : AsksForServing (map string_bytes c.args.words.now) (string_bytes asked.file) asked.port asked.connections asked.greatest = search rules in
-    let serves = runs_serving (ways_when_open g.T.Start run.result.1) (map string_bytes c.args.words.now) g.W.Write.contents c.args.output.now run.new.output (string_bytes asked.file) asked.port asked.connections asked.greatest run.result.0 1 asks is (run.ensures.served (inr (inl is))) in
+    let serves = runs_serving (ways_when_open g.T.Start run.result.1) (map string_bytes c.args.words.now) (ServesAt g.C.Clients.Saw c.args.clients.now run.new.clients) g.W.Write.contents c.args.output.now run.new.output (string_bytes asked.file) asked.port asked.connections asked.greatest run.result.0 1 asks is (run.ensures.served (inr (inl is))) in
     inr (inr (inl serves))
 
 pub returns-in-Ok-Serve-clause-failed : goal.returns-in-Ok-Serve-clause-failed
@@ -110,7 +110,7 @@ returns-in-Ok-Serve-clause-failed g c = λ is.
     let asked = c.in-Ok-Serve in
     let run = c.serve_in_file in
     let asks : AsksForServing (map string_bytes c.args.words.now) (string_bytes asked.file) asked.port asked.connections asked.greatest = search rules in
-    let serves = runs_serving (ways_when_open g.T.Start run.result.1) (map string_bytes c.args.words.now) g.W.Write.contents c.args.output.now run.new.output (string_bytes asked.file) asked.port asked.connections asked.greatest run.result.0 4 asks is (run.ensures.served (inr (inr is))) in
+    let serves = runs_serving (ways_when_open g.T.Start run.result.1) (map string_bytes c.args.words.now) (ServesAt g.C.Clients.Saw c.args.clients.now run.new.clients) g.W.Write.contents c.args.output.now run.new.output (string_bytes asked.file) asked.port asked.connections asked.greatest run.result.0 4 asks is (run.ensures.served (inr (inr is))) in
     inr (inr (refl, run.ensures.failed is, serves))
 
 pub returns-in-Ok-Report-clause-done : goal.returns-in-Ok-Report-clause-done
