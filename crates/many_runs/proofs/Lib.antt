@@ -1,3 +1,4 @@
 pub mod CrashedFiles
+pub mod ImportedRuns
 pub mod ProgramRuns
 pub mod RunsInTurn

@@ -68,16 +68,20 @@ module _ (reports : Reports) (line_alone : Alone) (found_tables : Found) (same_l
       let tables = ledger_tables greatest H₁ in
       let (trees, holds, database) = held run.ending tables run.last before.ends in
       let (db, found, whole) = refused.keeps in
-      let here = found_tables run.last trees greatest H₁ database holds db (subst (λ (image : Image). IsFoundIn image db) same found) in
-      (greatest, H, H₁, record {
-        begins = before.begins;
-        lawful_first = before.lawful_first;
-        answers = appended reports run.calls next.calls (by_two greatest H) H₁ H₁ before.answers
-            (subst (λ (calls : List Call). AnswersByTheList reports (by_two greatest H₁) calls H₁) (sym refused.no_calls) refl);
-        lawful = before.lawful;
-        consistent = before.consistent;
-        ends = subst (λ (ending : Ending). EndsWith ending tables next.last) (sym refused.ending) (db.trees, (db, here, found.sound, refl), whole);
-      })
+      let here = found_tables run.last trees greatest H₁ database holds db (subst (λ (image : Image). IsFoundIn image db) same found) in (
+        greatest,
+        H,
+        H₁,
+        record {
+          begins = before.begins;
+          lawful_first = before.lawful_first;
+          answers = appended reports run.calls next.calls (by_two greatest H) H₁ H₁ before.answers
+              (subst (λ (calls : List Call). AnswersByTheList reports (by_two greatest H₁) calls H₁) (sym refused.no_calls) refl);
+          lawful = before.lawful;
+          consistent = before.consistent;
+          ends = subst (λ (ending : Ending). EndsWith ending tables next.last) (sym refused.ending) (db.trees, (db, here, found.sound, refl), whole);
+        },
+      )
 
   pub are_one : (run : Run) (runs : List Run) → IsRun reports run → AreRuns reports run.last runs → IsRun reports (as_one run runs)
   are_one run [] is after = is
