@@ -104,7 +104,8 @@ pub fn refused_runs_keep_their_files<T: Start>(files: &Files<FileFrom<T>>)
         → ReadsClean ⟦<FileFrom<T> as Disk>⟧ files.now image → IsRefused (run_of T.Start None [] image) }
 {}
 
-/// Lets the files of a desk go without a close, as a kill does.
+/// A law: after a kill between two calls, which lets the files go without a close, they hold the tables
+/// of the desk's history.
 pub fn let_go<F: Disk + Drop, D: AnyDesk + Drop>(desk: LineStore<FileStore<F>, D>) -> Files<F>
     ensures left { Crashes D.Stands D.kept_rules desk result }
 {
@@ -120,5 +121,6 @@ pub fn crashed_runs_are_runs<T: Start>(desk: &FileDesk<T, StateDesk>, files: &Fi
     ensures crashed { (make : Option ℕ) (calls : List Call) (image : Image)
         → RunsOn T.Start make (Desk desk.now) (λ G H. AnswersByTheList report_of G calls H)
         → CrashesTo desk.now files.now image
-        → IsRun report_of (record { first = image_at T.Start; make = make; calls = calls; ending = crashed; last = image }) }
+        → IsRun report_of
+        (record { first = image_at T.Start; make = make; calls = calls; ending = crashed; last = image }) }
 {}

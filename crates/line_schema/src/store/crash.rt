@@ -12,8 +12,8 @@ use desk_types::Desk;
 use sqlite::Alter;
 
 impl<S: Alter, D: Desk + Drop> LineStore<S, D> {
-    /// While the connection is open, a crash leaves the tables of the store's history and no others.
-    /// That holds between any two calls, also after a refusal, a report or Unavailable.
+    /// A law: while the connection is open, a crash leaves the tables of the store's history and no
+    /// others. That holds between any two calls, also after a refusal, a report or Unavailable.
     pub fn crash_leaves_the_list(&self)
         ensures list { (L : Kept) → Stands S.Store D.Stands D.kept_rules self.now L
             → HasCleanDisk (state_of S.Store self.now) → IsTrue L.own → IsTrue (state_of S.Store self.now).is_open
