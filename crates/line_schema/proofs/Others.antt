@@ -1,9 +1,13 @@
 -- What others have in the file, over each step of a command.
-use Rattle.std.proofs.Common.{◌≡◌, ◌⊎◌, ⊤, List, inl, inr, IsTrue, Result, Ok, Err, OnOk, OnErr, refl, sym, subst}
+use Rattle.std.proofs.Common.{◌≡◌, ◌⊎◌, List, inl, inr, IsTrue, Result, Ok, Err, OnOk, OnErr, refl, sym, subst}
+use Rattle.std.specs.Prelude.{⊤}
 use Rattle.sqlite_trees.specs.Tree.{Trees}
 use Rattle.sqlite.specs.Effect.{Database}
 use Rattle.sqlite.specs.State.{State, HasCleanDisk, KeepsCommit, Survives}
+use Rattle.sqlite_trees.specs.declared.store.Store.{Ghosts}
+use Rattle.sqlite.specs.Held.{Held, state}
 use Rattle.line_tables.specs.declared.edit.Edit.{Edit}
+use Rattle.line_tables.specs.Frames.{ReadsOnly}
 use Rattle.line_tables.specs.Calls.{HasOthers, KeepsOthers, LeavesEdited}
 use Rattle.line_tables.proofs.Beside.{others_stay, others_stay_then}
 use Rattle.line_schema.specs.Frames.{LeavesOthers, LetsOthersBe}
@@ -23,6 +27,9 @@ let_be_read old new kept survives = record {
   rows = λ clean is. kept_rows old.committed new.committed ((kept clean).committed is);
   crash = λ clean trees may. elim (survives.crash clean trees may) [ inl was ↦ inl was | inr none ↦ absurd none ];
 }
+
+pub let_be_reads : {S : Type 0} (g : Ghosts S) (old new : Held S) → ReadsOnly g old new → LetsOthersBe (state g old) (state g new)
+let_be_reads g old new reads = let_be_read (state g old) (state g new) reads.kept reads.survives
 
 -- one call and then another
 pub let_be_then : (old mid new : State) → (HasCleanDisk new → HasCleanDisk mid) → LetsOthersBe old mid → LetsOthersBe mid new → LetsOthersBe old new
@@ -44,16 +51,16 @@ let_be_then old mid new early one two = record {
 -- edits were committed, or not
 pub let_be_edited : {E : Type 0} (old new : State) (edits : List Edit) (r : Result ⊤ E) → Survives old new (LeavesEdited edits old) → (HasCleanDisk new → OnOk r (KeepsOthers old.committed new.committed)) → (HasCleanDisk new → OnOk r (IsTrue old.is_open × IsTrue new.is_open))
     → (HasCleanDisk new → OnErr r (KeepsCommit old new)) → LetsOthersBe old new
-let_be_edited old new edits r survives done is_open neither = record {
+let_be_edited {E} old new edits r survives done is_open neither = record {
   was_open = λ clean is. opened r (is_open clean) (neither clean) is;
   rows = λ clean is. kept r (done clean) (neither clean) is;
   crash = λ clean trees may. elim (survives.crash clean trees may) [ inl was ↦ inl was | inr left ↦ inr (record { was_open = left.was_open; rows = left.others }) ];
 }
   where
-    opened : (r : Result ⊤ _) → OnOk r (IsTrue old.is_open × IsTrue new.is_open) → OnErr r (KeepsCommit old new) → IsTrue new.is_open → IsTrue old.is_open
+    opened : (r : Result ⊤ E) → OnOk r (IsTrue old.is_open × IsTrue new.is_open) → OnErr r (KeepsCommit old new) → IsTrue new.is_open → IsTrue old.is_open
     opened (Ok done) both none is = both.0
     opened (Err e) both kept is = kept.was_open is
 
-    kept : (r : Result ⊤ _) → OnOk r (KeepsOthers old.committed new.committed) → OnErr r (KeepsCommit old new) → IsTrue new.is_open → KeepsOthers old.committed new.committed
+    kept : (r : Result ⊤ E) → OnOk r (KeepsOthers old.committed new.committed) → OnErr r (KeepsCommit old new) → IsTrue new.is_open → KeepsOthers old.committed new.committed
     kept (Ok done) rows none is = rows
     kept (Err e) none same is = kept_rows old.committed new.committed (same.committed is)

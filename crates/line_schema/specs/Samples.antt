@@ -1,5 +1,5 @@
 -- Files to which others added something after they were made: the rows of sqlite_schema from 22 on.
-use Rattle.std.specs.Prelude.{◌++◌, [], ◌∷◌, codes}
+use Rattle.std.specs.Prelude.{◌++◌, [], ◌∷◌, false, codes}
 use Rattle.sqlite.specs.Schema.{Schema}
 use Rattle.sqlite_schema.specs.declared.schema.Table.{Table}
 use Rattle.sqlite_schema.specs.declared.schema.Index.{Index}

@@ -179,6 +179,7 @@ impl<S: Alter, D: Desk + Drop> LineStore<S, D> {
 
     /// Sees to it that the desk is at hand, and the lists beside it, by reading the tables where they
     /// aren't.
+    #[tactic(auto, using(crate::proofs::Others::let_be))]
     pub fn ready(&mut self) -> Result<(), Unavailable>
         requires stands { (L : Kept) × Stands S.Store D.Stands D.kept_rules self.old L }
         ensures ok { OnOk result (IsTrue (has_desk self.new)) }
@@ -312,6 +313,7 @@ impl<S: Alter, D: Desk + Drop> LineStore<S, D> {
     }
 
     /// Judges the command by the desk, and accepts it where it isn't refused.
+    #[tactic(auto, using(crate::proofs::Others::let_be))]
     fn answer_at_hand(&mut self, stamped: &Stamped) -> Result<Answer, Unavailable>
         requires stands { (L : Kept) × Stands S.Store D.Stands D.kept_rules self.old L }
         ensures kept { (L : Kept) × Stands S.Store D.Stands D.kept_rules self.new L }
@@ -346,6 +348,7 @@ impl<S: Alter, D: Desk + Drop> LineStore<S, D> {
 
     /// Accepts what was judged: the answer and the edits are made, and memory is taken for the lists;
     /// then the edits are committed; and then the change is noted in the lists, and the desk settles.
+    #[tactic(auto, using(crate::proofs::Others::let_be))]
     fn commit_change(&mut self, change: Change) -> Result<Answer, Unavailable>
         requires stands { (L : Kept) × Stands S.Store D.Stands D.kept_rules self.old L }
         requires room { self.old.count < self.old.greatest }

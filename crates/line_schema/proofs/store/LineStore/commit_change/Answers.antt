@@ -66,3 +66,6 @@ returns-in_err-append-clause-others g c = let_be_edited _ _ _ c.append.result c.
 
 pub returns-clause-others : goal.returns-clause-others
 returns-clause-others g c = let_be_edited _ _ _ c.append.result c.append.ensures.crash c.append.ensures.others c.append.ensures.stays_open c.append.ensures.neither
+
+pub returns-in_err-text-clause-err : goal.returns-in_err-text-clause-err
+returns-in_err-text-clause-err g c L stands = err_still _ stands
