@@ -17,12 +17,13 @@ use Rattle.desk_types.specs.declared.rules.Rules.TheVariants.{One, Two}
 use Rattle.desk_types.specs.declared.edit.RowEdit.{RowEdit}
 use Rattle.desk_types.specs.Tables.{Tables as StateTables}
 use Rattle.desk_types.specs.Edits.{with_edit as state_with, IsNew as IsNewRow}
-use Rattle.line_tables.specs.Line.{schema_of, schema_tables, tree_in, version, accepted, part, alternate, sheet_row, selected, reel, mount, board, placement, found, found_by, found_tree, Layout, nothing as no_others}
+use Rattle.line_tables.specs.Line.{schema_of, schema_tables, tree_in, version, accepted, part, alternate, sheet_row, selected, reel, mount, board, placement, found, found_by, found_tree, Layout, others_in, nothing as no_others}
 use Rattle.line_tables.specs.StateRows.{AreRows, rows_in, kept_in, columns, HoldsState, HoldsParts, HoldsAlternates, HoldsSheets, HoldsSelected, HoldsReels, HoldsMounts, HoldsBoards, HoldsPlacements, HoldsFound}
 use Rattle.line_tables.specs.Rowids.{AreApart, AreAllApart, changed_tables}
 use Rattle.line_tables.specs.Rows.{Tables, Holds, blank, version_columns, accepted_columns, version_row}
 use Rattle.line_tables.specs.Calls.{WritesRow}
 use Rattle.line_tables.proofs.Apart.{apart_none}
+use Rattle.line_tables.proofs.Beside.{is_low, far_kept}
 use Rattle.line_tables.specs.Line.Layout.{Indexed, Plain}
 
 abbrev pub state_tables : Layout → List Table
@@ -209,7 +210,7 @@ holds_blank indexed greatest db has one empty =
       apart = (subst AreApart (sym empty.1.0) apart_none, (subst AreApart (sym empty.1.1.0) apart_none, (subst AreApart (sym empty.1.1.1.0) apart_none, (subst AreApart (sym empty.1.1.1.1.0) apart_none, (subst AreApart (sym empty.1.1.1.1.1.0) apart_none, (subst AreApart (sym empty.1.1.1.1.1.1.0) apart_none, (subst AreApart (sym empty.1.1.1.1.1.1.1.0) apart_none, (subst AreApart (sym none) apart_none, tt))))))));
     }
 
-module _ (e : RowEdit) (table : Layout → Table) (old new : State) (sole : (indexed : Layout) → (not (0 == (table indexed).tree) && not (1 == (table indexed).tree)) ≡ true) (step : (indexed : Layout) → Steps indexed (table indexed) old new) where
+module _ (e : RowEdit) (table : Layout → Table) (old new : State) (sole : (indexed : Layout) → (not (0 == (table indexed).tree) && (not (1 == (table indexed).tree) && is_low indexed (table indexed).tree)) ≡ true) (step : (indexed : Layout) → Steps indexed (table indexed) old new) where
   -- an edit writes what its statements do to the rows of its table
   pub writes : ((indexed : Layout) → old.now.schema ≡ schema_of Two indexed → AreAllApart old.now → AreAllApart new.now)
       → ((indexed : Layout) (t : StateTables) → old.now.schema ≡ schema_of Two indexed → HoldsState old.now t → AreAllApart old.now → IsNewRow e t → HoldsState new.now (state_with e t)) → WritesRow e old new
@@ -219,22 +220,27 @@ module _ (e : RowEdit) (table : Layout → Table) (old new : State) (sole : (ind
         let i = was.indexed in
         let others = (step i).others was.schema in
         let is = and_parts _ _ (sole i) in
+        let more = and_parts _ _ is.1 in
         let now = (step i).same was.schema in (
           now ∙ sym was.schema,
           record {
             indexed = i;
             schema = now;
             version = ap (map version_columns) (others.0 (other_tree 0 (table i).tree is.0)) ∙ was.version;
-            accepted = subst (λ l. IsPermutation (map accepted_columns l) t.accepted) (sym (others.1.0 (other_tree 1 (table i).tree is.1))) was.accepted;
+            accepted = subst (λ l. IsPermutation (map accepted_columns l) t.accepted) (sym (others.1.0 (other_tree 1 (table i).tree more.0))) was.accepted;
             state = state i t.state was.schema was.state was.apart fresh.0;
             apart = apart i was.schema was.apart;
           },
         );
     sound = λ t was fresh. (step was.indexed).sound was.schema;
+    others = record {
+      schema = λ layout has. (step layout).same has ∙ sym has;
+      rows = λ layout has. far_kept layout (table layout).tree (and_parts _ _ (and_parts _ _ (sole layout)).1).1 (others_in layout).tables (others_in layout).quiet old.now.trees new.now.trees ((step layout).others has).1.1.1.1.1.1.1.1.1.1.1;
+    };
   }
 
 -- the same of a table whose rows are apart
-pub alters_writes : (e : RowEdit) (table : Layout → Table) (change : List Row → List Row) (old new : State) → ((indexed : Layout) → (not (0 == (table indexed).tree) && not (1 == (table indexed).tree)) ≡ true)
+pub alters_writes : (e : RowEdit) (table : Layout → Table) (change : List Row → List Row) (old new : State) → ((indexed : Layout) → (not (0 == (table indexed).tree) && (not (1 == (table indexed).tree) && is_low indexed (table indexed).tree)) ≡ true)
     → ((indexed : Layout) → old.now.schema ≡ schema_of Two indexed → AreAllApart old.now → AreApart (old.now.trees (table indexed).tree))
     → ((indexed : Layout) (t : StateTables) → IsElsewhere indexed (table indexed).tree old.now new.now → HoldsState old.now t → OthersHold (table indexed).tree new.now t → IsNewRow e t → IsPermutation (rows_at (table indexed) new.now) (change (rows_at (table indexed) old.now)) → HoldsState new.now (state_with e t))
     → ((indexed : Layout) → Alters indexed (table indexed) change old new) → WritesRow e old new

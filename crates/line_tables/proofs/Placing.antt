@@ -25,7 +25,7 @@ use Rattle.line_tables.proofs.Puts.{cast_int, put_permutes}
 use Rattle.line_tables.proofs.Altering.{IsElsewhere, others_hold, all_apart_but, other_tree}
 use Rattle.line_tables.proofs.Keyed.{added, one_piece, own_int, same_piece, tells_piece}
 use Rattle.line_tables.proofs.RowTexts.{insert_placement, placement_terms, insert_placement_is, insert_placements, placements_terms, insert_placements_is}
-use Rattle.line_tables.proofs.Beside.{quiet}
+use Rattle.line_tables.proofs.Beside.{quiet, others_behind}
 
 placement_cast : (row : PlacementRow) → cast_row placement (placement_kept row) ≡ placement_kept row
 placement_cast row = rw (cast_int (pos (placement_id row.number row.place)), cast_int (pos row.number), cast_int (pos row.place), cast_int (flag row.overdue)) refl
@@ -97,6 +97,7 @@ puts_pieces rows a c was_open did = record {
         }),
       );
   sound = λ t was new. (did was.indexed was.schema).sound;
+  others = others_behind 17 a.now c.now (λ layout has. (refl, (did layout has).same, (did layout has).step.tables));
 }
 
 pub placement_put : (row : PlacementRow) (a c : State) → Runs insert_placement (placement_kept row) a c → Writes (placement_edit row ∷ []) a c

@@ -28,7 +28,7 @@ use Rattle.line_tables.specs.Rows.{Tables, Holds, AreNew, columns_of, accepted_c
 use Rattle.line_tables.specs.Calls.{Runs, Edits, Writes}
 use Rattle.line_tables.proofs.Inserts.{Inserted, insert_does}
 use Rattle.line_tables.proofs.Altering.{list_grows}
-use Rattle.line_tables.proofs.Beside.{quiet}
+use Rattle.line_tables.proofs.Beside.{quiet, others_behind}
 use Rattle.line_tables.proofs.PutTexts.{insert_accepted, accepted_terms, insert_accepted_is}
 
 either : (b : Bool) (x : Value) → cond b x x ≡ x
@@ -90,6 +90,7 @@ module _ (a : Accepted) (old new : State) where
         was_open = h.shown.was_open;
         done = λ tables holds _. inserted_edits tables holds (inserted holds.indexed holds.schema);
         sound = λ tables holds _. (inserted holds.indexed holds.schema).sound;
+        others = others_behind 1 old.now new.now (λ layout has. (refl, (inserted layout has).same, (inserted layout has).step.tables));
       }
 
 -- what is left of the edits, where the first of them are made: it makes of the tables that the one database holds what all make of those of the other, whose layout it is

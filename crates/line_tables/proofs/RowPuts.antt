@@ -41,7 +41,7 @@ use Rattle.line_tables.specs.Line.{schema_of, schema_tables, part, alternate, sh
 use Rattle.line_tables.specs.StateRows.{values_of, AreRows, columns, rows_in, has_text, has_pair, has_sheet_place, unit_if, part_columns, alternate_columns, sheet_columns, selected_columns, reel_columns, mount_columns, board_columns, found_columns, since_or_none, flag}
 use Rattle.line_tables.specs.Calls.{Runs, Changes, ChangesOrPuts, WritesRow}
 use Rattle.line_tables.proofs.Inserts.{Inserted, insert_does}
-use Rattle.line_tables.proofs.Beside.{quiet, found_low}
+use Rattle.line_tables.proofs.Beside.{quiet, is_low, found_low}
 use Rattle.line_tables.proofs.Puts.{cast_int, cast_null}
 use Rattle.line_tables.proofs.Changes.{Changed, renewed, shows_of, passing, delete_does, update_does}
 use Rattle.line_tables.proofs.Finds.{and_true}
@@ -257,7 +257,7 @@ to_tree i db f has rows = subst (λ l. AreRows (has_text 0) found_columns (map (
 from_tree : (i : Layout) (db : Database) (f : Name → Option ℕ) → db.schema ≡ schema_of Two i → AreFound i db f → AreRows (has_text 0) found_columns (rows_in found db) f
 from_tree i db f has rows = subst (λ l. AreRows (has_text 0) found_columns (map (columns found) l) f) (sym (found_kept i db has)) rows
 
-found_sole : (i : Layout) → (not (0 == found_tree i) && not (1 == found_tree i)) ≡ true
+found_sole : (i : Layout) → (not (0 == found_tree i) && (not (1 == found_tree i) && is_low i (found_tree i))) ≡ true
 found_sole (Indexed others) = refl
 found_sole (Plain others) = refl
 
