@@ -30,7 +30,7 @@ use std::io::{Read, Write};
 /// A whole run after the program's name: its exit status, and the files that it closed, for clauses to
 /// name. They go where they are dropped.
 ///
-/// It is `program` and then the close of what that left open. Where the close fails the status is 3 and
+/// It is `open_run` and then the close of what that left open. Where the close fails the status is 3 and
 /// Unavailable is told, unless a fault was told with status 3 before; the answers stand.
 pub fn whole_run<T: Start, F: Folder, C: Clients, R: Read, W: Write, E: Write>(
     rt: &HostRuntime,
@@ -85,7 +85,7 @@ pub fn whole_run<T: Start, F: Folder, C: Clients, R: Read, W: Write, E: Write>(
         → clients.new ≡ clients.old }
     ensures quiet { (result.0 ≡ 0) ⊎ (result.0 ≡ 1) → errors.new ≡ errors.old }
 {
-    let (status, left) = program(rt, words, start, folder, clients, input, output, errors);
+    let (status, left) = open_run(rt, words, start, folder, clients, input, output, errors);
     match close_run(left) {
         Ok(files) => (status, files),
         Err(files) if status == Exit::NoDesk as u8 => (status, files),
@@ -130,7 +130,7 @@ fn close_run<T: Start>(
 /// of an import can't be opened or read, a port can't be had or no further connection be accepted.
 ///
 /// Standard input is read by `feed` alone, and only `serve` asks for a port.
-fn program<T: Start, F: Folder, C: Clients, R: Read, W: Write, E: Write>(
+fn open_run<T: Start, F: Folder, C: Clients, R: Read, W: Write, E: Write>(
     rt: &HostRuntime,
     words: &[String],
     start: T,

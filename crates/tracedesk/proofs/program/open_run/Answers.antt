@@ -6,6 +6,7 @@ use Rattle.served.specs.declared.serving.ServeFault.TheVariants.{Write}
 use Rattle.served.specs.Counts.{none_served}
 use Rattle.served.specs.Sent.{SendsFront}
 use Rattle.http_stream.specs.Answers.{code_of}
+use Rattle.desk_runs.specs.Clients.{ServesAt}
 use Rattle.desk_runs.specs.Runs.{AnswersImport, CutsImport, StaysSame}
 use Rattle.desk_runs.specs.Told.{report_output, TellsLine}
 use Rattle.desk_commands.specs.declared.left.Left.TheVariants.{Nothing}
@@ -13,7 +14,7 @@ use Rattle.desk_commands.specs.Runs.{Refuses, RefusesToMigrate, RunsOn}
 use Rattle.tracedesk.specs.Program.{RefusesNamed}
 use Rattle.tracedesk.specs.Ways.{ways_when_open}
 use Rattle.tracedesk.proofs.AskedRuns.{has_none, names_desk, names_migrated, runs_import, runs_report, runs_serving}
-use Rattle.tracedesk.proofs.program.program.Goals as goal
+use Rattle.tracedesk.proofs.program.open_run.Goals as goal
 
 pub returns-in-Some-clause-done : goal.returns-in-Some-clause-done
 returns-in-Some-clause-done g c = λ is.
