@@ -1,5 +1,5 @@
 -- Any number of calls on one desk, one after the other.
-use Rattle.std.specs.Prelude.{◌≡◌, ℕ, List, [], ◌∷◌, Option, Result, Ok, Err, IfOk}
+use Rattle.std.specs.Prelude.{◌≡◌, ℕ, List, [], ◌∷◌, Option, Result, Ok, Err}
 use Rattle.desk_types.specs.declared.command.Stamped.{Stamped}
 use Rattle.desk_types.specs.History.{History}
 use Rattle.desk_answers.specs.declared.answer.Answer.{Answer}
@@ -11,8 +11,6 @@ use Rattle.desk_feed.specs.Stream as lines
 use Rattle.http_stream.specs.Answers.{Told}
 use Rattle.http_stream.specs.Stream as requests
 use Rattle.http_stream.specs.Stream.{Rule}
-use Rattle.http_routes.specs.declared.asked.Report.{Report}
-use Rattle.http_answers.specs.declared.reported.Unavailable.{Unavailable}
 use Rattle.http_answers.specs.Gateways.{AnswersGet}
 use Rattle.http_answers.specs.Requests.{Reports, request_rule}
 
@@ -20,13 +18,12 @@ use Rattle.http_answers.specs.Requests.{Reports, request_rule}
 abbrev pub Ended : Type 0
 Ended = Result Served ServeFault
 
--- a call of `feed`, of `serve`, of `command`, of `ask` or of `report`, with what went in, of a connection what was left of it, and what had gone out before and after, as far as the reader and the writer tell it
+-- a call of `feed`, of `serve`, of `command` or of `ask`, with what went in, of a connection what was left of it, and what had gone out before and after, as far as the reader and the writer tell it
 pub data Call : Type 0 where
   fed : Option (List ℕ) → Option (List ℕ) → Option (List ℕ) → Ended → Call
   connected : Option (List ℕ) → Option (List ℕ) → Option (List ℕ) → Option (List ℕ) → Ended → Call
   commanded : Stamped → Answer → Call
   asked : List ℕ → Told → Call
-  reported : Report → Result (Option (List ℕ)) Unavailable → Call
 
 -- the lines were answered by the list G, and the list after them is H
 abbrev pub Feeds : Ledger → Option (List ℕ) → Option (List ℕ) → Option (List ℕ) → Ended → History → Type 0
@@ -46,7 +43,6 @@ IsAnswered reports G (fed input out out' ended) H = Feeds G input out out' ended
 IsAnswered reports G (connected input left out out' ended) H = Serves (request_rule reports G.rules G.greatest) G.history input left out out' ended H
 IsAnswered reports G (commanded s answer) H = IsAnswer G s answer × (H ≡ (ledger_after G s answer).history)
 IsAnswered reports G (asked target told) H = AnswersGet reports G target told × (H ≡ G.history)
-IsAnswered reports G (reported about result) H = IfOk result (λ text. text ≡ reports about G.history) × (H ≡ G.history)
 
 -- each call was answered by the list that the one before it left
 abbrev pub AnswersByTheList : Reports → Ledger → List Call → History → Type 0

@@ -7,12 +7,11 @@ ghost use Rattle.desk_types.specs.Wire.{inner_of, reads_of, failures_of};
 ghost use Rattle.http_stream.specs.Answers.{response_told};
 ghost use Rattle.http_answers.specs.Gateways.{owner_of};
 ghost use Rattle.headline.specs.Calls.{CallsOnce};
-ghost use Rattle.headline.specs.Calls.Call.{fed, connected, commanded, asked, reported};
+ghost use Rattle.headline.specs.Calls.Call.{fed, connected, commanded, asked};
 
 use desk_answers::Answer;
-use desk_types::{Stamped, Text, Wire};
-use http_answers::{Gateway, ReportedOwner, Unavailable};
-use http_routes::Report;
+use desk_types::{Stamped, Wire};
+use http_answers::{Gateway, ReportedOwner};
 use http_stream::Response;
 use served::{ServeFault, Served};
 use std::alloc::Global;
@@ -69,16 +68,4 @@ pub fn ask<L: ReportedOwner>(alloc: Global, gateway: &mut Gateway<L>, target: &[
         (owner_of gateway.new) }
 {
     gateway.ask(alloc, target)
-}
-
-/// A call of `report`, as an owner answers each of the six reports.
-pub fn report<L: ReportedOwner>(
-    alloc: Global,
-    owner: &mut L,
-    about: Report,
-) -> Result<Option<Text>, Unavailable>
-    requires ready { L.Ready owner.old }
-    ensures { CallsOnce L.reports L.Stands L.Trusts owner.old (reported about result) owner.new }
-{
-    owner.report(alloc, about)
 }

@@ -1,6 +1,6 @@
 //! Each call once, on an owner that stands for no list.
 
-use crate::{ask, command, feed, headline, report, serve};
+use crate::{ask, command, feed, headline, serve};
 use desk_answers::{Answer, Owner};
 use desk_types::{Command, Id, Minute, Stamped, Text, Wire};
 use http_answers::{Gateway, ReportedOwner, Unavailable};
@@ -41,7 +41,7 @@ impl ReportedOwner for Full {
     }
 }
 
-/// A feed of one message, the command of it, and a report.
+/// A feed of one message, and the command of it.
 #[test]
 fn commands(rt: HostRuntime) -> Result<(), Fail> {
     let mut owner = Full;
@@ -63,8 +63,6 @@ fn commands(rt: HostRuntime) -> Result<(), Fail> {
         command: Command::PartDefined { part: name },
     };
     assert!(rt; matches!(command(&mut owner, &stamped), Answer::DeskFull));
-    let told = report(rt.alloc(), &mut owner, Report::OverdueList)?;
-    assert!(rt; told.is_none());
     headline(&Full, &owner);
     Ok(())
 }

@@ -1,4 +1,3 @@
 pub mod CrashedFiles
-pub mod ImportedRuns
 pub mod ProgramRuns
 pub mod RunsInTurn

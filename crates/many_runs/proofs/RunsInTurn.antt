@@ -1,19 +1,18 @@
 -- A run and the next one are as one.
-use Rattle.std.proofs.Common.{◌≡◌, ◌⊎◌, inl, inr, ℕ, List, [], ◌∷◌, ◌++◌, Option, refl, sym, subst}
+use Rattle.std.proofs.Common.{◌≡◌, ℕ, List, [], ◌∷◌, ◌++◌, Option, sym, subst}
 use Rattle.sqlite_wal.specs.Recovery.{Image}
 use Rattle.sqlite_trees.specs.Tree.{Trees}
-use Rattle.sqlite.specs.Effect.{Database}
 use Rattle.sqlite.specs.Files.{HoldsDatabase}
 use Rattle.desk_types.specs.declared.rules.Rules.TheVariants.{Two}
 use Rattle.desk_types.specs.History.{History}
 use Rattle.desk_types.specs.Judged.{IsJudged, IsLawful}
 use Rattle.desk_answers.specs.Ledger.{Ledger}
 use Rattle.http_answers.specs.Requests.{Reports}
-use Rattle.line_tables.specs.Rows.{Tables, Holds, HoldsAt}
+use Rattle.line_tables.specs.Rows.{Tables, HoldsAt}
 use Rattle.line_rows.specs.Rows.{ledger_tables}
-use Rattle.desk_file.specs.Files.{Begins, HasLineAlone, IsFoundIn}
+use Rattle.desk_file.specs.Files.{Begins, HasLineAlone}
 use Rattle.headline.specs.Calls.{AnswersByTheList, Call}
-use Rattle.many_runs.specs.Runs.{Ending, closed, crashed, Run, EndsWith, by_two, IsRunFrom, IsRun, IsRefused, AreRuns, run_then, as_one}
+use Rattle.many_runs.specs.Runs.{Ending, closed, crashed, Run, EndsWith, by_two, IsRunFrom, IsRun, AreRuns, run_then, as_one}
 
 -- calls that were answered one after the other, and then others
 pub appended : (reports : Reports) (calls later : List Call) (G : Ledger) (H H' : History) → AnswersByTheList reports G calls H
@@ -33,11 +32,7 @@ abbrev pub Same : Type 0
 Same = (image : Image) (trees : Trees) (greatest : ℕ) (H : History) → ∥ HoldsDatabase image trees ∥₁ → HoldsAt (ledger_tables greatest H) trees → IsJudged Two H
     → (make : Option ℕ) (next : ℕ) (H' : History) → Begins image make next H' → IsJudged Two H' → (next ≡ greatest) × (H' ≡ H)
 
-abbrev pub Found : Type 0
-Found = (image : Image) (trees : Trees) (greatest : ℕ) (H : History) → ∥ HoldsDatabase image trees ∥₁ → HoldsAt (ledger_tables greatest H) trees
-    → (db : Database) → IsFoundIn image db → Holds db (ledger_tables greatest H)
-
-module _ (reports : Reports) (line_alone : Alone) (found_tables : Found) (same_list : Same) where
+module _ (reports : Reports) (line_alone : Alone) (same_list : Same) where
   -- the next run went on from the greatest number and the list with which the run ended
   pub goes_on : (run next : Run) (greatest number : ℕ) (H H₁ G H' : History) → IsRunFrom reports run greatest H H₁ → IsRunFrom reports next number G H'
       → number ≡ greatest → G ≡ H₁ → IsRunFrom reports (run_then run next) greatest H H'
@@ -61,29 +56,6 @@ module _ (reports : Reports) (line_alone : Alone) (found_tables : Found) (same_l
       let told = same_list run.last trees greatest H₁ database holds before.lawful.judged next.make number G begins after.lawful_first.judged in
       (greatest, H, H', goes_on run next greatest number H H₁ G H' before after told.0 told.1)
 
-  -- a run whose files were refused left the tables with which the one before it ended
-  pub joins_refused : (run next : Run) → next.first ≡ run.last → IsRun reports run → IsRefused next → IsRun reports (run_then run next)
-  joins_refused run next same is refused alone =
-      let (greatest, H, H₁, before) = is alone in
-      let tables = ledger_tables greatest H₁ in
-      let (trees, holds, database) = held run.ending tables run.last before.ends in
-      let (db, found, whole) = refused.keeps in
-      let here = found_tables run.last trees greatest H₁ database holds db (subst (λ (image : Image). IsFoundIn image db) same found) in (
-        greatest,
-        H,
-        H₁,
-        record {
-          begins = before.begins;
-          lawful_first = before.lawful_first;
-          answers = appended reports run.calls next.calls (by_two greatest H) H₁ H₁ before.answers
-              (subst (λ (calls : List Call). AnswersByTheList reports (by_two greatest H₁) calls H₁) (sym refused.no_calls) refl);
-          lawful = before.lawful;
-          consistent = before.consistent;
-          ends = subst (λ (ending : Ending). EndsWith ending tables next.last) (sym refused.ending) (db.trees, (db, here, found.sound, refl), whole);
-        },
-      )
-
   pub are_one : (run : Run) (runs : List Run) → IsRun reports run → AreRuns reports run.last runs → IsRun reports (as_one run runs)
   are_one run [] is after = is
-  are_one run (next ∷ runs) is (same, inl then, after) = are_one (run_then run next) runs (joins run next same is then) after
-  are_one run (next ∷ runs) is (same, inr refused, after) = are_one (run_then run next) runs (joins_refused run next same is refused) after
+  are_one run (next ∷ runs) is (same, then, after) = are_one (run_then run next) runs (joins run next same is then) after

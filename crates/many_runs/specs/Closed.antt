@@ -1,5 +1,5 @@
 -- A run of the program that closed its files.
-use Rattle.std.specs.Prelude.{◌≡◌, ◌⊎◌, ℕ, List, [], ◌∷◌, Option, Ok, Err, map}
+use Rattle.std.specs.Prelude.{◌≡◌, ◌⊎◌, ℕ, List, Option, map}
 use Rattle.sqlite_disk.specs.declared.Disk as disk
 use Rattle.sqlite_disk.specs.declared.Files.{Files}
 use Rattle.sqlite_disk.specs.declared.start.Start as start
@@ -13,16 +13,11 @@ use Rattle.feeder_state.specs.declared.desk.StateDesk.{StateDesk}
 use Rattle.feeder_state.specs.contracts.desk.StateDeskDesk.TheImpl.{ghosts as state}
 use Rattle.line_schema.specs.declared.store.LineStore.{LineStore}
 use Rattle.line_schema.specs.Stands.{state_of}
-use Rattle.desk_types.specs.declared.command.Stamped.{Stamped}
-use Rattle.desk_answers.specs.declared.answer.Answer.{Answer}
-use Rattle.imports.specs.declared.fault.ImportFault.{ImportFault}
-use Rattle.desk_import.specs.declared.options.Import.{Import}
-use Rattle.desk_import.specs.Import.{IsSaidBy}
 use Rattle.desk_file.specs.Files.{Closes}
 use Rattle.desk_commands.specs.Closed.{MayRead}
 use Rattle.desk_runs.specs.Clients.{Exchange}
 use Rattle.headline.specs.Calls.{Call}
-use Rattle.headline.specs.Calls.Call.{commanded, connected}
+use Rattle.headline.specs.Calls.Call.{connected}
 use Rattle.many_runs.specs.Runs.{Run}
 use Rattle.many_runs.specs.Runs.Ending.{closed}
 
@@ -43,8 +38,3 @@ run_of first make calls image = record { first = image_at first; make = make; ca
 -- connections, each with what its client sent and got
 abbrev pub connections_of : List Exchange → List Call
 connections_of = map (λ e. connected e.sent e.unread e.before e.after e.ended)
-
--- the calls of an import: the command that its options and its file say, or none where the file has a fault
-abbrev pub AreOfImport : Import → Option (List ℕ) → List Call → Type 0
-AreOfImport import file calls = ((s : Stamped) × (answer : Answer) × IsSaidBy import file (Ok s) × (calls ≡ commanded s answer ∷ []))
-    ⊎ ((fault : ImportFault) × IsSaidBy import file (Err fault) × (calls ≡ []))

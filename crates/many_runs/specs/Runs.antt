@@ -1,9 +1,7 @@
 -- Runs one after the other, on the same two files.
-use Rattle.std.specs.Prelude.{◌≡◌, ◌⊎◌, ⊤, ℕ, List, [], ◌∷◌, ◌++◌, Option}
+use Rattle.std.specs.Prelude.{◌≡◌, ⊤, ℕ, List, [], ◌∷◌, ◌++◌, Option}
 use Rattle.sqlite_wal.specs.Recovery.{Image}
 use Rattle.sqlite_trees.specs.Tree.{Trees}
-use Rattle.sqlite.specs.Closing.{HoldsAlone}
-use Rattle.sqlite.specs.Effect.{Database}
 use Rattle.sqlite.specs.Files.{HoldsDatabase}
 use Rattle.desk_types.specs.declared.rules.Rules.TheVariants.{Two}
 use Rattle.desk_types.specs.History.{History}
@@ -13,7 +11,7 @@ use Rattle.desk_laws.specs.Consistent.{IsConsistent}
 use Rattle.http_answers.specs.Requests.{Reports}
 use Rattle.line_tables.specs.Rows.{Tables, HoldsAt}
 use Rattle.line_rows.specs.Rows.{ledger_tables}
-use Rattle.desk_file.specs.Files.{Begins, HasLineAlone, IsFoundIn, IsWhole}
+use Rattle.desk_file.specs.Files.{Begins, HasLineAlone, IsWhole}
 use Rattle.headline.specs.Calls.{AnswersByTheList, Call}
 
 -- how a run ended: it closed its files, or crashed
@@ -51,16 +49,10 @@ pub record IsRunFrom (reports : Reports) (run : Run) (greatest : ℕ) (H H' : Hi
 abbrev pub IsRun : Reports → Run → Type 0
 IsRun reports run = HasLineAlone run.first → (greatest : ℕ) × (H : History) × (H' : History) × IsRunFrom reports run greatest H H'
 
--- a run whose files were refused: it made no call, and the files it closed hold, whole by themselves, the database that it found in them
-pub record IsRefused (run : Run) : Type 0 where
-  pub no_calls : run.calls ≡ []
-  pub ending : run.ending ≡ closed
-  pub keeps : (db : Database) × IsFoundIn run.first db × HoldsAlone run.last db.trees
-
--- each run began on the files as the one before it left them, and some may have been refused
+-- each run began on the files as the one before it left them
 abbrev pub AreRuns : Reports → Image → List Run → Type 0
 AreRuns reports image [] = ⊤
-AreRuns reports image (run ∷ runs) = (run.first ≡ image) × (IsRun reports run ⊎ IsRefused run) × AreRuns reports run.last runs
+AreRuns reports image (run ∷ runs) = (run.first ≡ image) × IsRun reports run × AreRuns reports run.last runs
 
 -- two runs as one: it begins as the first, makes the calls of both, and ends as the second
 abbrev pub run_then : Run → Run → Run

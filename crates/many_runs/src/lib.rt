@@ -4,35 +4,31 @@
 //! `specs/Runs.antt` says what a run is, and how runs are as one.
 #![tactic(auto)]
 
-ghost use Rattle.std.specs.Prelude.{Bool, ℕ, List, [], ◌∷◌, Option, None, Some};
+ghost use Rattle.std.specs.Prelude.{ℕ, List, [], ◌∷◌, Option, Some};
 ghost use Rattle.sqlite_wal.specs.Recovery.{Image};
 ghost use Rattle.http_answers.specs.Requests.{Reports};
 ghost use Rattle.http_stream.specs.Answers.{Told};
 ghost use Rattle.gateway_http.specs.Reports.{report_of};
 ghost use Rattle.desk_runs.specs.Clients.{Ended, Exchange};
-ghost use Rattle.desk_runs.specs.Runs.{StaysSame, AnswersImport, AnswersReport};
-ghost use Rattle.desk_import.specs.declared.options.Import.{Import};
-ghost use Rattle.desk_file.specs.Files.{HasLineAlone};
-ghost use Rattle.line_schema.specs.declared.fault.OpenFault.{OpenFault};
+ghost use Rattle.desk_runs.specs.Runs.{StaysSame, AnswersReport};
 ghost use Rattle.desk_commands.specs.declared.left.Left.TheVariants.{Desk};
 ghost use Rattle.desk_commands.specs.Runs.{RunsOn, ServesEach};
-ghost use Rattle.desk_commands.specs.Closed.{RefusesTo, RefusesToMigrateTo, RunsTo, whole};
+ghost use Rattle.desk_commands.specs.Closed.{RunsTo, whole};
 ghost use Rattle.headline.specs.Calls.{Feeds};
 ghost use Rattle.headline.specs.Calls.Call.{asked, fed};
-ghost use Rattle.many_runs.specs.Closed.{AreOfImport, ClosesTo, ReadsClean, connections_of, run_of};
-ghost use Rattle.many_runs.specs.Runs.{AreRuns, IsRefused, IsRun, Run, as_one};
+ghost use Rattle.many_runs.specs.Closed.{ClosesTo, ReadsClean, connections_of, run_of};
+ghost use Rattle.many_runs.specs.Runs.{AreRuns, IsRun, Run, as_one};
 ghost use Rattle.many_runs.specs.Runs.Ending.{crashed};
 ghost use Rattle.many_runs.specs.Crashed.{Crashes, CrashesTo};
 ghost use Rattle.headline.specs.Calls.{AnswersByTheList, Call};
 ghost use Rattle.sqlite_wal.specs.Files.{image_at};
 
 use desk_file::{FileDesk, next_run_goes_on};
-use desk_types::{Desk as AnyDesk, Wire};
+use desk_types::Desk as AnyDesk;
 use feeder_state::StateDesk;
 use line_schema::LineStore;
 use sqlite::{FileFrom, FileStore, Files, Start};
 use sqlite_disk::Disk;
-use std::io::Write;
 
 /// A law: runs one after the other, each on the files that the one before it left, are as one run that
 /// makes their calls. So every answer of every run is that of one list of accepted commands, which is
@@ -79,29 +75,6 @@ pub fn whole_runs_are_runs<T: Start>(files: &Files<FileFrom<T>>)
     ensures stays { (make : Option ℕ) (image : Image)
         → RunsTo whole T.Start ⟦<FileFrom<T> as Disk>⟧ (Some files.now) make StaysSame
         → ReadsClean ⟦<FileFrom<T> as Disk>⟧ files.now image → IsRun report_of (run_of T.Start make [] image) }
-{}
-
-/// A law: a whole run of the program that imported a file is a run, with the command that the file says.
-pub fn whole_imports_are_runs<T: Start, W: Write>(
-    files: &Files<FileFrom<T>>,
-    before: &Wire<W>,
-    after: &Wire<W>,
-)
-    ensures imports { (make : Option ℕ) (refused : Bool) (import : Import) (file : Option (List ℕ)) (image : Image)
-        → RunsTo whole T.Start ⟦<FileFrom<T> as Disk>⟧ (Some files.now) make
-        (AnswersImport W.contents before.now after.now refused import file)
-        → ReadsClean ⟦<FileFrom<T> as Disk>⟧ files.now image → HasLineAlone (image_at T.Start)
-        → (calls : List Call) × AreOfImport import file calls × IsRun report_of (run_of T.Start make calls image) }
-{}
-
-/// A law: a whole run of the program whose files were refused leaves the database that they held.
-pub fn refused_runs_keep_their_files<T: Start>(files: &Files<FileFrom<T>>)
-    ensures refused { (make : Option ℕ) (fault : OpenFault) (image : Image)
-        → RefusesTo whole T.Start ⟦<FileFrom<T> as Disk>⟧ (Some files.now) make fault
-        → ReadsClean ⟦<FileFrom<T> as Disk>⟧ files.now image → IsRefused (run_of T.Start make [] image) }
-    ensures not_migrated { (fault : OpenFault) (image : Image)
-        → RefusesToMigrateTo whole T.Start ⟦<FileFrom<T> as Disk>⟧ (Some files.now) fault
-        → ReadsClean ⟦<FileFrom<T> as Disk>⟧ files.now image → IsRefused (run_of T.Start None [] image) }
 {}
 
 /// A law: after a kill between two calls, which lets the files go without a close, they hold the tables
