@@ -87,3 +87,45 @@ fn boards_of_a_lot(rt: HostRuntime) -> Result<(), Fail> {
     }
     Ok(())
 }
+
+/// The trees of the tables in their order, and that of the last index with its table, as they are read from
+/// what is kept.
+fn are_behind<S: Alter>(conn: &Connection<S>) -> bool {
+    let schema = conn.schema();
+    let tables = schema.tables.as_slice();
+    let Some(index) = schema.indexes.as_slice().last() else {
+        return false;
+    };
+    let trees = [0, 1, 3, 5, 7, 9, 11, 13, 15, 17, 19, 21];
+    for (at, tree) in trees.into_iter().enumerate() {
+        let Some(table) = tables.get(at) else {
+            return false;
+        };
+        if table.tree != tree {
+            return false;
+        }
+    }
+    tables.len() == 12 && index.tree == 22 && index.table == 1
+}
+
+/// What others add to a new file stands behind ours: their table has the tree 21, and their index on
+/// `accepted` the tree 22. So it is in `Samples.antt` of `line_schema`.
+#[test]
+fn others_come_behind(rt: HostRuntime) -> Result<(), Fail> {
+    let Ok(store) = in_memory::<StateDesk>(rt.alloc(), 1) else {
+        return Err(Fail::from(AllocError));
+    };
+    let mut conn = store.into_connection();
+    let added = conn.execute_batch(
+        "CREATE TABLE note (reel TEXT NOT NULL) STRICT; CREATE INDEX by_source ON accepted (source)",
+    );
+    let are_behind = are_behind(&conn);
+    let store = LineStore::<_, StateDesk>::open(rt.alloc(), conn);
+    let Ok(store) = store else {
+        return Err(Fail::from("it is not opened"));
+    };
+    store.into_connection().close()?;
+    added?;
+    assert!(rt; are_behind);
+    Ok(())
+}
