@@ -1,5 +1,5 @@
 -- What the program's contracts say of a run is what a run is.
-use Rattle.std.proofs.Common.{◌≡◌, ℕ, List, [], ◌∷◌, true, Option, Some, None, Result, Ok, Err, refl}
+use Rattle.std.proofs.Common.{◌≡◌, ◌∙◌, ℕ, List, [], ◌∷◌, true, Option, Some, None, Result, Ok, Err, refl, subst}
 use Rattle.sqlite_disk.specs.declared.Disk as disk
 use Rattle.sqlite_disk.specs.declared.Files.{Files}
 use Rattle.sqlite_disk.specs.declared.start.Start as start
@@ -23,6 +23,22 @@ use Rattle.many_runs.specs.Closed.{ClosesTo, ReadsClean, connections_of, run_of}
 use Rattle.many_runs.specs.Crashed.{CrashesTo}
 use Rattle.many_runs.specs.Runs.Ending.{crashed}
 use Rattle.sqlite_wal.specs.Files.{image_at}
+use Rattle.sqlite_trees.specs.Tree.{Trees}
+use Rattle.sqlite.specs.Effect.{Database}
+use Rattle.sqlite.specs.Files.{HoldsDatabase, over_files}
+use Rattle.sqlite.specs.State.{HasCleanDisk}
+use Rattle.desk_types.specs.declared.rules.Rules.TheVariants.{Two}
+use Rattle.feeder_state.specs.contracts.desk.StateDeskDesk.TheImpl.{ghosts as state}
+use Rattle.line_tables.specs.Rows.{Holds, HoldsAt}
+use Rattle.line_rows.specs.Rows.{ledger_tables}
+use Rattle.line_schema.specs.declared.fault.OpenFault.{OpenFault}
+use Rattle.line_schema.specs.Stands.{state_of}
+use Rattle.desk_file.specs.Files.{IsFoundIn}
+use Rattle.desk_runs.specs.Runs.{StaysSame}
+use Rattle.desk_commands.specs.Closed.{IsRefusedTo}
+use Rattle.headline.proofs.CallsInTurn.{goes_on, trusts_back}
+use Rattle.many_runs.specs.Crashed.{MakesCalls, StandsForList}
+use Rattle.many_runs.specs.Runs.{KeepsList}
 
 module _ {T D : Type 0} {g : disk.Ghosts D} (first : start.Ghosts T) (make : Option ℕ) (desk : LineStore (FileStore D g) StateDesk) (files : Files D) (image : Image) where
   pub is_run : (Fact : Ledger → History → Type 0) (calls : List Call) → ((G : Ledger) (H : History) → Fact G H → AnswersByTheList report_of G calls H)
@@ -92,3 +108,27 @@ module _ {T D : Type 0} {g : disk.Ghosts D} (first : start.Ghosts T) (make : Opt
           ends = leaves (record { greatest = greatest; history = H'; own = true }) stands refl on clean image left;
         },
       )
+
+-- calls on the desk that was opened are calls from the list with which the run began
+module _ {T D : Type 0} {g : disk.Ghosts D} (first : start.Ghosts T) (make : Option ℕ) (opened last : LineStore (FileStore D g) StateDesk) (calls : List Call) where
+  pub called : RunsOn first make (Desk opened) StaysSame → MakesCalls opened calls last → RunsOn first make (Desk last) (λ G H. AnswersByTheList report_of G calls H)
+  called runs made clean alone =
+      let was_clean = trusts_back report_of StandsForList (λ d. HasCleanDisk (state_of over_files d)) calls opened last made clean in
+      let (greatest, H, begins, lawful, H₁, stands, same) = runs was_clean alone in
+      let (H', after, answers) = goes_on report_of StandsForList (λ d. HasCleanDisk (state_of over_files d)) calls opened last made (by_two greatest H₁) (refl, stands) clean in
+      (greatest, H, begins, lawful, H', after.1, subst (λ (it : History). AnswersByTheList report_of (by_two greatest it) calls H') same answers)
+
+abbrev pub FindsTables : Type 0
+FindsTables = (image : Image) (trees : Trees) (greatest : ℕ) (H : History) → ∥ HoldsDatabase image trees ∥₁ → HoldsAt (ledger_tables greatest H) trees
+    → (db : Database) → IsFoundIn image db → Holds db (ledger_tables greatest H)
+
+-- a run that was refused its files keeps their list
+module _ {T D : Type 0} (finds : FindsTables) (g : disk.Ghosts D) (first : start.Ghosts T) (make : Option ℕ) (files : Files D) (image : Image) where
+  pub keeps : (StandsIn : OpenFault → Type 0) (MakesNone : Type 0) (fault : OpenFault) → IsRefusedTo whole first g (Some files) StandsIn MakesNone fault → ReadsClean g files image
+      → KeepsList (run_of first make [] image)
+  keeps StandsIn MakesNone fault refuses is = (
+    refl,
+    λ greatest H trees database holds.
+        let (db, found, alone) = (refuses.0 is.clean).1 in
+        (db.trees, (db, finds (image_at first) trees greatest H database holds db found, found.sound, refl), alone image is.reads),
+  )
