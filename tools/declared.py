@@ -88,6 +88,22 @@ def expected(version=2):
     return tables
 
 
+def orders():
+    """The rows of sqlite_schema of a new file and of one of the older layout: rowid, type and name of each."""
+    older = "".join(f"CREATE INDEX {name} ON placement ({', '.join(columns)});" for name, columns in OLDER_LAYOUT.items())
+    last = TABLES.index("CREATE TABLE found")
+    for texts in (TABLES, TABLES[:last] + older + TABLES[last:]):
+        with contextlib.closing(sqlite3.connect(":memory:")) as database:
+            database.executescript(texts)
+            yield database.execute("SELECT rowid, type, name FROM sqlite_schema ORDER BY rowid").fetchall()
+
+
+def adds(database, name):
+    """Whether a table's columns have a default, a collation or a formula, as no desk's have."""
+    (text,) = database.execute("SELECT sql FROM sqlite_schema WHERE type = 'table' AND name = ?", [name]).fetchone()
+    return any(it[4] is not None or it[6] for it in pragma(database, "table_xinfo", name)) or re.search(r"\bCOLLATE\b", text, re.IGNORECASE) is not None
+
+
 # --- What a file declares, and what it should
 
 

@@ -1,5 +1,5 @@
 -- A run on a desk in a file.
-use Rattle.std.proofs.Common.{◌≡◌, ◌≢◌, ◌⊎◌, ℕ, List, true, Option, Some, None, length, refl, subst, sym, inl, inr, arith}
+use Rattle.std.proofs.Common.{◌≡◌, ◌⊎◌, ℕ, true, Option, None, length, refl, subst, sym, inl, inr, arith}
 use Rattle.sqlite_disk.specs.declared.Disk as disk
 use Rattle.sqlite_disk.specs.declared.start.Start as start
 use Rattle.sqlite_wal.specs.Files.{image_at}
@@ -18,7 +18,6 @@ use Rattle.desk_runs.specs.Runs.{StaysSame}
 use Rattle.http_answers.specs.declared.gateway.Gateway.{Gateway}
 use Rattle.gateway_http.specs.declared.store.ReportedStore.{ReportedStore}
 use Rattle.gateway_http.specs.Stores.{store_in}
-use Rattle.desk_commands.specs.declared.left.Left.{Left}
 use Rattle.desk_commands.specs.declared.left.Left.TheVariants.{Desk}
 use Rattle.desk_commands.specs.Runs.{Audits, RunsOn}
 

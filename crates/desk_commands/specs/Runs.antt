@@ -17,7 +17,8 @@ use Rattle.desk_file.specs.Files.{Begins, HasLineAlone, MigratedFrom}
 use Rattle.desk_file.specs.Refused.{RefusesMigration, RefusesRun}
 use Rattle.http_answers.specs.Requests.{request_rule}
 use Rattle.desk_runs.specs.Told.{unavailable_line}
-use Rattle.desk_runs.specs.Connections.{ConnectedEach, Ended}
+use Rattle.desk_runs.specs.Clients.{Exchange}
+use Rattle.desk_runs.specs.Connections.{ConnectedEach}
 use Rattle.gateway_http.specs.Reports.{report_of}
 use Rattle.desk_commands.specs.declared.left.Left.{Left}
 use Rattle.desk_commands.specs.declared.left.Left.TheVariants.{Desk, Migrated, Refused}
@@ -65,9 +66,9 @@ abbrev pub LeavesFile : {D : Type 0} {g : disk.Ghosts D} → Left D g → Type 0
 LeavesFile (Desk d) = ⊥
 LeavesFile _ = ⊤
 
--- Connections that ended so were answered by the list, each by the one that the connection before it left.
-abbrev pub ServesEach : List Ended → Ledger → History → Type 0
-ServesEach ends G H = ConnectedEach (request_rule report_of G.rules G.greatest) G.history ends H
+-- Connections were answered by the list, each by the one that the connection before it left.
+abbrev pub ServesEach : List Exchange → Ledger → History → Type 0
+ServesEach exchanges G H = ConnectedEach (request_rule report_of G.rules G.greatest) G.history exchanges H
 
 -- the line that tells why the desk's file was refused
 abbrev pub refusal_line : OpenFault → List ℕ

@@ -7,7 +7,8 @@ ghost use Rattle.desk_types.specs.Wire.{inner_of, failures_of};
 ghost use Rattle.served.specs.Sent.{SendsFront};
 ghost use Rattle.http_stream.specs.Answers.{Told, code_of};
 ghost use Rattle.gateway_http.specs.Reports.{report_of};
-ghost use Rattle.desk_runs.specs.Connections.{Ended, TellsConnections};
+ghost use Rattle.desk_runs.specs.Clients.{Exchange, ServesAt, ends_of};
+ghost use Rattle.desk_runs.specs.Connections.{TellsConnections};
 ghost use Rattle.desk_runs.specs.Runs.{AnswersReport};
 ghost use Rattle.desk_runs.specs.Told.{report_output, TellsEnd, TellsLine, TellsUnwritten};
 ghost use Rattle.desk_runs.specs.Wires.{GoesWell, HaveFewFailures};
@@ -17,7 +18,7 @@ ghost use Rattle.desk_commands.specs.Runs.{HasNoDesk, LeavesDesk, Refuses, RunsO
 use crate::left::Left;
 use crate::refusal::tell_refusal;
 use desk_file::open_desk;
-use desk_runs::{serve_port, tell_report, unavailable};
+use desk_runs::{Clients, serve_port, tell_report, unavailable};
 use desk_types::Wire;
 use feeder_state::StateDesk;
 use gateway_http::ReportedStore;
@@ -28,10 +29,11 @@ use std::io::Write;
 
 /// Serves so many connections on a port by the desk in a file, which is made where there is none: the
 /// exit status, and the desk or the file that was refused.
-pub fn serve_in_file<T: Start, W: Write, E: Write>(
+pub fn serve_in_file<T: Start, C: Clients, W: Write, E: Write>(
     rt: &HostRuntime,
     file: &str,
     start: T,
+    clients: &mut C,
     port: u16,
     connections: u32,
     greatest: u32,
@@ -44,15 +46,17 @@ pub fn serve_in_file<T: Start, W: Write, E: Write>(
     requires few { HaveFewFailures output.old errors.old }
     ensures status { (result.0 ≡ 0) ⊎ (result.0 ≡ 1) ⊎ (result.0 ≡ 3) ⊎ (result.0 ≡ 4) }
     ensures served { (result.0 ≡ 0) ⊎ (result.0 ≡ 1) ⊎ (result.0 ≡ 4)
-        → (ends : List Ended)
-        × TellsConnections connections ends result.0 (W.contents (inner_of output.old))
+        → (exchanges : List Exchange)
+        × TellsConnections connections (ends_of exchanges) result.0 (W.contents (inner_of output.old))
         (W.contents (inner_of output.new)) (failures_of output.old) (failures_of output.new)
-        × RunsOn T.Start (Some greatest) result.1 (ServesEach ends) }
+        × ServesAt C.Saw clients.old clients.new port exchanges
+        × RunsOn T.Start (Some greatest) result.1 (ServesEach exchanges) }
     ensures no_desk { result.0 ≡ 3
         → HasNoDesk (Refuses T.Start (Some greatest) result.1) (result.1 ≡ Nothing)
         (TellsLine E.contents errors.old errors.new) }
     ensures left { LeavesDesk result.1 }
     ensures untouched { result.0 ≡ 3 → output.new ≡ output.old }
+    ensures unasked { result.0 ≡ 3 → clients.new ≡ clients.old }
     ensures failed { result.0 ≡ 4 → TellsEnd E.contents output.old output.new errors.old errors.new }
     ensures well { (result.0 ≡ 0) ⊎ (result.0 ≡ 1) → GoesWell output.old output.new errors.old errors.new }
 {
@@ -62,7 +66,15 @@ pub fn serve_in_file<T: Start, W: Write, E: Write>(
     match open_desk::<T, StateDesk>(rt, file, start, Some(greatest)) {
         Ok(store) => {
             let mut gateway = Gateway::new(ReportedStore::new(store), routes);
-            let status = serve_port(rt, port, connections, output, errors, &mut gateway);
+            let status = serve_port(
+                rt.alloc(),
+                clients,
+                port,
+                connections,
+                output,
+                errors,
+                &mut gateway,
+            );
             (status, Left::Desk(gateway.into_owner().into_store()))
         }
         Err(refusal) => (

@@ -17,7 +17,7 @@ use Rattle.desk_types.specs.declared.rules.Rules.TheVariants.{One, Two}
 use Rattle.desk_types.specs.History.{History}
 use Rattle.desk_types.specs.Judged.{IsJudged}
 use Rattle.line_tables.specs.Calls.{Reads}
-use Rattle.line_tables.specs.Line.{is_blank, is_ours, no_schema, schema_of}
+use Rattle.line_tables.specs.Line.{is_blank, is_ours, no_schema, schema_of, Layout}
 use Rattle.line_tables.specs.Names.{has_name, is_version}
 use Rattle.line_tables.specs.Rows.{Tables, Holds, HoldsAt}
 use Rattle.line_tables.proofs.Holding.{held_at}
@@ -29,7 +29,7 @@ use Rattle.small_pages.specs.Found.{FindsAs}
 use Rattle.desk_file.specs.Files.{IsFoundIn, IsOfOne, HasLineAlone, FindsNoTable, Begins}
 
 -- the tables of each version have our names
-named_by : (rules : Rules) (indexed : Bool) → list_any has_name (schema_of rules indexed).tables ≡ true
+named_by : (rules : Rules) (indexed : Layout) → list_any has_name (schema_of rules indexed).tables ≡ true
 unfolding same_name
 named_by rules indexed = refl
 
@@ -47,7 +47,7 @@ module _ (image : Image) (s : State) (finds : FindsAs image s) (opens : Opens s)
   made_begins greatest nameless alone =
       let seen : s.now.schema ≡ s.committed.schema = ap (λ (db : Database). db.schema) opens.clean in
       elim (alone s.committed found) [
-        | inl ours ↦ absurd (true≢false (sym (named_by ours.0 ours.1) ∙ ap (λ (x : Schema). list_any has_name x.tables) (sym (seen ∙ ours.2)) ∙ nameless))
+        | inl ours ↦ absurd (true≢false (sym (named_by ours.rules ours.layout) ∙ ap (λ (x : Schema). list_any has_name x.tables) (sym (seen ∙ ours.same)) ∙ nameless))
         | inr none ↦ (inr ((s.committed, found, none), refl, refl), is_blank_of s.now.schema (seen ∙ none))
       ]
 
@@ -79,7 +79,7 @@ module _ (image : Image) (trees : Trees) (t : Tables) (holds : ∥ HoldsDatabase
   held db f = held_at t trees tables db f.sound (∥∥₁_elim holds (Trees-set _ _) (f.same trees))
 
   pub line_alone : HasLineAlone image
-  line_alone db f = let tables = held db f in inl (Two, tables.indexed, tables.schema)
+  line_alone db f = let tables = held db f in inl (record { rules = Two; layout = tables.indexed; same = tables.schema })
 
 -- and a run begins with their list
 pub same_list : (image : Image) (trees : Trees) (greatest : ℕ) (H : History) → ((G H : History) → IsJudged Two G → IsJudged Two H → IsPermutation (rows_of G) (rows_of H) → G ≡ H)

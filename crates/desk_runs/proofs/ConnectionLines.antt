@@ -5,7 +5,8 @@ use Rattle.served.proofs.SentFronts.{front_after}
 use Rattle.std.specs.Io.KnownBytes.{Appends}
 use Rattle.std.proofs.KnownBytes.{Appends-trans}
 use Rattle.served.specs.Sent.{SendsFront}
-use Rattle.desk_runs.specs.Connections.{Ended, connection_line, lines_from}
+use Rattle.desk_runs.specs.Clients.{Ended}
+use Rattle.desk_runs.specs.Connections.{connection_line, lines_from}
 
 -- its line follows
 pub lines_more : (n : ℕ) (ends : List Ended) (ended : Ended) (number : ℕ) → number ≡ n + length ends → lines_from n (ends ++ ended ∷ []) ≡ lines_from n ends ++ connection_line number ended

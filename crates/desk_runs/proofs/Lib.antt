@@ -1,3 +1,4 @@
+pub mod ClientsSeen
 pub mod ConnectionLines
 pub mod ImportsOfFiles
 pub mod ListsAfter

@@ -1,31 +1,30 @@
 -- What connections leave that are served one after the other, and what is told of them.
-use Rattle.std.specs.Prelude.{◌≡◌, ◌⊎◌, ◌<◌, ◌≤◌, ℕ, ◌+◌, nat_lt, Bool, true, List, [], ◌∷◌, ◌++◌, length, Option, None, Result, Ok, Err, codes, decimal, if◌then◌else◌}
+use Rattle.std.specs.Prelude.{◌≡◌, ◌⊎◌, ◌<◌, ◌≤◌, ℕ, ◌+◌, nat_lt, Bool, true, List, [], ◌∷◌, ◌++◌, length, Option, Ok, Err, codes, decimal, if◌then◌else◌}
 use Rattle.std.specs.List.{list_any}
 use Rattle.std.specs.Io.KnownBytes.{Appends}
 use Rattle.desk_types.specs.History.{History}
 use Rattle.served.specs.Sent.{SendsFront}
 use Rattle.served.specs.declared.serving.Served.{Served}
-use Rattle.served.specs.declared.serving.ServeFault.{ServeFault}
 use Rattle.served.specs.declared.serving.ServeFault.TheVariants.{Read, Write, TooManyReads}
 use Rattle.http_stream.specs.Stream.{Rule, AnsweredAll, AnsweredFront, AnsweredInto}
-
--- how a connection ended: how much was answered, and the fault where there was one
-abbrev pub Ended : Type 0
-Ended = Result Served ServeFault
+use Rattle.desk_runs.specs.Clients.{Ended, Exchange}
 
 -- ---- the list
 
--- what a connection was answered by the list before it, and the list after it; which bytes its client sent and got, no socket says
-abbrev pub Connected : Rule → History → Ended → History → Type 0
-Connected rule H (Ok served) H' = AnsweredAll rule None H None H' None served
-Connected rule H (Err (Read served)) H' = AnsweredFront rule None None H None H' None served
-Connected rule H (Err (TooManyReads served)) H' = AnsweredFront rule None None H None H' None served
-Connected rule H (Err (Write served)) H' = AnsweredInto rule None H None H' None served
+-- the client of a connection that ended so was answered by the list before it, by what it sent, and got these answers; and the list after it
+abbrev pub ConnectedSo : Rule → Option (List ℕ) → Option (List ℕ) → History → Option (List ℕ) → Ended → History → Option (List ℕ) → Type 0
+ConnectedSo rule sent unread H before (Ok served) H' after = AnsweredAll rule sent H before H' after served
+ConnectedSo rule sent unread H before (Err (Read served)) H' after = AnsweredFront rule sent unread H before H' after served
+ConnectedSo rule sent unread H before (Err (TooManyReads served)) H' after = AnsweredFront rule sent unread H before H' after served
+ConnectedSo rule sent unread H before (Err (Write served)) H' after = AnsweredInto rule sent H before H' after served
+
+abbrev pub Connected : Rule → History → Exchange → History → Type 0
+Connected rule H e H' = ConnectedSo rule e.sent e.unread H e.before e.ended H' e.after
 
 -- each connection was answered by the list that the one before it left
-abbrev pub ConnectedEach : Rule → History → List Ended → History → Type 0
+abbrev pub ConnectedEach : Rule → History → List Exchange → History → Type 0
 ConnectedEach rule H [] H' = H' ≡ H
-ConnectedEach rule H (ended ∷ ends) H' = (H₁ : History) × Connected rule H ended H₁ × ConnectedEach rule H₁ ends H'
+ConnectedEach rule H (e ∷ es) H' = (H₁ : History) × Connected rule H e H₁ × ConnectedEach rule H₁ es H'
 
 -- ---- the lines
 

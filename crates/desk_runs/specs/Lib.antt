@@ -1,3 +1,4 @@
+pub mod Clients
 pub mod Connections
 pub mod Runs
 pub mod Told

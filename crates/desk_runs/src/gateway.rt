@@ -9,11 +9,13 @@ ghost use Rattle.served.specs.Sent.{SendsFront};
 ghost use Rattle.http_answers.specs.Gateways.{owner_of};
 ghost use Rattle.http_stream.specs.Answers.{Told, code_of, response_told};
 ghost use Rattle.desk_answers.specs.Ledger.{ForLists};
-ghost use Rattle.desk_runs.specs.Connections.{ConnectedEach, Ended, TellsConnections};
+ghost use Rattle.desk_runs.specs.Clients.{Exchange, ServesAt, ends_of};
+ghost use Rattle.desk_runs.specs.Connections.{ConnectedEach, TellsConnections};
 ghost use Rattle.desk_runs.specs.Runs.{AnswersReport};
 ghost use Rattle.desk_runs.specs.Told.{fault_line, report_output, TellsEnd, TellsLine, TellsUnwritten};
 ghost use Rattle.desk_runs.specs.Wires.{GoesWell, HaveFewFailures};
 
+use crate::clients::{Clients, NoClient};
 use crate::exit::{Exit, tell_line};
 use crate::serving::serve_listener;
 use desk_types::Wire;
@@ -22,12 +24,12 @@ use http_stream::{Handler, Kind, Response};
 use served::{WriteFailed, send, send_line};
 use std::alloc::Global;
 use std::io::Write;
-use std::net::TcpListener;
 
 /// Serves so many connections on a port of this machine, and tells a line of each: the exit status.
 /// Where the port can't be had, none could be accepted.
-pub fn serve_port<A: Handler, W: Write, E: Write>(
-    rt: &HostRuntime,
+pub fn serve_port<A: Handler, C: Clients, W: Write, E: Write>(
+    alloc: Global,
+    clients: &mut C,
     port: u16,
     connections: u32,
     output: &mut Wire<W>,
@@ -40,20 +42,21 @@ pub fn serve_port<A: Handler, W: Write, E: Write>(
     ensures ready { A.Ready handler.new }
     ensures trusts { A.Trusts handler.new → A.Trusts handler.old }
     ensures status { (result ≡ 0) ⊎ (result ≡ 1) ⊎ (result ≡ 4) }
-    ensures served { (ends : List Ended)
-        × TellsConnections connections ends result (W.contents (inner_of output.old)) (W.contents (inner_of output.new))
-        (failures_of output.old) (failures_of output.new)
+    ensures served { (exchanges : List Exchange)
+        × TellsConnections connections (ends_of exchanges) result (W.contents (inner_of output.old))
+        (W.contents (inner_of output.new)) (failures_of output.old) (failures_of output.new)
+        × ServesAt C.Saw clients.old clients.new port exchanges
         × ForLists A.Stands A.Trusts handler.old handler.new
-        (λ G H. ConnectedEach (A.rule G.rules G.greatest) G.history ends H) }
+        (λ G H. ConnectedEach (A.rule G.rules G.greatest) G.history exchanges H) }
     ensures failed { result ≡ 4 → TellsEnd E.contents output.old output.new errors.old errors.new }
     ensures well { (result ≡ 0) ⊎ (result ≡ 1) → GoesWell output.old output.new errors.old errors.new }
 {
-    let Ok(listener) = TcpListener::bind(rt, ("127.0.0.1", port)) else {
+    if let Err(NoClient) = clients.listen(port) {
         tell_line(errors, "tracedesk: Read");
         return Exit::Failed as u8;
-    };
+    }
     let failures = output.failures();
-    let status = serve_listener(rt, &listener, connections, output, handler);
+    let status = serve_listener(alloc, clients, connections, output, handler);
     if status == 4 {
         tell_end(errors, output.failures() > failures);
     }

@@ -1,30 +1,31 @@
 //! Connections, one after the other.
 
-ghost use Rattle.std.specs.Prelude.{◌≡◌, ◌⊎◌, ◌≤◌, ◌<◌, ◌+◌, ◌^◌, List, OnOk, OnErr};
+ghost use Rattle.std.specs.Prelude.{◌≡◌, ◌⊎◌, ◌≤◌, ◌<◌, ◌+◌, ◌^◌, List, [], None, flat_map, IfSome, OnOk, OnErr};
 ghost use Rattle.std.specs.Io.KnownBytes.{Appends};
 ghost use Rattle.desk_types.specs.Wire.{inner_of, failures_of};
 ghost use Rattle.served.specs.Sent.{SendsFront};
 ghost use Rattle.desk_answers.specs.Ledger.{ForLists};
-ghost use Rattle.desk_runs.specs.Connections.{Connected, ConnectedEach, Ended, TellsConnections, connection_line, fault_word, is_faulty, served_of};
+ghost use Rattle.desk_runs.specs.Clients.{Exchange, Sees, ends_of, events_in};
+ghost use Rattle.desk_runs.specs.Connections.{Connected, ConnectedEach, TellsConnections, connection_line, fault_word, is_faulty, served_of};
 
+use crate::clients::Clients;
 use desk_types::Wire;
 use http_stream::{Handler, serve};
 use itoa::Buffer;
 use served::{ServeFault, Served, WriteFailed, send};
 use std::alloc::Global;
 use std::io::Write;
-use std::net::{TcpListener, TcpStream};
 
 /// Serves so many connections, one after the other, and writes a line for each: its number from 1 on,
 /// how many requests were answered, and behind that the fault that ended it. A connection that ends
-/// with a fault ends no other.
+/// with a fault ends no other. What each client sent decides alone what it gets.
 ///
 /// It answers the exit status: 0; 1 where a request was refused or a connection ended with a fault; 4
 /// where no further connection could be accepted, or where a line could not be written, which a
 /// failure of `output` shows.
-pub fn serve_listener<A: Handler, W: Write>(
-    rt: &HostRuntime,
-    listener: &TcpListener,
+pub fn serve_listener<A: Handler, C: Clients, W: Write>(
+    alloc: Global,
+    clients: &mut C,
     connections: u32,
     output: &mut Wire<W>,
     handler: &mut A,
@@ -33,18 +34,18 @@ pub fn serve_listener<A: Handler, W: Write>(
     requires ready { A.Ready handler.old }
     ensures ready { A.Ready handler.new }
     ensures trusts { A.Trusts handler.new → A.Trusts handler.old }
-    ensures told { (ends : List Ended)
-        × TellsConnections connections ends result (W.contents (inner_of output.old)) (W.contents (inner_of output.new))
-        (failures_of output.old) (failures_of output.new)
+    ensures told { (exchanges : List Exchange)
+        × TellsConnections connections (ends_of exchanges) result (W.contents (inner_of output.old))
+        (W.contents (inner_of output.new)) (failures_of output.old) (failures_of output.new)
+        × Sees C.Saw clients.old clients.new (flat_map events_in exchanges)
         × ForLists A.Stands A.Trusts handler.old handler.new
-        (λ G H. ConnectedEach (A.rule G.rules G.greatest) G.history ends H) }
+        (λ G H. ConnectedEach (A.rule G.rules G.greatest) G.history exchanges H) }
 {
     let mut faulty = false;
     for k in 0..connections {
-        let Ok((stream, _)) = listener.accept() else {
+        let Some(ended) = serve_next(alloc, clients, handler) else {
             return 4;
         };
-        let ended = serve_stream(rt.alloc(), &stream, handler);
         faulty |= is_faulty(&ended);
         match tell(output, u64::from(k) + 1, &ended) {
             Ok(()) => {}
@@ -54,26 +55,29 @@ pub fn serve_listener<A: Handler, W: Write>(
     u8::from(faulty)
 }
 
-/// Serves one connection. What is written goes out at once: an answer is a head and then a body, and
-/// the second would else wait for the client to tell of the first.
-fn serve_stream<A: Handler>(
+/// Serves the next connection, where a client comes.
+fn serve_next<A: Handler, C: Clients>(
     alloc: Global,
-    stream: &TcpStream,
+    clients: &mut C,
     handler: &mut A,
-) -> Result<Served, ServeFault>
+) -> Option<Result<Served, ServeFault>>
     requires ready { A.Ready handler.old }
     ensures ready { A.Ready handler.new }
     ensures trusts { A.Trusts handler.new → A.Trusts handler.old }
-    ensures served { ForLists A.Stands A.Trusts handler.old handler.new
-        (λ G H. Connected (A.rule G.rules G.greatest) G.history result H) }
+    ensures none { result ≡ None → (handler.new ≡ handler.old) × Sees C.Saw clients.old clients.new [] }
+    ensures served { IfSome result (λ ended. (exchange : Exchange) × (exchange.ended ≡ ended)
+        × Sees C.Saw clients.old clients.new (events_in exchange)
+        × ForLists A.Stands A.Trusts handler.old handler.new
+        (λ G H. Connected (A.rule G.rules G.greatest) G.history exchange H)) }
 {
-    let _ = stream.set_nodelay(true);
-    serve(
-        alloc,
-        &mut Wire::new(stream),
-        &mut Wire::new(stream),
-        handler,
-    )
+    let Ok((reader, writer)) = clients.accept() else {
+        return None;
+    };
+    let mut input = Wire::new(reader);
+    let mut answers = Wire::new(writer);
+    let ended = serve(alloc, &mut input, &mut answers, handler);
+    clients.leave(input.into_inner(), answers.into_inner());
+    Some(ended)
 }
 
 /// A request was refused, or a fault ended the connection.

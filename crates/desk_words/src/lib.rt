@@ -5,5 +5,7 @@
 #![tactic(auto)]
 
 mod command_line;
+mod words;
 
 pub use command_line::{Asked, read_words};
+pub use words::words_behind_name;

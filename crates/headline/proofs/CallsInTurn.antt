@@ -1,6 +1,5 @@
 -- Calls one after the other.
-use Rattle.std.proofs.Common.{◌≡◌, List, [], ◌∷◌, refl, sym, subst}
-use Rattle.desk_types.specs.History.{History}
+use Rattle.std.proofs.Common.{List, [], ◌∷◌, refl, sym, subst}
 use Rattle.desk_answers.specs.Ledger.{Ledger, ForLists}
 use Rattle.http_answers.specs.Requests.{Reports}
 use Rattle.headline.specs.Calls.{AnswersByTheList, Call, Calls}

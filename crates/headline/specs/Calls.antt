@@ -1,29 +1,41 @@
 -- Any number of calls on one desk, one after the other.
-use Rattle.std.specs.Prelude.{◌≡◌, ℕ, List, [], ◌∷◌, Option, Result, Ok, Err}
+use Rattle.std.specs.Prelude.{◌≡◌, ℕ, Bool, List, [], ◌∷◌, Option, Result, Ok, Err, IfOk}
 use Rattle.desk_types.specs.declared.command.Stamped.{Stamped}
 use Rattle.desk_types.specs.History.{History}
 use Rattle.desk_answers.specs.declared.answer.Answer.{Answer}
 use Rattle.desk_answers.specs.Ledger.{Ledger, IsAnswer, ledger_after, ForLists}
 use Rattle.served.specs.declared.serving.Served.{Served}
 use Rattle.served.specs.declared.serving.ServeFault.{ServeFault}
+use Rattle.served.specs.declared.sending.WriteFailed.{WriteFailed}
 use Rattle.served.specs.declared.serving.ServeFault.TheVariants.{Read, Write, TooManyReads}
 use Rattle.desk_feed.specs.Stream as lines
+use Rattle.desk_import.specs.Import as file
+use Rattle.desk_import.specs.declared.options.Import.{Import}
+use Rattle.imports.specs.declared.fault.ImportFault.{ImportFault}
+use Rattle.http_routes.specs.declared.asked.Report.{Report}
 use Rattle.http_stream.specs.Answers.{Told}
 use Rattle.http_stream.specs.Stream as requests
 use Rattle.http_stream.specs.Stream.{Rule}
 use Rattle.http_answers.specs.Gateways.{AnswersGet}
 use Rattle.http_answers.specs.Requests.{Reports, request_rule}
+use Rattle.http_answers.specs.declared.reported.Unavailable.{Unavailable}
 
 -- how a feed or a connection ended: how much was answered, and the fault where there was one
 abbrev pub Ended : Type 0
 Ended = Result Served ServeFault
 
--- a call of `feed`, of `serve`, of `command` or of `ask`, with what went in, of a connection what was left of it, and what had gone out before and after, as far as the reader and the writer tell it
+-- how an import ended: whether its answer counts as refused, or its line could not be written
+abbrev pub ImportEnded : Type 0
+ImportEnded = Result Bool WriteFailed
+
+-- A call: `feed` with its input's bytes and the output's bytes before and after; `serve` with these and what was left of the input; `command` with its answer; `ask` with the target and its answer; `report` with what it returned; an import with its options, its file's bytes and the output's bytes before and after. Bytes are none where the reader or the writer doesn't know them.
 pub data Call : Type 0 where
   fed : Option (List ℕ) → Option (List ℕ) → Option (List ℕ) → Ended → Call
   connected : Option (List ℕ) → Option (List ℕ) → Option (List ℕ) → Option (List ℕ) → Ended → Call
   commanded : Stamped → Answer → Call
   asked : List ℕ → Told → Call
+  reported : Report → Result (Option (List ℕ)) Unavailable → Call
+  imported : Import → Option (List ℕ) → Option (List ℕ) → Option (List ℕ) → ImportEnded → Call
 
 -- the lines were answered by the list G, and the list after them is H
 abbrev pub Feeds : Ledger → Option (List ℕ) → Option (List ℕ) → Option (List ℕ) → Ended → History → Type 0
@@ -37,12 +49,19 @@ Serves rule G input left out out' (Err (Read served)) H = requests.AnsweredFront
 Serves rule G input left out out' (Err (TooManyReads served)) H = requests.AnsweredFront rule input left G out H out' served
 Serves rule G input left out out' (Err (Write served)) H = requests.AnsweredInto rule input G out H out' served
 
+-- the one command of an import, or the first fault of its file, was answered by the list G, and the list after it is H
+abbrev pub Imports : Ledger → Import → Option (List ℕ) → Option (List ℕ) → Option (List ℕ) → ImportEnded → History → Type 0
+Imports G import bytes out out' (Ok refused) H = (said : Result Stamped ImportFault) × file.IsSaidBy import bytes said × file.IsAnswered said out out' refused G H
+Imports G import bytes out out' (Err fault) H = (said : Result Stamped ImportFault) × file.IsSaidBy import bytes said × file.IsCutOff said out out' G H
+
 -- the call was answered by the list before it, with these reports, and the list after it is H
 abbrev pub IsAnswered : Reports → Ledger → Call → History → Type 0
 IsAnswered reports G (fed input out out' ended) H = Feeds G input out out' ended H
 IsAnswered reports G (connected input left out out' ended) H = Serves (request_rule reports G.rules G.greatest) G.history input left out out' ended H
 IsAnswered reports G (commanded s answer) H = IsAnswer G s answer × (H ≡ (ledger_after G s answer).history)
 IsAnswered reports G (asked target told) H = AnswersGet reports G target told × (H ≡ G.history)
+IsAnswered reports G (reported report result) H = IfOk result (λ text. text ≡ reports report G.history) × (H ≡ G.history)
+IsAnswered reports G (imported import bytes out out' ended) H = Imports G import bytes out out' ended H
 
 -- each call was answered by the list that the one before it left
 abbrev pub AnswersByTheList : Reports → Ledger → List Call → History → Type 0

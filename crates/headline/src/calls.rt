@@ -2,18 +2,20 @@
 //!
 //! The body of each function here is that very call, so its clause follows from the call's contract alone.
 
-ghost use Rattle.std.specs.Prelude.{◌^◌, ◌<◌};
+ghost use Rattle.std.specs.Prelude.{◌^◌, ◌<◌, Some};
 ghost use Rattle.desk_types.specs.Wire.{inner_of, reads_of, failures_of};
 ghost use Rattle.http_stream.specs.Answers.{response_told};
 ghost use Rattle.http_answers.specs.Gateways.{owner_of};
 ghost use Rattle.headline.specs.Calls.{CallsOnce};
-ghost use Rattle.headline.specs.Calls.Call.{fed, connected, commanded, asked};
+ghost use Rattle.headline.specs.Calls.Call.{fed, connected, commanded, asked, reported, imported};
 
 use desk_answers::Answer;
-use desk_types::{Stamped, Wire};
-use http_answers::{Gateway, ReportedOwner};
+use desk_import::Import;
+use desk_types::{Stamped, Text, Wire};
+use http_answers::{Gateway, ReportedOwner, Unavailable};
+use http_routes::Report;
 use http_stream::Response;
-use served::{ServeFault, Served};
+use served::{ServeFault, Served, WriteFailed};
 use std::alloc::Global;
 use std::io::{Read, Write};
 
@@ -61,11 +63,40 @@ pub fn command<L: ReportedOwner>(owner: &mut L, stamped: &Stamped) -> Answer
     owner.command(stamped)
 }
 
-/// A call of `ask`: a report.
+/// A call of `ask`: a GET without a connection.
 pub fn ask<L: ReportedOwner>(alloc: Global, gateway: &mut Gateway<L>, target: &[u8]) -> Response
     requires ready { L.Ready (owner_of gateway.old) }
     ensures { CallsOnce L.reports L.Stands L.Trusts (owner_of gateway.old) (asked target.now (response_told result))
         (owner_of gateway.new) }
 {
     gateway.ask(alloc, target)
+}
+
+/// A call of `report`.
+pub fn report<L: ReportedOwner>(
+    alloc: Global,
+    owner: &mut L,
+    asked: Report,
+) -> Result<Option<Text>, Unavailable>
+    requires ready { L.Ready owner.old }
+    ensures { CallsOnce L.reports L.Stands L.Trusts owner.old (reported asked result) owner.new }
+{
+    owner.report(alloc, asked)
+}
+
+/// A call of `serve_import`: an import of a file with these bytes.
+pub fn import<W: Write, L: ReportedOwner>(
+    alloc: Global,
+    output: &mut Wire<W>,
+    owner: &mut L,
+    import: &Import,
+    bytes: &[u8],
+) -> Result<bool, WriteFailed>
+    requires write_failures { failures_of output.old < 2 ^ 63 }
+    requires ready { L.Ready owner.old }
+    ensures { CallsOnce L.reports L.Stands L.Trusts owner.old
+        (imported import.now (Some bytes.now) (W.contents (inner_of output.old))
+        (W.contents (inner_of output.new)) result) owner.new }
+{
+    desk_import::serve_import(alloc, output, owner, import, bytes)
 }

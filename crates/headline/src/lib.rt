@@ -2,7 +2,7 @@
 //! answer, and what its list and tables then are.
 //!
 //! `specs/Calls.antt` says what a call answers and what calls one after the other do. `feed`, `serve`,
-//! `command` and `ask` show it of each call that the program makes.
+//! `command`, `ask`, `report` and `import` show it of each call that the program makes.
 #![tactic(auto)]
 
 mod calls;
@@ -16,7 +16,7 @@ ghost use Rattle.desk_answers.specs.Ledger.{Ledger};
 ghost use Rattle.desk_laws.specs.Consistent.{IsConsistent};
 ghost use Rattle.headline.specs.Calls.{AnswersByTheList, Call, Calls};
 
-pub use calls::{ask, command, feed, serve};
+pub use calls::{ask, command, feed, import, report, serve};
 use http_answers::ReportedOwner;
 
 /// A law: for every stream of requests, in whatever pieces and with repeats and refusals, every answer

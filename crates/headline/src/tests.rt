@@ -1,7 +1,8 @@
 //! Each call once, on an owner that stands for no list.
 
-use crate::{ask, command, feed, headline, serve};
+use crate::{ask, command, feed, headline, import, report, serve};
 use desk_answers::{Answer, Owner};
+use desk_import::counts_import;
 use desk_types::{Command, Id, Minute, Stamped, Text, Wire};
 use http_answers::{Gateway, ReportedOwner, Unavailable};
 use http_routes::{Report, RouteTable};
@@ -64,6 +65,25 @@ fn commands(rt: HostRuntime) -> Result<(), Fail> {
     };
     assert!(rt; matches!(command(&mut owner, &stamped), Answer::DeskFull));
     headline(&Full, &owner);
+    Ok(())
+}
+
+/// An import of a file with a fault, and a report that is not found.
+#[test]
+fn files(rt: HostRuntime) -> Result<(), Fail> {
+    let mut owner = Full;
+    let mut output = Wire::new(Vec::new(rt.alloc()));
+    let Ok(counts) = counts_import("u1", "S", "1970-01-01T00:00:00Z") else {
+        return Err("no import".into());
+    };
+    let refused = import(rt.alloc(), &mut output, &mut owner, &counts, b"nothing");
+    assert!(rt; matches!(refused, Ok(true)));
+    assert!(rt;
+        matches!(
+            report(rt.alloc(), &mut owner, Report::OverdueList),
+            Ok(None)
+        )
+    );
     Ok(())
 }
 

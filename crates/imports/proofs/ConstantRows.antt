@@ -1,16 +1,6 @@
 -- The numbers of the rules, computed.
 use Rattle.std.specs.Prelude.{◌≡◌, Some, None, [], ◌∷◌, codes, refl}
-use Rattle.imports.specs.declared.records.TheConstants.{MOST_RECORDS}
-use Rattle.imports.specs.declared.rows.TheConstants.{FIRST_ROW, LAST_ROW}
 use Rattle.imports.specs.File.{quantity_of, designators_of}
-
--- records: the header, 5,000 rows, and one more
-pub most_records : MOST_RECORDS ≡ 5002
-most_records = refl
-
--- lines
-pub rows_have_their_lines : (FIRST_ROW ≡ 2) × (LAST_ROW ≡ 5001)
-rows_have_their_lines = (refl, refl)
 
 -- ---- quantities at their limits
 

@@ -1,5 +1,8 @@
 //! Laws of what files say. They are for proofs, and do nothing when they run.
 
+ghost use Rattle.std.specs.Prelude.{◌≡◌};
+ghost use Rattle.imports.specs.declared.records.TheConstants.{MOST_RECORDS};
+ghost use Rattle.imports.specs.declared.rows.TheConstants.{FIRST_ROW, LAST_ROW};
 ghost use Rattle.imports.specs.FirstRecords.{SetupsByTheirFront, CountsByTheirFront};
 ghost use Rattle.imports.specs.Written.{SheetsAreSaid, CountsAreSaid};
 
@@ -15,4 +18,10 @@ pub fn commands_are_said()
 pub fn first_records_decide()
     ensures setups { SetupsByTheirFront }
     ensures counts { CountsByTheirFront }
+{}
+
+/// The records that are read: the header, 5,000 rows and one more. The rows are on lines 2 to 5,001.
+pub fn rows_have_their_lines()
+    ensures records { MOST_RECORDS ≡ 5002 }
+    ensures lines { (FIRST_ROW ≡ 2) × (LAST_ROW ≡ 5001) }
 {}

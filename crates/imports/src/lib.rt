@@ -14,4 +14,4 @@ mod rows;
 
 pub use fault::ImportFault;
 pub use file::{read_counts, read_setup};
-pub use law::{commands_are_said, first_records_decide};
+pub use law::{commands_are_said, first_records_decide, rows_have_their_lines};

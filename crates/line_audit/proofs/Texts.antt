@@ -29,6 +29,7 @@ use Rattle.line_audit.specs.declared.table.StateTable.{StateTable}
 use Rattle.line_audit.specs.declared.table.StateTable.TheVariants.{Part, Alternate, SheetRow, Selected, Reel, Mount, Board, Placement, Found}
 use Rattle.line_audit.proofs.LookUpsByKey.{finds_alone}
 use Rattle.desk_types.specs.declared.rules.Rules.TheVariants.{One, Two}
+use Rattle.line_tables.specs.Line.Layout.{Indexed, Plain}
 
 -- the column is the parameter
 abbrev is_param : ℕ → ℕ → Term
@@ -124,8 +125,8 @@ found_places = col 1 1 ∷ col 1 2 ∷ []
 found_is : IsSelectBy select_found (λ schema. rows_from (line.tree_in line.found schema) found_test found_places) (codes "reel" ∷ codes "pieces" ∷ [])
 unfolding understood everything listing_schema
 found_is One indexed = inr refl
-found_is Two true = inl (refl, refl, (refl, refl))
-found_is Two false = inl (refl, refl, (refl, refl))
+found_is Two (Indexed others) = inl (refl, refl, (refl, refl))
+found_is Two (Plain others) = inl (refl, refl, (refl, refl))
 
 abbrev select_sheet_row : List ℕ
 select_sheet_row = codes "SELECT product, machine, place, slot, part, designators FROM sheet_row WHERE product = ?1 AND machine = ?2 AND place = ?3"
@@ -164,8 +165,8 @@ count_is Mount rules indexed = inl (refl, refl, (refl, refl))
 count_is Board rules indexed = inl (refl, refl, (refl, refl))
 count_is Placement rules indexed = inl (refl, refl, (refl, refl))
 count_is Found One indexed = inr refl
-count_is Found Two true = inl (refl, refl, (refl, refl))
-count_is Found Two false = inl (refl, refl, (refl, refl))
+count_is Found Two (Indexed others) = inl (refl, refl, (refl, refl))
+count_is Found Two (Plain others) = inl (refl, refl, (refl, refl))
 
 pub counted : {S : Type 0} (g : Ghosts S) (old : Held S) (table : StateTable) (rows : List Row) → Selects g (count_text table) [] old rows
     → (r : Result ℕ Error) → IfOk r (λ n. rows ≡ (Int (pos n) ∷ []) ∷ []) → IfOk r (λ n. n < MOST_COUNTED) → IfOk r (Counts (table_of table) (state g old))

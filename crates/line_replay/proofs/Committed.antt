@@ -99,4 +99,4 @@ pub same_list : {D : Type 0} (F : D → History → Type 0) (rules : Rules) (gre
 same_list F rules greatest Clean old desk beside count H G tell all judged holds clean =
     let r = all.rows clean in
     let tables = holds r.was_open in
-    tell H G all.judged judged (IsPermutation-trans _ _ _ (IsPermutation-sym _ _ (r.are (Two, tables.indexed, tables.schema)).same) tables.accepted)
+    tell H G all.judged judged (IsPermutation-trans _ _ _ (IsPermutation-sym _ _ (r.are (record { rules = Two; layout = tables.indexed; same = tables.schema })).same) tables.accepted)

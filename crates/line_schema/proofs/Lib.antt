@@ -1,5 +1,6 @@
 pub mod ListsAfter
 pub mod Lookup
+pub mod Others
 pub mod ReadOfCommitted
 pub mod StandsAfter
 pub mod TracesOfLists

@@ -37,7 +37,7 @@ judged_never : (H : History) (s : Stamped) (r : Reply) → judged_answer H s r �
 judged_never H s (reply.Accepted detail) h = cc
 judged_never H s (reply.Refused refusal) h = cc
 
-answer_never : (L : Kept) (s : Stamped) → command_answer Two L.greatest L.history s ≡ Unavailable → ⊥
+pub answer_never : (L : Kept) (s : Stamped) → command_answer Two L.greatest L.history s ≡ Unavailable → ⊥
 answer_never L s h = by (earlier_answer L.history s) refl (is_full L.greatest L.history) h
   where
     by : (o : Option Answer) → earlier_answer L.history s ≡ o → (b : Bool) → unwrap_or o (if b then DeskFull else judged_answer L.history s (reply_to Two L.history s)) ≡ Unavailable → ⊥

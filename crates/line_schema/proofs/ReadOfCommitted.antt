@@ -135,7 +135,7 @@ opened_holds F K Clean old rules opened H o named settled clean =
 -- and it is lawful
 pub opened_lawful : {D : Type 0} (F : D → History → Type 0) (K : D → Rules) (Clean : Type 0) (old : State) (opened : Opened D) (H : History) → IsOpened F K Clean old Two opened H → Clean → IsTrue (is_ours old.committed.schema)
     → IsLawful Two opened.greatest H
-opened_lawful F K Clean old opened H o clean own = let ours = ours_is old.committed.schema own in ((o.rows clean).are (Two, ours.0, ours.1)).lawful
+opened_lawful F K Clean old opened H o clean own = let ours = ours_is old.committed.schema own in ((o.rows clean).are (record { rules = Two; layout = ours.0; same = ours.1 })).lawful
 
 -- ---- the calls that read, one after the other
 

@@ -1,5 +1,5 @@
 -- For which list a store stands after a call.
-use Rattle.std.proofs.Common.{◌≡◌, ◌∙◌, ◌+◌, ◌<◌, ◌≤◌, inl, inr, refl, IsTrue, IfSome, IsSomeAnd, Option, Some, None, is_some, Result, Ok, Err, IfOk, OnOk, OnErr, List, [], map, length, false, true≢false, sym, ap, subst, arith}
+use Rattle.std.proofs.Common.{◌≡◌, ◌∙◌, ◌+◌, ◌<◌, ◌≤◌, inl, inr, refl, IsTrue, IfSome, IsSomeAnd, Option, Some, None, is_some, Result, Ok, Err, IfOk, OnOk, OnErr, List, [], map, length, false, true, true≢false, ◌||◌, if◌then◌else◌, sym, ap, subst, arith}
 use Rattle.std.specs.Prelude.{⊤}
 use Rattle.std.specs.List.{IsDistinct}
 use Rattle.std.proofs.lemmas.Map.Keys.{IsDistinct-cons}
@@ -25,16 +25,18 @@ use Rattle.desk_types.specs.Outcome.{after_command, reply_to, change_of}
 use Rattle.std.specs.Option.{option_map_or}
 use Rattle.desk_laws.proofs.JudgedLists.{consistent}
 use Rattle.desk_answers.specs.declared.answer.Answer.{Answer}
-use Rattle.desk_answers.specs.Commands.{earlier_answer, judged_answer}
+use Rattle.desk_answers.specs.Commands.{earlier_answer, judged_answer, is_full, command_after}
 use Rattle.desk_answers.proofs.FirstTime.{first-uid}
 use Rattle.line_tables.specs.declared.edit.Edit.{Edit}
 use Rattle.line_tables.specs.Rows.{Tables, Holds, HoldsAt, AreNew, after_edits}
 use Rattle.line_tables.specs.Calls.{Edits, LeavesEdited}
+use Rattle.line_tables.specs.Frames.{ReadsOnly}
 use Rattle.line_rows.specs.Rows.{ledger_tables}
 use Rattle.line_rows.proofs.Judgements.{next_is, stamped_is}
 use Rattle.line_schema.specs.declared.store.LineStore.{LineStore}
 use Rattle.line_schema.specs.declared.unavailable.Unavailable.{Unavailable as Fault}
 use Rattle.line_schema.specs.Stands.{Kept, Stands, StaysOpen, ShowsTables, with_command}
+use Rattle.line_schema.specs.Frames.{ReadsStore}
 use Rattle.trace_lists.specs.declared.lists.TraceLists.{TraceLists}
 use Rattle.trace_lists.specs.Lists.{IsListed}
 
@@ -218,6 +220,13 @@ module _ {S D : Type 0} (g : Ghosts S) (F : D → History → Type 0) (K : D →
     lawful = λ clean own. s.lawful (clean_before P survives clean) own;
     tables = λ clean own is_open. subst (λ (db : Database). Holds db (ledger_tables L.greatest L.history)) (sym ((kept clean).committed is_open)) (s.tables (clean_before P survives clean) own ((kept clean).was_open is_open));
   }
+
+  pub reads_on : (old new : LineStore S D) → new.greatest ≡ old.greatest → new.count ≡ old.count → new.desk ≡ old.desk → new.lists ≡ old.lists → ReadsOnly g old.conn new.conn → ReadsStore g F K old new
+  reads_on old new greatest count desk lists reads = record { stands = read_on old new greatest count desk lists reads.mode reads.survives reads.kept; desk = desk; reads = reads }
+
+  -- a command that came before, or for which there is no room, leaves the list
+  pub stands_still : (store : LineStore S D) (L : Kept) (s : Stamped) → (is_some (earlier_answer L.history s) || is_full L.greatest L.history) ≡ true → Stands g F K store L → Stands g F K store (record L { history = command_after Two L.greatest L.history s })
+  stands_still store L s settled stands = subst (λ H. Stands g F K store (record L { history = H })) (sym (ap (λ b. if b then L.history else after_command Two L.history s) settled)) stands
 
   -- every table is there, or the disk has failed
   pub tables_there : (store : LineStore S D) (L : Kept) → Stands g F K store L → ShowsTables g store L

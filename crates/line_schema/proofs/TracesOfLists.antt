@@ -32,7 +32,7 @@ told-of g F K old new lists desk of found lists-are desk-is survives told L stan
     let tells = told clean in
     let early : HasCleanDisk (state g old.conn) = omega (arith, survives.clean, clean) in
     let held = stands.tables early own tells.was_open in
-    tells.are (Two, held.indexed, held.schema) L.history (record {
+    tells.are (record { rules = Two; layout = held.indexed; same = held.schema }) L.history (record {
       held = list-held (state g old.conn).committed L.history (rows_of L.history) stands.judged held.accepted (rows-are L.history) held.state;
       listed = subst (λ l. IfSome l (λ x. IsListed x L.history)) (sym lists-are) stands.lists;
       stands = subst (λ d. IfSome d (λ x. F x L.history)) (sym desk-is) (stands-so F K old.desk L.history stands.desk);

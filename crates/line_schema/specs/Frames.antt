@@ -1,11 +1,12 @@
 -- What a call leaves of a store, and of a connection that is handed back.
-use Rattle.std.specs.Prelude.{◌≡◌, ℕ, false, IsTrue}
+use Rattle.std.specs.Prelude.{◌≡◌, ◌⊎◌, ℕ, false, IsTrue}
+use Rattle.sqlite_trees.specs.Tree.{Trees}
 use Rattle.sqlite_trees.specs.declared.store.Store.{Ghosts}
-use Rattle.sqlite.specs.State.{HasCleanDisk, KeepsCommit, Survives}
+use Rattle.sqlite.specs.State.{State, HasCleanDisk, KeepsCommit, Survives}
 use Rattle.sqlite.specs.Held.{Held, state}
 use Rattle.desk_types.specs.declared.rules.Rules.{Rules}
 use Rattle.desk_types.specs.History.{History}
-use Rattle.line_tables.specs.Calls.{LeavesBlank}
+use Rattle.line_tables.specs.Calls.{LeavesBlank, HasOthers, KeepsOthers}
 use Rattle.line_tables.specs.Frames.{ReadsOnly}
 use Rattle.line_schema.specs.declared.store.LineStore.{LineStore}
 use Rattle.line_schema.specs.Stands.{ForKept, Kept, Stands, conn_of, state_of, has_desk}
@@ -29,3 +30,14 @@ pub record LeavesUnmade {S : Type 0} (g : Ghosts S) (greatest : ℕ) (old new : 
   pub kept : HasCleanDisk (state g new) → KeepsCommit (state g old) (state g new)
   pub mode : old.in_transaction ≡ false → new.in_transaction ≡ false
   pub survives : Survives (state g old) (state g new) (LeavesBlank greatest (state g old))
+
+-- trees with the rows of others as they were at the last commit
+pub record LeavesOthers (old : State) (trees : Trees) : Type 0 where
+  pub was_open : IsTrue old.is_open
+  pub rows : HasOthers old.committed trees
+
+-- What others have behind our tables, on a disk that is honest: while the connection is open their rows are as they were. A crash leaves what it could leave before, or trees with those rows.
+pub record LetsOthersBe (old new : State) : Type 0 where
+  pub was_open : HasCleanDisk new → IsTrue new.is_open → IsTrue old.is_open
+  pub rows : HasCleanDisk new → IsTrue new.is_open → KeepsOthers old.committed new.committed
+  pub crash : HasCleanDisk new → (trees : Trees) → new.may_leave trees → old.may_leave trees ⊎ LeavesOthers old trees

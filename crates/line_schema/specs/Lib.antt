@@ -3,3 +3,4 @@ pub mod Stands
 pub mod Traces
 pub mod Frames
 pub mod Versions
+pub mod Samples

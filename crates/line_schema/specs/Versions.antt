@@ -6,7 +6,7 @@ use Rattle.desk_types.specs.declared.rules.Rules.TheVariants.{One, Two}
 use Rattle.desk_types.specs.History.{History}
 use Rattle.desk_types.specs.Judged.{IsLawful}
 use Rattle.line_tables.specs.Calls.{Reads}
-use Rattle.line_tables.specs.Line.{IsOurs, schema_of}
+use Rattle.line_tables.specs.Line.{IsOurs, schema_of, Layout, alone}
 use Rattle.line_tables.specs.Rows.{Holds, HoldsBy, HoldsAt, accepted_in}
 use Rattle.line_rows.specs.Rows.{ledger_tables}
 
@@ -18,6 +18,6 @@ pub record IsMigrated (old new : State) (greatest : ℕ) (H : History) (count : 
   pub before : Reads old (λ db. HoldsBy One db (ledger_tables greatest H))
   pub same : IsOurs old.committed.schema → accepted_in new.committed ≡ accepted_in old.committed
   pub after : IsOurs old.committed.schema → Holds new.committed (ledger_tables greatest H)
-  pub layout : (indexed : Bool) → old.committed.schema ≡ schema_of One indexed → new.committed.schema ≡ schema_of Two indexed
+  pub layout : (indexed : Layout) → old.committed.schema ≡ schema_of One indexed → new.committed.schema ≡ schema_of Two (alone indexed)
   pub stays_open : IsTrue new.is_open
   pub alone : (trees : Trees) → new.may_leave trees → IsOurs old.committed.schema → HoldsAt (ledger_tables greatest H) trees

@@ -1,6 +1,7 @@
 //! The desk of a line, whose accepted commands are kept in tables.
 #![tactic(auto)]
 
+mod beside;
 mod fault;
 mod memory;
 mod opening;
@@ -9,6 +10,7 @@ mod settling;
 mod store;
 mod unavailable;
 
+pub use beside::others_may_be_beside;
 pub use desk_answers::Answer;
 pub use fault::OpenFault;
 pub use line_audit::StateTable;

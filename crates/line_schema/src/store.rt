@@ -22,8 +22,9 @@ ghost use Rattle.line_rows.specs.Rows.{ledger_tables};
 ghost use Rattle.line_schema.specs.declared.fault.OpenFault.TheVariants as Fault;
 ghost use Rattle.line_schema.specs.Opening.{IsFaultOf, IsNamed, IsToldOf};
 ghost use Rattle.line_schema.specs.Stands.{Kept, ForKept, Stands, ShowsTables, state_of, conn_of, has_desk, with_command, ledger, kept_after, answer_in, NewlyLeaves, Leaves};
-ghost use Rattle.line_schema.specs.Frames.{MakesDesk, LeavesUnmade};
+ghost use Rattle.line_schema.specs.Frames.{MakesDesk, LeavesUnmade, LetsOthersBe};
 
+mod crash;
 mod migration;
 mod traces;
 
@@ -179,10 +180,12 @@ impl<S: Alter, D: Desk + Drop> LineStore<S, D> {
 
     /// Sees to it that the desk is at hand, and the lists beside it, by reading the tables where they
     /// aren't.
+    #[tactic(auto, using(crate::proofs::Others::let_be))]
     pub fn ready(&mut self) -> Result<(), Unavailable>
         requires stands { (L : Kept) × Stands S.Store D.Stands D.kept_rules self.old L }
         ensures ok { OnOk result (IsTrue (has_desk self.new)) }
         ensures makes_desk { MakesDesk S.Store D.Stands D.kept_rules self.old self.new }
+        ensures others { LetsOthersBe (state_of S.Store self.old) (state_of S.Store self.new) }
     {
         if self.desk.is_some() {
             return Ok(());
@@ -198,6 +201,7 @@ impl<S: Alter, D: Desk + Drop> LineStore<S, D> {
         ensures stands { ForKept S.Store D.Stands D.kept_rules self.old self.new
             (Stands S.Store D.Stands D.kept_rules self.new) }
         ensures survives { Survives (state_of S.Store self.old) (state_of S.Store self.new) (λ _. ⊥) }
+        ensures others { LetsOthersBe (state_of S.Store self.old) (state_of S.Store self.new) }
     {
         match rebuild(self.alloc, &mut self.conn, Rules::Two, self.greatest) {
             Some(
@@ -234,6 +238,7 @@ impl<S: Alter, D: Desk + Drop> LineStore<S, D> {
             → Leaves L stamped.now result ((state_of S.Store self.old).may_leave trees) trees) }
         ensures clean { HasCleanDisk (state_of S.Store self.new) → HasCleanDisk (state_of S.Store self.old) }
         ensures survives { Survives (state_of S.Store self.old) (state_of S.Store self.new) (λ _. ⊤) }
+        ensures others { LetsOthersBe (state_of S.Store self.old) (state_of S.Store self.new) }
     {
         match self.answer(stamped) {
             Ok(answer) => answer,
@@ -256,6 +261,7 @@ impl<S: Alter, D: Desk + Drop> LineStore<S, D> {
             (λ L. (trees : Trees) → (state_of S.Store self.new).may_leave trees
             → Leaves L stamped.now (answer_in result) ((state_of S.Store self.old).may_leave trees) trees) }
         ensures survives { Survives (state_of S.Store self.old) (state_of S.Store self.new) (λ _. ⊤) }
+        ensures others { LetsOthersBe (state_of S.Store self.old) (state_of S.Store self.new) }
     {
         if let Some(answer) = self.earlier(stamped)? {
             return Ok(answer);
@@ -274,6 +280,7 @@ impl<S: Alter, D: Desk + Drop> LineStore<S, D> {
         ensures stands { (L : Kept) → Stands S.Store D.Stands D.kept_rules self.old L
             → Stands S.Store D.Stands D.kept_rules self.new L }
         ensures survives { Survives (state_of S.Store self.old) (state_of S.Store self.new) (λ _. ⊥) }
+        ensures others { LetsOthersBe (state_of S.Store self.old) (state_of S.Store self.new) }
     {
         match find(&mut self.conn, stamped.uid.as_str())? {
             Some(row) => Ok(Some(answer_under(self.alloc, row, stamped)?)),
@@ -300,12 +307,14 @@ impl<S: Alter, D: Desk + Drop> LineStore<S, D> {
             (λ L. (trees : Trees) → (state_of S.Store self.new).may_leave trees
             → NewlyLeaves L stamped.now (answer_in result) ((state_of S.Store self.old).may_leave trees) trees) }
         ensures survives { Survives (state_of S.Store self.old) (state_of S.Store self.new) (λ _. ⊤) }
+        ensures others { LetsOthersBe (state_of S.Store self.old) (state_of S.Store self.new) }
     {
         self.ready()?;
         self.answer_at_hand(stamped)
     }
 
     /// Judges the command by the desk, and accepts it where it isn't refused.
+    #[tactic(auto, using(crate::proofs::Others::let_be))]
     fn answer_at_hand(&mut self, stamped: &Stamped) -> Result<Answer, Unavailable>
         requires stands { (L : Kept) × Stands S.Store D.Stands D.kept_rules self.old L }
         ensures kept { (L : Kept) × Stands S.Store D.Stands D.kept_rules self.new L }
@@ -323,6 +332,7 @@ impl<S: Alter, D: Desk + Drop> LineStore<S, D> {
             (λ L. (trees : Trees) → (state_of S.Store self.new).may_leave trees
             → NewlyLeaves L stamped.now (answer_in result) ((state_of S.Store self.old).may_leave trees) trees) }
         ensures survives { Survives (state_of S.Store self.old) (state_of S.Store self.new) (λ _. ⊤) }
+        ensures others { LetsOthersBe (state_of S.Store self.old) (state_of S.Store self.new) }
     {
         if self.count >= self.greatest {
             return Err(Unavailable);
@@ -339,6 +349,7 @@ impl<S: Alter, D: Desk + Drop> LineStore<S, D> {
 
     /// Accepts what was judged: the answer and the edits are made, and memory is taken for the lists;
     /// then the edits are committed; and then the change is noted in the lists, and the desk settles.
+    #[tactic(auto, using(crate::proofs::Others::let_be))]
     fn commit_change(&mut self, change: Change) -> Result<Answer, Unavailable>
         requires stands { (L : Kept) × Stands S.Store D.Stands D.kept_rules self.old L }
         requires room { self.old.count < self.old.greatest }
@@ -358,6 +369,7 @@ impl<S: Alter, D: Desk + Drop> LineStore<S, D> {
             (λ L. OnOk result ((trees : Trees) → (state_of S.Store self.new).may_leave trees
             → HoldsAt (ledger_tables L.greatest (with_command L change.stamped).history) trees)) }
         ensures faults { Survives (state_of S.Store self.old) (state_of S.Store self.new) (λ _. ⊤) }
+        ensures others { LetsOthersBe (state_of S.Store self.old) (state_of S.Store self.new) }
     {
         change.stamped.ranges_hold();
         let _ = change.minute.get();

@@ -19,7 +19,7 @@ use Rattle.sqlite_trees.specs.Tree.{rowid, put_row}
 use Rattle.sqlite_trees.specs.View.{is_int}
 use Rattle.sqlite.specs.State.{State}
 use Rattle.desk_types.specs.declared.rules.Rules.TheVariants.{Two}
-use Rattle.line_tables.specs.Line.{schema_of}
+use Rattle.line_tables.specs.Line.{schema_of, Layout}
 use Rattle.line_tables.specs.StateRows.{columns}
 use Rattle.line_tables.specs.Rowids.{AreApart}
 use Rattle.line_tables.proofs.Apart.{apart_put, apart_filter, taken}
@@ -58,7 +58,7 @@ kept_more table left n values rows new same apart free keyed shown is = record {
 
 -- ---- DELETE
 
-pub deletes : (indexed : Bool) (table : Table) (has : Row → Bool) (tests project : List Term) (params : Row) (old new : State) → ((r : Row) → passing tests params r ≡ has (columns table r))
+pub deletes : (indexed : Layout) (table : Table) (has : Row → Bool) (tests project : List Term) (params : Row) (old new : State) → ((r : Row) → passing tests params r ≡ has (columns table r))
     → ((r : Row) → rowid (shows_of table.tree tests project params r) ≡ rowid r) → IsTrue old.is_open → (old.now.schema ≡ schema_of Two indexed → Changed (schema_of Two indexed) table tests project params (λ _. []) old new) → Alters indexed table (without has) old new
 deletes indexed table has tests project params old new is begins was_open did = record {
   steps = record { was_open = was_open; same = λ ours. (did ours).same; sound = λ ours. (did ours).sound; others = λ ours. (did ours).others };
@@ -83,7 +83,7 @@ one_of_map f [] y h = absurd (cc)
 one_of_map f (x ∷ []) y h = let same : f x ≡ y = cc in (x, refl, same)
 one_of_map f (x ∷ z ∷ xs) y h = absurd (cc)
 
-module _ (indexed : Bool) (table : Table) (has : Row → Bool) (tests project : List Term) (params values : Row) (old new : State) (is : (r : Row) → passing tests params r ≡ has (columns table r))
+module _ (indexed : Layout) (table : Table) (has : Row → Bool) (tests project : List Term) (params values : Row) (old new : State) (is : (r : Row) → passing tests params r ≡ has (columns table r))
     (begins : (r : Row) → rowid (shows_of table.tree tests project params r) ≡ rowid r) (was_open : IsTrue old.is_open) (count : ℕ)
     (did : old.now.schema ≡ schema_of Two indexed → (h : Changed (schema_of Two indexed) table tests project params (renewed table) old new) × (count ≡ length h.found)) where
   abbrev show : Row → Row
@@ -131,7 +131,7 @@ module _ (indexed : Bool) (table : Table) (has : Row → Bool) (tests project : 
 
 -- ---- INSERT
 
-module _ (indexed : Bool) (table : Table) (r values : Row) (n : List Row → Row) (old new : State) (cast : (rows : List Row) → with_rowid Chosen rows (cast_row table r) ≡ n rows) (keyed : (rows : List Row) → IsTrue (is_int (rowid (n rows))))
+module _ (indexed : Layout) (table : Table) (r values : Row) (n : List Row → Row) (old new : State) (cast : (rows : List Row) → with_rowid Chosen rows (cast_row table r) ≡ n rows) (keyed : (rows : List Row) → IsTrue (is_int (rowid (n rows))))
     (shown : (rows : List Row) → columns table (n rows) ≡ values) (went : Inserted (schema_of Two indexed) table (r ∷ []) old new) where
   abbrev db : List Row
   db = old.now.trees table.tree
@@ -148,11 +148,11 @@ module _ (indexed : Bool) (table : Table) (r values : Row) (n : List Row → Row
   more : (rows : List Row) → IsKept table old.now rows → IsKept table new.now (values ∷ rows)
   more rows was = kept_more table db (n db) values rows new.now was.same was.apart free (keyed db) (shown db) put
 
-pub inserted_steps : (indexed : Bool) (table : Table) (rows : List Row) (old new : State) → IsTrue old.is_open → (old.now.schema ≡ schema_of Two indexed → Inserted (schema_of Two indexed) table rows old new) → Steps indexed table old new
+pub inserted_steps : (indexed : Layout) (table : Table) (rows : List Row) (old new : State) → IsTrue old.is_open → (old.now.schema ≡ schema_of Two indexed → Inserted (schema_of Two indexed) table rows old new) → Steps indexed table old new
 inserted_steps indexed table rows old new was_open did = record { was_open = was_open; same = λ ours. (did ours).same; sound = λ ours. (did ours).sound; others = λ ours. (did ours).step.tables }
 
 -- a row is one more
-pub inserts : (indexed : Bool) (table : Table) (r values : Row) (n : List Row → Row) (old new : State) → ((rows : List Row) → with_rowid Chosen rows (cast_row table r) ≡ n rows) → ((rows : List Row) → IsTrue (is_int (rowid (n rows))))
+pub inserts : (indexed : Layout) (table : Table) (r values : Row) (n : List Row → Row) (old new : State) → ((rows : List Row) → with_rowid Chosen rows (cast_row table r) ≡ n rows) → ((rows : List Row) → IsTrue (is_int (rowid (n rows))))
     → ((rows : List Row) → columns table (n rows) ≡ values) → IsTrue old.is_open → (old.now.schema ≡ schema_of Two indexed → Inserted (schema_of Two indexed) table (r ∷ []) old new) → Alters indexed table (λ rows. values ∷ rows) old new
 inserts indexed table r values n old new cast keyed shown was_open did = record {
   steps = inserted_steps indexed table (r ∷ []) old new was_open did;

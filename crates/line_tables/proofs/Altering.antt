@@ -17,14 +17,16 @@ use Rattle.desk_types.specs.declared.rules.Rules.TheVariants.{One, Two}
 use Rattle.desk_types.specs.declared.edit.RowEdit.{RowEdit}
 use Rattle.desk_types.specs.Tables.{Tables as StateTables}
 use Rattle.desk_types.specs.Edits.{with_edit as state_with, IsNew as IsNewRow}
-use Rattle.line_tables.specs.Line.{schema_of, schema_tables, tree_in, version, accepted, part, alternate, sheet_row, selected, reel, mount, board, placement, found, found_by, found_tree}
+use Rattle.line_tables.specs.Line.{schema_of, schema_tables, tree_in, version, accepted, part, alternate, sheet_row, selected, reel, mount, board, placement, found, found_by, found_tree, Layout, others_in, nothing as no_others}
 use Rattle.line_tables.specs.StateRows.{AreRows, rows_in, kept_in, columns, HoldsState, HoldsParts, HoldsAlternates, HoldsSheets, HoldsSelected, HoldsReels, HoldsMounts, HoldsBoards, HoldsPlacements, HoldsFound}
 use Rattle.line_tables.specs.Rowids.{AreApart, AreAllApart, changed_tables}
 use Rattle.line_tables.specs.Rows.{Tables, Holds, blank, version_columns, accepted_columns, version_row}
 use Rattle.line_tables.specs.Calls.{WritesRow}
 use Rattle.line_tables.proofs.Apart.{apart_none}
+use Rattle.line_tables.proofs.Beside.{is_low, far_kept}
+use Rattle.line_tables.specs.Line.Layout.{Indexed, Plain}
 
-abbrev pub state_tables : Bool → List Table
+abbrev pub state_tables : Layout → List Table
 state_tables indexed = part ∷ alternate ∷ sheet_row ∷ selected ∷ reel ∷ mount ∷ board ∷ placement ∷ found_by indexed ∷ []
 
 -- ---- the rows of one table
@@ -33,15 +35,9 @@ state_tables indexed = part ∷ alternate ∷ sheet_row ∷ selected ∷ reel �
 abbrev pub rows_at : Table → Database → List Row
 rows_at table db = map (columns table) (db.trees table.tree)
 
-tree_by : (rules : Rules) (indexed : Bool) → tree_in found (schema_of rules indexed) ≡ found_tree indexed
-tree_by One true = refl
-tree_by One false = refl
-tree_by Two true = refl
-tree_by Two false = refl
-
 -- the rows of `found` are in its tree in the layout
-pub found_kept : (rules : Rules) (indexed : Bool) (db : Database) → db.schema ≡ schema_of rules indexed → kept_in found db ≡ db.trees (found_tree indexed)
-found_kept rules indexed db has = ap (λ n. db.trees n) (ap (tree_in found) has ∙ tree_by rules indexed)
+pub found_kept : (indexed : Layout) (db : Database) → db.schema ≡ schema_of Two indexed → kept_in found db ≡ db.trees (found_tree indexed)
+found_kept indexed db has = ap (λ n. db.trees n) (ap (tree_in found) has)
 
 -- the rows without those that have a key
 abbrev pub without : (Row → Bool) → List Row → List Row
@@ -57,14 +53,14 @@ pub record IsKept (table : Table) (db : Database) (rows : List Row) : Type 0 whe
   pub apart : AreApart (db.trees table.tree)
 
 -- where the database has our schema in a layout: inside a transaction no table but this one was changed, and the trees list the schema
-pub record Steps (indexed : Bool) (table : Table) (old new : State) : Type 0 where
+pub record Steps (indexed : Layout) (table : Table) (old new : State) : Type 0 where
   pub was_open : IsTrue old.is_open
   pub same : old.now.schema ≡ schema_of Two indexed → new.now.schema ≡ schema_of Two indexed
   pub sound : old.now.schema ≡ schema_of Two indexed → IsDatabase new.now
   pub others : old.now.schema ≡ schema_of Two indexed → AllByRecursion (λ t. t.tree ≢ table.tree → new.now.trees t.tree ≡ old.now.trees t.tree) (schema_tables Two indexed)
 
 -- and the rows of this table were changed so
-pub record Alters (indexed : Bool) (table : Table) (change : List Row → List Row) (old new : State) : Type 0 where
+pub record Alters (indexed : Layout) (table : Table) (change : List Row → List Row) (old new : State) : Type 0 where
   pub steps : Steps indexed table old new
   pub rows : old.now.schema ≡ schema_of Two indexed → (rows : List Row) → IsKept table old.now rows → IsKept table new.now (change rows)
 
@@ -74,7 +70,7 @@ others_then tree [] a b c p q = tt
 others_then tree (t ∷ ts) a b c p q = (λ other. q.0 other ∙ p.0 other, others_then tree ts a b c p.1 q.1)
 
 -- one change and then another of one table
-pub alters_then : (indexed : Bool) (table : Table) (f g : List Row → List Row) (a b c : State) → Alters indexed table f a b → Alters indexed table g b c → Alters indexed table (λ rows. g (f rows)) a c
+pub alters_then : (indexed : Layout) (table : Table) (f g : List Row → List Row) (a b c : State) → Alters indexed table f a b → Alters indexed table g b c → Alters indexed table (λ rows. g (f rows)) a c
 alters_then indexed table f g a b c p q = record {
   steps = record {
     was_open = p.steps.was_open;
@@ -97,14 +93,14 @@ module _ {K R : Type 0} {has : K → Row → Bool} {cols : K → R → Row} {f :
   pub nothing : (db : Database) → kept_in table db ≡ [] → ((key : K) → f key ≡ None) → AreRows has cols (rows_in table db) f
   nothing db is none = subst (λ l. AreRows has cols (map (columns table) l) f) (sym is) (record { found = λ key. sym (ap (λ o. option_to_list (option_map (cols key) o)) (none key)); keyed = tt })
 
-other_found : (indexed : Bool) (tree : ℕ) → (not (21 == tree) && not (19 == tree)) ≡ true → found_tree indexed ≢ tree
-other_found true tree h = other_tree 21 tree (and_parts _ _ h).0
-other_found false tree h = other_tree 19 tree (and_parts _ _ h).1
+other_found : (indexed : Layout) (tree : ℕ) → (not (21 == tree) && not (19 == tree)) ≡ true → found_tree indexed ≢ tree
+other_found (Indexed others) tree h = other_tree 21 tree (and_parts _ _ h).0
+other_found (Plain others) tree h = other_tree 19 tree (and_parts _ _ h).1
 
 -- a tree that is that of `found` in neither layout
-pub far_from_found : (indexed : Bool) (tree : ℕ) → (not (tree == 21) && not (tree == 19)) ≡ true → not (tree == found_tree indexed) ≡ true
-far_from_found true tree h = (and_parts _ _ h).0
-far_from_found false tree h = (and_parts _ _ h).1
+pub far_from_found : (indexed : Layout) (tree : ℕ) → (not (tree == 21) && not (tree == 19)) ≡ true → not (tree == found_tree indexed) ≡ true
+far_from_found (Indexed others) tree h = (and_parts _ _ h).0
+far_from_found (Plain others) tree h = (and_parts _ _ h).1
 
 -- each table but that with the tree is as it was
 pub record OthersHold (tree : ℕ) (db : Database) (t : StateTables) : Type 0 where
@@ -119,19 +115,19 @@ pub record OthersHold (tree : ℕ) (db : Database) (t : StateTables) : Type 0 wh
   pub found : (not (21 == tree) && not (19 == tree)) ≡ true → HoldsFound db t
 
 -- the trees of all tables but this one stay, in a layout that stays
-pub record IsElsewhere (indexed : Bool) (tree : ℕ) (old new : Database) : Type 0 where
+pub record IsElsewhere (indexed : Layout) (tree : ℕ) (old new : Database) : Type 0 where
   pub was : old.schema ≡ schema_of Two indexed
   pub is : new.schema ≡ schema_of Two indexed
   pub others : AllByRecursion (λ u. u.tree ≢ tree → new.trees u.tree ≡ old.trees u.tree) (schema_tables Two indexed)
 
-pub elsewhere : (indexed : Bool) (table : Table) (old new : State) → Steps indexed table old new → old.now.schema ≡ schema_of Two indexed → IsElsewhere indexed table.tree old.now new.now
+pub elsewhere : (indexed : Layout) (table : Table) (old new : State) → Steps indexed table old new → old.now.schema ≡ schema_of Two indexed → IsElsewhere indexed table.tree old.now new.now
 elsewhere indexed table old new step has = record { was = has; is = step.same has; others = step.others has }
 
 -- so the rows of `found` stay
-found_stays : (indexed : Bool) (tree : ℕ) (old new : Database) → IsElsewhere indexed tree old new → (not (21 == tree) && not (19 == tree)) ≡ true → kept_in found new ≡ kept_in found old
-found_stays indexed tree old new e h = found_kept Two indexed new e.is ∙ e.others.1.1.1.1.1.1.1.1.1.1.0 (other_found indexed tree h) ∙ sym (found_kept Two indexed old e.was)
+found_stays : (indexed : Layout) (tree : ℕ) (old new : Database) → IsElsewhere indexed tree old new → (not (21 == tree) && not (19 == tree)) ≡ true → kept_in found new ≡ kept_in found old
+found_stays indexed tree old new e h = found_kept indexed new e.is ∙ e.others.1.1.1.1.1.1.1.1.1.1.0 (other_found indexed tree h) ∙ sym (found_kept indexed old e.was)
 
-pub others_hold : (indexed : Bool) (tree : ℕ) (old new : Database) (t : StateTables) → IsElsewhere indexed tree old new → HoldsState old t → OthersHold tree new t
+pub others_hold : (indexed : Layout) (tree : ℕ) (old new : Database) (t : StateTables) → IsElsewhere indexed tree old new → HoldsState old t → OthersHold tree new t
 others_hold indexed tree old new t e was = record {
   parts = λ h. stays part old new (e.others.1.1.0 (other_tree 3 tree h)) was.parts;
   alternates = λ h. stays alternate old new (e.others.1.1.1.0 (other_tree 5 tree h)) was.alternates;
@@ -145,7 +141,7 @@ others_hold indexed tree old new t e was = record {
 }
 
 -- rows of a changed table that are apart, beside those of all others
-module _ (indexed : Bool) (tree : ℕ) (old new : Database) (e : IsElsewhere indexed tree old new) (this : AreApart (old.trees tree) → AreApart (new.trees tree)) where
+module _ (indexed : Layout) (tree : ℕ) (old new : Database) (e : IsElsewhere indexed tree old new) (this : AreApart (old.trees tree) → AreApart (new.trees tree)) where
   still_apart : (table : Table) → (table.tree ≢ tree → new.trees table.tree ≡ old.trees table.tree) → AreApart (old.trees table.tree) → AreApart (new.trees table.tree)
   still_apart table other was = elim (cases_Bool (table.tree == tree)) [
     | inl it ↦
@@ -155,13 +151,13 @@ module _ (indexed : Bool) (tree : ℕ) (old new : Database) (e : IsElsewhere ind
   ]
 
   found_apart : AreApart (kept_in found old) → AreApart (kept_in found new)
-  found_apart was = subst AreApart (sym (found_kept Two indexed new e.is)) (still_apart (found_by indexed) e.others.1.1.1.1.1.1.1.1.1.1.0 (subst AreApart (found_kept Two indexed old e.was) was))
+  found_apart was = subst AreApart (sym (found_kept indexed new e.is)) (still_apart (found_by indexed) e.others.1.1.1.1.1.1.1.1.1.1.0 (subst AreApart (found_kept indexed old e.was) was))
 
   pub all_apart : AreAllApart old → AreAllApart new
   all_apart was = (still_apart part e.others.1.1.0 was.0, (still_apart alternate e.others.1.1.1.0 was.1.0, (still_apart sheet_row e.others.1.1.1.1.0 was.1.1.0, (still_apart selected e.others.1.1.1.1.1.0 was.1.1.1.0, (still_apart reel e.others.1.1.1.1.1.1.0 was.1.1.1.1.0, (still_apart mount e.others.1.1.1.1.1.1.1.0 was.1.1.1.1.1.0, (still_apart board e.others.1.1.1.1.1.1.1.1.0 was.1.1.1.1.1.1.0, (found_apart was.1.1.1.1.1.1.1.0, tt))))))))
 
 -- where the changed table is none of these
-pub all_apart_but : (indexed : Bool) (tree : ℕ) (old new : Database) → IsElsewhere indexed tree old new → list_all (λ (u : Table). not (u.tree == tree)) (found_by false ∷ changed_tables) ≡ true → AreAllApart old → AreAllApart new
+pub all_apart_but : (indexed : Layout) (tree : ℕ) (old new : Database) → IsElsewhere indexed tree old new → list_all (λ (u : Table). not (u.tree == tree)) (found_by (Plain no_others) ∷ changed_tables) ≡ true → AreAllApart old → AreAllApart new
 all_apart_but indexed tree old new e none was =
     let m = and_parts _ _ none in
     let n0 = and_parts _ _ m.1 in
@@ -191,10 +187,10 @@ list_grows row old new t was e list =
     }
 
 -- every table is empty but `version`
-pub holds_blank : (indexed : Bool) (greatest : ℕ) (db : Database) → db.schema ≡ schema_of Two indexed → rows_in version db ≡ version_row Two greatest ∷ [] → AllByRecursion (λ u. db.trees u.tree ≡ []) (accepted ∷ state_tables indexed) → Holds db (blank greatest)
+pub holds_blank : (indexed : Layout) (greatest : ℕ) (db : Database) → db.schema ≡ schema_of Two indexed → rows_in version db ≡ version_row Two greatest ∷ [] → AllByRecursion (λ u. db.trees u.tree ≡ []) (accepted ∷ state_tables indexed) → Holds db (blank greatest)
 unfolding takes_of found_of
 holds_blank indexed greatest db has one empty =
-    let none = found_kept Two indexed db has ∙ empty.1.1.1.1.1.1.1.1.1.0 in
+    let none = found_kept indexed db has ∙ empty.1.1.1.1.1.1.1.1.1.0 in
     record {
       indexed = indexed;
       schema = has;
@@ -214,38 +210,43 @@ holds_blank indexed greatest db has one empty =
       apart = (subst AreApart (sym empty.1.0) apart_none, (subst AreApart (sym empty.1.1.0) apart_none, (subst AreApart (sym empty.1.1.1.0) apart_none, (subst AreApart (sym empty.1.1.1.1.0) apart_none, (subst AreApart (sym empty.1.1.1.1.1.0) apart_none, (subst AreApart (sym empty.1.1.1.1.1.1.0) apart_none, (subst AreApart (sym empty.1.1.1.1.1.1.1.0) apart_none, (subst AreApart (sym none) apart_none, tt))))))));
     }
 
-module _ (e : RowEdit) (table : Bool → Table) (old new : State) (sole : (indexed : Bool) → (not (0 == (table indexed).tree) && not (1 == (table indexed).tree)) ≡ true) (step : (indexed : Bool) → Steps indexed (table indexed) old new) where
+module _ (e : RowEdit) (table : Layout → Table) (old new : State) (sole : (indexed : Layout) → (not (0 == (table indexed).tree) && (not (1 == (table indexed).tree) && is_low indexed (table indexed).tree)) ≡ true) (step : (indexed : Layout) → Steps indexed (table indexed) old new) where
   -- an edit writes what its statements do to the rows of its table
-  pub writes : ((indexed : Bool) → old.now.schema ≡ schema_of Two indexed → AreAllApart old.now → AreAllApart new.now)
-      → ((indexed : Bool) (t : StateTables) → old.now.schema ≡ schema_of Two indexed → HoldsState old.now t → AreAllApart old.now → IsNewRow e t → HoldsState new.now (state_with e t)) → WritesRow e old new
+  pub writes : ((indexed : Layout) → old.now.schema ≡ schema_of Two indexed → AreAllApart old.now → AreAllApart new.now)
+      → ((indexed : Layout) (t : StateTables) → old.now.schema ≡ schema_of Two indexed → HoldsState old.now t → AreAllApart old.now → IsNewRow e t → HoldsState new.now (state_with e t)) → WritesRow e old new
   writes apart state = record {
-    was_open = (step true).was_open;
+    was_open = (step (Plain no_others)).was_open;
     done = λ t was fresh.
         let i = was.indexed in
         let others = (step i).others was.schema in
         let is = and_parts _ _ (sole i) in
+        let more = and_parts _ _ is.1 in
         let now = (step i).same was.schema in (
           now ∙ sym was.schema,
           record {
             indexed = i;
             schema = now;
             version = ap (map version_columns) (others.0 (other_tree 0 (table i).tree is.0)) ∙ was.version;
-            accepted = subst (λ l. IsPermutation (map accepted_columns l) t.accepted) (sym (others.1.0 (other_tree 1 (table i).tree is.1))) was.accepted;
+            accepted = subst (λ l. IsPermutation (map accepted_columns l) t.accepted) (sym (others.1.0 (other_tree 1 (table i).tree more.0))) was.accepted;
             state = state i t.state was.schema was.state was.apart fresh.0;
             apart = apart i was.schema was.apart;
           },
         );
     sound = λ t was fresh. (step was.indexed).sound was.schema;
+    others = record {
+      schema = λ layout has. (step layout).same has ∙ sym has;
+      rows = λ layout has. far_kept layout (table layout).tree (and_parts _ _ (and_parts _ _ (sole layout)).1).1 (others_in layout).tables (others_in layout).quiet old.now.trees new.now.trees ((step layout).others has).1.1.1.1.1.1.1.1.1.1.1;
+    };
   }
 
 -- the same of a table whose rows are apart
-pub alters_writes : (e : RowEdit) (table : Bool → Table) (change : List Row → List Row) (old new : State) → ((indexed : Bool) → (not (0 == (table indexed).tree) && not (1 == (table indexed).tree)) ≡ true)
-    → ((indexed : Bool) → old.now.schema ≡ schema_of Two indexed → AreAllApart old.now → AreApart (old.now.trees (table indexed).tree))
-    → ((indexed : Bool) (t : StateTables) → IsElsewhere indexed (table indexed).tree old.now new.now → HoldsState old.now t → OthersHold (table indexed).tree new.now t → IsNewRow e t → IsPermutation (rows_at (table indexed) new.now) (change (rows_at (table indexed) old.now)) → HoldsState new.now (state_with e t))
-    → ((indexed : Bool) → Alters indexed (table indexed) change old new) → WritesRow e old new
+pub alters_writes : (e : RowEdit) (table : Layout → Table) (change : List Row → List Row) (old new : State) → ((indexed : Layout) → (not (0 == (table indexed).tree) && (not (1 == (table indexed).tree) && is_low indexed (table indexed).tree)) ≡ true)
+    → ((indexed : Layout) → old.now.schema ≡ schema_of Two indexed → AreAllApart old.now → AreApart (old.now.trees (table indexed).tree))
+    → ((indexed : Layout) (t : StateTables) → IsElsewhere indexed (table indexed).tree old.now new.now → HoldsState old.now t → OthersHold (table indexed).tree new.now t → IsNewRow e t → IsPermutation (rows_at (table indexed) new.now) (change (rows_at (table indexed) old.now)) → HoldsState new.now (state_with e t))
+    → ((indexed : Layout) → Alters indexed (table indexed) change old new) → WritesRow e old new
 alters_writes e table change old new sole pick state did =
-    let kept : (i : Bool) → old.now.schema ≡ schema_of Two i → AreApart (old.now.trees (table i).tree) → IsKept (table i) new.now (change (rows_at (table i) old.now)) =
+    let kept : (i : Layout) → old.now.schema ≡ schema_of Two i → AreApart (old.now.trees (table i).tree) → IsKept (table i) new.now (change (rows_at (table i) old.now)) =
     λ i has apart. (did i).rows has (rows_at (table i) old.now) (record { same = IsPermutation-refl (rows_at (table i) old.now); apart = apart }) in
-    let beside = λ (i : Bool) (has : old.now.schema ≡ schema_of Two i). elsewhere i (table i) old new (did i).steps has in
+    let beside = λ (i : Layout) (has : old.now.schema ≡ schema_of Two i). elsewhere i (table i) old new (did i).steps has in
     writes e table old new sole (λ i. (did i).steps) (λ i has all. all_apart i (table i).tree old.now new.now (beside i has) (λ apart. (kept i has apart).apart) all)
     (λ i t has was all fresh. state i t (beside i has) was (others_hold i (table i).tree old.now new.now t (beside i has) was) fresh (kept i has (pick i has all)).same)

@@ -13,7 +13,8 @@ use Rattle.sqlite.specs.Table.{Table}
 use Rattle.sqlite.proofs.Callers.{IsPlain, command_of, statement_of}
 use Rattle.line_tables.proofs.FindTexts.{rows_from}
 use Rattle.desk_types.specs.declared.rules.Rules.TheVariants.{One, Two}
-use Rattle.line_tables.specs.Line.{version, accepted, part, alternate, sheet_row, selected, reel, mount, board, placement, found_by, first_of_line, line_schema, schema_of}
+use Rattle.line_tables.specs.Line.{version, accepted, part, alternate, sheet_row, selected, reel, mount, board, placement, found_by, first_of_line, line_schema, schema_of, Layout, alone}
+use Rattle.line_tables.specs.Line.Layout.{Indexed, Plain}
 
 -- the text makes this table, but for its tree, in a database of the schema
 abbrev pub IsCreate : Schema → List ℕ → Table → Type 0
@@ -122,14 +123,14 @@ placement_makes = refl
 abbrev pub found_text : List ℕ
 found_text = codes "CREATE TABLE found (reel TEXT NOT NULL, pieces INTEGER NOT NULL, PRIMARY KEY (reel), CHECK (pieces >= 1)) STRICT"
 
-pub found_is : (indexed : Bool) → IsCreate (schema_of One indexed) found_text (found_by indexed)
+pub found_is : (indexed : Layout) → IsCreate (schema_of One indexed) found_text (found_by (alone indexed))
 unfolding understood everything
-found_is true = (refl, refl, (refl, refl), refl)
-found_is false = (refl, refl, (refl, refl), refl)
+found_is (Indexed others) = (refl, refl, (refl, refl), refl)
+found_is (Plain others) = (refl, refl, (refl, refl), refl)
 
-pub found_makes : (indexed : Bool) → created (schema_of One indexed) (record (found_by indexed) { tree = 0 }) ≡ schema_of Two indexed
-found_makes true = refl
-found_makes false = refl
+pub found_makes : (indexed : Layout) → created (schema_of One indexed) (record (found_by (alone indexed)) { tree = 0 }) ≡ schema_of Two (alone indexed)
+found_makes (Indexed others) = refl
+found_makes (Plain others) = refl
 
 abbrev pub insert_version : List ℕ
 insert_version = codes "INSERT INTO version VALUES (1, 2, ?1)"
@@ -148,6 +149,6 @@ update_version = codes "UPDATE version SET number = 2"
 abbrev pub version_renewed : List Term
 version_renewed = col 1 0 ∷ col 1 0 ∷ lit Null ∷ lit (Int (pos 2)) ∷ col 1 3 ∷ []
 
-pub update_version_is : (indexed : Bool) → (command_of (understood (schema_of Two indexed) update_version) ≡ Update 0 (record { lets = []; body = rows_from 0 [] version_renewed })) × IsPlain (understood (schema_of Two indexed) update_version)
+pub update_version_is : (indexed : Layout) → (command_of (understood (schema_of Two indexed) update_version) ≡ Update 0 (record { lets = []; body = rows_from 0 [] version_renewed })) × IsPlain (understood (schema_of Two indexed) update_version)
 unfolding understood everything
 update_version_is indexed = (refl, (refl, refl))

@@ -17,12 +17,14 @@ use Rattle.sqlite.specs.Cast.{cast_row}
 use Rattle.sqlite_trees.specs.Tree.{Trees, put_row}
 use Rattle.sqlite_rules.specs.Edit.{with_rowid}
 use Rattle.sqlite.specs.Rowids.TheVariants.{Chosen}
-use Rattle.line_tables.proofs.Puts.{cast_int, cast_null, quiet}
+use Rattle.line_tables.proofs.Puts.{cast_int, cast_null}
+use Rattle.line_tables.proofs.Beside.{quiet}
 use Rattle.line_tables.proofs.CreateTexts.{IsCreate, version_text, version_is, accepted_text, accepted_is, part_text, part_is, alternate_text, alternate_is, sheet_row_text, sheet_row_is, selected_text, selected_is, reel_text, reel_is, mount_text, mount_is, board_text, board_is, placement_text, placement_is, found_text, found_is, insert_version, version_terms, insert_version_is}
 use Rattle.desk_types.specs.declared.rules.Rules.TheVariants.{One, Two}
-use Rattle.line_tables.specs.Line.{no_schema, line_schema, schema_of, first_of_line, found_tree, found_by, version, accepted, part, alternate, sheet_row, selected, reel, mount, board, placement}
+use Rattle.line_tables.specs.Line.{no_schema, line_schema, schema_of, first_of_line, found_tree, found_by, version, accepted, part, alternate, sheet_row, selected, reel, mount, board, placement, Layout, alone, nothing as no_others}
 use Rattle.line_tables.specs.Rows.{Holds, blank, version_columns}
 use Rattle.line_tables.specs.Calls.{Runs, Makes, IsBare, Extends, Grows, AddsFound}
+use Rattle.line_tables.specs.Line.Layout.{Indexed, Plain}
 
 pub extends_then : (a b c : Schema) (old mid new : State) → Extends a b old mid → Extends b c mid new → Extends a c old new
 extends_then a b c old mid new p q = record { was_open = p.was_open; bare = λ h. q.bare (p.bare h) }
@@ -98,12 +100,12 @@ makes_placement old new = creates_bare placement_text old new (first_of_line 9 8
 pub adds_found : (old new : State) → Runs found_text [] old new → AddsFound old new
 adds_found old new ran = record { was_open = ran.shown.was_open; added = by }
   where
-    by : (i : Bool) → old.now.schema ≡ schema_of One i → Grows (schema_of One i) (schema_of Two i) (found_tree i) old.now new.now
-    by true = creates found_text old new (schema_of One true) (found_by true) (found_is true) refl ran
-    by false = creates found_text old new (schema_of One false) (found_by false) (found_is false) refl ran
+    by : (i : Layout) → old.now.schema ≡ schema_of One i → Grows (schema_of One i) (schema_of Two (alone i)) (found_tree (alone i)) old.now new.now
+    by (Indexed others) = creates found_text old new (schema_of One (Indexed others)) (found_by (Indexed no_others)) (found_is (Indexed others)) refl ran
+    by (Plain others) = creates found_text old new (schema_of One (Plain others)) (found_by (Plain no_others)) (found_is (Plain others)) refl ran
 
-makes_found : (i : Bool) (old new : State) → AddsFound old new → Extends (schema_of One i) (schema_of Two i) old new
-makes_found i old new h = record { was_open = h.was_open; bare = λ bare. let grows = h.added i bare.schema in record { schema = grows.schema; empty = bare_more (schema_of One i) (schema_of Two i) (found_by i) old.now new.now grows bare } }
+makes_found : (old new : State) → AddsFound old new → Extends (schema_of One (Plain no_others)) line_schema old new
+makes_found old new h = record { was_open = h.was_open; bare = λ bare. let grows = h.added (Plain no_others) bare.schema in record { schema = grows.schema; empty = bare_more (schema_of One (Plain no_others)) line_schema (found_by (Plain no_others)) old.now new.now grows bare } }
 
 pub makes_list : (a b c : State) → Runs version_text [] a b → Runs accepted_text [] b c → Extends (first_of_line 0 0) (first_of_line 2 1) a c
 makes_list a b c r1 r2 = extends_then _ _ _ a b c (makes_version a b r1) (makes_accepted b c r2)
@@ -115,7 +117,7 @@ pub makes_floor : (a b c d : State) → Runs reel_text [] a b → Runs mount_tex
 makes_floor a b c d r1 r2 r3 = extends_then _ _ _ a c d (extends_then _ _ _ a b c (makes_reel a b r1) (makes_mount b c r2)) (makes_board c d r3)
 
 pub makes_pieces : (a b c : State) → Runs placement_text [] a b → AddsFound b c → Extends (first_of_line 9 8) line_schema a c
-makes_pieces a b c r1 r2 = extends_then _ _ _ a b c (makes_placement a b r1) (makes_found false b c r2)
+makes_pieces a b c r1 r2 = extends_then _ _ _ a b c (makes_placement a b r1) (makes_found b c r2)
 
 -- what was empty is so in the trees that stay
 still_bare : (tree : ℕ) (tables : List Table) (old new : Trees) → list_all (λ t. not (t.tree == tree)) tables ≡ true → AllByRecursion (λ t. t.tree ≢ tree → new t.tree ≡ old t.tree) tables → AllByRecursion (λ t. old t.tree ≡ []) tables
@@ -129,11 +131,11 @@ version_cast greatest = rw (cast_int (pos 1), cast_int (pos 2), cast_int (pos gr
 -- the one row of `version` is put in
 puts_version : (greatest : ℕ) (old new : State) → Runs insert_version (Int (pos greatest) ∷ []) old new → IsBare line_schema old.now → (new.now.schema ≡ line_schema) × Holds new.now (blank greatest) × IsDatabase new.now
 puts_version greatest old new ran bare =
-    let put = insert_does insert_version (Int (pos greatest) ∷ []) old new line_schema bare.schema 0 version version_terms 4 refl refl refl insert_version_is.0 insert_version_is.1 ran.count ran.executed (quiet false 0 []) in
+    let put = insert_does insert_version (Int (pos greatest) ∷ []) old new line_schema bare.schema 0 version version_terms 4 refl refl refl insert_version_is.0 insert_version_is.1 ran.count ran.executed (quiet (Plain no_others) 0 refl []) in
     let row = Int (pos 1) ∷ Null ∷ Int (pos 2) ∷ Int (pos greatest) ∷ [] in
     let is : new.now.trees 0 ≡ row ∷ [] = put.step.rows ∙ ap (λ r. put_row (with_rowid Chosen (old.now.trees 0) r) (old.now.trees 0)) (version_cast greatest) ∙ ap (λ l. put_row row l) bare.empty.0 in
-    let others : AllByRecursion (λ t. new.now.trees t.tree ≡ []) (accepted ∷ state_tables false) = still_bare 0 (accepted ∷ state_tables false) old.now.trees new.now.trees refl put.step.tables.1 bare.empty.1 in
-    (put.same, holds_blank false greatest new.now put.same (ap (map version_columns) is) others, put.sound)
+    let others : AllByRecursion (λ t. new.now.trees t.tree ≡ []) (accepted ∷ state_tables (Plain no_others)) = still_bare 0 (accepted ∷ state_tables (Plain no_others)) old.now.trees new.now.trees refl put.step.tables.1 bare.empty.1 in
+    (put.same, holds_blank (Plain no_others) greatest new.now put.same (ap (map version_columns) is) others, put.sound)
 
 pub makes_all : (greatest : ℕ) (a b c : State) → Extends no_schema line_schema a b → Runs insert_version (Int (pos greatest) ∷ []) b c → Makes greatest a c
 makes_all greatest a b c made put =

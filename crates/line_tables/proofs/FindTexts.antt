@@ -15,7 +15,7 @@ use Rattle.sqlite_tied.specs.Compute.{everything}
 use Rattle.sqlite.proofs.Callers.{IsPlain, command_of}
 use Rattle.sqlite.specs.Schema.{Schema}
 use Rattle.desk_types.specs.declared.rules.Rules.{Rules}
-use Rattle.line_tables.specs.Line.{schema_of}
+use Rattle.line_tables.specs.Line.{schema_of, Layout}
 
 -- the rows of one table that pass the tests, as they come: no group, no DISTINCT, no ORDER BY, no LIMIT
 abbrev pub rows_from : ℕ → List Term → List Term → Query
@@ -27,7 +27,7 @@ IsSelectIn schema sql q names = (command_of (understood schema sql) ≡ Select (
 
 -- so it does in our schema of each version and layout, or it is no statement there
 abbrev pub IsSelectBy : List ℕ → (Schema → Query) → List (List ℕ) → Type 0
-IsSelectBy sql q names = (rules : Rules) (indexed : Bool) → IsSelectIn (schema_of rules indexed) sql (q (schema_of rules indexed)) names ⊎ (is_ok (understood (schema_of rules indexed) sql) ≡ false)
+IsSelectBy sql q names = (rules : Rules) (indexed : Layout) → IsSelectIn (schema_of rules indexed) sql (q (schema_of rules indexed)) names ⊎ (is_ok (understood (schema_of rules indexed) sql) ≡ false)
 
 -- and it means the same query in each
 abbrev pub IsSelect : List ℕ → Query → List (List ℕ) → Type 0

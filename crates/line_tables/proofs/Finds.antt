@@ -45,7 +45,7 @@ not_shown schema sql params old new rows h has none = true≢false (ap is_ok (sy
 -- the same in our schema of each version and layout
 pub answer_by : {S : Type 0} (g : Ghosts S) (sql : List ℕ) (q : Schema → Query) (names : List (List ℕ)) → IsSelectBy sql q names → (params : Row) (old : Held S) (rows : List Row) → Selects g sql params old rows → IsOurs (state g old).committed.schema
     → IsAnswer (q (state g old).committed.schema) (overlay (state g old).committed.trees []) params rows
-answer_by g sql q names is params old rows h (rules, indexed, has) = elim (is rules indexed) [
+answer_by g sql q names is params old rows h ours = let rules = ours.rules in let indexed = ours.layout in let has = ours.same in elim (is rules indexed) [
   | inl means ↦ subst (λ s. IsAnswer (q s) (overlay (state g old).committed.trees []) params rows) (sym has) (answer_in g (schema_of rules indexed) sql (q (schema_of rules indexed)) names means params old rows h has)
   | inr none ↦ absurd (not_shown (schema_of rules indexed) sql params _ _ rows h.shown (ap (λ (db : Database). db.schema) h.settled ∙ has) none)
 ]

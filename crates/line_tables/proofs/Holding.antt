@@ -28,7 +28,7 @@ held_at t trees (left, holds, sound, is) db found same =
 module _ (old : State) (tables : Tables) (holds : Holds old.committed tables) where
   pub only_held : (has : Row → Bool) (o : Option Row) → Reads old (λ db. filter has (accepted_in db) ≡ only o) → filter has tables.accepted ≡ only o
   only_held has o h =
-      one_order _ o (subst (IsPermutation (filter has tables.accepted)) (h.are (Two, holds.indexed, holds.schema)) (IsPermutation-sym _ _ (IsPermutation-filter has (accepted_in old.committed) tables.accepted holds.accepted)))
+      one_order _ o (subst (IsPermutation (filter has tables.accepted)) (h.are (record { rules = Two; layout = holds.indexed; same = holds.schema })) (IsPermutation-sym _ _ (IsPermutation-filter has (accepted_in old.committed) tables.accepted holds.accepted)))
 
   pub row_held : (has : Row → Bool) (o : Option Accepted) → Reads old (λ db. filter has (accepted_in db) ≡ row_of o) → filter has tables.accepted ≡ row_of o
   row_held has None h = only_held has None h

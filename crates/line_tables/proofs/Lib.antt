@@ -23,4 +23,5 @@ pub mod Migration
 pub mod RowidTexts
 pub mod Rising
 pub mod Placing
+pub mod Beside
 pub mod Between

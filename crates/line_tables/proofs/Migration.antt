@@ -15,7 +15,7 @@ use Rattle.sqlite_rules.specs.Edit.{without_all, put_all}
 use Rattle.sqlite_rules.specs.Calls.{ids_of}
 use Rattle.sqlite.specs.State.{State}
 use Rattle.desk_types.specs.declared.rules.Rules.TheVariants.{One, Two}
-use Rattle.line_tables.specs.Line.{schema_of, schema_tables, version, part, alternate, sheet_row, selected, reel, mount, board, placement, found, found_by, found_tree}
+use Rattle.line_tables.specs.Line.{schema_of, schema_tables, version, part, alternate, sheet_row, selected, reel, mount, board, placement, found, found_by, found_tree, Layout, alone, others_in}
 use Rattle.line_tables.specs.Rowids.{AreApart}
 use Rattle.line_tables.specs.Rows.{Tables, Holds, HoldsBy, version_columns, accepted_columns, version_row, version_in}
 use Rattle.line_tables.specs.Calls.{Runs, AddsFound, Grows, Migrates}
@@ -25,11 +25,12 @@ use Rattle.line_tables.specs.StateRows.{kept_in}
 use Rattle.line_tables.proofs.Alterations.{one_of_map}
 use Rattle.line_tables.proofs.Changes.{Changed, passing, shows_of, renewed, update_does}
 use Rattle.line_tables.proofs.Creates.{version_cast}
-use Rattle.line_tables.proofs.Puts.{quiet}
+use Rattle.line_tables.proofs.Beside.{quiet}
 use Rattle.line_tables.proofs.CreateTexts.{update_version, version_renewed, update_version_is}
+use Rattle.line_tables.specs.Line.Layout.{Indexed, Plain}
 
 -- the tables of version 1 but `version`
-abbrev rest : Bool → List Table
+abbrev rest : Layout → List Table
 rest indexed = drop 1 (schema_tables One indexed)
 
 -- one row alone is apart
@@ -45,7 +46,7 @@ kept_on tree [] more a b c apart kept others = tt
 kept_on tree (u ∷ us) more a b c apart kept others = let is = and_parts _ _ apart in (others.0 (other_tree u.tree tree is.0) ∙ kept.0, kept_on tree us more a b c is.1 kept.1 others.1)
 
 -- the one row of `version` has the other number
-renews_version : (i : Bool) (greatest : ℕ) (r : Row) (old new : State) → version_columns r ≡ version_row One greatest → old.now.trees 0 ≡ r ∷ [] → Changed (schema_of Two i) version [] version_renewed [] (renewed version) old new → version_in new.now ≡ version_row Two greatest ∷ []
+renews_version : (i : Layout) (greatest : ℕ) (r : Row) (old new : State) → version_columns r ≡ version_row One greatest → old.now.trees 0 ≡ r ∷ [] → Changed (schema_of Two i) version [] version_renewed [] (renewed version) old new → version_in new.now ≡ version_row Two greatest ∷ []
 renews_version i greatest r old new columns is h =
     let first : column r 0 ≡ Int (pos 1) = cc in
     let last : column r 3 ≡ Int (pos greatest) = cc in
@@ -56,31 +57,31 @@ renews_version i greatest r old new columns is h =
     let row : cast_row version (drop 1 (show r)) ≡ Int (pos 1) ∷ Null ∷ Int (pos 2) ∷ Int (pos greatest) ∷ [] = ap₂ (λ a b. cast_row version (a ∷ Null ∷ Int (pos 2) ∷ b ∷ [])) first last ∙ version_cast greatest in
     ap (map version_columns) (h.rows ∙ ap₂ (λ l f. put_all l (renewed version f)) gone found ∙ ap (λ x. put_all [] (x ∷ [])) row)
 
-module _ (i : Bool) (a b c : State) (added : AddsFound a b) (ran : Runs update_version [] b c) (has : a.now.schema ≡ schema_of One i) where
-  grown : Grows (schema_of One i) (schema_of Two i) (found_tree i) a.now b.now
+module _ (i : Layout) (a b c : State) (added : AddsFound a b) (ran : Runs update_version [] b c) (has : a.now.schema ≡ schema_of One i) where
+  grown : Grows (schema_of One i) (schema_of Two (alone i)) (found_tree (alone i)) a.now b.now
   grown = added.added i has
 
-  changed : Changed (schema_of Two i) version [] version_renewed [] (renewed version) b c
-  changed = (update_does update_version [] b c (schema_of Two i) grown.schema 0 version [] version_renewed refl (quiet i 0) (update_version_is i).1 ran.count ran.executed (update_version_is i).0).0
+  changed : Changed (schema_of Two (alone i)) version [] version_renewed [] (renewed version) b c
+  changed = (update_does update_version [] b c (schema_of Two (alone i)) grown.schema 0 version [] version_renewed refl (quiet (alone i) 0 refl) (update_version_is (alone i)).1 ran.count ran.executed (update_version_is (alone i)).0).0
 
   same : KeepsRows (rest i) a.now.trees c.now.trees
-  same = kept_on 0 (rest i) (found_by i ∷ []) a.now.trees b.now.trees c.now.trees refl grown.kept.1 changed.others.1
+  same = kept_on 0 (rest i) (found_by (alone i) ∷ (others_in (alone i)).tables) a.now.trees b.now.trees c.now.trees refl grown.kept.1 changed.others.1
 
   empty : kept_in found c.now ≡ []
-  empty = found_kept Two i c.now changed.same ∙ changed.others.1.1.1.1.1.1.1.1.1.1.0 (behind i) ∙ grown.empty
+  empty = found_kept (alone i) c.now changed.same ∙ changed.others.1.1.1.1.1.1.1.1.1.1.0 (behind (alone i)) ∙ grown.empty
     where
-      behind : (i : Bool) → found_tree i ≢ 0
-      behind true = other_tree 21 0 refl
-      behind false = other_tree 19 0 refl
+      behind : (i : Layout) → found_tree i ≢ 0
+      behind (Indexed others) = other_tree 21 0 refl
+      behind (Plain others) = other_tree 19 0 refl
 
   numbered : (greatest : ℕ) → version_in a.now ≡ version_row One greatest ∷ [] → version_in c.now ≡ version_row Two greatest ∷ []
   numbered greatest was =
       let row = one_of_map version_columns (a.now.trees 0) (version_row One greatest) was in
-      renews_version i greatest row.0 b c row.2 (grown.kept.0 ∙ row.1) changed
+      renews_version (alone i) greatest row.0 b c row.2 (grown.kept.0 ∙ row.1) changed
 
   migrated : (t : Tables) → HoldsBy One a.now t → Holds c.now t
   migrated t was = record {
-    indexed = i;
+    indexed = alone i;
     schema = changed.same;
     version = numbered t.greatest was.version;
     accepted = subst (λ l. IsPermutation (map accepted_columns l) t.accepted) (sym same.0) was.accepted;

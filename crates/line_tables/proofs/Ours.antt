@@ -1,14 +1,16 @@
 -- The test of a schema, and what holds of ours.
-use Rattle.std.proofs.Common.{◌≡◌, inl, inr, Bool, true, false, ◌&&◌, refl, sym, ap, ap₂, subst, true≢false}
-use Rattle.std.proofs.lemmas.Bool.{eqb-true, eq-eqb, or_cases, or_left, or_right}
+use Rattle.std.proofs.Common.{◌≡◌, ◌∙◌, ◌++◌, [], inl, inr, Bool, true, false, ◌&&◌, length, take, drop, refl, sym, ap, ap₂, subst, true≢false}
+use Rattle.std.proofs.lemmas.Bool.{eqb-true, eq-eqb, or_cases, or_left, or_right, and_from}
+use Rattle.std.proofs.lemmas.List.{take-append-drop}
 use base.Stored.{Gv, gnil, gnum, gcons}
 use Rattle.sqlite.specs.Schema.{Schema}
 use Rattle.sqlite_schema.specs.Names.{same_name}
 use Rattle.sqlite_schema.specs.contracts.schema.Schema.{the_row}
 use Rattle.desk_types.specs.declared.rules.Rules.{Rules}
 use Rattle.desk_types.specs.declared.rules.Rules.TheVariants.{One, Two}
-use Rattle.line_tables.specs.Line.{schema_of, IsOurs, no_schema, is_ours, is_blank, is_same_schema, is_same_code}
+use Rattle.line_tables.specs.Line.{schema_of, IsOurs, no_schema, is_ours, is_blank, is_same_schema, is_same_code, Layout, begins_with, are_quiet, first_behind, nothing as no_others}
 use Rattle.line_tables.specs.Names.{has_state}
+use Rattle.line_tables.specs.Line.Layout.{Indexed, Plain}
 
 both : (a b : Bool) → (a && b) ≡ true → (a ≡ true) × (b ≡ true)
 both true b h = (refl, h)
@@ -35,10 +37,27 @@ same_schema : (a b : Schema) → is_same_schema a b ≡ true → a ≡ b
 unfolding is_same_schema
 same_schema a b h = the_row.coded.inj a b (same_is _ _ h)
 
-pub ours_is : (schema : Schema) → is_ours schema ≡ true → (indexed : Bool) × (schema ≡ schema_of Two indexed)
-ours_is schema h = elim (or_cases (is_same_schema schema (schema_of Two true)) (is_same_schema schema (schema_of Two false)) h) [
-  | inl with_indexes ↦ (true, same_schema schema (schema_of Two true) with_indexes)
-  | inr without ↦ (false, same_schema schema (schema_of Two false) without)
+-- what is behind our tables and indexes is of others
+begun : (bare : Layout) (schema : Schema) → begins_with bare schema ≡ true → (h : are_quiet (first_behind bare) (drop 11 schema.tables) ≡ true)
+    × (schema.tables ≡ (schema_of Two bare).tables ++ drop 11 schema.tables) × (schema.indexes ≡ (schema_of Two bare).indexes ++ drop (length (schema_of Two bare).indexes) schema.indexes)
+begun bare schema h =
+    let p = both _ _ h in
+    let n = length (schema_of Two bare).indexes in
+    let same = same_schema (record { tables = take 11 schema.tables; indexes = take n schema.indexes; views = [] }) (schema_of Two bare) p.0 in
+    (p.1, sym (take-append-drop 11 schema.tables) ∙ ap (λ (s : Schema). s.tables ++ drop 11 schema.tables) same, sym (take-append-drop n schema.indexes) ∙ ap (λ (s : Schema). s.indexes ++ drop n schema.indexes) same)
+
+pub ours_is : (schema : Schema) → is_ours schema ≡ true → (indexed : Layout) × (schema ≡ schema_of Two indexed)
+ours_is schema h = elim (or_cases (begins_with (Indexed no_others) schema) (begins_with (Plain no_others) schema) h) [
+  | inl with_indexes ↦
+      let b = begun (Indexed no_others) schema with_indexes in (
+        Indexed (record { tables = drop 11 schema.tables; indexes = drop (length (schema_of Two (Indexed no_others)).indexes) schema.indexes; views = schema.views; quiet = b.0 }),
+        ap₂ (λ ts is. record { tables = ts; indexes = is; views = schema.views }) b.1 b.2,
+      )
+  | inr without ↦
+      let b = begun (Plain no_others) schema without in (
+        Plain (record { tables = drop 11 schema.tables; indexes = drop (length (schema_of Two (Plain no_others)).indexes) schema.indexes; views = schema.views; quiet = b.0 }),
+        ap₂ (λ ts is. record { tables = ts; indexes = is; views = schema.views }) b.1 b.2,
+      )
 ]
 
 pub blank_is : (schema : Schema) → is_blank schema ≡ true → schema ≡ no_schema
@@ -48,22 +67,25 @@ same_of : (a b : Schema) → a ≡ b → is_same_schema a b ≡ true
 unfolding is_same_schema
 same_of a b is = subst (λ s. is_same_code (the_row.coded.code s) (the_row.coded.code b) ≡ true) (sym is) (same_itself (the_row.coded.code b))
 
-pub is_ours_of : (schema : Schema) (indexed : Bool) → schema ≡ schema_of Two indexed → is_ours schema ≡ true
-is_ours_of schema true is = or_left _ _ (same_of schema (schema_of Two true) is)
-is_ours_of schema false is = or_right _ _ (same_of schema (schema_of Two false) is)
+pub is_ours_of : (schema : Schema) (indexed : Layout) → schema ≡ schema_of Two indexed → is_ours schema ≡ true
+is_ours_of schema (Indexed others) is = or_left _ _ (subst (λ s. begins_with (Indexed no_others) s ≡ true) (sym is) (and_from _ _ (same_of (schema_of Two (Indexed no_others)) (schema_of Two (Indexed no_others)) refl) others.quiet))
+is_ours_of schema (Plain others) is = or_right _ _ (subst (λ s. begins_with (Plain no_others) s ≡ true) (sym is) (and_from _ _ (same_of (schema_of Two (Plain no_others)) (schema_of Two (Plain no_others)) refl) others.quiet))
 
 pub is_blank_of : (schema : Schema) → schema ≡ no_schema → is_blank schema ≡ true
 is_blank_of schema is = same_of schema no_schema is
 
 -- the names of one version are told from those of the other
-whole_of : (rules kept : Rules) (indexed : Bool) → has_state rules (schema_of kept indexed).tables ≡ true → rules ≡ kept
+whole_of : (rules kept : Rules) (indexed : Layout) → has_state rules (schema_of kept indexed).tables ≡ true → rules ≡ kept
 unfolding same_name
 whole_of One One indexed h = refl
 whole_of Two Two indexed h = refl
 whole_of One Two indexed h = absurd (true≢false (sym h))
 whole_of Two One indexed h = absurd (true≢false (sym h))
 
-pub ours_whole : (rules : Rules) (schema : Schema) → IsOurs schema → has_state rules schema.tables ≡ true → (indexed : Bool) × (schema ≡ schema_of rules indexed)
-ours_whole rules schema (kept, indexed, is) whole =
+pub ours_whole : (rules : Rules) (schema : Schema) → IsOurs schema → has_state rules schema.tables ≡ true → (indexed : Layout) × (schema ≡ schema_of rules indexed)
+ours_whole rules schema ours whole =
+    let kept = ours.rules in
+    let indexed = ours.layout in
+    let is = ours.same in
     let same : rules ≡ kept = whole_of rules kept indexed (subst (λ (s : Schema). has_state rules s.tables ≡ true) is whole) in
     (indexed, subst (λ r. schema ≡ schema_of r indexed) (sym same) is)

@@ -13,7 +13,7 @@ use Rattle.sqlite_trees.specs.Tree.{put_row}
 use Rattle.sqlite.specs.State.{State}
 use Rattle.desk_types.specs.declared.row.PlacementRow.{PlacementRow}
 use Rattle.desk_types.specs.declared.rules.Rules.TheVariants.{Two}
-use Rattle.line_tables.specs.Line.{schema_of, placement}
+use Rattle.line_tables.specs.Line.{schema_of, placement, Layout}
 use Rattle.line_tables.specs.Rowids.{placement_id}
 use Rattle.line_tables.specs.StateRows.{AreRows, columns, has_piece, placement_columns, flag}
 use Rattle.line_tables.specs.Placing.{placement_edit, placement_kept, ArePlacing}
@@ -21,10 +21,11 @@ use Rattle.line_tables.specs.declared.edit.Edit.{Edit}
 use Rattle.line_tables.specs.Rows.{Tables, Holds, AreNew, with_edit, after_edits, version_columns, accepted_columns}
 use Rattle.line_tables.specs.Calls.{Runs, Writes}
 use Rattle.line_tables.proofs.Inserts.{Inserted, insert_does}
-use Rattle.line_tables.proofs.Puts.{quiet, cast_int, put_permutes}
+use Rattle.line_tables.proofs.Puts.{cast_int, put_permutes}
 use Rattle.line_tables.proofs.Altering.{IsElsewhere, others_hold, all_apart_but, other_tree}
 use Rattle.line_tables.proofs.Keyed.{added, one_piece, own_int, same_piece, tells_piece}
 use Rattle.line_tables.proofs.RowTexts.{insert_placement, placement_terms, insert_placement_is, insert_placements, placements_terms, insert_placements_is}
+use Rattle.line_tables.proofs.Beside.{quiet, others_behind}
 
 placement_cast : (row : PlacementRow) → cast_row placement (placement_kept row) ≡ placement_kept row
 placement_cast row = rw (cast_int (pos (placement_id row.number row.place)), cast_int (pos row.number), cast_int (pos row.place), cast_int (flag row.overdue)) refl
@@ -63,7 +64,7 @@ pieces_in (row ∷ rows) db t was fresh new =
     (added has_piece (λ _ row. placement_columns row) one_piece same_piece tells_piece (row.number, row.place) row _ _ (λ piece. t.state.placements piece.0 piece.1) _ new.0 (and_from _ _ (own_int row.number) (own_int row.place)) (λ l. refl) one was) free.1 new.1
 
 -- the rows that a statement puts in are those of as many edits
-puts_pieces : (rows : List PlacementRow) (a c : State) → IsTrue a.is_open → ((indexed : Bool) → a.now.schema ≡ schema_of Two indexed → Inserted (schema_of Two indexed) placement (map placement_kept rows) a c) → Writes (map placement_edit rows) a c
+puts_pieces : (rows : List PlacementRow) (a c : State) → IsTrue a.is_open → ((indexed : Layout) → a.now.schema ≡ schema_of Two indexed → Inserted (schema_of Two indexed) placement (map placement_kept rows) a c) → Writes (map placement_edit rows) a c
 puts_pieces rows a c was_open did = record {
   was_open = was_open;
   done = λ t was new.
@@ -96,17 +97,18 @@ puts_pieces rows a c was_open did = record {
         }),
       );
   sound = λ t was new. (did was.indexed was.schema).sound;
+  others = others_behind 17 a.now c.now (λ layout has. (refl, (did layout has).same, (did layout has).step.tables));
 }
 
 pub placement_put : (row : PlacementRow) (a c : State) → Runs insert_placement (placement_kept row) a c → Writes (placement_edit row ∷ []) a c
 placement_put row a c ran =
     puts_pieces (row ∷ []) a c ran.shown.was_open
-    (λ i has. insert_does insert_placement (placement_kept row) a c (schema_of Two i) has 9 placement placement_terms 9 refl refl refl (insert_placement_is i).0 (insert_placement_is i).1 ran.count ran.executed (quiet i 17 []))
+    (λ i has. insert_does insert_placement (placement_kept row) a c (schema_of Two i) has 9 placement placement_terms 9 refl refl refl (insert_placement_is i).0 (insert_placement_is i).1 ran.count ran.executed (quiet i 17 refl []))
 
 -- the parameters of the text for eight rows are the values of these
-eight_in : (rows : List PlacementRow) (a c : State) → length rows ≡ 8 → Runs insert_placements (flat_map placement_kept rows) a c → (i : Bool) → a.now.schema ≡ schema_of Two i → Inserted (schema_of Two i) placement (map placement_kept rows) a c
+eight_in : (rows : List PlacementRow) (a c : State) → length rows ≡ 8 → Runs insert_placements (flat_map placement_kept rows) a c → (i : Layout) → a.now.schema ≡ schema_of Two i → Inserted (schema_of Two i) placement (map placement_kept rows) a c
 eight_in (p ∷ q ∷ r ∷ s ∷ t ∷ u ∷ v ∷ w ∷ []) a c eight ran i has =
-    insert_does insert_placements (flat_map placement_kept (p ∷ q ∷ r ∷ s ∷ t ∷ u ∷ v ∷ w ∷ [])) a c (schema_of Two i) has 9 placement placements_terms 9 refl refl refl (insert_placements_is i).0 (insert_placements_is i).1 ran.count ran.executed (quiet i 17 [])
+    insert_does insert_placements (flat_map placement_kept (p ∷ q ∷ r ∷ s ∷ t ∷ u ∷ v ∷ w ∷ [])) a c (schema_of Two i) has 9 placement placements_terms 9 refl refl refl (insert_placements_is i).0 (insert_placements_is i).1 ran.count ran.executed (quiet i 17 refl [])
 eight_in [] a c eight ran i has = absurd (omega (arith, eight))
 eight_in (p ∷ []) a c eight ran i has = absurd (omega (arith, eight))
 eight_in (p ∷ q ∷ []) a c eight ran i has = absurd (omega (arith, eight))

@@ -15,9 +15,6 @@ use Rattle.sqlite.specs.Cast.{cast, cast_row}
 use Rattle.sqlite.specs.Kind.TheVariants.{Integer}
 use Rattle.sqlite_value.specs.Order.{value_cmp}
 use Rattle.sqlite_trees.specs.Tree.{rowid, put_row}
-use Rattle.sqlite_rules.specs.Action.{works, work_by, pairs, deed_for}
-use Rattle.sqlite_schema.specs.Rules.{parent_key}
-use Rattle.sqlite_schema.specs.declared.schema.Keys.TheVariants.{Enforced}
 use Rattle.sqlite_rules.specs.Edit.{is_taken, with_rowid}
 use Rattle.sqlite.specs.Rowids.TheVariants.{Chosen}
 use Rattle.sqlite.specs.State.{State}
@@ -26,11 +23,12 @@ use Rattle.line_tables.specs.declared.edit.Accepted.{Accepted}
 use Rattle.line_tables.specs.declared.edit.Edit.{Edit}
 use Rattle.line_tables.specs.declared.edit.Edit.TheVariants.{PutAccepted}
 use Rattle.desk_types.specs.declared.rules.Rules.TheVariants.{Two}
-use Rattle.line_tables.specs.Line.{schema_of, schema_tables, accepted}
+use Rattle.line_tables.specs.Line.{schema_of, schema_tables, accepted, Layout}
 use Rattle.line_tables.specs.Rows.{Tables, Holds, AreNew, columns_of, accepted_columns, with_edit, after_edits}
 use Rattle.line_tables.specs.Calls.{Runs, Edits, Writes}
 use Rattle.line_tables.proofs.Inserts.{Inserted, insert_does}
 use Rattle.line_tables.proofs.Altering.{list_grows}
+use Rattle.line_tables.proofs.Beside.{quiet, others_behind}
 use Rattle.line_tables.proofs.PutTexts.{insert_accepted, accepted_terms, insert_accepted_is}
 
 either : (b : Bool) (x : Value) → cond b x x ≡ x
@@ -44,12 +42,6 @@ cast_int n = either _ (Int n)
 pub cast_null : cast Integer Null ≡ Null
 unfolding unary
 cast_null = either _ Null
-
--- no foreign key acts
-pub quiet : (indexed : Bool) (tree : ℕ) (olds news : List Row) → works (schema_of Two indexed) Enforced 0 tree olds news ≡ []
-quiet indexed tree olds news =
-    elim (length news == 0) as (λ b. flat_map (λ child. filter_map (λ ref. work_by 0 tree (pairs olds news) child ref (deed_for Enforced b ref) (parent_key (schema_tables Two indexed) ref)) child.references) (schema_tables Two indexed) ≡ [])
-    [ true ↦ refl | false ↦ refl ]
 
 pub not_taken : (b : Bool) → (not b && true) ≡ true → b ≡ false
 not_taken true h = absurd (cc)
@@ -90,14 +82,15 @@ module _ (a : Accepted) (old new : State) where
 
   pub puts_accepted : Runs insert_accepted (columns_of a) old new → Writes (PutAccepted a ∷ []) old new
   puts_accepted h =
-      let inserted : (indexed : Bool) → old.now.schema ≡ schema_of Two indexed → Inserted (schema_of Two indexed) accepted (kept_row (columns_of a) ∷ []) old new =
+      let inserted : (indexed : Layout) → old.now.schema ≡ schema_of Two indexed → Inserted (schema_of Two indexed) accepted (kept_row (columns_of a) ∷ []) old new =
       λ indexed has.
       let means = insert_accepted_is indexed in
-      insert_does insert_accepted (columns_of a) old new (schema_of Two indexed) has 1 accepted accepted_terms 8 refl refl refl means.0 means.1 h.count h.executed (quiet indexed 1 []) in
+      insert_does insert_accepted (columns_of a) old new (schema_of Two indexed) has 1 accepted accepted_terms 8 refl refl refl means.0 means.1 h.count h.executed (quiet indexed 1 refl []) in
       record {
         was_open = h.shown.was_open;
         done = λ tables holds _. inserted_edits tables holds (inserted holds.indexed holds.schema);
         sound = λ tables holds _. (inserted holds.indexed holds.schema).sound;
+        others = others_behind 1 old.now new.now (λ layout has. (refl, (inserted layout has).same, (inserted layout has).step.tables));
       }
 
 -- what is left of the edits, where the first of them are made: it makes of the tables that the one database holds what all make of those of the other, whose layout it is

@@ -29,7 +29,7 @@ use Rattle.sqlite.specs.State.{State, KeepsCommit}
 use Rattle.line_tables.specs.Calls.{Reads}
 use Rattle.desk_types.specs.declared.rules.Rules.{Rules}
 use Rattle.desk_types.specs.declared.rules.Rules.TheVariants.{One, Two}
-use Rattle.line_tables.specs.Line.{IsOurs, tree_in, found, found_tables}
+use Rattle.line_tables.specs.Line.{IsOurs, tree_in, found, found_tables, nothing as no_others}
 use Rattle.line_tables.specs.StateRows.{kept_in}
 use Rattle.line_tables.specs.Rowids.{AreApart, AreAllApartBy, changed_tables, changed_of}
 use Rattle.line_tables.specs.Rising.{AreRising, IsBefore, IsPast, Shows, AreApartWhere, IsFoundApartWhere}
@@ -37,6 +37,7 @@ use Rattle.line_tables.proofs.Finds.{answer_by, shown_of, overlay_none}
 use Rattle.line_tables.proofs.FindTexts.{IsSelectBy}
 use Rattle.line_tables.proofs.Keeps.{keeps_same, keeps_then}
 use Rattle.line_tables.proofs.RowidTexts.{rowids_from, IsRowids, found_is}
+use Rattle.line_tables.specs.Line.Layout.{Indexed}
 
 -- ---- one row more
 
@@ -227,13 +228,13 @@ told_four s1 s2 s3 s4 k1 k2 k3 t1 t2 t3 t4 a b c d r1 r2 r3 r4 all is =
     (told_more s1 s2 k1 t1 (t2 ∷ t3 ∷ t4 ∷ []) a _ r1 (told_more s2 s3 k2 t2 (t3 ∷ t4 ∷ []) b _ r2 (told_more s3 s4 k3 t3 (t4 ∷ []) c _ r3 (told_more s4 s4 (keeps_same s4) t4 [] d true r4 (told_none s4 r4.was_open)))))
 
 -- what is told of what counts found
-found_told : (old mid : State) → KeepsCommit old mid → (rules : Rules) (b : Bool) → IsFoundApartWhere rules b mid → IsOurs old.committed.schema → AreApartWhere b (found_tables rules true) old.committed
+found_told : (old mid : State) → KeepsCommit old mid → (rules : Rules) (b : Bool) → IsFoundApartWhere rules b mid → IsOurs old.committed.schema → AreApartWhere b (found_tables rules (Indexed no_others)) old.committed
 found_told old mid kept One b told ours = λ is. tt
 found_told old mid kept Two b told ours = (reads_before old mid kept (AreApartWhere b (found ∷ [])) told).are ours
 
 -- what is told of three tables, and then of what counts found
 pub told_three : (s1 s2 s3 s4 : State) → KeepsCommit s1 s2 → KeepsCommit s2 s3 → KeepsCommit s3 s4 → (t1 t2 t3 : Table) (rules : Rules) (a b c d : Bool) → Reads s1 (λ db. IsTrue a → AreApart (kept_in t1 db)) → Reads s2 (λ db. IsTrue b → AreApart (kept_in t2 db))
-    → Reads s3 (λ db. IsTrue c → AreApart (kept_in t3 db)) → IsFoundApartWhere rules d s4 → (all : Bool) → all ≡ (a && (b && (c && (d && true)))) → Reads s1 (AreApartWhere all (t1 ∷ t2 ∷ t3 ∷ found_tables rules true))
+    → Reads s3 (λ db. IsTrue c → AreApart (kept_in t3 db)) → IsFoundApartWhere rules d s4 → (all : Bool) → all ≡ (a && (b && (c && (d && true)))) → Reads s1 (AreApartWhere all (t1 ∷ t2 ∷ t3 ∷ found_tables rules (Indexed no_others)))
 told_three s1 s2 s3 s4 k1 k2 k3 t1 t2 t3 rules a b c d r1 r2 r3 last all is =
     let k13 = keeps_then s1 s2 s3 k1 k2 in
     record {

@@ -37,48 +37,50 @@ use Rattle.desk_types.specs.declared.row.ReelRow.{ReelRow}
 use Rattle.desk_types.specs.declared.row.MountRow.{MountRow}
 use Rattle.desk_types.specs.declared.row.BoardRow.{BoardRow}
 use Rattle.desk_types.specs.declared.rules.Rules.TheVariants.{Two}
-use Rattle.line_tables.specs.Line.{schema_of, schema_tables, part, alternate, sheet_row, selected, reel, mount, board, found, found_by, found_tree}
+use Rattle.line_tables.specs.Line.{schema_of, schema_tables, part, alternate, sheet_row, selected, reel, mount, board, found, found_by, found_tree, Layout}
 use Rattle.line_tables.specs.StateRows.{values_of, AreRows, columns, rows_in, has_text, has_pair, has_sheet_place, unit_if, part_columns, alternate_columns, sheet_columns, selected_columns, reel_columns, mount_columns, board_columns, found_columns, since_or_none, flag}
 use Rattle.line_tables.specs.Calls.{Runs, Changes, ChangesOrPuts, WritesRow}
 use Rattle.line_tables.proofs.Inserts.{Inserted, insert_does}
-use Rattle.line_tables.proofs.Puts.{quiet, cast_int, cast_null}
+use Rattle.line_tables.proofs.Beside.{quiet, is_low, found_low}
+use Rattle.line_tables.proofs.Puts.{cast_int, cast_null}
 use Rattle.line_tables.proofs.Changes.{Changed, renewed, shows_of, passing, delete_does, update_does}
 use Rattle.line_tables.proofs.Finds.{and_true}
 use Rattle.line_tables.proofs.Altering.{without, put_in, rows_at, found_kept, far_from_found, Alters, alters_then, alters_writes}
 use Rattle.line_tables.proofs.Keyed.{changed, added, one_text, one_pair, one_sheet_place, own_text, own_int, same_pair, same_sheet_place, tells_text, tells_pair, tells_sheet_place}
 use Rattle.line_tables.proofs.Alterations.{deletes, inserts, updates_none, updates_one}
 use Rattle.line_tables.proofs.RowTexts.{delete_part, part_tests, delete_part_is, delete_alternate, alternate_tests, delete_alternate_is, delete_sheet_row, sheet_row_tests, delete_sheet_row_is, delete_mount, mount_tests, delete_mount_is, insert_part, part_terms, insert_part_is, insert_alternate, alternate_terms, insert_alternate_is, insert_sheet_row, sheet_row_terms, insert_sheet_row_is, insert_selected, selected_terms, insert_selected_is, insert_reel, reel_terms, insert_reel_is, insert_board, board_terms, insert_board_is, insert_found, found_terms, insert_found_is, insert_mount, mount_terms, insert_mount_is, key_tests, update_selected, selected_renewed, update_selected_is, update_reel, reel_renewed, update_reel_is, update_board, board_renewed, update_board_is, update_found, found_renewed, update_found_is}
+use Rattle.line_tables.specs.Line.Layout.{Indexed, Plain}
 
 -- values are bound as they are lent, but for a NaN
 pub bound_as : (lent : List ValueRef) (row : Row) → values_of lent ≡ row → bound lent ≡ map bound_value row
 bound_as lent row is = sym (map-map bound_value owned lent) ∙ ap (map bound_value) is
 
-module _ (i : Bool) (old new : State) where
+module _ (i : Layout) (old new : State) where
   pub takes_part : (p : Name) → Runs delete_part (Text p ∷ []) old new → Alters i part (without (has_text 0 p)) old new
   takes_part p ran =
       deletes i part (has_text 0 p) part_tests (col 1 0 ∷ []) (Text p ∷ []) old new (λ r. and_true _) (λ r. refl) ran.shown.was_open
-      (λ has. delete_does delete_part (Text p ∷ []) old new (schema_of Two i) has 2 part part_tests (col 1 0 ∷ []) refl (quiet i 3) (delete_part_is i).1 ran.count ran.executed (delete_part_is i).0)
+      (λ has. delete_does delete_part (Text p ∷ []) old new (schema_of Two i) has 2 part part_tests (col 1 0 ∷ []) refl (quiet i 3 refl) (delete_part_is i).1 ran.count ran.executed (delete_part_is i).0)
 
   pub takes_alternate : (p : Name) (q : Name) → Runs delete_alternate (Text p ∷ Text q ∷ []) old new → Alters i alternate (without (has_pair (p, q))) old new
   takes_alternate p q ran =
       deletes i alternate (has_pair (p, q)) alternate_tests (col 1 0 ∷ []) (Text p ∷ Text q ∷ []) old new (λ r. ap (λ c. has_text 0 p (columns alternate r) && c) (and_true _)) (λ r. refl) ran.shown.was_open
-      (λ has. delete_does delete_alternate (Text p ∷ Text q ∷ []) old new (schema_of Two i) has 3 alternate alternate_tests (col 1 0 ∷ []) refl (quiet i 5) (delete_alternate_is i).1 ran.count ran.executed (delete_alternate_is i).0)
+      (λ has. delete_does delete_alternate (Text p ∷ Text q ∷ []) old new (schema_of Two i) has 3 alternate alternate_tests (col 1 0 ∷ []) refl (quiet i 5 refl) (delete_alternate_is i).1 ran.count ran.executed (delete_alternate_is i).0)
 
   pub takes_sheet_row : (p : Name) (m : Name) (n : ℕ) → Runs delete_sheet_row (Text p ∷ Text m ∷ Int (pos n) ∷ []) old new → Alters i sheet_row (without (has_sheet_place (p, m, n))) old new
   takes_sheet_row p m n ran =
       deletes i sheet_row (has_sheet_place (p, m, n)) sheet_row_tests (col 1 0 ∷ []) (Text p ∷ Text m ∷ Int (pos n) ∷ []) old new (λ r. ap (λ c. has_text 0 p (columns sheet_row r) && (has_text 1 m (columns sheet_row r) && c)) (and_true _)) (λ r. refl) ran.shown.was_open
-      (λ has. delete_does delete_sheet_row (Text p ∷ Text m ∷ Int (pos n) ∷ []) old new (schema_of Two i) has 4 sheet_row sheet_row_tests (col 1 0 ∷ []) refl (quiet i 7) (delete_sheet_row_is i).1 ran.count ran.executed (delete_sheet_row_is i).0)
+      (λ has. delete_does delete_sheet_row (Text p ∷ Text m ∷ Int (pos n) ∷ []) old new (schema_of Two i) has 4 sheet_row sheet_row_tests (col 1 0 ∷ []) refl (quiet i 7 refl) (delete_sheet_row_is i).1 ran.count ran.executed (delete_sheet_row_is i).0)
 
   pub takes_mount : (r : Name) → Runs delete_mount (Text r ∷ []) old new → Alters i mount (without (has_text 3 r)) old new
   takes_mount r ran =
       deletes i mount (has_text 3 r) mount_tests (col 1 0 ∷ []) (Text r ∷ []) old new (λ r. and_true _) (λ r. refl) ran.shown.was_open
-      (λ has. delete_does delete_mount (Text r ∷ []) old new (schema_of Two i) has 7 mount mount_tests (col 1 0 ∷ []) refl (quiet i 13) (delete_mount_is i).1 ran.count ran.executed (delete_mount_is i).0)
+      (λ has. delete_does delete_mount (Text r ∷ []) old new (schema_of Two i) has 7 mount mount_tests (col 1 0 ∷ []) refl (quiet i 13 refl) (delete_mount_is i).1 ran.count ran.executed (delete_mount_is i).0)
 
   part_cast : (p : Name) → cast_row part (Null ∷ part_columns p) ≡ Null ∷ part_columns p
   part_cast p = rw (cast_null) refl
 
   part_in : (p : Name) → (ran : Runs insert_part (part_columns p) old new) → old.now.schema ≡ schema_of Two i → Inserted (schema_of Two i) part ((Null ∷ part_columns p) ∷ []) old new
-  part_in p ran has = insert_does insert_part (part_columns p) old new (schema_of Two i) has 2 part part_terms 2 refl refl refl (insert_part_is i).0 (insert_part_is i).1 ran.count ran.executed (quiet i 3 [])
+  part_in p ran has = insert_does insert_part (part_columns p) old new (schema_of Two i) has 2 part part_terms 2 refl refl refl (insert_part_is i).0 (insert_part_is i).1 ran.count ran.executed (quiet i 3 refl [])
 
   pub puts_part : (p : Name) → Runs insert_part (part_columns p) old new → Alters i part (λ rows. (part_columns p) ∷ rows) old new
   puts_part p ran =
@@ -88,7 +90,7 @@ module _ (i : Bool) (old new : State) where
   alternate_cast p q = rw (cast_null) refl
 
   alternate_in : (p : Name) (q : Name) → (ran : Runs insert_alternate (alternate_columns (p, q)) old new) → old.now.schema ≡ schema_of Two i → Inserted (schema_of Two i) alternate ((Null ∷ alternate_columns (p, q)) ∷ []) old new
-  alternate_in p q ran has = insert_does insert_alternate (alternate_columns (p, q)) old new (schema_of Two i) has 3 alternate alternate_terms 3 refl refl refl (insert_alternate_is i).0 (insert_alternate_is i).1 ran.count ran.executed (quiet i 5 [])
+  alternate_in p q ran has = insert_does insert_alternate (alternate_columns (p, q)) old new (schema_of Two i) has 3 alternate alternate_terms 3 refl refl refl (insert_alternate_is i).0 (insert_alternate_is i).1 ran.count ran.executed (quiet i 5 refl [])
 
   pub puts_alternate : (p : Name) (q : Name) → Runs insert_alternate (alternate_columns (p, q)) old new → Alters i alternate (λ rows. (alternate_columns (p, q)) ∷ rows) old new
   puts_alternate p q ran =
@@ -98,7 +100,7 @@ module _ (i : Bool) (old new : State) where
   sheet_row_cast p m n row = rw (cast_null, cast_int (pos n)) refl
 
   sheet_row_in : (p : Name) (m : Name) (n : ℕ) (row : SheetRow) → (ran : Runs insert_sheet_row (sheet_columns (p, m, n) row) old new) → old.now.schema ≡ schema_of Two i → Inserted (schema_of Two i) sheet_row ((Null ∷ sheet_columns (p, m, n) row) ∷ []) old new
-  sheet_row_in p m n row ran has = insert_does insert_sheet_row (sheet_columns (p, m, n) row) old new (schema_of Two i) has 4 sheet_row sheet_row_terms 7 refl refl refl (insert_sheet_row_is i).0 (insert_sheet_row_is i).1 ran.count ran.executed (quiet i 7 [])
+  sheet_row_in p m n row ran has = insert_does insert_sheet_row (sheet_columns (p, m, n) row) old new (schema_of Two i) has 4 sheet_row sheet_row_terms 7 refl refl refl (insert_sheet_row_is i).0 (insert_sheet_row_is i).1 ran.count ran.executed (quiet i 7 refl [])
 
   pub puts_sheet_row : (p : Name) (m : Name) (n : ℕ) (row : SheetRow) → Runs insert_sheet_row (sheet_columns (p, m, n) row) old new → Alters i sheet_row (λ rows. sheet_columns (p, m, n) row ∷ rows) old new
   puts_sheet_row p m n row ran =
@@ -108,7 +110,7 @@ module _ (i : Bool) (old new : State) where
   selected_cast m p = rw (cast_null) refl
 
   selected_in : (m : Name) (p : Name) → (ran : Runs insert_selected (selected_columns m p) old new) → old.now.schema ≡ schema_of Two i → Inserted (schema_of Two i) selected ((Null ∷ selected_columns m p) ∷ []) old new
-  selected_in m p ran has = insert_does insert_selected (selected_columns m p) old new (schema_of Two i) has 5 selected selected_terms 3 refl refl refl (insert_selected_is i).0 (insert_selected_is i).1 ran.count ran.executed (quiet i 9 [])
+  selected_in m p ran has = insert_does insert_selected (selected_columns m p) old new (schema_of Two i) has 5 selected selected_terms 3 refl refl refl (insert_selected_is i).0 (insert_selected_is i).1 ran.count ran.executed (quiet i 9 refl [])
 
   pub puts_selected : (m : Name) (p : Name) → Runs insert_selected (selected_columns m p) old new → Alters i selected (λ rows. (selected_columns m p) ∷ rows) old new
   puts_selected m p ran =
@@ -118,7 +120,7 @@ module _ (i : Bool) (old new : State) where
   reel_cast row = rw (cast_null, cast_int (pos row.label), cast_int (pos row.received), cast_int (pos row.placed), cast_int (pos row.scrapped), cast_int (pos row.remaining), cast_int (pos row.used), cast_int (since_or_none row.open_since), cast_int (flag row.baked)) refl
 
   reel_in : (row : ReelRow) → (ran : Runs insert_reel (reel_columns row) old new) → old.now.schema ≡ schema_of Two i → Inserted (schema_of Two i) reel ((Null ∷ reel_columns row) ∷ []) old new
-  reel_in row ran has = insert_does insert_reel (reel_columns row) old new (schema_of Two i) has 6 reel reel_terms 13 refl refl refl (insert_reel_is i).0 (insert_reel_is i).1 ran.count ran.executed (quiet i 11 [])
+  reel_in row ran has = insert_does insert_reel (reel_columns row) old new (schema_of Two i) has 6 reel reel_terms 13 refl refl refl (insert_reel_is i).0 (insert_reel_is i).1 ran.count ran.executed (quiet i 11 refl [])
 
   pub puts_reel : (row : ReelRow) → Runs insert_reel (reel_columns row) old new → Alters i reel (λ rows. (reel_columns row) ∷ rows) old new
   puts_reel row ran =
@@ -128,7 +130,7 @@ module _ (i : Bool) (old new : State) where
   board_cast row = rw (cast_null) refl
 
   board_in : (row : BoardRow) → (ran : Runs insert_board (board_columns row) old new) → old.now.schema ≡ schema_of Two i → Inserted (schema_of Two i) board ((Null ∷ board_columns row) ∷ []) old new
-  board_in row ran has = insert_does insert_board (board_columns row) old new (schema_of Two i) has 8 board board_terms 4 refl refl refl (insert_board_is i).0 (insert_board_is i).1 ran.count ran.executed (quiet i 15 [])
+  board_in row ran has = insert_does insert_board (board_columns row) old new (schema_of Two i) has 8 board board_terms 4 refl refl refl (insert_board_is i).0 (insert_board_is i).1 ran.count ran.executed (quiet i 15 refl [])
 
   pub puts_board : (row : BoardRow) → Runs insert_board (board_columns row) old new → Alters i board (λ rows. (board_columns row) ∷ rows) old new
   puts_board row ran =
@@ -138,7 +140,7 @@ module _ (i : Bool) (old new : State) where
   found_cast r n = rw (cast_null, cast_int (pos n)) refl
 
   found_in : (r : Name) (n : ℕ) → (ran : Runs insert_found (found_columns r n) old new) → old.now.schema ≡ schema_of Two i → Inserted (schema_of Two i) (found_by i) ((Null ∷ found_columns r n) ∷ []) old new
-  found_in r n ran has = insert_does insert_found (found_columns r n) old new (schema_of Two i) has 10 (found_by i) found_terms 3 refl refl refl (insert_found_is i).0 (insert_found_is i).1 ran.count ran.executed (quiet i (found_tree i) [])
+  found_in r n ran has = insert_does insert_found (found_columns r n) old new (schema_of Two i) has 10 (found_by i) found_terms 3 refl refl refl (insert_found_is i).0 (insert_found_is i).1 ran.count ran.executed (quiet i (found_tree i) (found_low i) [])
 
   pub puts_found : (r : Name) (n : ℕ) → Runs insert_found (found_columns r n) old new → Alters i (found_by i) (λ rows. (found_columns r n) ∷ rows) old new
   puts_found r n ran =
@@ -152,7 +154,7 @@ module _ (i : Bool) (old new : State) where
   mount_cast row = rw (cast_null, cast_int (pos row.since)) refl
 
   mount_in : (row : MountRow) → Runs insert_mount (mount_columns row) old new → old.now.schema ≡ schema_of Two i → Inserted (schema_of Two i) mount (mount_kept row ∷ []) old new
-  mount_in row ran has = insert_does insert_mount (mount_columns row) old new (schema_of Two i) has 7 mount mount_terms 5 refl refl refl (insert_mount_is i).0 (insert_mount_is i).1 ran.count ran.executed (quiet i 13 [])
+  mount_in row ran has = insert_does insert_mount (mount_columns row) old new (schema_of Two i) has 7 mount mount_terms 5 refl refl refl (insert_mount_is i).0 (insert_mount_is i).1 ran.count ran.executed (quiet i 13 refl [])
 
   pub puts_mount : (row : MountRow) → Runs insert_mount (mount_columns row) old new → Alters i mount (λ rows. mount_columns row ∷ rows) old new
   puts_mount row ran = inserts i mount (mount_kept row) (mount_columns row) (λ rows. mount_kept row) old new (λ rows. ap (with_rowid Chosen rows) (mount_cast row)) (λ rows. refl) (λ rows. refl) ran.shown.was_open (mount_in row ran)
@@ -167,7 +169,7 @@ equal_text (Real x) k h = absurd (cc)
 equal_text (Blob b) k h = absurd (cc)
 equal_text (Text t) k h = ap Text (one_text 0 t k (Text t ∷ []) (own_text t) h)
 
-module _ (i : Bool) (table : Table) (at : ℕ) (key : Name) (rest : Row) (terms : List Term) (update insert : List ℕ) (listed : slice_get (schema_tables Two i) at ≡ Some table)
+module _ (i : Layout) (table : Table) (at : ℕ) (key : Name) (rest : Row) (terms : List Term) (update insert : List ℕ) (listed : slice_get (schema_tables Two i) at ≡ Some table)
     (silent : (olds news : List Row) → works (schema_of Two i) Enforced 0 table.tree olds news ≡ []) (is : (command_of (understood (schema_of Two i) update) ≡ Update at (record { lets = []; body = rows_from table.tree key_tests terms })) × IsPlain (understood (schema_of Two i) update))
     (by_key : (r : Row) → passing key_tests (Text key ∷ rest) r ≡ has_text 0 key (columns table r))
     (shown : (r : Row) → shows_of table.tree key_tests terms (Text key ∷ rest) r ≡ column r 0 ∷ column r 0 ∷ column r 1 ∷ rest)
@@ -238,32 +240,32 @@ mount_put row a c ran =
 pub selected_put : {S : Type 0} (g : Ghosts S) (m p : Name) (a c : State) → ChangesOrPuts g update_selected insert_selected (selected_columns m p) a c → WritesRow (PutSelected m p) a c
 selected_put g m p a c did =
     alters_writes (PutSelected m p) (λ _. selected) (put_in (has_text 0 m) (selected_columns m p)) a c (λ _. refl) (λ _ _ all. all.1.1.1.0) (λ _ t _ was k new perm. record { parts = k.parts refl; alternates = k.alternates refl; sheets = k.sheets refl; selected = changed (has_text 0) selected_columns (one_text 0) same tells_text m (Some p) _ _ t.selected _ (own_text m, tt) (λ l. refl) perm was.selected; reels = k.reels refl; mounts = k.mounts refl; boards = k.boards refl; placements = k.placements refl; found = k.found refl })
-    (λ i. in_place i selected 5 m (Text p ∷ []) selected_renewed update_selected insert_selected refl (quiet i 9) (update_selected_is i) (λ r. and_true _) (λ r. refl) (λ id. rw (cast_int id) refl) (λ id. refl) (λ b c. puts_selected i b c m p) g a c did)
+    (λ i. in_place i selected 5 m (Text p ∷ []) selected_renewed update_selected insert_selected refl (quiet i 9 refl) (update_selected_is i) (λ r. and_true _) (λ r. refl) (λ id. rw (cast_int id) refl) (λ id. refl) (λ b c. puts_selected i b c m p) g a c did)
 
 pub board_put : {S : Type 0} (g : Ghosts S) (row : BoardRow) (a c : State) → ChangesOrPuts g update_board insert_board (board_columns row) a c → WritesRow (PutBoard row) a c
 board_put g row a c did =
     alters_writes (PutBoard row) (λ _. board) (put_in (has_text 0 row.board) (board_columns row)) a c (λ _. refl) (λ _ _ all. all.1.1.1.1.1.1.0) (λ _ t _ was k new perm. record { parts = k.parts refl; alternates = k.alternates refl; sheets = k.sheets refl; selected = k.selected refl; reels = k.reels refl; mounts = k.mounts refl; boards = changed (has_text 0) (λ _ row. board_columns row) (one_text 0) same tells_text row.board (Some row) _ _ t.boards _ (own_text row.board, tt) (λ l. refl) perm was.boards; placements = k.placements refl; found = k.found refl })
-    (λ i. in_place i board 8 row.board (drop 1 (board_columns row)) board_renewed update_board insert_board refl (quiet i 15) (update_board_is i) (λ r. and_true _) (λ r. refl) (λ id. rw (cast_int id) refl) (λ id. refl) (λ b c. puts_board i b c row) g a c did)
+    (λ i. in_place i board 8 row.board (drop 1 (board_columns row)) board_renewed update_board insert_board refl (quiet i 15 refl) (update_board_is i) (λ r. and_true _) (λ r. refl) (λ id. rw (cast_int id) refl) (λ id. refl) (λ b c. puts_board i b c row) g a c did)
 
 -- the rows of `found` in its tree
-abbrev AreFound : Bool → Database → (Name → Option ℕ) → Type 0
+abbrev AreFound : Layout → Database → (Name → Option ℕ) → Type 0
 AreFound i db f = AreRows (has_text 0) found_columns (rows_at (found_by i) db) f
 
-to_tree : (i : Bool) (db : Database) (f : Name → Option ℕ) → db.schema ≡ schema_of Two i → AreRows (has_text 0) found_columns (rows_in found db) f → AreFound i db f
-to_tree i db f has rows = subst (λ l. AreRows (has_text 0) found_columns (map (columns found) l) f) (found_kept Two i db has) rows
+to_tree : (i : Layout) (db : Database) (f : Name → Option ℕ) → db.schema ≡ schema_of Two i → AreRows (has_text 0) found_columns (rows_in found db) f → AreFound i db f
+to_tree i db f has rows = subst (λ l. AreRows (has_text 0) found_columns (map (columns found) l) f) (found_kept i db has) rows
 
-from_tree : (i : Bool) (db : Database) (f : Name → Option ℕ) → db.schema ≡ schema_of Two i → AreFound i db f → AreRows (has_text 0) found_columns (rows_in found db) f
-from_tree i db f has rows = subst (λ l. AreRows (has_text 0) found_columns (map (columns found) l) f) (sym (found_kept Two i db has)) rows
+from_tree : (i : Layout) (db : Database) (f : Name → Option ℕ) → db.schema ≡ schema_of Two i → AreFound i db f → AreRows (has_text 0) found_columns (rows_in found db) f
+from_tree i db f has rows = subst (λ l. AreRows (has_text 0) found_columns (map (columns found) l) f) (sym (found_kept i db has)) rows
 
-found_sole : (i : Bool) → (not (0 == found_tree i) && not (1 == found_tree i)) ≡ true
-found_sole true = refl
-found_sole false = refl
+found_sole : (i : Layout) → (not (0 == found_tree i) && (not (1 == found_tree i) && is_low i (found_tree i))) ≡ true
+found_sole (Indexed others) = refl
+found_sole (Plain others) = refl
 
 pub found_put : {S : Type 0} (g : Ghosts S) (r : Name) (n : ℕ) (a c : State) → ChangesOrPuts g update_found insert_found (found_columns r n) a c → WritesRow (PutFound r n) a c
 found_put g r n a c did =
-    alters_writes (PutFound r n) found_by (put_in (has_text 0 r) (found_columns r n)) a c found_sole (λ i has all. subst AreApart (found_kept Two i a.now has) all.1.1.1.1.1.1.1.0)
+    alters_writes (PutFound r n) found_by (put_in (has_text 0 r) (found_columns r n)) a c found_sole (λ i has all. subst AreApart (found_kept i a.now has) all.1.1.1.1.1.1.1.0)
     (λ i t beside was k new perm. record { parts = k.parts (far_from_found i 3 refl); alternates = k.alternates (far_from_found i 5 refl); sheets = k.sheets (far_from_found i 7 refl); selected = k.selected (far_from_found i 9 refl); reels = k.reels (far_from_found i 11 refl); mounts = k.mounts (far_from_found i 13 refl); boards = k.boards (far_from_found i 15 refl); placements = k.placements (far_from_found i 17 refl); found = from_tree i c.now _ beside.is (changed (has_text 0) found_columns (one_text 0) same tells_text r (Some n) _ _ t.found _ (own_text r, tt) (λ l. refl) perm (to_tree i a.now t.found beside.was was.found)) })
-    (λ i. in_place i (found_by i) 10 r (Int (pos n) ∷ []) found_renewed update_found insert_found refl (quiet i (found_tree i)) (update_found_is i) (λ r. and_true _) (λ r. refl) (λ id. rw (cast_int id, cast_int (pos n)) refl) (λ id. refl) (λ b c. puts_found i b c r n) g a c did)
+    (λ i. in_place i (found_by i) 10 r (Int (pos n) ∷ []) found_renewed update_found insert_found refl (quiet i (found_tree i) (found_low i)) (update_found_is i) (λ r. and_true _) (λ r. refl) (λ id. rw (cast_int id, cast_int (pos n)) refl) (λ id. refl) (λ b c. puts_found i b c r n) g a c did)
 
 reel_kept : (row : ReelRow) (id : ℤ) → cast_row reel (Int id ∷ reel_columns row) ≡ Int id ∷ reel_columns row
 reel_kept row id =
@@ -272,4 +274,4 @@ reel_kept row id =
 pub reel_put : {S : Type 0} (g : Ghosts S) (row : ReelRow) (a c : State) → ChangesOrPuts g update_reel insert_reel (reel_columns row) a c → WritesRow (PutReel row) a c
 reel_put g row a c did =
     alters_writes (PutReel row) (λ _. reel) (put_in (has_text 0 row.reel) (reel_columns row)) a c (λ _. refl) (λ _ _ all. all.1.1.1.1.0) (λ _ t _ was k new perm. record { parts = k.parts refl; alternates = k.alternates refl; sheets = k.sheets refl; selected = k.selected refl; reels = changed (has_text 0) (λ _ row. reel_columns row) (one_text 0) same tells_text row.reel (Some row) _ _ t.reels _ (own_text row.reel, tt) (λ l. refl) perm was.reels; mounts = k.mounts refl; boards = k.boards refl; placements = k.placements refl; found = k.found refl })
-    (λ i. in_place i reel 6 row.reel (drop 1 (reel_columns row)) reel_renewed update_reel insert_reel refl (quiet i 11) (update_reel_is i) (λ r. and_true _) (λ r. refl) (reel_kept row) (λ id. refl) (λ b c. puts_reel i b c row) g a c did)
+    (λ i. in_place i reel 6 row.reel (drop 1 (reel_columns row)) reel_renewed update_reel insert_reel refl (quiet i 11 refl) (update_reel_is i) (λ r. and_true _) (λ r. refl) (reel_kept row) (λ id. refl) (λ b c. puts_reel i b c row) g a c did)

@@ -12,16 +12,17 @@ use Rattle.sqlite.specs.Listing.{understood}
 use Rattle.sqlite_tied.specs.Compute.{everything}
 use Rattle.sqlite.proofs.Callers.{IsPlain, command_of}
 use Rattle.desk_types.specs.declared.rules.Rules.TheVariants.{Two}
-use Rattle.line_tables.specs.Line.{schema_of, found_tree}
+use Rattle.line_tables.specs.Line.{schema_of, found_tree, Layout}
 use Rattle.line_tables.proofs.FindTexts.{rows_from}
+use Rattle.line_tables.specs.Line.Layout.{Indexed, Plain}
 
 -- in either layout the text takes out the rows of the table at the place, with the tree, that pass the tests
 abbrev pub IsDelete : List ℕ → ℕ → ℕ → List Term → Type 0
-IsDelete sql at tree tests = (indexed : Bool) → (command_of (understood (schema_of Two indexed) sql) ≡ Delete at (record { lets = []; body = rows_from tree tests (col 1 0 ∷ []) })) × IsPlain (understood (schema_of Two indexed) sql)
+IsDelete sql at tree tests = (indexed : Layout) → (command_of (understood (schema_of Two indexed) sql) ≡ Delete at (record { lets = []; body = rows_from tree tests (col 1 0 ∷ []) })) × IsPlain (understood (schema_of Two indexed) sql)
 
 -- the text puts in one row of these terms
 abbrev pub IsInsert : List ℕ → ℕ → List Term → ℕ → Type 0
-IsInsert sql at terms width = (indexed : Bool) → (command_of (understood (schema_of Two indexed) sql) ≡ Insert at (Values terms width)) × IsPlain (understood (schema_of Two indexed) sql)
+IsInsert sql at terms width = (indexed : Layout) → (command_of (understood (schema_of Two indexed) sql) ≡ Insert at (Values terms width)) × IsPlain (understood (schema_of Two indexed) sql)
 
 -- the value at a place of a row is that of a parameter
 abbrev pub is_param : ℕ → ℕ → Term
@@ -173,8 +174,8 @@ abbrev pub key_tests : List Term
 key_tests = is_param 1 0 ∷ []
 
 -- the text changes the rows of the table at the place, with the tree, that pass that test, to these terms
-abbrev pub IsUpdate : List ℕ → ℕ → (Bool → ℕ) → List Term → Type 0
-IsUpdate sql at tree renewed = (indexed : Bool) → (command_of (understood (schema_of Two indexed) sql) ≡ Update at (record { lets = []; body = rows_from (tree indexed) key_tests renewed })) × IsPlain (understood (schema_of Two indexed) sql)
+abbrev pub IsUpdate : List ℕ → ℕ → (Layout → ℕ) → List Term → Type 0
+IsUpdate sql at tree renewed = (indexed : Layout) → (command_of (understood (schema_of Two indexed) sql) ≡ Update at (record { lets = []; body = rows_from (tree indexed) key_tests renewed })) × IsPlain (understood (schema_of Two indexed) sql)
 
 abbrev pub update_selected : List ℕ
 update_selected = codes "UPDATE selected SET product = ?2 WHERE machine = ?1"
@@ -215,5 +216,5 @@ found_renewed = col 1 0 ∷ col 1 0 ∷ col 1 1 ∷ col 0 1 ∷ []
 
 pub update_found_is : IsUpdate update_found 10 found_tree found_renewed
 unfolding understood everything
-update_found_is true = (refl, (refl, refl))
-update_found_is false = (refl, (refl, refl))
+update_found_is (Indexed others) = (refl, (refl, refl))
+update_found_is (Plain others) = (refl, (refl, refl))

@@ -10,6 +10,7 @@ use Rattle.sqlite_tied.specs.Compute.{everything}
 use Rattle.desk_types.specs.declared.rules.Rules.TheVariants.{One, Two}
 use Rattle.line_tables.specs.Line.{found, tree_in}
 use Rattle.line_tables.proofs.FindTexts.{IsSelect, IsSelectBy}
+use Rattle.line_tables.specs.Line.Layout.{Indexed, Plain}
 
 -- all rowids of a table, sorted
 abbrev pub rowids_from : ℕ → Query
@@ -51,5 +52,5 @@ board_is rules indexed = inl (refl, refl, (refl, refl))
 pub found_is : IsSelectBy (codes "SELECT rowid FROM found ORDER BY rowid") (λ schema. rowids_from (tree_in found schema)) (codes "rowid" ∷ [])
 unfolding understood everything listing_schema
 found_is One indexed = inr refl
-found_is Two true = inl (refl, refl, (refl, refl))
-found_is Two false = inl (refl, refl, (refl, refl))
+found_is Two (Indexed others) = inl (refl, refl, (refl, refl))
+found_is Two (Plain others) = inl (refl, refl, (refl, refl))

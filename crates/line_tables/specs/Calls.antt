@@ -25,27 +25,38 @@ use Rattle.desk_types.specs.declared.edit.RowEdit.{RowEdit}
 use Rattle.line_tables.specs.declared.version.Version.{Version}
 use Rattle.sqlite_catalog.specs.Change.{KeepsRows}
 use Rattle.desk_types.specs.declared.rules.Rules.TheVariants.{One, Two}
-use Rattle.line_tables.specs.Line.{no_schema, IsOurs, schema_of, schema_tables, line_schema, found_tree}
+use Rattle.line_tables.specs.Line.{no_schema, IsOurs, schema_of, schema_tables, line_schema, found_tree, Layout, alone, others_in}
 use Rattle.line_tables.specs.Rows.{Tables, Holds, HoldsBy, HoldsAt, columns_of, blank, after_edits, AreNew}
+
+-- where the database is of version 2, each table of others, behind ours, has these rows
+abbrev pub HasOthers : Database → Trees → Type 0
+HasOthers before trees = (layout : Layout) → before.schema ≡ schema_of Two layout → KeepsRows (others_in layout).tables before.trees trees
+
+-- so it has in the other database, which has the same schema
+pub record KeepsOthers (before after : Database) : Type 0 where
+  pub schema : (layout : Layout) → before.schema ≡ schema_of Two layout → after.schema ≡ before.schema
+  pub rows : HasOthers before after.trees
 
 -- whatever tables the one database holds, the other holds them with the edits made, in the same layout
 abbrev pub Edits : List Edit → Database → Database → Type 0
 Edits edits before after = (tables : Tables) → Holds before tables → AreNew edits tables → (after.schema ≡ before.schema) × Holds after (after_edits edits tables)
 
--- the connection was open, and the edits were made inside its transaction, whose trees list its schema
+-- the connection was open, and the edits were made inside its transaction, whose trees list its schema; others have their rows still
 pub record Writes (edits : List Edit) (old new : State) : Type 0 where
   pub was_open : IsTrue old.is_open
   pub done : Edits edits old.now new.now
   pub sound : (tables : Tables) → Holds old.now tables → AreNew edits tables → IsDatabase new.now
+  pub others : KeepsOthers old.now new.now
 
 -- the same of one edit of a state table
 abbrev pub WritesRow : RowEdit → State → State → Type 0
 WritesRow edit old new = Writes (EditRow edit ∷ []) old new
 
--- a crash may leave the tables of the last commit with the edits made, in the same layout
+-- a crash may leave the tables of the last commit with the edits made, in the same layout, and the rows of others as they were
 pub record LeavesEdited (edits : List Edit) (old : State) (trees : Trees) : Type 0 where
   pub was_open : IsTrue old.is_open
   pub holds : (tables : Tables) → Holds old.committed tables → AreNew edits tables → (left : HoldsAt (after_edits edits tables) trees) × (left.0.schema ≡ old.committed.schema)
+  pub others : HasOthers old.committed trees
 
 -- a crash may leave the tables of an empty list, in the layout of new files, where there was no table before
 pub record LeavesBlank (greatest : ℕ) (old : State) (trees : Trees) : Type 0 where
@@ -61,8 +72,8 @@ pub record Makes (greatest : ℕ) (old new : State) : Type 0 where
 -- Whatever tables the one database holds by version 1, the other holds by version 2, in the same layout, and no table but `version` has other rows.
 pub record Migrated (before after : Database) : Type 0 where
   pub holds : (tables : Tables) → HoldsBy One before tables → Holds after tables
-  pub layout : (indexed : Bool) → before.schema ≡ schema_of One indexed → after.schema ≡ schema_of Two indexed
-  pub same : (indexed : Bool) → before.schema ≡ schema_of One indexed → KeepsRows (drop 1 (schema_tables One indexed)) before.trees after.trees
+  pub layout : (indexed : Layout) → before.schema ≡ schema_of One indexed → after.schema ≡ schema_of Two (alone indexed)
+  pub same : (indexed : Layout) → before.schema ≡ schema_of One indexed → KeepsRows (drop 1 (schema_tables One indexed)) before.trees after.trees
 
 -- the connection was open, and a database of version 1 became one of version 2 inside its transaction, whose trees list its schema
 pub record Migrates (old new : State) : Type 0 where
@@ -73,7 +84,7 @@ pub record Migrates (old new : State) : Type 0 where
 -- a crash may leave the tables of the last commit, which was of version 1, as version 2 holds them, in the same layout
 pub record LeavesMigrated (old : State) (trees : Trees) : Type 0 where
   pub was_open : IsTrue old.is_open
-  pub holds : (tables : Tables) → HoldsBy One old.committed tables → (left : HoldsAt tables trees) × ((indexed : Bool) → old.committed.schema ≡ schema_of One indexed → left.0.schema ≡ schema_of Two indexed)
+  pub holds : (tables : Tables) → HoldsBy One old.committed tables → (left : HoldsAt tables trees) × ((indexed : Layout) → old.committed.schema ≡ schema_of One indexed → left.0.schema ≡ schema_of Two (alone indexed))
 
 -- the database has this schema, and its tables have no row
 pub record IsBare (with : Schema) (db : Database) : Type 0 where
@@ -94,7 +105,7 @@ pub record Grows (before after : Schema) (tree : ℕ) (old new : Database) : Typ
 -- the connection was open, and a database of version 1 has the table `found` now, in the same layout
 pub record AddsFound (old new : State) : Type 0 where
   pub was_open : IsTrue old.is_open
-  pub added : (indexed : Bool) → old.now.schema ≡ schema_of One indexed → Grows (schema_of One indexed) (schema_of Two indexed) (found_tree indexed) old.now new.now
+  pub added : (indexed : Layout) → old.now.schema ≡ schema_of One indexed → Grows (schema_of One indexed) (schema_of Two (alone indexed)) (found_tree (alone indexed)) old.now new.now
 
 -- the statement ran inside a transaction, which goes on
 pub record Runs (sql : List ℕ) (params : Row) (old new : State) : Type 0 where

@@ -10,7 +10,8 @@ use Rattle.sqlite_trees.specs.Tree.{rowid}
 use Rattle.sqlite_trees.specs.View.{is_int}
 use Rattle.desk_types.specs.declared.rules.Rules.{Rules}
 use Rattle.desk_types.specs.declared.rules.Rules.TheVariants.{Two}
-use Rattle.line_tables.specs.Line.{part, alternate, sheet_row, selected, reel, mount, board, found_tables}
+use Rattle.line_tables.specs.Line.{part, alternate, sheet_row, selected, reel, mount, board, found_tables, nothing}
+use Rattle.line_tables.specs.Line.Layout.{Indexed}
 use Rattle.line_tables.specs.StateRows.{kept_in}
 
 -- each row has an integer as its rowid, and no other row has it
@@ -20,7 +21,7 @@ pub record AreApart (rows : List Row) : Type 0 where
 
 -- the state tables whose rows are taken out or changed by their rowids: all but `placement`
 abbrev pub changed_of : Rules → List Table
-changed_of rules = part ∷ alternate ∷ sheet_row ∷ selected ∷ reel ∷ mount ∷ board ∷ found_tables rules true
+changed_of rules = part ∷ alternate ∷ sheet_row ∷ selected ∷ reel ∷ mount ∷ board ∷ found_tables rules (Indexed nothing)
 
 abbrev pub changed_tables : List Table
 changed_tables = changed_of Two

@@ -14,7 +14,7 @@ use Rattle.desk_types.specs.declared.rules.Rules.{Rules}
 use Rattle.desk_types.specs.declared.rules.Rules.TheVariants.{One, Two}
 use Rattle.line_tables.specs.StateRows.{HoldsStateBy}
 use Rattle.line_tables.specs.Rowids.{AreAllApartBy}
-use Rattle.line_tables.specs.Line.{schema_of}
+use Rattle.line_tables.specs.Line.{schema_of, Layout}
 
 -- the columns of a row of `accepted`, in their order
 abbrev pub columns_of : Accepted → Row
@@ -55,7 +55,7 @@ pub record Tables : Type 0 where
 
 -- the database has the schema of the rules in one layout, and these tables, and a rowid is that of one row
 pub record HoldsBy (rules : Rules) (db : Database) (tables : Tables) : Type 0 where
-  pub indexed : Bool
+  pub indexed : Layout
   pub schema : db.schema ≡ schema_of rules indexed
   pub version : version_in db ≡ version_row rules tables.greatest ∷ []
   pub accepted : IsPermutation (accepted_in db) tables.accepted

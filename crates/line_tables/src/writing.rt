@@ -7,7 +7,7 @@ ghost use Rattle.sqlite.specs.Held.{state};
 ghost use Rattle.line_tables.specs.declared.edit.Edit.TheVariants as Edit;
 ghost use Rattle.sqlite.specs.Values.{bound};
 ghost use Rattle.line_tables.specs.Placing.{ArePlacing};
-ghost use Rattle.line_tables.specs.Calls.{Edits, Writes, LeavesEdited};
+ghost use Rattle.line_tables.specs.Calls.{Edits, KeepsOthers, Writes, LeavesEdited};
 ghost use Rattle.line_tables.specs.Frames.{InTransaction, IsRefusedInside};
 
 use crate::edit::{Accepted, Edit};
@@ -29,6 +29,8 @@ pub fn append<S: Alter>(
     requires some { 0 < length edits.now }
     ensures done { HasCleanDisk (state S.Store conn.new)
         → OnOk result (Edits edits.now (state S.Store conn.old).committed (state S.Store conn.new).committed) }
+    ensures others { HasCleanDisk (state S.Store conn.new)
+        → OnOk result (KeepsOthers (state S.Store conn.old).committed (state S.Store conn.new).committed) }
     ensures stays_open { HasCleanDisk (state S.Store conn.new)
         → OnOk result (IsTrue (state S.Store conn.old).is_open × IsTrue (state S.Store conn.new).is_open) }
     ensures neither { HasCleanDisk (state S.Store conn.new)

@@ -1,2 +1,3 @@
+pub mod CrashedFiles
 pub mod ProgramRuns
 pub mod RunsInTurn

@@ -1,5 +1,5 @@
 -- What the program's contracts say of a run is what a run is.
-use Rattle.std.proofs.Common.{◌≡◌, ℕ, List, [], ◌∷◌, true, Option, Some, None, Result, Ok, Err, refl}
+use Rattle.std.proofs.Common.{◌≡◌, ◌∙◌, ℕ, List, [], ◌∷◌, true, Option, Some, None, Result, Ok, Err, refl, subst}
 use Rattle.sqlite_disk.specs.declared.Disk as disk
 use Rattle.sqlite_disk.specs.declared.Files.{Files}
 use Rattle.sqlite_disk.specs.declared.start.Start as start
@@ -10,7 +10,8 @@ use Rattle.desk_answers.specs.Ledger.{Ledger}
 use Rattle.feeder_state.specs.declared.desk.StateDesk.{StateDesk}
 use Rattle.line_schema.specs.declared.store.LineStore.{LineStore}
 use Rattle.http_answers.specs.Requests.{Reports, request_rule}
-use Rattle.desk_runs.specs.Connections.{Connected, ConnectedEach, Ended}
+use Rattle.desk_runs.specs.Clients.{Ended, Exchange}
+use Rattle.desk_runs.specs.Connections.{ConnectedSo}
 use Rattle.served.specs.declared.serving.ServeFault.TheVariants.{Read, Write, TooManyReads}
 use Rattle.gateway_http.specs.Reports.{report_of}
 use Rattle.headline.specs.Calls.{AnswersByTheList, Call, Serves}
@@ -19,6 +20,25 @@ use Rattle.desk_commands.specs.Runs.{RunsOn, ServesEach}
 use Rattle.desk_commands.specs.Closed.{RunsTo, whole}
 use Rattle.many_runs.specs.Runs.{by_two, IsRun}
 use Rattle.many_runs.specs.Closed.{ClosesTo, ReadsClean, connections_of, run_of}
+use Rattle.many_runs.specs.Crashed.{CrashesTo}
+use Rattle.many_runs.specs.Runs.Ending.{crashed}
+use Rattle.sqlite_wal.specs.Files.{image_at}
+use Rattle.sqlite_trees.specs.Tree.{Trees}
+use Rattle.sqlite.specs.Effect.{Database}
+use Rattle.sqlite.specs.Files.{HoldsDatabase, over_files}
+use Rattle.sqlite.specs.State.{HasCleanDisk}
+use Rattle.desk_types.specs.declared.rules.Rules.TheVariants.{Two}
+use Rattle.feeder_state.specs.contracts.desk.StateDeskDesk.TheImpl.{ghosts as state}
+use Rattle.line_tables.specs.Rows.{Holds, HoldsAt}
+use Rattle.line_rows.specs.Rows.{ledger_tables}
+use Rattle.line_schema.specs.declared.fault.OpenFault.{OpenFault}
+use Rattle.line_schema.specs.Stands.{state_of}
+use Rattle.desk_file.specs.Files.{IsFoundIn}
+use Rattle.desk_runs.specs.Runs.{StaysSame}
+use Rattle.desk_commands.specs.Closed.{IsRefusedTo}
+use Rattle.headline.proofs.CallsInTurn.{goes_on, trusts_back}
+use Rattle.many_runs.specs.Crashed.{MakesCalls, StandsForList}
+use Rattle.many_runs.specs.Runs.{KeepsList}
 
 module _ {T D : Type 0} {g : disk.Ghosts D} (first : start.Ghosts T) (make : Option ℕ) (desk : LineStore (FileStore D g) StateDesk) (files : Files D) (image : Image) where
   pub is_run : (Fact : Ledger → History → Type 0) (calls : List Call) → ((G : Ledger) (H : History) → Fact G H → AnswersByTheList report_of G calls H)
@@ -57,15 +77,58 @@ module _ {T D : Type 0} (g : disk.Ghosts D) (first : start.Ghosts T) (make : Opt
         },
       )
 
--- a connection of which no socket says the bytes
-serves : (reports : Reports) (G : Ledger) (ended : Ended) (H : History) → Connected (request_rule reports G.rules G.greatest) G.history ended H
-    → Serves (request_rule reports G.rules G.greatest) G.history None None None None ended H
-serves reports G (Ok served) H connected = connected
-serves reports G (Err (Read served)) H connected = connected
-serves reports G (Err (TooManyReads served)) H connected = connected
-serves reports G (Err (Write served)) H connected = connected
+-- a connection, however it ended
+serves : (reports : Reports) (G : Ledger) (sent unread before after : Option (List ℕ)) (ended : Ended) (H : History) → ConnectedSo (request_rule reports G.rules G.greatest) sent unread G.history before ended H after
+    → Serves (request_rule reports G.rules G.greatest) G.history sent unread before after ended H
+serves reports G sent unread before after (Ok served) H connected = connected
+serves reports G sent unread before after (Err (Read served)) H connected = connected
+serves reports G sent unread before after (Err (TooManyReads served)) H connected = connected
+serves reports G sent unread before after (Err (Write served)) H connected = connected
 
 -- connections one after the other are calls one after the other
-pub serves_each : (ends : List Ended) (G : Ledger) (H : History) → ServesEach ends G H → AnswersByTheList report_of G (connections_of ends) H
+pub serves_each : (exchanges : List Exchange) (G : Ledger) (H : History) → ServesEach exchanges G H → AnswersByTheList report_of G (connections_of exchanges) H
 serves_each [] G H same = same
-serves_each (ended ∷ ends) G H (H₁, one, rest) = (H₁, serves report_of G ended H₁ one, serves_each ends (record G { history = H₁ }) H rest)
+serves_each (e ∷ es) G H (H₁, one, rest) = (H₁, serves report_of G e.sent e.unread e.before e.after e.ended H₁ one, serves_each es (record G { history = H₁ }) H rest)
+
+-- a run whose desk was let go while it was open
+module _ {T D : Type 0} {g : disk.Ghosts D} (first : start.Ghosts T) (make : Option ℕ) (desk : LineStore (FileStore D g) StateDesk) (files : Files D) (image : Image) where
+  pub is_crashed_run : (Fact : Ledger → History → Type 0) (calls : List Call) → ((G : Ledger) (H : History) → Fact G H → AnswersByTheList report_of G calls H)
+      → RunsOn first make (Desk desk) Fact → CrashesTo desk files image → IsRun report_of (record { first = image_at first; make = make; calls = calls; ending = crashed; last = image })
+  is_crashed_run Fact calls tells runs (leaves, was_clean, on, clean, left) alone =
+      let (greatest, H, begins, lawful, H', stands, fact) = runs was_clean alone in (
+        greatest,
+        H,
+        H',
+        record {
+          begins = begins;
+          lawful_first = lawful;
+          answers = tells (by_two greatest H) H' fact;
+          lawful = stands.lawful was_clean refl;
+          consistent = stands.consistent;
+          ends = leaves (record { greatest = greatest; history = H'; own = true }) stands refl on clean image left;
+        },
+      )
+
+-- calls on the desk that was opened are calls from the list with which the run began
+module _ {T D : Type 0} {g : disk.Ghosts D} (first : start.Ghosts T) (make : Option ℕ) (opened last : LineStore (FileStore D g) StateDesk) (calls : List Call) where
+  pub called : RunsOn first make (Desk opened) StaysSame → MakesCalls opened calls last → RunsOn first make (Desk last) (λ G H. AnswersByTheList report_of G calls H)
+  called runs made clean alone =
+      let was_clean = trusts_back report_of StandsForList (λ d. HasCleanDisk (state_of over_files d)) calls opened last made clean in
+      let (greatest, H, begins, lawful, H₁, stands, same) = runs was_clean alone in
+      let (H', after, answers) = goes_on report_of StandsForList (λ d. HasCleanDisk (state_of over_files d)) calls opened last made (by_two greatest H₁) (refl, stands) clean in
+      (greatest, H, begins, lawful, H', after.1, subst (λ (it : History). AnswersByTheList report_of (by_two greatest it) calls H') same answers)
+
+abbrev pub FindsTables : Type 0
+FindsTables = (image : Image) (trees : Trees) (greatest : ℕ) (H : History) → ∥ HoldsDatabase image trees ∥₁ → HoldsAt (ledger_tables greatest H) trees
+    → (db : Database) → IsFoundIn image db → Holds db (ledger_tables greatest H)
+
+-- a run that was refused its files keeps their list
+module _ {T D : Type 0} (finds : FindsTables) (g : disk.Ghosts D) (first : start.Ghosts T) (make : Option ℕ) (files : Files D) (image : Image) where
+  pub keeps : (StandsIn : OpenFault → Type 0) (MakesNone : Type 0) (fault : OpenFault) → IsRefusedTo whole first g (Some files) StandsIn MakesNone fault → ReadsClean g files image
+      → KeepsList (run_of first make [] image)
+  keeps StandsIn MakesNone fault refuses is = (
+    refl,
+    λ greatest H trees database holds.
+        let (db, found, alone) = (refuses.0 is.clean).1 in
+        (db.trees, (db, finds (image_at first) trees greatest H database holds db found, found.sound, refl), alone image is.reads),
+  )

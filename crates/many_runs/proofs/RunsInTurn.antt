@@ -1,5 +1,5 @@
 -- A run and the next one are as one.
-use Rattle.std.proofs.Common.{◌≡◌, ℕ, List, [], ◌∷◌, ◌++◌, Option, sym, subst}
+use Rattle.std.proofs.Common.{◌≡◌, ◌⊎◌, ℕ, List, [], ◌∷◌, ◌++◌, Option, inl, inr, refl, sym, subst}
 use Rattle.sqlite_wal.specs.Recovery.{Image}
 use Rattle.sqlite_trees.specs.Tree.{Trees}
 use Rattle.sqlite.specs.Files.{HoldsDatabase}
@@ -12,7 +12,7 @@ use Rattle.line_tables.specs.Rows.{Tables, HoldsAt}
 use Rattle.line_rows.specs.Rows.{ledger_tables}
 use Rattle.desk_file.specs.Files.{Begins, HasLineAlone}
 use Rattle.headline.specs.Calls.{AnswersByTheList, Call}
-use Rattle.many_runs.specs.Runs.{Ending, closed, crashed, Run, EndsWith, by_two, IsRunFrom, IsRun, AreRuns, run_then, as_one}
+use Rattle.many_runs.specs.Runs.{Ending, closed, crashed, Run, EndsWith, by_two, IsRunFrom, IsRun, KeepsList, AreRuns, run_then, as_one}
 
 -- calls that were answered one after the other, and then others
 pub appended : (reports : Reports) (calls later : List Call) (G : Ledger) (H H' : History) → AnswersByTheList reports G calls H
@@ -56,6 +56,29 @@ module _ (reports : Reports) (line_alone : Alone) (same_list : Same) where
       let told = same_list run.last trees greatest H₁ database holds before.lawful.judged next.make number G begins after.lawful_first.judged in
       (greatest, H, H', goes_on run next greatest number H H₁ G H' before after told.0 told.1)
 
+  -- a run that kept the list adds no answer
+  pub stays : (run next : Run) → next.first ≡ run.last → IsRun reports run → KeepsList next → IsRun reports (run_then run next)
+  stays run next same is (none, keeps) alone =
+      let (greatest, H, H₁, before) = is alone in
+      let (trees, holds, database) = held run.ending (ledger_tables greatest H₁) run.last before.ends in (
+        greatest,
+        H,
+        H₁,
+        record {
+          begins = before.begins;
+          lawful_first = before.lawful_first;
+          answers = appended reports run.calls next.calls (by_two greatest H) H₁ H₁ before.answers
+              (subst (λ (calls : List Call). AnswersByTheList reports (by_two greatest H₁) calls H₁) (sym none) refl);
+          lawful = before.lawful;
+          consistent = before.consistent;
+          ends = keeps greatest H₁ trees (subst (λ (image : Image). ∥ HoldsDatabase image trees ∥₁) (sym same) database) holds;
+        },
+      )
+
+  pub then_one : (run next : Run) → next.first ≡ run.last → IsRun reports run → IsRun reports next ⊎ KeepsList next → IsRun reports (run_then run next)
+  then_one run next same is (inl then) = joins run next same is then
+  then_one run next same is (inr keeps) = stays run next same is keeps
+
   pub are_one : (run : Run) (runs : List Run) → IsRun reports run → AreRuns reports run.last runs → IsRun reports (as_one run runs)
   are_one run [] is after = is
-  are_one run (next ∷ runs) is (same, then, after) = are_one (run_then run next) runs (joins run next same is then) after
+  are_one run (next ∷ runs) is (same, then, after) = are_one (run_then run next) runs (then_one run next same is then) after

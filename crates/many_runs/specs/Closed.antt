@@ -1,5 +1,5 @@
 -- A run of the program that closed its files.
-use Rattle.std.specs.Prelude.{◌≡◌, ◌⊎◌, ℕ, List, Option, None, map}
+use Rattle.std.specs.Prelude.{◌≡◌, ◌⊎◌, ℕ, List, Option, map}
 use Rattle.sqlite_disk.specs.declared.Disk as disk
 use Rattle.sqlite_disk.specs.declared.Files.{Files}
 use Rattle.sqlite_disk.specs.declared.start.Start as start
@@ -15,7 +15,7 @@ use Rattle.line_schema.specs.declared.store.LineStore.{LineStore}
 use Rattle.line_schema.specs.Stands.{state_of}
 use Rattle.desk_file.specs.Files.{Closes}
 use Rattle.desk_commands.specs.Closed.{MayRead}
-use Rattle.desk_runs.specs.Connections.{Ended}
+use Rattle.desk_runs.specs.Clients.{Exchange}
 use Rattle.headline.specs.Calls.{Call}
 use Rattle.headline.specs.Calls.Call.{connected}
 use Rattle.many_runs.specs.Runs.{Run}
@@ -35,6 +35,6 @@ pub record ReadsClean {D : Type 0} (g : disk.Ghosts D) (files : Files D) (image 
 abbrev pub run_of : {T : Type 0} → start.Ghosts T → Option ℕ → List Call → Image → Run
 run_of first make calls image = record { first = image_at first; make = make; calls = calls; ending = closed; last = image }
 
--- connections of which no socket says the bytes
-abbrev pub connections_of : List Ended → List Call
-connections_of = map (connected None None None None)
+-- connections, each with what its client sent and got
+abbrev pub connections_of : List Exchange → List Call
+connections_of = map (λ e. connected e.sent e.unread e.before e.after e.ended)

@@ -1,5 +1,5 @@
 -- Runs one after the other, on the same two files.
-use Rattle.std.specs.Prelude.{◌≡◌, ⊤, ℕ, List, [], ◌∷◌, ◌++◌, Option}
+use Rattle.std.specs.Prelude.{◌≡◌, ◌⊎◌, ⊤, ℕ, List, [], ◌∷◌, ◌++◌, Option}
 use Rattle.sqlite_wal.specs.Recovery.{Image}
 use Rattle.sqlite_trees.specs.Tree.{Trees}
 use Rattle.sqlite.specs.Files.{HoldsDatabase}
@@ -49,10 +49,15 @@ pub record IsRunFrom (reports : Reports) (run : Run) (greatest : ℕ) (H H' : Hi
 abbrev pub IsRun : Reports → Run → Type 0
 IsRun reports run = HasLineAlone run.first → (greatest : ℕ) × (H : History) × (H' : History) × IsRunFrom reports run greatest H H'
 
--- each run began on the files as the one before it left them
+-- the run made no call, and kept the tables of whatever list its files held: it was refused them
+abbrev pub KeepsList : Run → Type 0
+KeepsList run = (run.calls ≡ []) × ((greatest : ℕ) (H : History) (trees : Trees) → ∥ HoldsDatabase run.first trees ∥₁ → HoldsAt (ledger_tables greatest H) trees
+    → EndsWith run.ending (ledger_tables greatest H) run.last)
+
+-- each run began on the files as the one before it left them, and went on from their list or kept it
 abbrev pub AreRuns : Reports → Image → List Run → Type 0
 AreRuns reports image [] = ⊤
-AreRuns reports image (run ∷ runs) = (run.first ≡ image) × IsRun reports run × AreRuns reports run.last runs
+AreRuns reports image (run ∷ runs) = (run.first ≡ image) × (IsRun reports run ⊎ KeepsList run) × AreRuns reports run.last runs
 
 -- two runs as one: it begins as the first, makes the calls of both, and ends as the second
 abbrev pub run_then : Run → Run → Run

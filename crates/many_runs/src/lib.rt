@@ -9,19 +9,27 @@ ghost use Rattle.sqlite_wal.specs.Recovery.{Image};
 ghost use Rattle.http_answers.specs.Requests.{Reports};
 ghost use Rattle.http_stream.specs.Answers.{Told};
 ghost use Rattle.gateway_http.specs.Reports.{report_of};
-ghost use Rattle.desk_runs.specs.Connections.{Ended};
+ghost use Rattle.desk_runs.specs.Clients.{Ended, Exchange};
 ghost use Rattle.desk_runs.specs.Runs.{StaysSame, AnswersReport};
 ghost use Rattle.desk_commands.specs.declared.left.Left.TheVariants.{Desk};
 ghost use Rattle.desk_commands.specs.Runs.{RunsOn, ServesEach};
-ghost use Rattle.desk_commands.specs.Closed.{RunsTo, whole};
-ghost use Rattle.headline.specs.Calls.{Feeds};
-ghost use Rattle.headline.specs.Calls.Call.{asked, fed};
+ghost use Rattle.desk_commands.specs.Closed.{RefusesTo, RefusesToMigrateTo, RunsTo, whole};
+ghost use Rattle.desk_import.specs.declared.options.Import.{Import};
+ghost use Rattle.line_schema.specs.declared.fault.OpenFault.{OpenFault};
+ghost use Rattle.headline.specs.Calls.{Feeds, ImportEnded, Imports};
+ghost use Rattle.headline.specs.Calls.Call.{asked, fed, imported};
 ghost use Rattle.many_runs.specs.Closed.{ClosesTo, ReadsClean, connections_of, run_of};
-ghost use Rattle.many_runs.specs.Runs.{AreRuns, IsRun, Run, as_one};
+ghost use Rattle.many_runs.specs.Runs.{AreRuns, IsRun, KeepsList, Run, as_one};
+ghost use Rattle.many_runs.specs.Runs.Ending.{crashed};
+ghost use Rattle.many_runs.specs.Crashed.{Crashes, CrashesTo, MakesCalls};
+ghost use Rattle.headline.specs.Calls.{AnswersByTheList, Call};
+ghost use Rattle.sqlite_wal.specs.Files.{image_at};
 
 use desk_file::{FileDesk, next_run_goes_on};
+use desk_types::Desk as AnyDesk;
 use feeder_state::StateDesk;
-use sqlite::{FileFrom, Files, Start};
+use line_schema::LineStore;
+use sqlite::{FileFrom, FileStore, Files, Start};
 use sqlite_disk::Disk;
 
 /// A law: runs one after the other, each on the files that the one before it left, are as one run that
@@ -41,12 +49,16 @@ pub fn closed_runs_are_runs<T: Start>(desk: &FileDesk<T, StateDesk>, files: &Fil
         → RunsOn T.Start make (Desk desk.now) (λ G H. Feeds G input out out' ended H)
         → ClosesTo desk.now files.now image
         → IsRun report_of (run_of T.Start make (fed input out out' ended ∷ []) image) }
-    ensures serves { (make : Option ℕ) (ends : List Ended) (image : Image)
-        → RunsOn T.Start make (Desk desk.now) (ServesEach ends)
-        → ClosesTo desk.now files.now image → IsRun report_of (run_of T.Start make (connections_of ends) image) }
+    ensures serves { (make : Option ℕ) (exchanges : List Exchange) (image : Image)
+        → RunsOn T.Start make (Desk desk.now) (ServesEach exchanges)
+        → ClosesTo desk.now files.now image → IsRun report_of (run_of T.Start make (connections_of exchanges) image) }
     ensures reports { (make : Option ℕ) (target : List ℕ) (told : Told) (image : Image)
         → RunsOn T.Start make (Desk desk.now) (AnswersReport report_of target told)
         → ClosesTo desk.now files.now image → IsRun report_of (run_of T.Start make (asked target told ∷ []) image) }
+    ensures imports { (make : Option ℕ) (import : Import) (bytes out out' : Option (List ℕ)) (ended : ImportEnded)
+        (image : Image) → RunsOn T.Start make (Desk desk.now) (λ G H. Imports G import bytes out out' ended H)
+        → ClosesTo desk.now files.now image
+        → IsRun report_of (run_of T.Start make (imported import bytes out out' ended ∷ []) image) }
     ensures stays { (make : Option ℕ) (image : Image) → RunsOn T.Start make (Desk desk.now) StaysSame
         → ClosesTo desk.now files.now image → IsRun report_of (run_of T.Start make [] image) }
 {}
@@ -58,15 +70,68 @@ pub fn whole_runs_are_runs<T: Start>(files: &Files<FileFrom<T>>)
         → RunsTo whole T.Start ⟦<FileFrom<T> as Disk>⟧ (Some files.now) make (λ G H. Feeds G input out out' ended H)
         → ReadsClean ⟦<FileFrom<T> as Disk>⟧ files.now image
         → IsRun report_of (run_of T.Start make (fed input out out' ended ∷ []) image) }
-    ensures serves { (make : Option ℕ) (ends : List Ended) (image : Image)
-        → RunsTo whole T.Start ⟦<FileFrom<T> as Disk>⟧ (Some files.now) make (ServesEach ends)
+    ensures serves { (make : Option ℕ) (exchanges : List Exchange) (image : Image)
+        → RunsTo whole T.Start ⟦<FileFrom<T> as Disk>⟧ (Some files.now) make (ServesEach exchanges)
         → ReadsClean ⟦<FileFrom<T> as Disk>⟧ files.now image
-        → IsRun report_of (run_of T.Start make (connections_of ends) image) }
+        → IsRun report_of (run_of T.Start make (connections_of exchanges) image) }
     ensures reports { (make : Option ℕ) (target : List ℕ) (told : Told) (image : Image)
         → RunsTo whole T.Start ⟦<FileFrom<T> as Disk>⟧ (Some files.now) make (AnswersReport report_of target told)
         → ReadsClean ⟦<FileFrom<T> as Disk>⟧ files.now image
         → IsRun report_of (run_of T.Start make (asked target told ∷ []) image) }
+    ensures imports { (make : Option ℕ) (import : Import) (bytes out out' : Option (List ℕ)) (ended : ImportEnded)
+        (image : Image)
+        → RunsTo whole T.Start ⟦<FileFrom<T> as Disk>⟧ (Some files.now) make
+        (λ G H. Imports G import bytes out out' ended H)
+        → ReadsClean ⟦<FileFrom<T> as Disk>⟧ files.now image
+        → IsRun report_of (run_of T.Start make (imported import bytes out out' ended ∷ []) image) }
     ensures stays { (make : Option ℕ) (image : Image)
         → RunsTo whole T.Start ⟦<FileFrom<T> as Disk>⟧ (Some files.now) make StaysSame
         → ReadsClean ⟦<FileFrom<T> as Disk>⟧ files.now image → IsRun report_of (run_of T.Start make [] image) }
+{}
+
+/// A law: a whole run that was refused its files, and closed them, keeps their list and makes no call.
+pub fn refused_runs_keep_lists<T: Start>(files: &Files<FileFrom<T>>)
+    ensures refused { (make : Option ℕ) (fault : OpenFault) (image : Image)
+        → RefusesTo whole T.Start ⟦<FileFrom<T> as Disk>⟧ (Some files.now) make fault
+        → ReadsClean ⟦<FileFrom<T> as Disk>⟧ files.now image → KeepsList (run_of T.Start make [] image) }
+    ensures unmigrated { (make : Option ℕ) (fault : OpenFault) (image : Image)
+        → RefusesToMigrateTo whole T.Start ⟦<FileFrom<T> as Disk>⟧ (Some files.now) fault
+        → ReadsClean ⟦<FileFrom<T> as Disk>⟧ files.now image → KeepsList (run_of T.Start make [] image) }
+{
+    next_run_goes_on();
+}
+
+/// A law: after a kill between two calls, which lets the files go without a close, they hold the tables
+/// of the desk's history.
+pub fn let_go<F: Disk + Drop, D: AnyDesk + Drop>(desk: LineStore<FileStore<F>, D>) -> Files<F>
+    ensures left { Crashes D.Stands D.kept_rules desk result }
+{
+    let conn = desk.into_connection();
+    let _obeyed = conn.schema();
+    let store = conn.into_store();
+    store.close()
+}
+
+/// A law: a run that was killed between two calls, while its desk was open, is a run with the calls that
+/// had returned.
+pub fn killed_runs_are_runs<T: Start>(
+    opened: &FileDesk<T, StateDesk>,
+    last: &FileDesk<T, StateDesk>,
+    files: &Files<FileFrom<T>>,
+)
+    ensures { (make : Option ℕ) (calls : List Call) (image : Image)
+        → RunsOn T.Start make (Desk opened.now) StaysSame → MakesCalls opened.now calls last.now
+        → CrashesTo last.now files.now image
+        → IsRun report_of
+        (record { first = image_at T.Start; make = make; calls = calls; ending = crashed; last = image }) }
+{}
+
+/// A law: a run that was killed while its desk was open is a run, with the calls that the command's contract
+/// gives of that desk.
+pub fn crashed_runs_are_runs<T: Start>(desk: &FileDesk<T, StateDesk>, files: &Files<FileFrom<T>>)
+    ensures crashed { (make : Option ℕ) (calls : List Call) (image : Image)
+        → RunsOn T.Start make (Desk desk.now) (λ G H. AnswersByTheList report_of G calls H)
+        → CrashesTo desk.now files.now image
+        → IsRun report_of
+        (record { first = image_at T.Start; make = make; calls = calls; ending = crashed; last = image }) }
 {}

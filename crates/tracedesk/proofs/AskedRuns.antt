@@ -10,7 +10,8 @@ use Rattle.desk_import.specs.declared.options.Import.{Import}
 use Rattle.desk_words.specs.CommandLine.{AsksForImport, AsksForReport, AsksForServing}
 use Rattle.http_stream.specs.Answers.{Told}
 use Rattle.gateway_http.specs.Reports.{report_of}
-use Rattle.desk_runs.specs.Connections.{Ended, TellsConnections}
+use Rattle.desk_runs.specs.Clients.{Exchange, ends_of}
+use Rattle.desk_runs.specs.Connections.{TellsConnections}
 use Rattle.desk_runs.specs.Runs.{AnswersReport}
 use Rattle.desk_commands.specs.declared.left.Left.{Left}
 use Rattle.desk_commands.specs.declared.left.Left.TheVariants as left
@@ -31,13 +32,13 @@ runs_report ways words Shown file target path answer asks is shown runs =
     (file, target, asks, answer, shown, subst (λ (at : List ℕ). ways.Runs None (AnswersReport report_of at answer)) is runs)
 
 -- connections were served by the desk of the file that the words name, with this exit status
-pub runs_serving : {W : Type 0} (ways : Ways) (words : List (List ℕ)) (contents : W → Option (List ℕ)) (output output' : Wire W)
+pub runs_serving : {W : Type 0} (ways : Ways) (words : List (List ℕ)) (serves : ℕ → List Exchange → Type 0) (contents : W → Option (List ℕ)) (output output' : Wire W)
     (file : List ℕ) (port connections greatest status told : ℕ) → AsksForServing words file port connections greatest → status ≡ told
-    → (ends : List Ended) × TellsConnections connections ends status (contents (inner_of output)) (contents (inner_of output')) (failures_of output) (failures_of output') × ways.Runs (Some greatest) (ServesEach ends)
-    → RunsServing ways words contents output output' told
-runs_serving ways words contents output output' file port connections greatest status told asks is served =
-    let all = subst (λ (n : ℕ). (ends : List Ended) × TellsConnections connections ends n (contents (inner_of output)) (contents (inner_of output')) (failures_of output) (failures_of output') × ways.Runs (Some greatest) (ServesEach ends)) is served in
-    (file, port, connections, greatest, asks, all.0, all.1, all.2)
+    → (exchanges : List Exchange) × TellsConnections connections (ends_of exchanges) status (contents (inner_of output)) (contents (inner_of output')) (failures_of output) (failures_of output') × serves port exchanges × ways.Runs (Some greatest) (ServesEach exchanges)
+    → RunsServing ways words serves contents output output' told
+runs_serving ways words serves contents output output' file port connections greatest status told asks is served =
+    let all = subst (λ (n : ℕ). (exchanges : List Exchange) × TellsConnections connections (ends_of exchanges) n (contents (inner_of output)) (contents (inner_of output')) (failures_of output) (failures_of output') × serves port exchanges × ways.Runs (Some greatest) (ServesEach exchanges)) is served in
+    (file, port, connections, greatest, asks, all.0, all.1, all.2, all.3)
 
 -- a command that had no desk is a run that has none
 pub has_none : (IsRefused IsRefused' : OpenFault → Type 0) (IsLeft IsLeft' : Type 0) (Told : List ℕ → Type 0) → ((fault : OpenFault) → IsRefused fault → IsRefused' fault) → (IsLeft → IsLeft')

@@ -13,6 +13,7 @@ use Rattle.desk_import.specs.declared.options.Import.{Import}
 use Rattle.http_stream.specs.Answers.{Told, code_of}
 use Rattle.served.specs.Sent.{SendsFront}
 use Rattle.gateway_http.specs.Reports.{report_of}
+use Rattle.desk_runs.specs.Clients.{Exchange}
 use Rattle.desk_runs.specs.Runs.{AnswersAll, AnswersImport, AnswersUpTo, CutsImport, StaysSame, AnswersReport}
 use Rattle.desk_runs.specs.Told.{report_output, TellsEnd, TellsLine}
 use Rattle.desk_commands.specs.declared.left.Left.{Left}
@@ -63,7 +64,7 @@ one_of_five (suc (suc (suc zero))) most = inr (inr (inr (inl refl)))
 one_of_five (suc (suc (suc (suc zero)))) most = inr (inr (inr (inr refl)))
 one_of_five (suc (suc (suc (suc (suc n))))) most = absurd (omega (arith, most))
 
-module _ {R W E : Type 0} (ways ways' : Ways) (to : Follows ways ways') (holds : List ℕ → Option (List ℕ)) (may_fail : List ℕ → Type 0) (reads : R → Option (List ℕ)) (writes : W → Option (List ℕ)) (tells : E → Option (List ℕ))
+module _ {R W E : Type 0} (ways ways' : Ways) (to : Follows ways ways') (holds : List ℕ → Option (List ℕ)) (may_fail : List ℕ → Type 0) (serves : ℕ → List Exchange → Type 0) (reads : R → Option (List ℕ)) (writes : W → Option (List ℕ)) (tells : E → Option (List ℕ))
     (words : List (List ℕ)) (input input' : Wire R) (output output' : Wire W) (errors errors' : Wire E) where
   asked : (Fact : Ledger → History → Type 0) → RunsAsked ways words Fact → RunsAsked ways' words Fact
   asked Fact (inl memory) = inl memory
@@ -72,8 +73,8 @@ module _ {R W E : Type 0} (ways ways' : Ways) (to : Follows ways ways') (holds :
   imported : (Fact : Import → List ℕ → Ledger → History → Type 0) → RunsImport ways words Fact → RunsImport ways' words Fact
   imported Fact (file, import, from, asks, runs) = (file, import, from, asks, to.runs None (Fact import from) runs)
 
-  served : (status : ℕ) → RunsServing ways words writes output output' status → RunsServing ways' words writes output output' status
-  served status (file, port, connections, greatest, asks, ends, lines, runs) = (file, port, connections, greatest, asks, ends, lines, to.runs (Some greatest) (ServesEach ends) runs)
+  served : (status : ℕ) → RunsServing ways words serves writes output output' status → RunsServing ways' words serves writes output output' status
+  served status (file, port, connections, greatest, asks, exchanges, lines, are, runs) = (file, port, connections, greatest, asks, exchanges, lines, are, to.runs (Some greatest) (ServesEach exchanges) runs)
 
   reported : (Shown : Told → Type 0) → RunsReport ways words Shown → RunsReport ways' words Shown
   reported Shown (file, target, asks, answer, shown, runs) = (file, target, asks, answer, shown, to.runs None (AnswersReport report_of target answer) runs)
@@ -86,7 +87,7 @@ module _ {R W E : Type 0} (ways ways' : Ways) (to : Follows ways ways') (holds :
   refused_named fault (inr (inr (inr (inr (inl (file, asks, is)))))) = inr (inr (inr (inr (inl (file, asks, to.refuses None fault is)))))
   refused_named fault (inr (inr (inr (inr (inr (file, asks, is)))))) = inr (inr (inr (inr (inr (file, asks, to.refuses_to_migrate fault is)))))
 
-  pub done : Done ways holds may_fail reads writes tells words input input' output output' errors errors' → Done ways' holds may_fail reads writes tells words input input' output output' errors errors'
+  pub done : Done ways holds may_fail serves reads writes tells words input input' output output' errors errors' → Done ways' holds may_fail serves reads writes tells words input input' output output' errors errors'
   done (inl (all, none, lines)) = inl (all, none, asked (AnswersAll reads writes input output output' all) lines)
   done (inr (inl (file, asks, count, sent, audits))) = inr (inl (file, asks, count, sent, to.audits count audits))
   done (inr (inr (inl (file, asks, sent, migrates)))) = inr (inr (inl (file, asks, sent, to.migrates migrates)))
@@ -95,13 +96,13 @@ module _ {R W E : Type 0} (ways ways' : Ways) (to : Follows ways ways') (holds :
   done (inr (inr (inr (inr (inr (inl serves)))))) = inr (inr (inr (inr (inr (inl (served 0 serves))))))
   done (inr (inr (inr (inr (inr (inr report)))))) = inr (inr (inr (inr (inr (inr (reported (λ answer. (code_of answer.status ≡ 200) × Appends (writes (inner_of output)) (writes (inner_of output')) (report_output answer)) report))))))
 
-  pub refused : Refused ways holds may_fail reads writes tells words input input' output output' errors errors' → Refused ways' holds may_fail reads writes tells words input input' output output' errors errors'
+  pub refused : Refused ways holds may_fail serves reads writes tells words input input' output output' errors errors' → Refused ways' holds may_fail serves reads writes tells words input input' output output' errors errors'
   refused (inl (all, some, lines)) = inl (all, some, asked (AnswersAll reads writes input output output' all) lines)
   refused (inr (inl rows)) = inr (inl (imported (λ import from. AnswersImport writes output output' true import (holds from)) rows))
   refused (inr (inr (inl serves))) = inr (inr (inl (served 1 serves)))
   refused (inr (inr (inr report))) = inr (inr (inr (reported (λ answer. (code_of answer.status ≢ 200) × Appends (writes (inner_of output)) (writes (inner_of output')) (report_output answer)) report)))
 
-  pub no_desk : NoDesk ways holds may_fail reads writes tells words input input' output output' errors errors' → NoDesk ways' holds may_fail reads writes tells words input input' output output' errors errors'
+  pub no_desk : NoDesk ways holds may_fail serves reads writes tells words input input' output output' errors errors' → NoDesk ways' holds may_fail serves reads writes tells words input input' output output' errors errors'
   no_desk (untouched, why) = (
     untouched,
     has_none (RefusesNamed ways words) (RefusesNamed ways' words) (ways.OpensNone ⊎ ways.Runs None StaysSame) (ways'.OpensNone ⊎ ways'.Runs None StaysSame) (TellsLine tells errors errors') refused_named
@@ -111,7 +112,7 @@ module _ {R W E : Type 0} (ways ways' : Ways) (to : Follows ways ways') (holds :
   pub unread : ImportUnread ways words may_fail → ImportUnread ways' words may_fail
   unread (file, import, from, asks, may, stays) = (file, import, from, asks, may, to.runs None StaysSame stays)
 
-  pub failed : Failed ways holds may_fail reads writes tells words input input' output output' errors errors' → Failed ways' holds may_fail reads writes tells words input input' output output' errors errors'
+  pub failed : Failed ways holds may_fail serves reads writes tells words input input' output output' errors errors' → Failed ways' holds may_fail serves reads writes tells words input input' output output' errors errors'
   failed (inl (fault, shown, told, inl (leaves, lines))) = inl (fault, shown, told, inl (leaves, asked (AnswersUpTo reads writes input output output' fault) lines))
   failed (inl (fault, shown, told, inr (inl (file, asks, count, sent, audits)))) = inl (fault, shown, told, inr (inl (file, asks, count, sent, to.audits count audits)))
   failed (inl (fault, shown, told, inr (inr (inl (file, asks, sent, migrates))))) = inl (fault, shown, told, inr (inr (inl (file, asks, sent, to.migrates migrates))))
@@ -122,10 +123,10 @@ module _ {R W E : Type 0} (ways ways' : Ways) (to : Follows ways ways') (holds :
   failed (inr (inr (in_same, told, serves))) = inr (inr (in_same, told, served 4 serves))
 
   -- whatever the status is
-  pub ends : (status : ℕ) → status ≤ 4 → (status ≡ 0 → Done ways holds may_fail reads writes tells words input input' output output' errors errors')
-      → (status ≡ 1 → Refused ways holds may_fail reads writes tells words input input' output output' errors errors') → (status ≡ 2 → Bad ways holds may_fail reads writes tells words input input' output output' errors errors')
-      → (status ≡ 3 → NoDesk ways holds may_fail reads writes tells words input input' output output' errors errors') → (status ≡ 4 → Failed ways holds may_fail reads writes tells words input input' output output' errors errors')
-      → Ends ways' holds may_fail reads writes tells words input input' output output' errors errors' status
+  pub ends : (status : ℕ) → status ≤ 4 → (status ≡ 0 → Done ways holds may_fail serves reads writes tells words input input' output output' errors errors')
+      → (status ≡ 1 → Refused ways holds may_fail serves reads writes tells words input input' output output' errors errors') → (status ≡ 2 → Bad ways holds may_fail serves reads writes tells words input input' output output' errors errors')
+      → (status ≡ 3 → NoDesk ways holds may_fail serves reads writes tells words input input' output output' errors errors') → (status ≡ 4 → Failed ways holds may_fail serves reads writes tells words input input' output output' errors errors')
+      → Ends ways' holds may_fail serves reads writes tells words input input' output output' errors errors' status
   ends status most is_done is_refused is_bad is_none is_failed = elim (one_of_five status most) [
     | inl is ↦ inl (is, done (is_done is))
     | inr (inl is) ↦ inr (inl (is, refused (is_refused is)))
@@ -140,13 +141,13 @@ one_more : {A B : Type 0} (before after : ℕ) → ((after ≡ before) × A) ⊎
 one_more before after (inl all) = let same = all.0 in omega (arith, same)
 one_more before after (inr front) = let one = front.0 in omega (arith, one)
 
-module _ {R W E : Type 0} (ways : Ways) (holds : List ℕ → Option (List ℕ)) (may_fail : List ℕ → Type 0) (reads : R → Option (List ℕ)) (writes : W → Option (List ℕ)) (tells : E → Option (List ℕ))
+module _ {R W E : Type 0} (ways : Ways) (holds : List ℕ → Option (List ℕ)) (may_fail : List ℕ → Type 0) (serves : ℕ → List Exchange → Type 0) (reads : R → Option (List ℕ)) (writes : W → Option (List ℕ)) (tells : E → Option (List ℕ))
     (words : List (List ℕ)) (input input' : Wire R) (output output' : Wire W) (errors errors' : Wire E) where
-  bad_few : Bad ways holds may_fail reads writes tells words input input' output output' errors errors' → failures_of errors' ≤ failures_of errors + 1
+  bad_few : Bad ways holds may_fail serves reads writes tells words input input' output output' errors errors' → failures_of errors' ≤ failures_of errors + 1
   bad_few (inl bad) = one_more (failures_of errors) (failures_of errors') bad.2
   bad_few (inr bad) = one_more (failures_of errors) (failures_of errors') bad.2
 
-  none_few : NoDesk ways holds may_fail reads writes tells words input input' output output' errors errors' → failures_of errors' ≤ failures_of errors + 1
+  none_few : NoDesk ways holds may_fail serves reads writes tells words input input' output output' errors errors' → failures_of errors' ≤ failures_of errors + 1
   none_few (untouched, inl (fault, is, inl told)) = one_more (failures_of errors) (failures_of errors') told
   none_few (untouched, inl (fault, is, inr told)) = one_more (failures_of errors) (failures_of errors') told
   none_few (untouched, inr left) = one_more (failures_of errors) (failures_of errors') left.1
@@ -155,14 +156,14 @@ module _ {R W E : Type 0} (ways : Ways) (holds : List ℕ → Option (List ℕ))
   end_few (inl read) = one_more (failures_of errors) (failures_of errors') read.1
   end_few (inr write) = one_more (failures_of errors) (failures_of errors') write.1
 
-  failed_few : Failed ways holds may_fail reads writes tells words input input' output output' errors errors' → failures_of errors' ≤ failures_of errors + 1
+  failed_few : Failed ways holds may_fail serves reads writes tells words input input' output output' errors errors' → failures_of errors' ≤ failures_of errors + 1
   failed_few (inl fault) = one_more (failures_of errors) (failures_of errors') fault.2
   failed_few (inr (inl unread)) = one_more (failures_of errors) (failures_of errors') unread.2
   failed_few (inr (inr serves)) = end_few serves.1
 
   -- at most one write to standard error failed
-  pub few : (status : ℕ) → status ≤ 4 → ((status ≡ 0) ⊎ (status ≡ 1) → errors' ≡ errors) → (status ≡ 2 → Bad ways holds may_fail reads writes tells words input input' output output' errors errors')
-      → (status ≡ 3 → NoDesk ways holds may_fail reads writes tells words input input' output output' errors errors') → (status ≡ 4 → Failed ways holds may_fail reads writes tells words input input' output output' errors errors')
+  pub few : (status : ℕ) → status ≤ 4 → ((status ≡ 0) ⊎ (status ≡ 1) → errors' ≡ errors) → (status ≡ 2 → Bad ways holds may_fail serves reads writes tells words input input' output output' errors errors')
+      → (status ≡ 3 → NoDesk ways holds may_fail serves reads writes tells words input input' output output' errors errors') → (status ≡ 4 → Failed ways holds may_fail serves reads writes tells words input input' output output' errors errors')
       → failures_of errors' ≤ failures_of errors + 1
   few status most quiet is_bad is_none is_failed = elim (one_of_five status most) [
     | inl is ↦ let same = ap failures_of (quiet (inl is)) in omega (arith, same)

@@ -20,7 +20,8 @@ use Rattle.served.specs.declared.serving.ServeFault.TheVariants.{Read as ReadFau
 use Rattle.served.specs.Counts.{none_served}
 use Rattle.served.specs.Sent.{SendsFront}
 use Rattle.served.specs.Shown.{IsShown}
-use Rattle.desk_runs.specs.Connections.{Ended, TellsConnections}
+use Rattle.desk_runs.specs.Clients.{Exchange, ends_of}
+use Rattle.desk_runs.specs.Connections.{TellsConnections}
 use Rattle.desk_runs.specs.Runs.{AnswersAll, AnswersImport, AnswersUpTo, CutsImport, StaysSame, AnswersReport}
 use Rattle.desk_runs.specs.Told.{fault_line, lawful_line, option_line, report_output, unavailable_line, version_line, TellsEnd, TellsLine}
 use Rattle.desk_runs.specs.Told as told
@@ -40,12 +41,12 @@ abbrev pub RunsImport : Ways → List (List ℕ) → (Import → List ℕ → Le
 RunsImport ways words Fact =
     (file : List ℕ) × (import : Import) × (from : List ℕ) × AsksForImport words file import from × ways.Runs None (Fact import from)
 
--- the words ask to serve connections, and they were served on the desk of the file that the words name, with this exit status: what is told of each is on the output
-abbrev pub RunsServing : {W : Type 0} → Ways → List (List ℕ) → (W → Option (List ℕ)) → Wire W → Wire W → ℕ → Type 0
-RunsServing ways words contents output output' status =
+-- the words ask to serve connections at a port, and these were served there on the desk of the file that the words name, with this exit status: what is told of each is on the output
+abbrev pub RunsServing : {W : Type 0} → Ways → List (List ℕ) → (ℕ → List Exchange → Type 0) → (W → Option (List ℕ)) → Wire W → Wire W → ℕ → Type 0
+RunsServing ways words serves contents output output' status =
     (file : List ℕ) × (port : ℕ) × (connections : ℕ) × (greatest : ℕ) × AsksForServing words file port connections greatest
-    × (ends : List Ended) × TellsConnections connections ends status (contents (inner_of output)) (contents (inner_of output')) (failures_of output) (failures_of output')
-    × ways.Runs (Some greatest) (ServesEach ends)
+    × (exchanges : List Exchange) × TellsConnections connections (ends_of exchanges) status (contents (inner_of output)) (contents (inner_of output')) (failures_of output) (failures_of output')
+    × serves port exchanges × ways.Runs (Some greatest) (ServesEach exchanges)
 
 -- the words ask for a report, and this was answered by the list of the desk of the file that they name
 abbrev pub RunsReport : Ways → List (List ℕ) → (Told → Type 0) → Type 0
@@ -91,8 +92,8 @@ RefusesNamed ways words fault =
 
 -- ---- how a run ends
 
--- The table of a run, a paragraph for each exit status and a row for each command: its words, and what its wires were before it and after it. What it did to its files, `ways` says: of what it has open, or of the files that it closed. What a file of an import holds is `holds`, and whether reading it may fail `may_fail`; what a reader has left to give is `reads`, and what went out to a writer `writes`, as far as these are known.
-module _ {R W E : Type 0} (ways : Ways) (holds : List ℕ → Option (List ℕ)) (may_fail : List ℕ → Type 0) (reads : R → Option (List ℕ)) (writes : W → Option (List ℕ)) (tells : E → Option (List ℕ))
+-- The table of a run, a paragraph for each exit status and a row for each command: its words, and what its wires were before it and after it. What it did to its files, `ways` says: of what it has open, or of the files that it closed. What a file of an import holds is `holds`, and whether reading it may fail `may_fail`; which connections there were on a port, `serves`; what a reader has left to give is `reads`, and what went out to a writer `writes`, as far as these are known.
+module _ {R W E : Type 0} (ways : Ways) (holds : List ℕ → Option (List ℕ)) (may_fail : List ℕ → Type 0) (serves : ℕ → List Exchange → Type 0) (reads : R → Option (List ℕ)) (writes : W → Option (List ℕ)) (tells : E → Option (List ℕ))
     (words : List (List ℕ)) (input input' : Wire R) (output output' : Wire W) (errors errors' : Wire E) where
   -- this text went out; or only its first bytes did
   abbrev pub Sent : List ℕ → Type 0
@@ -112,14 +113,14 @@ module _ {R W E : Type 0} (ways : Ways) (holds : List ℕ → Option (List ℕ))
       ⊎ ((file : List ℕ) × AsksForMigration words file × Sent version_line × ways.Migrates)
       ⊎ RunsImport ways words (λ import from. AnswersImport writes output output' false import (holds from))
       ⊎ (AsksForText words × (text : List ℕ) × Sent text)
-      ⊎ RunsServing ways words writes output output' 0
+      ⊎ RunsServing ways words serves writes output output' 0
       ⊎ RunsReport ways words (λ answer. (code_of answer.status ≡ 200) × Sent (report_output answer))
 
   -- status 1: some line was refused; the import was; some connection was faulty; there is no such report
   abbrev pub Refused : Type 0
   Refused = ((served : Served) × (0 < served.refused) × RunsAsked ways words (AnswersAll reads writes input output output' served))
       ⊎ RunsImport ways words (λ import from. AnswersImport writes output output' true import (holds from))
-      ⊎ RunsServing ways words writes output output' 1
+      ⊎ RunsServing ways words serves writes output output' 1
       ⊎ RunsReport ways words (λ answer. (code_of answer.status ≢ 200) × Sent (report_output answer))
 
   -- status 2: the words ask for nothing that the program does, or an option of an import can't be read
@@ -141,15 +142,15 @@ module _ {R W E : Type 0} (ways : Ways) (holds : List ℕ → Option (List ℕ))
       ⊎ (AsksForText words × (text : List ℕ) × SentFront text)
       ⊎ RunsReport ways words (λ answer. SentFront (report_output answer))))
       ⊎ ((input' ≡ input) × (output' ≡ output) × ToldLine (fault_line (ReadFault none_served)) × ImportUnread ways words may_fail)
-      ⊎ ((input' ≡ input) × TellsEnd tells output output' errors errors' × RunsServing ways words writes output output' 4)
+      ⊎ ((input' ≡ input) × TellsEnd tells output output' errors errors' × RunsServing ways words serves writes output output' 4)
 
   -- what a run did that ended with this status
   abbrev pub Ends : ℕ → Type 0
   Ends status = ((status ≡ 0) × Done) ⊎ ((status ≡ 1) × Refused) ⊎ ((status ≡ 2) × Bad) ⊎ ((status ≡ 3) × NoDesk) ⊎ ((status ≡ 4) × Failed)
 
 -- The files could not be closed, and the status is 3: there was no desk; or Unavailable was told behind what was told of the run, and what it did stands.
-abbrev pub Unclosed : {R W E : Type 0} → Ways → (List ℕ → Option (List ℕ)) → (List ℕ → Type 0) → (R → Option (List ℕ)) → (W → Option (List ℕ)) → (E → Option (List ℕ))
+abbrev pub Unclosed : {R W E : Type 0} → Ways → (List ℕ → Option (List ℕ)) → (List ℕ → Type 0) → (ℕ → List Exchange → Type 0) → (R → Option (List ℕ)) → (W → Option (List ℕ)) → (E → Option (List ℕ))
     → List (List ℕ) → Wire R → Wire R → Wire W → Wire W → Wire E → Wire E → Type 0
-Unclosed {E = E} ways holds may_fail reads writes tells words input input' output output' errors errors' =
-    NoDesk ways holds may_fail reads writes tells words input input' output output' errors errors'
-    ⊎ ((status : ℕ) × (told : Wire E) × Ends ways holds may_fail reads writes tells words input input' output output' errors told status × TellsLine tells told errors' unavailable_line)
+Unclosed {E = E} ways holds may_fail serves reads writes tells words input input' output output' errors errors' =
+    NoDesk ways holds may_fail serves reads writes tells words input input' output output' errors errors'
+    ⊎ ((status : ℕ) × (told : Wire E) × Ends ways holds may_fail serves reads writes tells words input input' output output' errors told status × TellsLine tells told errors' unavailable_line)

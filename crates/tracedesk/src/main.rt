@@ -4,9 +4,22 @@
 
 mod program;
 mod run;
+mod system;
 
+use desk_types::Wire;
+use run::{wordless, words};
 use std::process::ExitCode;
 
 fn main(rt: HostRuntime) -> ExitCode {
-    ExitCode::from(run::run(&rt))
+    let mut errors = Wire::new(rt.stderr());
+    ExitCode::from(match words(&rt) {
+        Ok(words) => run::program(
+            &rt,
+            words.as_slice(),
+            &mut Wire::new(rt.stdin()),
+            &mut Wire::new(rt.stdout()),
+            &mut errors,
+        ),
+        Err(error) => wordless(&error, &mut errors),
+    })
 }

@@ -1,11 +1,12 @@
-//! A whole run of the program, over any files, folder, input and output.
+//! A whole run of the program, over any files, folder, clients, input and output.
 
 ghost use Rattle.std.specs.Prelude.{◌≡◌, ◌⊎◌, ◌+◌, ◌^◌, ◌<◌, ◌≤◌, None, map, string_bytes, IfOk, IfErr, OnSome, ℕ};
 ghost use Rattle.std.specs.Io.KnownBytes.{IsAtEnd};
 ghost use Rattle.desk_types.specs.Wire.{inner_of, reads_of, failures_of};
 ghost use Rattle.desk_types.specs.declared.limits.TheConstants.{MOST_READS};
 ghost use Rattle.served.specs.Shown.{FailsNever};
-ghost use Rattle.desk_words.specs.CommandLine.{AsksForFeed};
+ghost use Rattle.desk_words.specs.CommandLine.{AsksForFeed, AsksForServing};
+ghost use Rattle.desk_runs.specs.Clients.{ServesAt};
 ghost use Rattle.desk_runs.specs.Wires.{HaveFewCounts};
 ghost use Rattle.desk_commands.specs.declared.left.Left.TheVariants.{Nothing};
 ghost use Rattle.desk_commands.specs.Closed.{ClosesLeft, failed, whole};
@@ -18,7 +19,7 @@ use desk_commands::{
 };
 use desk_file::{Refusal, close_desk, close_file};
 use desk_import::Folder;
-use desk_runs::{Exit, bad_option, send_text, tell, unavailable};
+use desk_runs::{Clients, Exit, bad_option, send_text, tell, unavailable};
 use desk_types::Wire;
 use desk_words::{Asked, read_words};
 use sqlite::{FileFrom, Files, Start};
@@ -29,13 +30,14 @@ use std::io::{Read, Write};
 /// A whole run after the program's name: its exit status, and the files that it closed, for clauses to
 /// name. They go where they are dropped.
 ///
-/// It is `program` and then the close of what that left open. Where the close fails the status is 3 and
+/// It is `open_run` and then the close of what that left open. Where the close fails the status is 3 and
 /// Unavailable is told, unless a fault was told with status 3 before; the answers stand.
-pub fn whole_run<T: Start, F: Folder, R: Read, W: Write, E: Write>(
+pub fn whole_run<T: Start, F: Folder, C: Clients, R: Read, W: Write, E: Write>(
     rt: &HostRuntime,
     words: &[String],
     start: T,
     folder: &F,
+    clients: &mut C,
     input: &mut Wire<R>,
     output: &mut Wire<W>,
     errors: &mut Wire<E>,
@@ -47,39 +49,43 @@ pub fn whole_run<T: Start, F: Folder, R: Read, W: Write, E: Write>(
     ensures status { result.0 ≤ 4 }
     ensures done { result.0 ≡ 0
         → Done (ways_when_closed whole T.Start ⟦<FileFrom<T> as Disk>⟧ result.1) (F.holds folder.now)
-        (F.may_fail folder.now) R.remaining W.contents E.contents
+        (F.may_fail folder.now) (ServesAt C.Saw clients.old clients.new) R.remaining W.contents E.contents
         (map string_bytes words.now) input.old input.new output.old output.new errors.old errors.new }
     ensures refused { result.0 ≡ 1
         → Refused (ways_when_closed whole T.Start ⟦<FileFrom<T> as Disk>⟧ result.1) (F.holds folder.now)
-        (F.may_fail folder.now) R.remaining W.contents E.contents
+        (F.may_fail folder.now) (ServesAt C.Saw clients.old clients.new) R.remaining W.contents E.contents
         (map string_bytes words.now) input.old input.new output.old output.new errors.old errors.new }
     ensures bad { result.0 ≡ 2
         → Bad (ways_when_closed whole T.Start ⟦<FileFrom<T> as Disk>⟧ result.1) (F.holds folder.now)
-        (F.may_fail folder.now) R.remaining W.contents E.contents
+        (F.may_fail folder.now) (ServesAt C.Saw clients.old clients.new) R.remaining W.contents E.contents
         (map string_bytes words.now) input.old input.new output.old output.new errors.old errors.new }
     ensures no_desk { result.0 ≡ 3
         → NoDesk (ways_when_closed whole T.Start ⟦<FileFrom<T> as Disk>⟧ result.1) (F.holds folder.now)
-        (F.may_fail folder.now) R.remaining W.contents E.contents
+        (F.may_fail folder.now) (ServesAt C.Saw clients.old clients.new) R.remaining W.contents E.contents
         (map string_bytes words.now) input.old input.new output.old output.new errors.old errors.new
         ⊎ Unclosed (ways_when_closed failed T.Start ⟦<FileFrom<T> as Disk>⟧ result.1) (F.holds folder.now)
-        (F.may_fail folder.now) R.remaining W.contents E.contents
+        (F.may_fail folder.now) (ServesAt C.Saw clients.old clients.new) R.remaining W.contents E.contents
         (map string_bytes words.now) input.old input.new output.old output.new errors.old errors.new }
     ensures failed { result.0 ≡ 4
         → Failed (ways_when_closed whole T.Start ⟦<FileFrom<T> as Disk>⟧ result.1) (F.holds folder.now)
-        (F.may_fail folder.now) R.remaining W.contents E.contents
+        (F.may_fail folder.now) (ServesAt C.Saw clients.old clients.new) R.remaining W.contents E.contents
         (map string_bytes words.now) input.old input.new output.old output.new errors.old errors.new }
     ensures unopened { result.0 ≡ 2 → result.1 ≡ None }
     ensures opened { OnSome result.1 (NamesFile (map string_bytes words.now)) }
     ensures untouched { result.0 ≡ 2 → (input.new ≡ input.old) × (output.new ≡ output.old) }
+    ensures unasked { result.0 ≡ 2 → clients.new ≡ clients.old }
     ensures end { (result.0 ≡ 0) ⊎ (result.0 ≡ 1) → (file : _) (greatest : ℕ)
         → AsksForFeed (map string_bytes words.now) file greatest → IsAtEnd (R.remaining (inner_of input.new)) }
     ensures kept { (result.0 ≡ 0) ⊎ (result.0 ≡ 1) → FailsNever input.old input.new output.old output.new }
     ensures few_reads { reads_of input.new ≤ reads_of input.old + MOST_READS }
     ensures unread { ((file : _) (greatest : ℕ) → AsksForFeed (map string_bytes words.now) file greatest → ⊥)
         → input.new ≡ input.old }
+    ensures unserved { ((file : _) (port connections greatest : ℕ)
+        → AsksForServing (map string_bytes words.now) file port connections greatest → ⊥)
+        → clients.new ≡ clients.old }
     ensures quiet { (result.0 ≡ 0) ⊎ (result.0 ≡ 1) → errors.new ≡ errors.old }
 {
-    let (status, left) = program(rt, words, start, folder, input, output, errors);
+    let (status, left) = open_run(rt, words, start, folder, clients, input, output, errors);
     match close_run(left) {
         Ok(files) => (status, files),
         Err(files) if status == Exit::NoDesk as u8 => (status, files),
@@ -123,12 +129,13 @@ fn close_run<T: Start>(
 /// told as `tracedesk: Read`, `tracedesk: Write` or `tracedesk: TooManyReads`; Read also where the file
 /// of an import can't be opened or read, a port can't be had or no further connection be accepted.
 ///
-/// Standard input is read by `feed` alone. What the clients of `serve` sent and got is not said.
-fn program<T: Start, F: Folder, R: Read, W: Write, E: Write>(
+/// Standard input is read by `feed` alone, and only `serve` asks for a port.
+fn open_run<T: Start, F: Folder, C: Clients, R: Read, W: Write, E: Write>(
     rt: &HostRuntime,
     words: &[String],
     start: T,
     folder: &F,
+    clients: &mut C,
     input: &mut Wire<R>,
     output: &mut Wire<W>,
     errors: &mut Wire<E>,
@@ -137,33 +144,37 @@ fn program<T: Start, F: Folder, R: Read, W: Write, E: Write>(
     ensures status { result.0 ≤ 4 }
     ensures done { result.0 ≡ 0
         → Done (ways_when_open T.Start result.1) (F.holds folder.now)
-        (F.may_fail folder.now) R.remaining W.contents E.contents
+        (F.may_fail folder.now) (ServesAt C.Saw clients.old clients.new) R.remaining W.contents E.contents
         (map string_bytes words.now) input.old input.new output.old output.new errors.old errors.new }
     ensures refused { result.0 ≡ 1
         → Refused (ways_when_open T.Start result.1) (F.holds folder.now)
-        (F.may_fail folder.now) R.remaining W.contents E.contents
+        (F.may_fail folder.now) (ServesAt C.Saw clients.old clients.new) R.remaining W.contents E.contents
         (map string_bytes words.now) input.old input.new output.old output.new errors.old errors.new }
     ensures bad { result.0 ≡ 2
         → Bad (ways_when_open T.Start result.1) (F.holds folder.now)
-        (F.may_fail folder.now) R.remaining W.contents E.contents
+        (F.may_fail folder.now) (ServesAt C.Saw clients.old clients.new) R.remaining W.contents E.contents
         (map string_bytes words.now) input.old input.new output.old output.new errors.old errors.new }
     ensures no_desk { result.0 ≡ 3
         → NoDesk (ways_when_open T.Start result.1) (F.holds folder.now)
-        (F.may_fail folder.now) R.remaining W.contents E.contents
+        (F.may_fail folder.now) (ServesAt C.Saw clients.old clients.new) R.remaining W.contents E.contents
         (map string_bytes words.now) input.old input.new output.old output.new errors.old errors.new }
     ensures failed { result.0 ≡ 4
         → Failed (ways_when_open T.Start result.1) (F.holds folder.now)
-        (F.may_fail folder.now) R.remaining W.contents E.contents
+        (F.may_fail folder.now) (ServesAt C.Saw clients.old clients.new) R.remaining W.contents E.contents
         (map string_bytes words.now) input.old input.new output.old output.new errors.old errors.new }
     ensures unopened { result.0 ≡ 2 → result.1 ≡ Nothing }
     ensures named { Names (map string_bytes words.now) result.1 }
     ensures untouched { (result.0 ≡ 2) ⊎ (result.0 ≡ 3) → (input.new ≡ input.old) × (output.new ≡ output.old) }
+    ensures unasked { (result.0 ≡ 2) ⊎ (result.0 ≡ 3) → clients.new ≡ clients.old }
     ensures end { (result.0 ≡ 0) ⊎ (result.0 ≡ 1) → (file : _) (greatest : ℕ)
         → AsksForFeed (map string_bytes words.now) file greatest → IsAtEnd (R.remaining (inner_of input.new)) }
     ensures kept { (result.0 ≡ 0) ⊎ (result.0 ≡ 1) → FailsNever input.old input.new output.old output.new }
     ensures few_reads { reads_of input.new ≤ reads_of input.old + MOST_READS }
     ensures unread { ((file : _) (greatest : ℕ) → AsksForFeed (map string_bytes words.now) file greatest → ⊥)
         → input.new ≡ input.old }
+    ensures unserved { ((file : _) (port connections greatest : ℕ)
+        → AsksForServing (map string_bytes words.now) file port connections greatest → ⊥)
+        → clients.new ≡ clients.old }
     ensures quiet { (result.0 ≡ 0) ⊎ (result.0 ≡ 1) → errors.new ≡ errors.old }
 {
     match read_words(rt.alloc(), words) {
@@ -185,6 +196,7 @@ fn program<T: Start, F: Folder, R: Read, W: Write, E: Write>(
             rt,
             file.as_str(),
             start,
+            clients,
             port,
             connections,
             greatest,

@@ -1,73 +1,68 @@
-//! A run on the system's words, files, input and output.
+//! A run on the system's files and ports.
 
-ghost use Rattle.std.specs.Prelude.{◌≡◌, ◌≢◌, ◌^◌, ◌<◌, ◌≤◌, codes};
+ghost use Rattle.std.specs.Prelude.{◌≡◌, ◌≢◌, ◌⊎◌, ◌+◌, ◌^◌, ◌<◌, ◌≤◌, map, string_bytes, codes, ℕ};
+ghost use Rattle.std.specs.Io.KnownBytes.{IsAtEnd};
 ghost use Rattle.std.specs.IoError.{error_kind};
-ghost use Rattle.desk_types.specs.Wire.{failures_of};
+ghost use Rattle.desk_types.specs.declared.limits.TheConstants.{MOST_READS};
+ghost use Rattle.desk_types.specs.Wire.{inner_of, reads_of, failures_of};
 ghost use Rattle.line_schema.specs.declared.fault.OpenFault.TheVariants.{Unavailable};
+ghost use Rattle.served.specs.Shown.{FailsNever};
+ghost use Rattle.desk_words.specs.CommandLine.{AsksForFeed};
 ghost use Rattle.desk_runs.specs.Told.{TellsLine};
 ghost use Rattle.desk_commands.specs.Runs.{refusal_line};
 
 use crate::program::whole_run;
-use desk_import::{Folder, Unread, read_file};
+use crate::system::{SystemClients, SystemFiles};
 use desk_runs::{Exit, tell_line, unavailable};
 use desk_types::Wire;
+use desk_words::words_behind_name;
 use sqlite::Unknown;
-use std::alloc::Global;
-use std::fs::File;
 use std::io;
-use std::io::{ErrorKind, Write};
+use std::io::{ErrorKind, Read, Write};
 
-/// A run of the program with the words of its command line, on the system's input and output. It is a
-/// whole run and nothing else, where the words can be had.
-pub fn run(rt: &HostRuntime) -> u8
-    ensures { result ≤ 4 }
+/// A whole run with the words behind the program's name: its exit status. It is `whole_run` on the
+/// files and ports of the system, and nothing else.
+pub fn program<R: Read, W: Write, E: Write>(
+    rt: &HostRuntime,
+    words: &[String],
+    input: &mut Wire<R>,
+    output: &mut Wire<W>,
+    errors: &mut Wire<E>,
+) -> u8
+    requires reads { reads_of input.old < 2 ^ 63 }
+    requires read_failures { failures_of input.old < 2 ^ 63 }
+    requires write_failures { failures_of output.old < 2 ^ 63 }
+    requires error_failures { failures_of errors.old + 1 < 2 ^ 63 }
+    ensures status { result ≤ 4 }
+    ensures untouched { result ≡ 2 → (input.new ≡ input.old) × (output.new ≡ output.old) }
+    ensures end { (result ≡ 0) ⊎ (result ≡ 1) → (file : _) (greatest : ℕ)
+        → AsksForFeed (map string_bytes words.now) file greatest → IsAtEnd (R.remaining (inner_of input.new)) }
+    ensures kept { (result ≡ 0) ⊎ (result ≡ 1) → FailsNever input.old input.new output.old output.new }
+    ensures few_reads { reads_of input.new ≤ reads_of input.old + MOST_READS }
+    ensures unread { ((file : _) (greatest : ℕ) → AsksForFeed (map string_bytes words.now) file greatest → ⊥)
+        → input.new ≡ input.old }
+    ensures quiet { (result ≡ 0) ⊎ (result ≡ 1) → errors.new ≡ errors.old }
 {
-    let mut input = Wire::new(rt.stdin());
-    let mut output = Wire::new(rt.stdout());
-    let mut errors = Wire::new(rt.stderr());
-    let files = SystemFiles { rt };
-    match words(rt) {
-        Ok(words) => {
-            let (status, _files) = whole_run(
-                rt,
-                words.as_slice(),
-                Unknown,
-                &files,
-                &mut input,
-                &mut output,
-                &mut errors,
-            );
-            status
-        }
-        Err(error) => wordless(&error, &mut errors),
-    }
+    let (status, _files) = whole_run(
+        rt,
+        words,
+        Unknown,
+        &SystemFiles::new(rt),
+        &mut SystemClients::new(rt),
+        input,
+        output,
+        errors,
+    );
+    status
 }
 
-/// The files of the system. What they hold is not known before they are read, and each may fail.
-#[derive(Drop)]
-struct SystemFiles<'a> {
-    rt: &'a HostRuntime,
-}
-
-impl Folder for SystemFiles<'_> {
-    ghost use Rattle.std.specs.Prelude.{None, ⊤};
-
-    ghost holds = { λ _ _. None };
-
-    ghost may_fail = { λ _ _. ⊤ };
-
-    fn read(&self, alloc: Global, path: &str) -> Result<Vec<u8>, Unread> {
-        read_file(alloc, File::open(self.rt, path)?)
-    }
-}
-
-/// The words after the program's name.
-fn words(rt: &HostRuntime) -> io::Result<Vec<String>> {
-    Ok(std::env::args(rt)?.skip(1).collect(rt.alloc())?)
+/// The words behind the program's name.
+pub fn words(rt: &HostRuntime) -> io::Result<Vec<String>> {
+    Ok(words_behind_name(rt.alloc(), std::env::args(rt)?)?)
 }
 
 /// Tells why the words of the command line could not be had.
-fn wordless<E: Write>(error: &io::Error, errors: &mut Wire<E>) -> u8
+pub fn wordless<E: Write>(error: &io::Error, errors: &mut Wire<E>) -> u8
     requires error_failures { failures_of errors.old < 2 ^ 63 }
     ensures unavailable { error_kind error.now ≡ ErrorKind.OutOfMemory → result ≡ 3 }
     ensures bad { error_kind error.now ≢ ErrorKind.OutOfMemory → result ≡ 2 }

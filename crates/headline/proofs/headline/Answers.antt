@@ -1,4 +1,3 @@
-use Rattle.desk_types.specs.Judged.{IsLawful}
 use Rattle.desk_laws.proofs.JudgedLists.{consistent}
 use Rattle.headline.proofs.CallsInTurn.{goes_on}
 use Rattle.headline.proofs.headline.Goals as goal

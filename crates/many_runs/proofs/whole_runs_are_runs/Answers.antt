@@ -1,8 +1,8 @@
 use Rattle.std.proofs.Common.{[], ◌∷◌, refl}
 use Rattle.desk_runs.specs.Runs.{StaysSame, AnswersReport}
 use Rattle.gateway_http.specs.Reports.{report_of}
-use Rattle.headline.specs.Calls.{Feeds}
-use Rattle.headline.specs.Calls.Call.{asked, fed}
+use Rattle.headline.specs.Calls.{Feeds, Imports}
+use Rattle.headline.specs.Calls.Call.{asked, fed, imported}
 use Rattle.desk_commands.specs.Runs.{ServesEach}
 use Rattle.many_runs.specs.Closed.{connections_of}
 use Rattle.many_runs.proofs.ProgramRuns.{is_whole_run, serves_each}
@@ -23,3 +23,7 @@ returns-clause-reports g c = λ make target told image.
 pub returns-clause-stays : goal.returns-clause-stays
 returns-clause-stays g c = λ make image.
     is_whole_run _ g.T.Start make c.args.files.now image StaysSame [] (λ G H same. same)
+
+pub returns-clause-imports : goal.returns-clause-imports
+returns-clause-imports g c = λ make import bytes out out' ended image.
+    is_whole_run _ g.T.Start make c.args.files.now image (λ G H. Imports G import bytes out out' ended H) (imported import bytes out out' ended ∷ []) (λ G H fact. (H, fact, refl))

@@ -1,4 +1,4 @@
-use Rattle.std.proofs.Common.{ℕ, List, Option, Bool, true, false, None, refl, inl, inr}
+use Rattle.std.proofs.Common.{true, false, None, refl, inl, inr}
 use Rattle.desk_runs.specs.Runs.{AnswersImport, CutsImport, StaysSame}
 use Rattle.desk_commands.proofs.RunsOnFiles.{runs_on, stays}
 use Rattle.desk_commands.proofs.exchange.import_in_file.Goals as goal

@@ -8,7 +8,7 @@ pub returns-in-Ok-open_desk-clause-served : goal.returns-in-Ok-open_desk-clause-
 returns-in-Ok-open_desk-clause-served g c = λ is.
     let run = c.serve_port-status in
     let served = run.ensures.served in
-    (served.0, served.1, runs_behind g.T.Start (Some c.args.greatest) c.in-Ok-open_desk.store c.into_store.result c.new-gateway.result run.new.handler (ServesEach served.0) (ap store_of c.new-gateway.ensures ∙ c.new-in-Ok-open_desk.ensures) (c.into_store.ensures ∙ ap store_of c.into_owner.ensures) run.ensures.trusts c.in-Ok-open_desk.ensures.begins served.2)
+    (served.0, served.1, served.2, runs_behind g.T.Start (Some c.args.greatest) c.in-Ok-open_desk.store c.into_store.result c.new-gateway.result run.new.handler (ServesEach served.0) (ap store_of c.new-gateway.ensures ∙ c.new-in-Ok-open_desk.ensures) (c.into_store.ensures ∙ ap store_of c.into_owner.ensures) run.ensures.trusts c.in-Ok-open_desk.ensures.begins served.3)
 
 pub serve_port-status-requires-clause-ready : goal.serve_port-status-requires-clause-ready
 serve_port-status-requires-clause-ready g c = stands_behind c.in-Ok-open_desk.store c.new-gateway.result (ap store_of c.new-gateway.ensures ∙ c.new-in-Ok-open_desk.ensures) c.in-Ok-open_desk.ensures.stands

@@ -7,8 +7,20 @@ use Rattle.sqlite.specs.Held.{state}
 use Rattle.sqlite.proofs.StateLemmas.{survives_then}
 use Rattle.sqlite.proofs.Callers.{survives_begin}
 use Rattle.line_tables.specs.Calls.{LeavesBlank}
-use Rattle.line_tables.proofs.Leaves.{leaves_blank}
+use Rattle.line_tables.proofs.Leaves.{leaves_blank, settled_makes}
 use Rattle.line_tables.proofs.making.make.Goals as goal
+
+pub returns-clause-made : goal.returns-clause-made
+returns-clause-made g c clean =
+    let old = c.args.conn.now in
+    let last = c.make_all.new.tx.conn.now in
+    let end = c.commit.new.self.0 in
+    let same : end ≡ c.conn-2-1.given.0 = search rules in
+    let clean_end : HasCleanDisk (state g.S.Store end) = subst (λ h. HasCleanDisk (state g.S.Store h)) (sym same) clean in
+    on_ok_weaker c.commit.result (λ done.
+    let committed = subst (λ h. (state g.S.Store h).committed ≡ (state g.S.Store last).now) same done.1.committed_is in
+    settled_makes g.S.Store old last c.args.greatest (rw c.transaction-tx.ensures.begun at (c.in_ok-make_all.ensures.made (omega (arith, c.commit.ensures.survives.clean)))) _ committed
+    ) (c.commit.ensures.ok clean_end)
 
 pub returns-clause-crash : goal.returns-clause-crash
 returns-clause-crash g c =

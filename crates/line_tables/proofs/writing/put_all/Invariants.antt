@@ -4,6 +4,7 @@ use Rattle.sqlite.specs.Held.{state}
 use Rattle.sqlite.specs.Effect.{IsDatabase}
 use Rattle.line_tables.specs.Rows.{Tables, Holds, AreNew}
 use Rattle.line_tables.specs.Frames.{InTransaction}
+use Rattle.line_tables.specs.Calls.{KeepsOthers}
 use Rattle.line_tables.proofs.Puts.{Remain}
 use Rattle.line_tables.proofs.writing.put_all.Given as goal
 
@@ -14,6 +15,7 @@ invariant-loop-rest g l =
       left : HasCleanDisk now → Remain l.edits l.rest old.now now.now;
       was_open : HasCleanDisk now → length l.rest < length l.edits → IsTrue old.is_open;
       sound : HasCleanDisk now → length l.rest < length l.edits → (tables : Tables) → Holds old.now tables → AreNew l.edits tables → IsDatabase now.now;
+      others : HasCleanDisk now → KeepsOthers old.now now.now;
       within : InTransaction g.S.Store l.fn.tx l.tx;
     }
 

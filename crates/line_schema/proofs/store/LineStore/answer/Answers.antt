@@ -1,8 +1,12 @@
-use Rattle.std.proofs.Common.{◌≡◌, inl, inr, None, rules, arith}
+use Rattle.std.proofs.Common.{◌≡◌, inl, inr, None, rules, arith, Some, true, is_some, length, ap, ◌||◌, ◌≤◌}
 use Rattle.sqlite.specs.State.{HasCleanDisk}
 use Rattle.sqlite.specs.Held.{state}
-use Rattle.desk_answers.specs.Commands.{earlier_answer}
+use Rattle.std.proofs.lemmas.Bool.{or_right}
+use Rattle.std.proofs.lemmas.Bool.Decides.{nat_tests}
+use Rattle.desk_answers.specs.Commands.{earlier_answer, is_full}
 use Rattle.line_schema.proofs.ListsAfter.{leaves_newly}
+use Rattle.line_schema.proofs.Others.{let_be_then}
+use Rattle.line_schema.proofs.StandsAfter.{stands_still}
 use Rattle.line_schema.proofs.store.LineStore.answer.Goals as goal
 
 pub returns-clause-crash : goal.returns-clause-crash
@@ -13,3 +17,21 @@ returns-clause-crash g c L stands clean own trees left =
     leaves_newly L c.args.stamped.now _ _ _ trees none
     (λ before. elim (c.earlier.ensures.survives.crash early trees before) [ inl at_entry ↦ at_entry | inr none ↦ absurd none ])
     (c.answer_new.ensures.crash L (c.earlier.ensures.stands L stands) clean own trees left)
+
+pub returns-clause-others : goal.returns-clause-others
+returns-clause-others g c = let_be_then _ _ _ (λ clean. omega (arith, c.answer_new.ensures.survives.clean, clean)) c.earlier.ensures.others c.answer_new.ensures.others
+
+pub returns-in-Some-clause-ok : goal.returns-in-Some-clause-ok
+returns-in-Some-clause-ok g c L stands clean own =
+    let s = c.args.stamped.now in
+    let there : earlier_answer L.history s ≡ Some c.in-Some.answer = search rules in
+    stands_still g.S.Store g.D.Desk.Stands g.D.Desk.kept_rules c.earlier.new.self L s (ap (λ o. is_some o || is_full L.greatest L.history) there) (c.earlier.ensures.stands L stands)
+
+pub returns-then-self-clause-ok : goal.returns-then-self-clause-ok
+returns-then-self-clause-ok g c L stands clean own =
+    let s = c.args.stamped.now in
+    let mid = c.earlier.ensures.stands L stands in
+    let none : c.earlier.new.self.greatest ≤ c.earlier.new.self.count = search rules in
+    let less : L.greatest ≤ length L.history = omega (arith, none, mid.count, mid.greatest) in
+    let full : is_full L.greatest L.history ≡ true = grind (arith, nat_tests) in
+    stands_still g.S.Store g.D.Desk.Stands g.D.Desk.kept_rules c.earlier.new.self L s (or_right (is_some (earlier_answer L.history s)) (is_full L.greatest L.history) full) mid

@@ -2,6 +2,7 @@ use Rattle.std.proofs.Common.{inl, inr, arith}
 use Rattle.sqlite.specs.State.{HasCleanDisk}
 use Rattle.sqlite.specs.Held.{state}
 use Rattle.line_schema.proofs.ListsAfter.{newly_weaker}
+use Rattle.line_schema.proofs.Others.{let_be_then}
 use Rattle.line_schema.proofs.store.LineStore.answer_new.Goals as goal
 
 pub returns-clause-crash : goal.returns-clause-crash
@@ -11,3 +12,6 @@ returns-clause-crash g c L stands clean own trees left =
     newly_weaker L c.args.stamped.now _ _ _ trees
     (λ before. elim (c.ready.ensures.makes_desk.survives.crash early trees before) [ inl at_entry ↦ at_entry | inr none ↦ absurd none ])
     (c.answer_at_hand.ensures.crash L (c.ready.ensures.makes_desk.stands L stands early own) clean own trees left)
+
+pub returns-clause-others : goal.returns-clause-others
+returns-clause-others g c = let_be_then _ _ _ (λ clean. omega (arith, c.answer_at_hand.ensures.survives.clean, clean)) c.ready.ensures.others c.answer_at_hand.ensures.others

@@ -1,8 +1,9 @@
-use Rattle.std.proofs.Common.{rules, sym, subst}
+use Rattle.std.proofs.Common.{rules, sym, subst, refl}
 use Rattle.sqlite.specs.Held.{state}
 use Rattle.line_traces.specs.Pieces.{board_trace, lot_board_names, AreConverse}
 use Rattle.line_traces.proofs.Converse.{told-converse}
 use Rattle.line_schema.proofs.TracesOfLists.{told-of}
+use Rattle.line_schema.proofs.StandsAfter.{reads_on}
 use Rattle.line_schema.proofs.store.LineStore.board_rows.Goals as goal
 
 pub returns-clause-trace : goal.returns-clause-trace
@@ -11,3 +12,9 @@ returns-clause-trace g c = told-of g.S.Store g.D.Desk.Stands g.D.Desk.kept_rules
 pub returns-clause-converse : goal.returns-clause-converse
 returns-clause-converse g c L stands clean own lot =
     subst (λ pieces. AreConverse c.args.board.now pieces lot (lot_board_names L.history lot)) (sym (returns-clause-trace g c L stands clean own)) (told-converse L.history c.args.board.now lot stands.judged)
+
+pub returns-in_err-board_rows-clause-reads : goal.returns-in_err-board_rows-clause-reads
+returns-in_err-board_rows-clause-reads g c = reads_on g.S.Store g.D.Desk.Stands g.D.Desk.kept_rules c.args.self.now _ refl refl refl refl c.board_rows.ensures.reads
+
+pub returns-clause-reads : goal.returns-clause-reads
+returns-clause-reads g c = reads_on g.S.Store g.D.Desk.Stands g.D.Desk.kept_rules c.args.self.now _ refl refl refl refl c.board_rows.ensures.reads

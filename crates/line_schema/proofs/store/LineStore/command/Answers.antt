@@ -61,3 +61,9 @@ returns-in-Err-clause-clean g c clean = omega (arith, c.answer.ensures.survives.
 
 pub returns-in-Err-clause-survives : goal.returns-in-Err-clause-survives
 returns-in-Err-clause-survives g c = c.answer.ensures.survives
+
+pub returns-in-Ok-clause-others : goal.returns-in-Ok-clause-others
+returns-in-Ok-clause-others g c = c.answer.ensures.others
+
+pub returns-in-Err-clause-others : goal.returns-in-Err-clause-others
+returns-in-Err-clause-others g c = c.answer.ensures.others

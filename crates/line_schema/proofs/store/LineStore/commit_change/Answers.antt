@@ -5,6 +5,7 @@ use Rattle.desk_types.specs.declared.rules.Rules.TheVariants.{Two}
 use Rattle.desk_types.specs.Number.{IsMinute}
 use Rattle.line_tables.proofs.Keeps.{keeps_same}
 use Rattle.line_schema.proofs.StandsAfter.{judged_for, stood_for, stands_on, left_on, survives_on, failed_on, survives_still, err_still}
+use Rattle.line_schema.proofs.Others.{let_be_edited}
 use Rattle.line_schema.proofs.store.LineStore.commit_change.Goals as goal
 
 pub returns-in_err-reserve-clause-err : goal.returns-in_err-reserve-clause-err
@@ -59,3 +60,12 @@ returns-clause-ok g c L stands first =
     let minute : IsMinute change.minute = search rules in
     stands_on g.S.Store g.D.Desk.Stands g.D.Desk.kept_rules old _ L change c.in_ok-text.field-0.edits.items stands c.requires.room is c.ranges_hold.ensures minute refl refl (search rules) (c.settle_both-desk.ensures.desk Two L.history (search rules)) (c.settle_both-desk.ensures.lists L.history (search rules) (search rules) (ap (λ n. n + 1) stands.count)) c.settle_both-desk.ensures.beside after new
     c.append.ensures.crash (λ clean. rw c.as_slice.ensures.value at (c.in_ok-append.ensures.done clean)) (λ clean. (c.in_ok-append.ensures.stays_open clean).0) first
+
+pub returns-in_err-append-clause-others : goal.returns-in_err-append-clause-others
+returns-in_err-append-clause-others g c = let_be_edited _ _ _ c.append.result c.append.ensures.crash c.append.ensures.others c.append.ensures.stays_open c.append.ensures.neither
+
+pub returns-clause-others : goal.returns-clause-others
+returns-clause-others g c = let_be_edited _ _ _ c.append.result c.append.ensures.crash c.append.ensures.others c.append.ensures.stays_open c.append.ensures.neither
+
+pub returns-in_err-text-clause-err : goal.returns-in_err-text-clause-err
+returns-in_err-text-clause-err g c L stands = err_still _ stands

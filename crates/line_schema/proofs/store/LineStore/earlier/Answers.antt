@@ -1,9 +1,11 @@
-use Rattle.std.proofs.Common.{◌≡◌, ◌∙◌, sym, ap, subst, arith, Some, None, filter, [], ◌∷◌}
+use Rattle.std.proofs.Common.{◌≡◌, ◌∙◌, sym, ap, subst, arith, Some, None, filter, [], ◌∷◌, refl}
 use Rattle.sqlite.specs.State.{HasCleanDisk}
 use Rattle.sqlite.specs.Held.{state}
 use Rattle.line_tables.specs.Calls.{Reads, has_uid, row_of}
 use Rattle.line_tables.specs.Rows.{accepted_in, columns_of}
 use Rattle.line_schema.proofs.Lookup.{none_stood, one_stood, looked_up}
+use Rattle.line_schema.proofs.Others.{let_be_reads}
+use Rattle.line_schema.proofs.StandsAfter.{read_on}
 use Rattle.line_schema.proofs.store.LineStore.earlier.Goals as goal
 
 pub returns-in_ok-answer_under-in-Some-clause-answer : goal.returns-in_ok-answer_under-in-Some-clause-answer
@@ -24,3 +26,27 @@ returns-in-None-clause-answer g c L stands clean own =
     let found : Reads old (λ db. filter (has_uid s.uid) (accepted_in db) ≡ []) =
     subst (λ o. Reads old (λ db. filter (has_uid s.uid) (accepted_in db) ≡ row_of o)) c.in-None.is (subst (λ u. Reads old (λ db. filter (has_uid u) (accepted_in db) ≡ row_of c.in_ok-row.field-0)) c.as_str.ensures (c.in_ok-row.ensures.found clean)) in
     sym (none_stood L.history s (looked_up old L.greatest L.history s None (stands.tables early own) found))
+
+pub returns-in_ok-answer_under-in-Some-clause-others : goal.returns-in_ok-answer_under-in-Some-clause-others
+returns-in_ok-answer_under-in-Some-clause-others g c = let_be_reads g.S.Store _ _ c.find.ensures.reads
+
+pub returns-in-None-clause-others : goal.returns-in-None-clause-others
+returns-in-None-clause-others g c = let_be_reads g.S.Store _ _ c.find.ensures.reads
+
+pub returns-in_err-row-clause-stands : goal.returns-in_err-row-clause-stands
+returns-in_err-row-clause-stands g c = read_on g.S.Store g.D.Desk.Stands g.D.Desk.kept_rules c.args.self.now _ refl refl refl refl c.find.ensures.reads.mode c.find.ensures.reads.survives c.find.ensures.reads.kept
+
+pub returns-in_err-answer_under-in-Some-clause-stands : goal.returns-in_err-answer_under-in-Some-clause-stands
+returns-in_err-answer_under-in-Some-clause-stands g c = read_on g.S.Store g.D.Desk.Stands g.D.Desk.kept_rules c.args.self.now _ refl refl refl refl c.find.ensures.reads.mode c.find.ensures.reads.survives c.find.ensures.reads.kept
+
+pub returns-in_ok-answer_under-in-Some-clause-stands : goal.returns-in_ok-answer_under-in-Some-clause-stands
+returns-in_ok-answer_under-in-Some-clause-stands g c = read_on g.S.Store g.D.Desk.Stands g.D.Desk.kept_rules c.args.self.now _ refl refl refl refl c.find.ensures.reads.mode c.find.ensures.reads.survives c.find.ensures.reads.kept
+
+pub returns-in-None-clause-stands : goal.returns-in-None-clause-stands
+returns-in-None-clause-stands g c = read_on g.S.Store g.D.Desk.Stands g.D.Desk.kept_rules c.args.self.now _ refl refl refl refl c.find.ensures.reads.mode c.find.ensures.reads.survives c.find.ensures.reads.kept
+
+pub returns-in_err-row-clause-others : goal.returns-in_err-row-clause-others
+returns-in_err-row-clause-others g c = let_be_reads g.S.Store _ _ c.find.ensures.reads
+
+pub returns-in_err-answer_under-in-Some-clause-others : goal.returns-in_err-answer_under-in-Some-clause-others
+returns-in_err-answer_under-in-Some-clause-others g c = let_be_reads g.S.Store _ _ c.find.ensures.reads

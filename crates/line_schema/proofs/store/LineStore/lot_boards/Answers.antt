@@ -1,8 +1,9 @@
-use Rattle.std.proofs.Common.{rules, sym, subst}
+use Rattle.std.proofs.Common.{rules, sym, subst, refl}
 use Rattle.sqlite.specs.Held.{state}
 use Rattle.line_traces.specs.Pieces.{lot_board_names, board_trace, AreConverse}
 use Rattle.line_traces.proofs.Converse.{told-converse}
 use Rattle.line_schema.proofs.TracesOfLists.{told-of}
+use Rattle.line_schema.proofs.StandsAfter.{reads_on}
 use Rattle.line_schema.proofs.store.LineStore.lot_boards.Goals as goal
 
 pub returns-clause-boards : goal.returns-clause-boards
@@ -11,3 +12,9 @@ returns-clause-boards g c = told-of g.S.Store g.D.Desk.Stands g.D.Desk.kept_rule
 pub returns-clause-converse : goal.returns-clause-converse
 returns-clause-converse g c L stands clean own board =
     subst (λ boards. AreConverse board (board_trace L.history board) c.args.lot.now boards) (sym (returns-clause-boards g c L stands clean own)) (told-converse L.history board c.args.lot.now stands.judged)
+
+pub returns-in_err-lot_boards-clause-reads : goal.returns-in_err-lot_boards-clause-reads
+returns-in_err-lot_boards-clause-reads g c = reads_on g.S.Store g.D.Desk.Stands g.D.Desk.kept_rules c.args.self.now _ refl refl refl refl c.lot_boards.ensures.reads
+
+pub returns-clause-reads : goal.returns-clause-reads
+returns-clause-reads g c = reads_on g.S.Store g.D.Desk.Stands g.D.Desk.kept_rules c.args.self.now _ refl refl refl refl c.lot_boards.ensures.reads

@@ -37,7 +37,7 @@ returns-in-Ok-clause-stands g c =
         mode = search rules;
         stays_open = λ clean. still_open _ c.read_tables.ensures.reads.survives (λ was. inl (o.apart clean).was_open) clean;
         lawful = λ clean own. opened_lawful F K _ old c.in-Ok.field-0 all.0 o clean own;
-        tables = λ clean own is_open. subst (λ (db : Database). Holds db (ledger_tables L.greatest L.history)) (sym ((c.read_tables.ensures.reads.kept clean).committed is_open)) ((holds clean).are (let ours = ours_is old.committed.schema own in (Two, ours.0, ours.1)));
+        tables = λ clean own is_open. subst (λ (db : Database). Holds db (ledger_tables L.greatest L.history)) (sym ((c.read_tables.ensures.reads.kept clean).committed is_open)) ((holds clean).are (let ours = ours_is old.committed.schema own in record { rules = Two; layout = ours.0; same = ours.1 }));
       },
       holds,
     )

@@ -6,6 +6,7 @@ use Rattle.served.specs.declared.serving.ServeFault.TheVariants.{Write}
 use Rattle.served.specs.Counts.{none_served}
 use Rattle.served.specs.Sent.{SendsFront}
 use Rattle.http_stream.specs.Answers.{code_of}
+use Rattle.desk_runs.specs.Clients.{ServesAt}
 use Rattle.desk_runs.specs.Runs.{AnswersImport, CutsImport, StaysSame}
 use Rattle.desk_runs.specs.Told.{report_output, TellsLine}
 use Rattle.desk_commands.specs.declared.left.Left.TheVariants.{Nothing}
@@ -13,7 +14,7 @@ use Rattle.desk_commands.specs.Runs.{Refuses, RefusesToMigrate, RunsOn}
 use Rattle.tracedesk.specs.Program.{RefusesNamed}
 use Rattle.tracedesk.specs.Ways.{ways_when_open}
 use Rattle.tracedesk.proofs.AskedRuns.{has_none, names_desk, names_migrated, runs_import, runs_report, runs_serving}
-use Rattle.tracedesk.proofs.program.program.Goals as goal
+use Rattle.tracedesk.proofs.program.open_run.Goals as goal
 
 pub returns-in-Some-clause-done : goal.returns-in-Some-clause-done
 returns-in-Some-clause-done g c = λ is.
@@ -94,7 +95,7 @@ returns-in-Ok-Serve-clause-done g c = λ is.
     let asked = c.in-Ok-Serve in
     let run = c.serve_in_file in
     let asks : AsksForServing (map string_bytes c.args.words.now) (string_bytes asked.file) asked.port asked.connections asked.greatest = search rules in
-    let serves = runs_serving (ways_when_open g.T.Start run.result.1) (map string_bytes c.args.words.now) g.W.Write.contents c.args.output.now run.new.output (string_bytes asked.file) asked.port asked.connections asked.greatest run.result.0 0 asks is (run.ensures.served (inl is)) in
+    let serves = runs_serving (ways_when_open g.T.Start run.result.1) (map string_bytes c.args.words.now) (ServesAt g.C.Clients.Saw c.args.clients.now run.new.clients) g.W.Write.contents c.args.output.now run.new.output (string_bytes asked.file) asked.port asked.connections asked.greatest run.result.0 0 asks is (run.ensures.served (inl is)) in
     inr (inr (inr (inr (inr (inl serves)))))
 
 pub returns-in-Ok-Serve-clause-refused : goal.returns-in-Ok-Serve-clause-refused
@@ -102,7 +103,7 @@ returns-in-Ok-Serve-clause-refused g c = λ is.
     let asked = c.in-Ok-Serve in
     let run = c.serve_in_file in
     let asks : AsksForServing (map string_bytes c.args.words.now) (string_bytes asked.file) asked.port asked.connections asked.greatest = search rules in
-    let serves = runs_serving (ways_when_open g.T.Start run.result.1) (map string_bytes c.args.words.now) g.W.Write.contents c.args.output.now run.new.output (string_bytes asked.file) asked.port asked.connections asked.greatest run.result.0 1 asks is (run.ensures.served (inr (inl is))) in
+    let serves = runs_serving (ways_when_open g.T.Start run.result.1) (map string_bytes c.args.words.now) (ServesAt g.C.Clients.Saw c.args.clients.now run.new.clients) g.W.Write.contents c.args.output.now run.new.output (string_bytes asked.file) asked.port asked.connections asked.greatest run.result.0 1 asks is (run.ensures.served (inr (inl is))) in
     inr (inr (inl serves))
 
 pub returns-in-Ok-Serve-clause-failed : goal.returns-in-Ok-Serve-clause-failed
@@ -110,7 +111,7 @@ returns-in-Ok-Serve-clause-failed g c = λ is.
     let asked = c.in-Ok-Serve in
     let run = c.serve_in_file in
     let asks : AsksForServing (map string_bytes c.args.words.now) (string_bytes asked.file) asked.port asked.connections asked.greatest = search rules in
-    let serves = runs_serving (ways_when_open g.T.Start run.result.1) (map string_bytes c.args.words.now) g.W.Write.contents c.args.output.now run.new.output (string_bytes asked.file) asked.port asked.connections asked.greatest run.result.0 4 asks is (run.ensures.served (inr (inr is))) in
+    let serves = runs_serving (ways_when_open g.T.Start run.result.1) (map string_bytes c.args.words.now) (ServesAt g.C.Clients.Saw c.args.clients.now run.new.clients) g.W.Write.contents c.args.output.now run.new.output (string_bytes asked.file) asked.port asked.connections asked.greatest run.result.0 4 asks is (run.ensures.served (inr (inr is))) in
     inr (inr (refl, run.ensures.failed is, serves))
 
 pub returns-in-Ok-Report-clause-done : goal.returns-in-Ok-Report-clause-done

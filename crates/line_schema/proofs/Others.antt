@@ -1,0 +1,66 @@
+-- What others have in the file, over each step of a command.
+use Rattle.std.proofs.Common.{◌≡◌, ◌⊎◌, List, inl, inr, IsTrue, Result, Ok, Err, OnOk, OnErr, refl, sym, subst}
+use Rattle.std.specs.Prelude.{⊤}
+use Rattle.sqlite_trees.specs.Tree.{Trees}
+use Rattle.sqlite.specs.Effect.{Database}
+use Rattle.sqlite.specs.State.{State, HasCleanDisk, KeepsCommit, Survives}
+use Rattle.sqlite_trees.specs.declared.store.Store.{Ghosts}
+use Rattle.sqlite.specs.Held.{Held, state}
+use Rattle.line_tables.specs.declared.edit.Edit.{Edit}
+use Rattle.line_tables.specs.Frames.{ReadsOnly}
+use Rattle.line_tables.specs.Calls.{HasOthers, KeepsOthers, LeavesEdited}
+use Rattle.line_tables.proofs.Beside.{others_stay, others_stay_then}
+use Rattle.line_schema.specs.Frames.{LeavesOthers, LetsOthersBe}
+
+-- nothing was done
+pub let_be : (s : State) → LetsOthersBe s s
+let_be s = record { was_open = λ clean is. is; rows = λ clean is. others_stay s.committed; crash = λ clean trees may. inl may }
+
+-- what was committed stays
+kept_rows : (old new : Database) → new ≡ old → KeepsOthers old new
+kept_rows old new same = subst (KeepsOthers old) (sym same) (others_stay old)
+
+-- a call only read
+pub let_be_read : (old new : State) → (HasCleanDisk new → KeepsCommit old new) → Survives old new (λ _. ⊥) → LetsOthersBe old new
+let_be_read old new kept survives = record {
+  was_open = λ clean is. (kept clean).was_open is;
+  rows = λ clean is. kept_rows old.committed new.committed ((kept clean).committed is);
+  crash = λ clean trees may. elim (survives.crash clean trees may) [ inl was ↦ inl was | inr none ↦ absurd none ];
+}
+
+pub let_be_reads : {S : Type 0} (g : Ghosts S) (old new : Held S) → ReadsOnly g old new → LetsOthersBe (state g old) (state g new)
+let_be_reads g old new reads = let_be_read (state g old) (state g new) reads.kept reads.survives
+
+-- one call and then another
+pub let_be_then : (old mid new : State) → (HasCleanDisk new → HasCleanDisk mid) → LetsOthersBe old mid → LetsOthersBe mid new → LetsOthersBe old new
+let_be_then old mid new early one two = record {
+  was_open = λ clean is. one.was_open (early clean) (two.was_open clean is);
+  rows = λ clean is. others_stay_then old.committed mid.committed new.committed (one.rows (early clean) (two.was_open clean is)) (two.rows clean is);
+  crash = λ clean trees may. elim (two.crash clean trees may) [
+    | inl was ↦ one.crash (early clean) trees was
+    | inr left ↦ inr (record { was_open = one.was_open (early clean) left.was_open; rows = (others_stay_then old.committed mid.committed (at trees) (one.rows (early clean) left.was_open) (left_at trees left)).rows })
+  ];
+}
+  where
+    at : Trees → Database
+    at trees = record mid.committed { trees = trees }
+
+    left_at : (trees : Trees) → LeavesOthers mid trees → KeepsOthers mid.committed (at trees)
+    left_at trees left = record { schema = λ layout has. refl; rows = left.rows }
+
+-- edits were committed, or not
+pub let_be_edited : {E : Type 0} (old new : State) (edits : List Edit) (r : Result ⊤ E) → Survives old new (LeavesEdited edits old) → (HasCleanDisk new → OnOk r (KeepsOthers old.committed new.committed)) → (HasCleanDisk new → OnOk r (IsTrue old.is_open × IsTrue new.is_open))
+    → (HasCleanDisk new → OnErr r (KeepsCommit old new)) → LetsOthersBe old new
+let_be_edited {E} old new edits r survives done is_open neither = record {
+  was_open = λ clean is. opened r (is_open clean) (neither clean) is;
+  rows = λ clean is. kept r (done clean) (neither clean) is;
+  crash = λ clean trees may. elim (survives.crash clean trees may) [ inl was ↦ inl was | inr left ↦ inr (record { was_open = left.was_open; rows = left.others }) ];
+}
+  where
+    opened : (r : Result ⊤ E) → OnOk r (IsTrue old.is_open × IsTrue new.is_open) → OnErr r (KeepsCommit old new) → IsTrue new.is_open → IsTrue old.is_open
+    opened (Ok done) both none is = both.0
+    opened (Err e) both kept is = kept.was_open is
+
+    kept : (r : Result ⊤ E) → OnOk r (KeepsOthers old.committed new.committed) → OnErr r (KeepsCommit old new) → IsTrue new.is_open → KeepsOthers old.committed new.committed
+    kept (Ok done) rows none is = rows
+    kept (Err e) none same is = kept_rows old.committed new.committed (same.committed is)

@@ -1,0 +1,82 @@
+//! The files and the ports of the system. What they hold and bring is not known before it is read.
+
+use desk_import::{Folder, Unread, read_file};
+use desk_runs::{Clients, NoClient};
+use std::alloc::Global;
+use std::fs::File;
+use std::net::{TcpListener, TcpStream};
+
+/// The files of the system. Each may fail.
+#[derive(Drop)]
+pub struct SystemFiles<'a> {
+    rt: &'a HostRuntime,
+}
+
+impl<'a> SystemFiles<'a> {
+    pub fn new(rt: &'a HostRuntime) -> SystemFiles<'a> {
+        SystemFiles { rt }
+    }
+}
+
+impl Folder for SystemFiles<'_> {
+    ghost use Rattle.std.specs.Prelude.{None, ⊤};
+
+    ghost holds = { λ _ _. None };
+
+    ghost may_fail = { λ _ _. ⊤ };
+
+    fn read(&self, alloc: Global, path: &str) -> Result<Vec<u8>, Unread> {
+        read_file(alloc, File::open(self.rt, path)?)
+    }
+}
+
+/// The clients of a port of this machine.
+#[derive(Drop)]
+pub struct SystemClients<'a> {
+    rt: &'a HostRuntime,
+    listener: Option<TcpListener>,
+}
+
+impl<'a> SystemClients<'a> {
+    pub fn new(rt: &'a HostRuntime) -> SystemClients<'a> {
+        SystemClients { rt, listener: None }
+    }
+}
+
+impl Clients for SystemClients<'_> {
+    ghost use Rattle.std.specs.Prelude.{⊤};
+
+    type Reader = TcpStream;
+
+    type Writer = TcpStream;
+
+    ghost Saw = { λ _ _. ⊤ };
+
+    fn listen(&mut self, port: u16) -> Result<(), NoClient> {
+        match TcpListener::bind(self.rt, ("127.0.0.1", port)) {
+            Ok(listener) => {
+                self.listener = Some(listener);
+                Ok(())
+            }
+            Err(_) => Err(NoClient),
+        }
+    }
+
+    /// What is written goes out at once: an answer is a head and then a body, and the second would
+    /// else wait for the client to tell of the first.
+    fn accept(&mut self) -> Result<(TcpStream, TcpStream), NoClient> {
+        let Some(listener) = &self.listener else {
+            return Err(NoClient);
+        };
+        let Ok((stream, _)) = listener.accept() else {
+            return Err(NoClient);
+        };
+        let _ = stream.set_nodelay(true);
+        match stream.try_clone() {
+            Ok(reader) => Ok((reader, stream)),
+            Err(_) => Err(NoClient),
+        }
+    }
+
+    fn leave(&mut self, _reader: TcpStream, _writer: TcpStream) {}
+}
