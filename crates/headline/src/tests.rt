@@ -73,9 +73,11 @@ fn commands(rt: HostRuntime) -> Result<(), Fail> {
 fn files(rt: HostRuntime) -> Result<(), Fail> {
     let mut owner = Full;
     let mut output = Wire::new(Vec::new(rt.alloc()));
-    let Ok(counts) = counts_import("u1", "S", "1970-01-01T00:00:00Z") else {
-        return Err("no import".into());
+    let counts = match counts_import("u1", "S", "1970-01-01T00:00:00Z") {
+        Ok(counts) => Some(counts),
+        Err(_) => None,
     };
+    let counts = counts.ok_or("no import")?;
     let refused = import(rt.alloc(), &mut output, &mut owner, &counts, b"nothing");
     assert!(rt; matches!(refused, Ok(true)));
     assert!(rt;
