@@ -6,7 +6,9 @@ baked before that. An exposure above the floor life is told as the floor life: t
 """
 import argparse
 import copy
+import csv
 import datetime
+import io
 import json
 import re
 import sqlite3
@@ -18,8 +20,10 @@ FLOOR_LIFE = {"1": None, "2": 525_600, "2a": 40_320, "3": 10_080, "4": 4_320, "5
 GREATEST_FLOOR_LIFE = 525_600  # in minutes, a label's too
 FARTHEST_AHEAD = 20_160  # a message may be so many minutes after the desk's, if it doesn't set the clock
 LONGEST_MESSAGE = 1_048_576
+KNOWN = 1_000  # UniqueIDs of each source that a new desk knows of the archive: those that a sender may still send again
 EPOCH = datetime.datetime(1970, 1, 1)
 TABLES = ("accepted", "part", "alternate", "sheet_row", "selected", "reel", "mount", "board")
+CHECKSUM = 24  # digits of an archive's checksum, in the UniqueIDs with which the desk after it is begun
 COLUMNS = "reel, part, lot, level, label, remaining, used, open_since, baked"
 
 
@@ -59,11 +63,21 @@ class Reel(NamedTuple):
         return not (self.level == "1" or self.waits_for_its_bake())
 
 
-class Archive:
-    """What the tables of a desk's file say."""
+class Setup(NamedTuple):
+    """A sheet that is too long for a message: a setup file, and what its import is told."""
+    uid: str
+    source: str
+    stamp: str
+    product: str
+    machine: str
+    text: str
 
-    def __init__(self, path):
-        with copies.opened(path) as database:
+
+class Archive:
+    """What the tables of a desk's file say; the file is opened as `opened` does it."""
+
+    def __init__(self, path, opened=copies.opened):
+        with opened(path) as database:
             self.read(database)
 
     def read(self, database):
@@ -89,6 +103,7 @@ class Archive:
         for machine, slot, reel in rows("SELECT machine, slot, reel FROM mount ORDER BY machine, slot, since"):
             self.tapes.setdefault((machine, slot), []).append(self.reels[reel])
         self.in_work = rows("SELECT machine, board FROM board WHERE machine <> '' ORDER BY machine")
+        self.known = known(database)
 
     def of_one_reel(self, name, called, known_parts, minute):
         """A desk that has nothing but this reel, as it is at that minute, under the name by which it is called there."""
@@ -101,6 +116,18 @@ class Archive:
         return it
 
 
+def known(database):
+    """The last UniqueIDs of each source, the newest first: their number, source and own minute. What the desk was begun with is
+    left out, but not the UniqueIDs of its own archive that it was told then: those are older than the rest, the newest first."""
+    ((first,),) = database.execute("SELECT coalesce(max(uid), '') FROM accepted WHERE number = 1").fetchall()
+    prefix = first[:-1] if re.fullmatch("begin-.*-1", first) else None
+    ((begun,),) = database.execute("SELECT coalesce(max(number), 0) FROM accepted WHERE uid = ? || number", [prefix]).fetchall()
+    return database.execute("""
+        WITH those AS (SELECT *, iif(number > ?, number, -number) AS turn FROM accepted WHERE uid IS NOT ? || number)
+        SELECT number, uid, source, own FROM (SELECT *, row_number() OVER (PARTITION BY source ORDER BY turn DESC) AS place FROM those)
+        WHERE place <= ? ORDER BY turn DESC""", [begun, prefix, KNOWN]).fetchall()
+
+
 class Messages:
     """The messages of a new desk, in the order in which they are sent, and the minute that they have led it to."""
 
@@ -110,14 +137,25 @@ class Messages:
     def say(self, minute, word, **body):
         if self.minute is not None and minute > self.minute + FARTHEST_AHEAD and word != "ClockSet":
             self.say(minute, "ClockSet")
-        stamp = moment(minute).isoformat()  # without an offset: that is UTC to a desk, and the last day of the year 9999 is read only so
-        envelope = {"MessageName": "TraceDesk." + word, "UniqueID": f"{self.prefix}-{len(self.lines) + 1}",
-                    "Source": self.source, "TimeStamp": stamp, "MessageBody": body}
-        line = json.dumps(envelope, separators=(",", ":"))
-        if len(line) > LONGEST_MESSAGE:
-            raise NotCarried(f"the sheet of {body['Product']} on {body['Machine']} is too long for a message")
-        self.lines.append(line)
+        self.add(f"{self.prefix}-{len(self.lines) + 1}", self.source, minute, word, body)
         self.minute = minute
+
+    def add(self, uid, source, minute, word, body):
+        stamp = moment(minute).isoformat()  # without an offset: that is UTC to a desk, and the last day of the year 9999 is read only so
+        envelope = {"MessageName": "TraceDesk." + word, "UniqueID": uid, "Source": source, "TimeStamp": stamp, "MessageBody": body}
+        line = json.dumps(envelope, separators=(",", ":"))
+        self.lines.append(line if len(line) <= LONGEST_MESSAGE else setup(uid, source, stamp, body))
+
+    def say_known(self, known):
+        """Says the UniqueIDs of an archive, each as a ClockSet of its own minute, which changes nothing: so a message that is sent again
+        is refused as IdReused. None has the number that it has in the archive: by a command of that number a file is known again."""
+        if not known:
+            return
+        while any(number == len(self.lines) + place for place, (number, *_) in enumerate(known, 1)):
+            self.say(self.minute, "ClockSet")
+        for _, uid, source, own in known:
+            self.add(uid, source, min(own, self.minute), "ClockSet", {})
+        self.say(self.minute, "ClockSet")  # the last command is the new desk's own
 
     def say_sheet(self, minute, product, machine, rows):
         self.say(minute, "SheetDefined", Product=product, Machine=machine,
@@ -200,12 +238,13 @@ class Carrier:
             self.messages.say_sheet(minute, product, machine, sheet)
 
     def notes(self):
-        """What the new desk doesn't know, and where a reel has less than it had."""
+        """What the new desk knows and what it doesn't, and where a reel has less than it had."""
         archive = self.archive
         begins = spelled(self.messages.minute)
         yield f"{archive.commands} commands, until {spelled(archive.minute)}; the new desk begins at {begins}"
         carried = f"{len(archive.reels)} reels are carried over"
         yield f"{carried}, {len(archive.spent)} spent ones are not: the new desk takes a new reel of their names"
+        yield f"{len(archive.known)} UniqueIDs are known to the new desk, the last {KNOWN:,} of each source: a message that the archive has is refused as IdReused"
         for machine, board in archive.in_work:
             yield f"board {board} is in work on {machine}: the new desk doesn't know what is placed on it"
         if not self.mounts:
@@ -213,6 +252,29 @@ class Carrier:
                 for reel in tape:
                     gone = reel.level != "1" and self.exposure[reel.reel] >= reel.limit()
                     yield f"reel {reel.reel} is to be loaded on {machine}, slot {slot}{', after a bake' if gone else ''}"
+
+
+def begun(archive, at=None, loads=True, prefix="", checksum="", source="begin"):
+    """The messages of a new desk that begins where an archived one ended, and who tells what is not in them."""
+    if archive.minute is None:
+        raise NotCarried("it has accepted no command, so there is nothing to carry over")
+    end = archive.minute if at is None else min(at, archive.minute)
+    messages = Messages(prefix or f"begin-{checksum[:CHECKSUM]}", source)
+    carrier = Carrier(archive, messages, end, loads)
+    carrier.all()
+    if at is not None and at > end:
+        messages.say(at, "ClockSet")
+    archive.known = archive.known[: max(0, archive.greatest - len(messages.lines)) // 2]  # a desk of few commands has room for its own
+    messages.say_known(archive.known)
+    return messages.lines, carrier
+
+
+def setup(uid, source, stamp, body):
+    """A sheet as a setup file."""
+    text = io.StringIO()
+    rows = [[row["Slot"], row["PartNumber"], " ".join(row["Designators"])] for row in body["Rows"]]
+    csv.writer(text, lineterminator="\n").writerows([["slot", "part", "designators"], *rows])
+    return Setup(uid, source, f"{stamp}Z", body["Product"], body["Machine"], text.getvalue().removesuffix("\n"))
 
 
 def moment(minute):

@@ -60,10 +60,15 @@ def minute_of(text):
 
 def sha256_of(path):
     """The checksum of a file, as sha256sum prints it."""
-    told = hashlib.sha256()
     with open(path, "rb") as file:
-        while chunk := file.read(CHUNK):
-            told.update(chunk)
+        return sha256_within(file)
+
+
+def sha256_within(file):
+    """The checksum of what is left of an open file."""
+    told = hashlib.sha256()
+    while chunk := file.read(CHUNK):
+        told.update(chunk)
     return told.hexdigest()
 
 
@@ -250,6 +255,16 @@ def newest(archives, desk):
     return ends[-1] if ends else None
 
 
+def in_turn(archives):
+    """Archives in the order of their chains: each right behind the one that it went on from, whatever their minutes say."""
+    by_file, turn = {it.file: it for it in archives}, {}
+    for it in sorted(archives, key=lambda it: it.went_on_from in by_file):  # first those that begin a chain
+        while it and it.file not in turn:
+            turn[it.file] = it
+            it = by_file.get(it.went_on_to)
+    return list(turn.values())
+
+
 # --- Writing
 
 
@@ -293,7 +308,8 @@ def write(path, archives):
     csv.writer(text, lineterminator="\n").writerows([HEADER, *map(row_of, archives)])
     read_lines(path, csv.reader(io.StringIO(text.getvalue()), strict=True))
     beside = path.with_name(path.name + ".new")
-    with open(beside, "w", encoding="utf-8", newline="") as file:
+    beside.unlink(missing_ok=True)
+    with open(beside, "x", encoding="utf-8", newline="") as file:  # where a link lies there, nothing is written through it
         file.write(text.getvalue())
         file.flush()
         owner = os.stat(path.parent)

@@ -10,6 +10,7 @@ import pathlib
 import re
 import shutil
 import signal
+import socket
 import subprocess
 import sys
 import time
@@ -19,12 +20,15 @@ import copies
 
 NAME = pathlib.Path(sys.argv[0]).name
 DESK = pathlib.Path("/var/lib/tracedesk/desk")
-STOP, START, PORT = "systemctl stop tracedesk", "systemctl start tracedesk", 8080
+STOP, PORT = "systemctl stop tracedesk", 8080
+START = "systemctl reset-failed tracedesk; systemctl start tracedesk"  # it may have failed too often, on a desk that was not to be had
+PROXY_PORT = 8081  # packaging/nginx.conf
 DRAINED = pathlib.Path("/run/tracedesk-drained")  # packaging/nginx.conf looks for it
 SECONDS_A_MILLION = 19  # of a start, for a million placed pieces: docs/figures.md, "A file's start"
-QUIET = 1.0  # seconds without a connection, after which nobody waits for an answer any more
-CONNECTED = ("01", "08")  # in /proc/net/tcp: open, and closed by the client alone
+QUIET = float(os.environ.get("TRACEDESK_QUIET", 1))  # seconds without a connection, after which nobody waits for an answer any more; tools/evidence-faults is in a hurry
+CONNECTED, LISTENING = ("01", "08"), "0A"  # in /proc/net/tcp: open, or closed by the client alone
 LONGEST_OTHER = 3600  # seconds that another roll-over or backup may take
+PLAN = "plan.json"  # of a roll-over
 ARCHIVE, SUMS = "archive", "SHA256SUMS"  # of a copy that tools/backup makes, beside `desk`
 NAMED = "%Y-%m-%dT%H%M%SZ"  # of such a copy, by when it was taken
 PATIENCE = 120  # seconds that a start may take beside what the pieces ask for
@@ -36,7 +40,11 @@ class Fault(Exception):
 
 
 def tell(text):
-    print(f"{NAME}: {text}", file=sys.stderr, flush=True)
+    """Says something on standard error. Where nobody reads that any more the work goes on, so that its end is the same."""
+    try:
+        print(f"{NAME}: {text}", file=sys.stderr, flush=True)
+    except OSError:
+        os.dup2(os.open(os.devnull, os.O_WRONLY), 2)
 
 
 def offer_program(reader):
@@ -60,6 +68,7 @@ def offer(reader):
     reader.add_argument("--port", type=int, default=PORT, metavar="N", help=f"where the desk answers ({PORT})")
     reader.add_argument("--drained", type=pathlib.Path, default=DRAINED, metavar="FILE", help=f"the proxy sends senders away while it is there ({DRAINED})")
     reader.add_argument("--drain-seconds", type=float, default=30, metavar="N", help="how long the last answers may take (30)")
+    reader.add_argument("--proxy-port", type=int, default=PROXY_PORT, metavar="N", help=f"where the proxy counts its requests for this machine ({PROXY_PORT})")
 
 
 def line_name(text):
@@ -102,13 +111,99 @@ def ends_by_exception():
 
 @contextlib.contextmanager
 def alone(db):
-    """Holds the desk's folder, once no other roll-over or backup has it."""
+    """Holds the desk's folder, once no other tool has it that changes a desk, its archive or its copies; no roll-over may be unfinished."""
+    with folder_lock(db) as take:
+        wait_for_lock(take, LONGEST_OTHER, f"another roll-over or backup of {db} is running")
+        if (plan := rolled_in(db) / PLAN).exists():
+            raise Fault(f"{plan} is of a roll-over that was cut off, so that commands may be in two files: call tracedesk-rollover first")
+        yield
+
+
+@contextlib.contextmanager
+def folder_lock(db):
+    """What takes the one lock of a desk's folder, or raises a BlockingIOError."""
     folder = os.open(db.parent, os.O_RDONLY | os.O_DIRECTORY)
     try:
-        wait_for_lock(lambda: fcntl.flock(folder, fcntl.LOCK_EX | fcntl.LOCK_NB), LONGEST_OTHER, f"another roll-over or backup of {db} is running")
-        yield
+        yield lambda: fcntl.flock(folder, fcntl.LOCK_EX | fcntl.LOCK_NB)
     finally:
         os.close(folder)
+
+
+def rolled_in(db):
+    """The folder in which a desk is rolled over."""
+    return db.with_name(f"rollover-{db.name}")
+
+
+@contextlib.contextmanager
+def as_owner(db):
+    """Works as the owner of the desk's folder, where the caller is root: so a link in it leads to nothing that is not the owner's."""
+    about = db.parent.stat()
+    if about.st_uid == 0 and db.exists():  # in a folder of root's
+        about = db.lstat()
+    if os.geteuid() or about.st_uid == 0:
+        yield
+        return
+    groups = os.getgroups()
+    os.setgroups([])
+    os.setegid(about.st_gid)
+    os.seteuid(about.st_uid)
+    try:
+        yield
+    finally:
+        os.seteuid(0)
+        os.setegid(os.getgid())
+        os.setgroups(groups)
+
+
+@contextlib.contextmanager
+def as_caller():
+    """Within `as_owner`, what is the caller's to do."""
+    user, group = os.geteuid(), os.getegid()
+    os.seteuid(os.getuid())
+    os.setegid(os.getgid())
+    try:
+        yield
+    finally:
+        os.setegid(group)
+        os.seteuid(user)
+
+
+def is_open(db):
+    """Whether a run has a file open."""
+    try:
+        with open(db, "rb") as file:
+            fcntl.lockf(file, fcntl.LOCK_SH | fcntl.LOCK_NB, copies.LOCKED, copies.LOCKED_FROM)
+    except FileNotFoundError:
+        return False
+    except BlockingIOError:
+        return True
+    return False
+
+
+class Held:
+    """A file that no run can open until it is let go: this tool has the range of bytes that SQLite locks. Nothing else in this
+    process may open the file meanwhile: the lock ends with the first closing of it."""
+
+    def __init__(self, db):
+        self.file = open(db, "r+b")
+        take = lambda: fcntl.lockf(self.file, fcntl.LOCK_EX | fcntl.LOCK_NB, copies.LOCKED, copies.LOCKED_FROM)
+        try:
+            wait_for_lock(take, 5, f"a run has {db} open that was started meanwhile")
+        except Fault:
+            self.file.close()
+            raise
+
+    def sha256(self):
+        self.file.seek(0)
+        return catalogue.sha256_within(self.file)
+
+    def spoil(self):
+        """Makes the file that has lost its name no database any more: so nothing serves it that had opened it before."""
+        if os.fstat(self.file.fileno()).st_nlink == 0:
+            os.pwrite(self.file.fileno(), bytes(100), 0)
+
+    def let_go(self):
+        self.file.close()
 
 
 def wait_until_closed(db, seconds):
@@ -171,17 +266,19 @@ class Program:
     def __init__(self, program, db):
         self.program, owner = program, db.stat()
         self.uid, self.gid = owner.st_uid, owner.st_gid
-        own = os.geteuid() == self.uid
+        own = os.geteuid() == self.uid or os.geteuid() != os.getuid()  # the second within `as_owner`
         self.how = {} if own else {"user": self.uid, "group": self.gid, "extra_groups": []}
         self.parent = os.getpid()
 
     def give(self, path):
         """Makes a file or a folder the owner's."""
         if self.how:
-            os.chown(path, self.uid, self.gid)
+            os.chown(path, self.uid, self.gid, follow_symlinks=False)
 
     def end_with_the_tool(self):
-        """What a run does before it is the program."""
+        """What a run does before it is the program: within `as_owner` it is the owner for good."""
+        os.setresgid(*[os.getegid()] * 3)
+        os.setresuid(*[os.geteuid()] * 3)
         LIBC.prctl(PR_SET_PDEATHSIG, signal.SIGKILL)
         if os.getppid() != self.parent:
             os._exit(1)
@@ -203,68 +300,121 @@ class Program:
 
 
 class Service:
-    """The desk's service, and the file by which the proxy knows that senders have to come again."""
+    """The desk's service, and the file by which the proxy knows that senders have to come again.
 
-    def __init__(self, asked):
+    What was stopped is started at the end: always, or unless somebody had stopped it before. An earlier call had, if it was cut off
+    or if that file is there.
+    """
+
+    def __init__(self, asked, always=True, cut_off=False):
         self.commands = {"stop": asked.stop, "start": asked.start}
         self.db, self.port, self.drained, self.drain_seconds = asked.db, asked.port, asked.drained, asked.drain_seconds
+        self.proxy_port = asked.proxy_port
+        self.cut_off = cut_off or asked.drained.exists()
+        self.starts = always or self.cut_off or is_open(asked.db)
         self.stopped = None  # since when
 
-    def drain(self):
-        """Sends new senders away, and waits until those that are in have their answers."""
-        if self.drained.parent.is_dir():
-            self.drained.touch()
-        end, quiet = time.monotonic() + self.drain_seconds, time.monotonic()
+    def drain(self, gives_up=False):
+        """Sends new senders away, and waits until those that are in have their answers. Where somebody stays it goes on, or gives up."""
+        opened, taken = self.db.exists() and is_open(self.db), self.is_taken()
+        if self.db.exists() and not opened and taken:
+            raise Fault(f"no run has {self.db} open, and something answers on port {self.port}: say by --port where this desk answers")
+        if gives_up and opened and not taken:
+            raise Fault(f"a run has {self.db} open, and nothing answers on port {self.port}: say by --port where this desk answers")
+        with as_caller():
+            if self.drained.parent.is_dir():
+                self.drained.touch()
+        end = time.monotonic() + self.drain_seconds
+        while self.requests() and time.monotonic() < end:
+            time.sleep(0.05)
+        met, quiet, end = connections(self.port)[1], time.monotonic(), time.monotonic() + self.drain_seconds
         while time.monotonic() - quiet < QUIET:
-            if connections(self.port):
+            connected, those = connections(self.port)
+            if connected or those - met:
                 quiet = time.monotonic()
+            met |= those
             if time.monotonic() > end:
-                tell(f"after {self.drain_seconds:g} seconds somebody is still connected to port {self.port}; it is stopped nevertheless")
+                told = f"after {self.drain_seconds:g} seconds somebody still sends to port {self.port}"
+                if gives_up:
+                    raise Fault(f"{told}: stop that sender, or let it send through the proxy; or wait longer, by --drain-seconds")
+                tell(f"{told}; the service is stopped nevertheless, and the sender has to send again what it has no answer to")
                 return
             time.sleep(0.05)
+
+    def requests(self):
+        """How many requests the proxy has that it may still hand to the desk: it tells those that it has, and this one."""
+        told = get(self.proxy_port, "/requests") or ""
+        found = re.search(r"Writing: (\d+)", told)
+        return int(found[1]) - 1 if found else 0
 
     def stop(self):
         self.stopped = time.monotonic()
         self.call("stop")
         if self.db.exists():  # after a loss of the disk, or of the file, it is not
             wait_until_closed(self.db, PATIENCE)
+        end = time.monotonic() + QUIET
+        while self.is_taken() and time.monotonic() < end:
+            time.sleep(0.05)
+        if self.is_taken():
+            raise Fault(f"the service is stopped, and something answers on port {self.port}: say by --port where this desk answers")
 
     def start(self, pieces=0):
         """Starts the service where it doesn't run, lets senders in once it answers, and returns how many seconds it was not there."""
         try:
-            if not self.answers():
+            if not self.starts:
+                tell("the service did not run before, and is left so")
+            if not self.starts or self.stopped is None and not self.cut_off:
+                return 0.0
+            if not is_open(self.db):
                 self.call("start")
-                self.wait(PATIENCE + 5 * start_seconds(pieces))
+            self.wait(PATIENCE + 5 * start_seconds(pieces))
         finally:
-            self.drained.unlink(missing_ok=True)
+            self.let_in()
         return time.monotonic() - self.stopped if self.stopped else 0.0
 
+    def let_in(self):
+        with as_caller():
+            self.drained.unlink(missing_ok=True)
+
     def call(self, word):
-        done = subprocess.run(self.commands[word], shell=True, stdin=subprocess.DEVNULL)
+        with as_caller():
+            done = subprocess.run(self.commands[word], shell=True, stdin=subprocess.DEVNULL)
         if done.returncode:
             raise Fault(f"{self.commands[word]!r} ended with status {done.returncode}")
 
     def wait(self, seconds):
+        """Waits until a run has the desk's file open and the port answers: one without the other is not this desk."""
         end = time.monotonic() + seconds
-        while not self.answers():
+        while not (is_open(self.db) and self.answers()):
             if time.monotonic() > end:
-                raise Fault(f"the service was started, and after {seconds} seconds nothing answers on port {self.port}: journalctl --unit tracedesk")
+                what = f"nothing answers on port {self.port}" if is_open(self.db) else f"no run has {self.db} open"
+                raise Fault(f"the service was started, and after {seconds} seconds {what}: journalctl --unit tracedesk")
             time.sleep(0.1)
 
+    def is_taken(self):
+        """Whether something listens on the port."""
+        with socket.socket() as it:
+            return it.connect_ex(("127.0.0.1", self.port)) == 0
+
     def answers(self):
-        link = http.client.HTTPConnection("127.0.0.1", self.port, timeout=20)
-        try:
-            link.request("GET", "/reel?reel=-", headers={"Connection": "close"})
-            link.getresponse().read()
-            return True
-        except (OSError, http.client.HTTPException):
-            return False
-        finally:
-            link.close()
+        return get(self.port, "/reel?reel=-") is not None
+
+
+def get(port, target):
+    """What is answered on a port of this machine, or none."""
+    link = http.client.HTTPConnection("127.0.0.1", port, timeout=20)
+    try:
+        link.request("GET", target, headers={"Connection": "close"})
+        return link.getresponse().read().decode("utf-8", "replace")
+    except (OSError, http.client.HTTPException):
+        return None
+    finally:
+        link.close()
 
 
 def connections(port):
-    """How many connections there are to a port of this machine, the waiting ones too."""
+    """How many connections there are to a port of this machine, the waiting ones too; and all that were there in the last minute."""
     lines = pathlib.Path("/proc/net/tcp").read_text(encoding="ascii").splitlines()[1:]
-    fields = [line.split() for line in lines]
-    return sum(1 for it in fields if it[1].endswith(f":{port:04X}") and it[3] in CONNECTED)
+    ends = f":{port:04X}"
+    fields = [it for it in map(str.split, lines) if it[3] != LISTENING and (it[1].endswith(ends) or it[2].endswith(ends))]
+    return sum(1 for it in fields if it[1].endswith(ends) and it[3] in CONNECTED), {frozenset(it[1:3]) for it in fields}
