@@ -14,6 +14,7 @@ import datetime
 import fcntl
 import hashlib
 import io
+import json
 import os
 import pathlib
 import re
@@ -26,6 +27,8 @@ HEADER = ("file", "sha256", "desk", "first_minute", "last_minute", "commands", "
 EPOCH = datetime.datetime(1970, 1, 1)
 CHUNK = 1 << 20
 LOGS = ("-wal", "-journal")
+MAGIC = b"SQLite format 3\0"
+PLANS, ASIDE, LACKS = "rollover-*/plan.json", "aside", "restore.json"  # beside the archive's folder: what roll-overs and restores leave
 LONGEST_EMPTY_LOG = 56  # bytes: the head of a log and that of a page, without the page
 
 
@@ -191,6 +194,45 @@ def survey_text(path, text, rows):
         except CatalogueError as fault:
             faults.append(str(fault))
     return Survey(text, [archive for _, archive in lines.values()], faults)
+
+
+# --- What lies around a catalogue
+
+
+def has_no_archives(path):
+    """Whether a line has none yet: there is no catalogue, and nothing lies where it would be. Where all around is empty too, a disk may not be mounted."""
+    folder = path.parent
+    return not path.exists() and (not any(folder.iterdir()) if folder.exists() else folder.parent.is_dir() and any(folder.parent.iterdir()))
+
+
+def unasked(path, archives):
+    """What may have commands that no archive of the catalogue has, or has them twice; each with what to do."""
+    named, around = {archive.file for archive in archives}, path.parent.parent
+    for file in sorted(path.parent.iterdir()) if path.parent.exists() else ():
+        if file.name not in named and is_database(file):
+            yield f"{file}: it lies beside {path.name}, which has no line of it: add its line, or move it elsewhere"
+    for room in sorted(it for it in around.iterdir() if it.match(PLANS.partition("/")[0])):
+        if (plan := room / PLANS.partition("/")[2]).exists():
+            yield f"{plan}: a roll-over is on its way or was cut off, so commands may be in two files: ask again later, or call tracedesk-rollover"
+    for aside in sorted((around / ASIDE).iterdir()) if (around / ASIDE).exists() else ():
+        if aside.is_dir() and any(aside.iterdir()) and lacks(aside):
+            yield f"{aside}: a restore put it aside, and nobody asks it: once its senders have sent again what it has, move it elsewhere"
+
+
+def lacks(aside):
+    """Whether what a restore put aside has something that the copy lacks, or nothing says that it hasn't."""
+    try:
+        told = json.loads((aside / LACKS).read_text(encoding="utf-8"))
+        return told["archives"] != [] or told["commands"] != 0
+    except (FileNotFoundError, ValueError, KeyError, TypeError):
+        return True
+
+
+def is_database(file):
+    if not file.is_file():
+        return False
+    with open(file, "rb") as it:
+        return it.read(len(MAGIC)) == MAGIC
 
 
 # --- The archives themselves

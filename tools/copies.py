@@ -42,16 +42,16 @@ def copy(file, to):
 
 
 @contextlib.contextmanager
-def copied(file):
-    """The path of a copy, with its log beside it; both are gone afterwards."""
-    with tempfile.TemporaryDirectory(prefix="tracedesk-") as room:
+def copied(file, within=None):
+    """The path of a copy, with its log beside it, in that folder or else where temporary files lie; both are gone afterwards."""
+    with tempfile.TemporaryDirectory(prefix="tracedesk-", dir=within) as room:
         to = pathlib.Path(room, "copy")
         copy(file, to)
         yield to
 
 
 @contextlib.contextmanager
-def opened(file):
+def opened(file, within=None):
     """A copy, as a database."""
-    with copied(file) as copy_of_it, contextlib.closing(sqlite3.connect(copy_of_it)) as database:
+    with copied(file, within) as copy_of_it, contextlib.closing(sqlite3.connect(copy_of_it)) as database:
         yield database

@@ -2,7 +2,6 @@
 import argparse
 import contextlib
 import ctypes
-import datetime
 import fcntl
 import http.client
 import os
@@ -29,8 +28,6 @@ QUIET = float(os.environ.get("TRACEDESK_QUIET", 1))  # seconds without a connect
 CONNECTED, LISTENING = ("01", "08"), "0A"  # in /proc/net/tcp: open, or closed by the client alone
 LONGEST_OTHER = 3600  # seconds that another roll-over or backup may take
 PLAN = "plan.json"  # of a roll-over
-ARCHIVE, SUMS = "archive", "SHA256SUMS"  # of a copy that tools/backup makes, beside `desk`
-NAMED = "%Y-%m-%dT%H%M%SZ"  # of such a copy, by when it was taken
 PATIENCE = 120  # seconds that a start may take beside what the pieces ask for
 LIBC, PR_SET_PDEATHSIG = ctypes.CDLL(None), 1
 
@@ -225,16 +222,6 @@ def wait_for_lock(take, seconds, held):
             tell(f"{held}; it is waited for")
             is_told = True
         time.sleep(0.1)
-
-
-def kept_in(to):
-    """The copies in a folder, from the oldest to the newest. Each was lawful when it got its name, which is when it was taken, in UTC."""
-    return sorted(it for it in to.iterdir() if re.fullmatch(r"\d{4}-\d\d-\d\dT\d{6}Z", it.name)) if to.is_dir() else []
-
-
-def taken(copy):
-    """When a copy was taken."""
-    return datetime.datetime.strptime(copy.name, NAMED).replace(tzinfo=datetime.timezone.utc)
 
 
 def start_seconds(pieces):

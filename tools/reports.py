@@ -7,6 +7,7 @@ object that says what was not found. Everything is read by Python's sqlite3 off 
 import csv
 import io
 import json
+import re
 import urllib.parse
 
 LIMITS = {"1": None, "2": 525_600, "2a": 40_320, "3": 10_080, "4": 4_320, "5": 2_880, "5a": 1_440}
@@ -50,6 +51,8 @@ def exists(database, kind, table, **wanted):
 
 def trace(database, by, name, detail):
     exists(database, by.title(), "board" if by == "board" else "reel", **{by: name})
+    if detail not in ("1", "2", "3", "4"):
+        raise ValueError(detail)
     columns = DETAILS[by][int(detail) - 1]
     shown = columns.replace("overdue", "CASE overdue WHEN 1 THEN 'yes' ELSE 'no' END")
     return csv_text(columns, sorted(set(database.execute(PLACED.format(shown, f"{by} = ?"), [name]))))
@@ -79,6 +82,8 @@ def free_reels(database, part):
 
 
 def kit_list(database, product, machine, boards):
+    if not re.fullmatch("[0-9]{1,6}", boards) or not 1 <= int(boards) <= 100_000:
+        raise ValueError(boards)
     exists(database, "Sheet", "sheet_row", product=product, machine=machine)
     given, rows = set(), []
     query = "SELECT slot, part, designators FROM sheet_row WHERE product = ? AND machine = ? ORDER BY place"

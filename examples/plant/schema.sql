@@ -17,8 +17,18 @@ CREATE TABLE IF NOT EXISTS file (
     pieces       bigint NOT NULL,
     taken        text NOT NULL,                 -- when the copy of a running desk was made; empty of an archive
     dropped      boolean NOT NULL DEFAULT false, -- its pieces were taken out, by drop.sql
+    copy_number  bigint NOT NULL DEFAULT 0,     -- of the copy of a running desk; copies are in this order
+    said         bigint NOT NULL DEFAULT 0,     -- commands in the table command
     UNIQUE (line, name)
 );
+ALTER TABLE file ADD COLUMN IF NOT EXISTS copy_number bigint NOT NULL DEFAULT 0, ADD COLUMN IF NOT EXISTS said bigint NOT NULL DEFAULT 0;
+-- each accepted command but a ClockSet, by the MD5 of all that its sender said: two files of a line that have one would count its pieces twice
+CREATE TABLE IF NOT EXISTS command (
+    file     integer NOT NULL REFERENCES file ON DELETE CASCADE,
+    identity uuid NOT NULL
+);
+CREATE INDEX IF NOT EXISTS command_identity ON command (identity);
+CREATE INDEX IF NOT EXISTS command_file ON command (file);
 -- what a catalogue or a copy names and is not loaded, and why
 CREATE TABLE IF NOT EXISTS missing (
     line text NOT NULL,
