@@ -1,5 +1,6 @@
 """Turns messages of another vocabulary into a desk's, by a table. tables.md says what a table has."""
 import datetime
+import decimal
 import hashlib
 import json
 import re
@@ -11,6 +12,9 @@ HOLE = re.compile(r"\{([^{}]*)\}")
 TIME = re.compile(r"(\d{4}-\d\d-\d\d)[Tt ](\d\d:\d\d:\d\d)(?:\.\d+)?(?:[Zz]|([+-]\d\d:\d\d))")
 NUMBER = "#"  # the place of an element in its list, from 1 on
 OTHERS = "*"  # in a list of names: all that it doesn't have
+
+
+ROUNDED = 2**53  # from this number on programs that calculate in doubles round, so that two names become one
 
 
 class BadTable(Exception):
@@ -54,8 +58,11 @@ def whole(path, value):
     """A whole number, of a text or of a number."""
     if isinstance(value, str) and re.fullmatch(r"-?\d{1,18}", value):
         return int(value)
-    if isinstance(value, (int, float)) and not isinstance(value, bool) and value == value // 1:
-        return int(value)
+    if isinstance(value, (int, float, decimal.Decimal)) and not isinstance(value, bool):
+        if not -ROUNDED < value < ROUNDED:
+            raise NotMapped(f"{path} is {value!s:.100}, and many programs round numbers from 2^53 on: it has to come as a text")
+        if value == int(value):
+            return int(value)
     raise NotMapped(f"{path} is {value!r:.100}, and no whole number")
 
 
@@ -189,7 +196,7 @@ def form_of(place, given, names, kind=None):
         text, = members_of(place, given, "Hash")
         return Hash(text_of(place, text))
     text, which = members_of(place, given, "Of", "Names")
-    if which not in names:
+    if not isinstance(which, str) or which not in names:
         raise BadTable(f"{place}: Names of the table has no {which!r:.100}")
     return Named(text_of(place, text), which, names[which])
 
@@ -220,7 +227,7 @@ class Entry:
 
     def __init__(self, place, given, names):
         word, uid, source, time, body, self.each = members_of(place, given, "Word", "UniqueID", "Source", "TimeStamp", "Members", Each=None)
-        if word not in WORDS:
+        if not isinstance(word, str) or word not in WORDS:
             raise BadTable(f"{place}: {word!r:.100} is none of {', '.join(WORDS)}")
         if self.each is not None:
             path_of(place, self.each)
@@ -262,7 +269,7 @@ def moment(text):
 
 
 def names_of(given):
-    for which, names in given.items() if isinstance(given, dict) else [("Names", None)]:
+    for which, names in given.items() if isinstance(given, dict) else [("all", None)]:
         if not isinstance(names, dict) or not all(it is None or isinstance(it, str) for it in names.values()):
             raise BadTable(f"Names, {which}: it is no object of texts; null passes a message over, and * is any other")
     return given

@@ -4,10 +4,11 @@ import os
 import pathlib
 import random
 import tempfile
+import threading
 import unittest
 from unittest import mock
 
-from tracedesk import answers, forms, spool, words
+from tracedesk import answers, forms, sender, spool, words
 
 
 class Ended(BaseException):
@@ -98,7 +99,7 @@ class Spools(unittest.TestCase):
 
     def test_an_answer_that_ends_anywhere_is_made_good(self):
         for answer in (accepted(1), refused()):
-            for number in range(1, 14):
+            for number in range(1, 22):
                 with tempfile.TemporaryDirectory() as room:
                     self.folder = pathlib.Path(room, "spool")
                     it = spool.Spool(self.folder)
@@ -110,7 +111,8 @@ class Spools(unittest.TestCase):
                     after = spool.Spool(self.folder)
                     with after.sending():
                         if after.names()[0] == name:  # the answer is not on disk: it is asked for again
-                            self.assertEqual(after.last_answer(), (0, None))
+                            self.assertFalse(any(it.read_bytes() for it in after.answered.iterdir()))
+                            self.assertTrue(after.is_tried(name) or number < 4)
                             after.done(name, answer)
                     lines = b"".join(it.read_bytes() for it in after.answered.iterdir()).splitlines()
                     self.assertEqual(len(lines), 1)
@@ -125,21 +127,21 @@ class Spools(unittest.TestCase):
                 self.out.mkdir()
                 file = self.out / "1.jsonl"
                 file.write_bytes(b"a\n\nb\r\nc")
-                it = spool.Spool(self.folder)
+                it = sender.Folder(spool.Spool(self.folder), self.out)
+                it.news = threading.Event()
                 try:
                     with ends_at(number):
-                        it.take_file(file)
+                        it.look()
                 except Ended:
                     ended += 1
                 if number % 2:  # another program comes between
                     spool.Spool(self.folder).put(b"x")
-                it = spool.Spool(self.folder)
-                it.forget_taken(self.out)
-                for path in spool.files_in(self.out):
-                    it.take_file(path)
+                it = sender.Folder(spool.Spool(self.folder), self.out)
+                it.news = threading.Event()
+                it.look()
                 self.assertEqual([line for line in self.texts() if line != b"x"], [b"a", b"b", b"c"], number)
                 file.write_bytes(b"a\n\nb\r\nc")  # the same once more is another one
-                it.take_file(file)
+                it.look()
                 self.assertEqual([line for line in self.texts() if line != b"x"], [b"a", b"b", b"c"] * 2, number)
                 self.assertEqual(list(self.out.iterdir()), [])
         self.assertGreater(ended, 15)
@@ -168,10 +170,106 @@ class Spools(unittest.TestCase):
         with self.assertRaises(spool.SpoolError):
             it.again(["../x"])
 
-    def test_a_message_that_no_desk_takes_is_set_aside_at_once(self):
+    def test_a_name_that_is_used_again_is_another_file(self):
+        it, place = sender.Folder(spool.Spool(self.folder), self.out), self.out / "1.jsonl"
+        it.news = threading.Event()
+        place.write_bytes(b"a\nb\n")
+        put, texts = it.spool.put_next, [b"c", b"d"]
+
+        def put_and_written_again(*given):
+            if texts:
+                new = self.out / "1.tmp"
+                new.write_bytes(texts.pop(0))
+                new.rename(place)
+            return put(*given)
+        with mock.patch.object(it.spool, "put_next", put_and_written_again):
+            it.look()
+            it.look()
+        self.assertEqual((self.texts(), list(self.out.iterdir())), ([b"a", b"b", b"d"], []))
+
+    def test_two_senders_of_one_folder(self):
+        one, two = (sender.Folder(spool.Spool(pathlib.Path(self.room.name, it)), self.out) for it in "ab")
+        with one.held(), self.assertRaises(spool.SpoolError), two.held():
+            pass
+
+    def test_a_line_longer_than_memory_should_hold_is_read_in_pieces(self):
+        place, size = self.out / "1.jsonl", 3 * forms.LONGEST_MESSAGE
+        place.write_bytes(b"a\n" + b"x" * size + b"\nb\n \n" + b"y" * size)
         it = spool.Spool(self.folder)
-        name = it.put(b"x" * (forms.LONGEST_MESSAGE + 1))
-        self.assertEqual((it.names(), it.set_aside()), ([], [name]))
+        with open(place, "rb") as file:
+            self.assertEqual([b"a", b"x" * size, b"b", b"y" * size], [line if isinstance(line, bytes) else b"".join(line) for line in spool.lines_of(file)])
+        with open(place, "rb") as file:
+            self.assertEqual([bytes, None, bytes, None], [bytes if isinstance(line, bytes) else None for line in spool.lines_of(file)])
+        self.assertEqual(it.take_file(place), 4)
+        self.assertEqual([len(text) for text in self.texts()], [1, size, 1, size])
+
+    def test_stray_files_and_a_wrong_clock_lose_nothing(self):
+        it = spool.Spool(self.folder)
+        names = [it.put(b"%d" % n) for n in range(3)]
+        for stray in ("zzz.jsonl", "notes.txt", "9999-99-99.jsonl.gz"):
+            (it.answered / stray).write_bytes(b"no answer\n")
+        (it.answered / "9999-12-31.jsonl").write_bytes(b"[]\n")
+        (it.answered / "9999-12-30.jsonl").mkdir()
+        for name, day in zip(names, ("2026-03-02", "2099-03-02", "2026-03-03")):
+            with it.sending(), mock.patch.object(spool.datetime, "date") as date:
+                date.today.return_value = day
+                it.keep_answer(name, accepted(1))  # it ends here
+            it = spool.Spool(self.folder)
+        with it.sending():
+            self.assertEqual((it.names(), (it.answered / "zzz.jsonl").read_bytes()), ([], b"no answer\n"))
+        self.assertEqual([(it.answered / f"{day}.jsonl").read_bytes().count(b"\n") for day in ("2026-03-02", "2099-03-02", "2026-03-03")], [1, 1, 1])
+
+    def test_an_answer_that_was_not_written_is_written_once(self):
+        it = spool.Spool(self.folder)
+        name = it.put(b"a")
+        with it.sending():
+            for fault in ("write", "fsync"):
+                with mock.patch.object(os, fault, side_effect=OSError(28, "full")), self.assertRaises(OSError):
+                    it.keep_answer(name, accepted(1))
+            it.done(name, accepted(1))
+        self.assertEqual([file.read_bytes().count(b"\n") for file in it.answered.iterdir()], [1])
+
+    def sent(self, texts, answer=None):
+        it = spool.Spool(self.folder)
+        for text in texts:
+            name = it.put(text)
+            with it.sending():
+                it.done(name, answer or accepted(1))
+        return it
+
+    def test_sent_messages_go_again_in_front(self):
+        it = self.sent([b"a", b"b"])
+        began = (it.sent / "000000000002.json").stat().st_ctime
+        self.sent([b"bad"], refused())
+        self.sent([b"c"])
+        it.put(b"d")
+        for number in range(1, 30):  # ended anywhere, and gone on with
+            with contextlib.suppress(Ended), ends_at(number):
+                it.again_since(began)
+            with (it := spool.Spool(self.folder)).sending():
+                pass
+            self.assertIn(self.texts(), ([b"d"], [b"b", b"c", b"d"]))
+            if number % 3 and len(it.names()) == 3:
+                with it.sending():
+                    self.assertEqual([it.is_tried(name) for name in it.names()[:2]], [True, True])
+                    for name in it.names()[:2]:
+                        it.done(name, accepted(1))
+        self.assertEqual(it.again_since(began), ["000000000002", "000000000004"])
+        self.assertEqual(self.texts(), [b"b", b"c", b"d"])
+        with it.sending(), self.assertRaises(spool.SpoolError):
+            spool.Spool(self.folder).again_since(0)
+
+    def test_sent_messages_are_kept_by_age_and_size(self):
+        for days, most, always, wanted in ((9, 1 << 20, 0, 5), (9, 2 * spool.BLOCK, 0, 2), (0, 1 << 20, 0, 1), (0, 1 << 20, 1 << 20, 5), (9, 0, 0, 1)):
+            with mock.patch.multiple(spool, ALWAYS_KEPT=always, KEPT_DAYS=days), tempfile.TemporaryDirectory() as room:
+                it = spool.Spool(pathlib.Path(room, "spool"), days, most)
+                for number in range(5):
+                    name = it.put(b"%d" % number)
+                    with it.sending():
+                        it.done(name, refused() if number == 2 else accepted(1))
+                kept = sorted(file.name for file in it.sent.iterdir())
+                self.assertEqual((len(kept), kept[-1]), (wanted, "000000000005.json"))
+                self.assertEqual(it.dropped_early, 5 - wanted if days else 0)
 
     def test_only_whole_files_are_taken(self):
         for name in (".hidden.json", "being-written.tmp", "b.jsonl", "a.json"):

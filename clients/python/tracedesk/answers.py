@@ -26,12 +26,16 @@ class Accepted:
 
 @dataclasses.dataclass(frozen=True)
 class Refused:
-    """The command breaks a rule, `at` what is at fault; nothing was kept. `number` is that of a UniqueID that was used."""
+    """The command breaks a rule, `at` what is at fault; nothing was kept. `number` is that of a UniqueID that was used.
+
+    `archived` is set by Desk.send: the message itself was accepted before the desk was begun anew.
+    """
 
     refusal: str
     unique_id: str
     at: Optional[str] = None
     number: Optional[int] = None
+    archived: bool = False
     text: bytes = dataclasses.field(default=b"", compare=False, repr=False)
 
 
@@ -89,22 +93,48 @@ def read_object(text: bytes) -> Dict[str, Any]:
     return told if isinstance(told, dict) else {}
 
 
-def read(text: bytes) -> Optional[Answer]:
+def read(text: bytes, archived: bool = False) -> Optional[Answer]:
     """The answer that a text is, or none: an answer is one line."""
     told = read_object(text)
     kind = KINDS.get(told.get("Answer", "")) if isinstance(told.get("Answer", ""), str) else None
     if kind is None or b"\n" in text:
         return None
     found = {MEMBERS[name]: tuple(it) if isinstance(it, list) else it for name, it in told.items() if name in MEMBERS}
+    if archived:
+        found["archived"] = True
     try:
         return kind(**found, text=text)  # type: ignore[no-any-return]
     except TypeError:
         return None
 
 
+def is_archived(answer: Answer) -> bool:
+    """Whether the message was accepted before the desk was begun anew."""
+    return isinstance(answer, Refused) and answer.archived
+
+
 def is_taken(answer: Answer) -> bool:
-    """Whether nothing is left to do: it is accepted, or of a vocabulary that is not the desk's."""
-    return isinstance(answer, Accepted) or isinstance(answer, Ignored) and not answer.is_mistyped
+    """Whether nothing is left to do: it is accepted, now or before a roll-over, or of a vocabulary that is not the desk's."""
+    return isinstance(answer, Accepted) or is_archived(answer) or isinstance(answer, Ignored) and not answer.is_mistyped
+
+
+def is_of(answer: Answer, message: bytes) -> bool:
+    """Whether the answer names this message. A proxy may give away the answer to another one."""
+    told = read_object(message)
+    if isinstance(answer, (Accepted, Refused)) and "UniqueID" in told:
+        return bool(answer.unique_id == told["UniqueID"])
+    if isinstance(answer, Ignored) and "MessageName" in told:
+        return bool(answer.message_name == told["MessageName"])
+    return True
+
+
+def question(message: bytes) -> bytes:
+    """A message that a desk accepts if it has accepted this one, or the one of its archive with the same UniqueID: after IdReused alone."""
+    told = read_object(message)
+    return json.dumps({"MessageName": words.PREFIX + words.ClockSet.WORD, **{name: told.get(name) for name in ("UniqueID", "Source", "TimeStamp")}, "MessageBody": {}}).encode()
+
+
+LINE_TOO_LONG = Faulty("LineTooLong", text=b'{"Answer":"Faulty","Fault":"LineTooLong"}')
 
 
 def why(answer: Answer) -> str:
@@ -141,16 +171,24 @@ class Verdict:
     wait: float = 0.0
 
 
+LONGEST_WAIT = 600.0  # seconds, whatever a Retry-After asks for
+BEGINNING = b'{"Answer":'
+
+
 def seconds_of(retry_after: Optional[str]) -> float:
-    """How long a Retry-After asks to wait: it is a number of seconds, or a date."""
+    """How long to wait for a Retry-After, which is a number of seconds, or a date: ten minutes at most. What is neither asks for nothing."""
     if retry_after is None:
         return 0.0
-    if retry_after.strip().isdecimal():
-        return float(retry_after)
     try:
-        return max(0.0, email.utils.parsedate_to_datetime(retry_after).timestamp() - time.time())
-    except (TypeError, ValueError):
+        seconds = float(retry_after) if retry_after.strip().isdecimal() else email.utils.parsedate_to_datetime(retry_after).timestamp() - time.time()
+    except (TypeError, ValueError, OverflowError, IndexError):
         return 0.0
+    return min(max(0.0, seconds), LONGEST_WAIT)
+
+
+def is_cut(body: bytes) -> bool:
+    """Whether it is the beginning of an answer: the rest was lost on its way."""
+    return not read_object(body) and (body.startswith(BEGINNING) or BEGINNING.startswith(body))
 
 
 def verdict(status: int, body: bytes, retry_after: Optional[str] = None) -> Verdict:
@@ -159,6 +197,9 @@ def verdict(status: int, body: bytes, retry_after: Optional[str] = None) -> Verd
     if answer is not None and words.ANSWERS.get(status) == type(answer).__name__ and not (isinstance(answer, Faulty) and answer.fault in words.FAULTS_OF_A_REQUEST):
         return Verdict(Meaning.ANSWER, answer)
     if status in words.AGAIN or status >= 500:
-        return Verdict(Meaning.AGAIN, None, f"status {status}", seconds_of(retry_after))
+        wait = seconds_of(retry_after)
+        return Verdict(Meaning.AGAIN, None, f"status {status}" + (f", to be asked again in {wait:.0f} seconds" if wait else ""), wait)
+    if status in words.ANSWERS and is_cut(body):
+        return Verdict(Meaning.AGAIN, None, f"status {status}, and the answer was cut")
     told = words.STOPS.get(status, "that is no answer of a desk to a message; look at --url, and at --cert")
     return Verdict(Meaning.STOP, None, f"status {status}: {told}: {body[:200].decode(errors='replace')}")

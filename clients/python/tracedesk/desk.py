@@ -3,6 +3,7 @@ from __future__ import annotations
 
 import base64
 import csv
+import dataclasses
 import http.client
 import io
 import ssl
@@ -15,7 +16,8 @@ from . import answers, forms, words
 FIRST_PAUSE, LONGEST_PAUSE = 0.05, 5.0  # seconds
 PATIENCE = 600.0  # seconds for one message: a desk of a month starts in two minutes
 TIMEOUT = 150.0  # seconds for one answer: longer than the proxy waits for the desk
-FIRST_NEWS, NEWS = 10.0, 60.0  # seconds without an answer, after which that is told, and told again
+FIRST_NEWS, NEWS = 10.0, 60.0  # seconds without an answer, after which that is reported, and reported again
+NOT_VALID_NOW = (9, 10)  # OpenSSL: a certificate that isn't valid yet, or any more. Its renewal, or a clock that is set, mends that
 
 
 class GivenUp(Exception):
@@ -34,16 +36,30 @@ class NotThere(Exception):
         self.kind = kind
 
 
+def checked_url(text: str) -> urllib.parse.SplitResult:
+    """The parts of a URL, if it names a machine and nobody's password; else ValueError with what is wrong."""
+    parts = urllib.parse.urlsplit(text)
+    if parts.scheme not in ("http", "https") or not parts.hostname or parts.port == 0 or parts.query or parts.fragment:
+        raise ValueError("a URL is http://HOST:PORT or https://HOST:PORT, with a path if the desk has one there")
+    if parts.username is not None:
+        raise ValueError("a URL names no user: --user and --password-file do")
+    if not text.isascii() or any(it.isspace() or not it.isprintable() for it in text):
+        raise ValueError("a URL has ASCII alone, and no spaces")
+    parts.hostname.encode("idna")
+    return parts
+
+
 class Desk:
     """One connection, made when it is needed and again when it is broken.
 
     `trust` is an ssl.SSLContext, with a client's certificate where there is one; `log_in` a user and a password; `rate` the
-    most tries in a second, 0 for no limit; `patience` none for ever; `tell` takes a line of news.
+    most tries in a second, 0 for no limit; `patience` none for ever; `tell` takes a line of news. A URL that names none is a ValueError.
     """
 
     def __init__(self, url: str = "http://127.0.0.1:8080", trust: Optional[ssl.SSLContext] = None, log_in: Optional[Tuple[str, str]] = None, *,
                  patience: Optional[float] = PATIENCE, timeout: float = TIMEOUT, rate: float = 0.0, tell: Callable[[str], None] = lambda line: None) -> None:
-        self.url, self.trust, self.patience, self.timeout, self.tell = urllib.parse.urlsplit(url), trust, patience, timeout, tell
+        self.url, self.trust, self.patience, self.timeout, self.tell = checked_url(url), trust, patience, timeout, tell
+        self.place = f"{self.url.hostname}:{self.url.port or self.url.scheme}"
         self.path = self.url.path.rstrip("/")
         self.headers: Dict[str, str] = {}
         if log_in:
@@ -52,6 +68,7 @@ class Desk:
             self.headers["Authorization"] = "Basic " + base64.b64encode(":".join(log_in).encode()).decode()
         self.connection: Optional[http.client.HTTPConnection] = None
         self.interval, self.next_try, self.sent_again = (1 / rate if rate else 0.0), 0.0, 0
+        self.is_unanswered = False  # whether there was a try of the last message that may have been accepted without an answer
 
     def __enter__(self) -> "Desk":
         return self
@@ -82,50 +99,76 @@ class Desk:
             if self.connection.sock is None:
                 raise
             is_sent = False  # who takes no more of the message may have said why
-        answer = self.connection.getresponse()
-        got = answer.read()  # all of it, or an error: http.client counts the bytes of Content-Length
+        try:
+            answer = self.connection.getresponse()
+            got = answer.read()  # all of it, or an error: http.client counts the bytes of Content-Length
+        except ValueError as odd:
+            raise http.client.HTTPException(f"no HTTP: {odd}") from None
         if not is_sent:
             self.close()
         return answer.status, got, answer.getheader("Retry-After")
 
     def until(self, call: Callable[[], Tuple[Optional[Any], str, float]]) -> Any:
-        """Tries until the call finds something. It gives none with why, and how long to wait at least."""
-        begun, pause = time.monotonic(), FIRST_PAUSE
-        end, news = None if self.patience is None else begun + self.patience, begun + FIRST_NEWS
+        """Tries until the call finds something. It returns none with why, and how long to wait at least."""
+        begun, pause, news = time.monotonic(), FIRST_PAUSE, time.monotonic() + FIRST_NEWS
+        end = None if self.patience is None else begun + self.patience
         while True:
             time.sleep(max(0.0, self.next_try - time.monotonic()))
             self.next_try = time.monotonic() + self.interval
             try:
                 found, why, wait = call()
             except ssl.SSLCertVerificationError as fault:
-                raise NotTaken(f"the certificate of {self.url.netloc} is not to be trusted: {fault.verify_message}. Look at --ca") from None
+                found, why, wait = None, f"the certificate of {self.place} is not to be trusted: {fault.verify_message}", 0.0
+                self.close()
+                if fault.verify_code not in NOT_VALID_NOW:
+                    raise NotTaken(f"{why}. Look at --ca") from None
             except (OSError, http.client.HTTPException) as broken:
                 self.close()
                 found, why, wait = None, str(broken) or repr(broken), 0.0
             if found is not None:
                 return found
-            now = time.monotonic()
-            if end is not None and now >= end:
-                raise GivenUp(f"no answer for {self.patience:.0f} seconds, the last time: {why}")
-            if now >= news:
-                self.tell(f"no answer for {now - begun:.0f} seconds, the last time: {why}")
-                news = now + NEWS
             self.sent_again += 1
-            time.sleep(max(pause, wait) if end is None else min(max(pause, wait), end - now))
+            until = time.monotonic() + max(pause, wait)
             pause = min(2 * pause, LONGEST_PAUSE)
+            while (now := time.monotonic()) < until:
+                if end is not None and now >= end:
+                    raise GivenUp(f"no answer for {self.patience:.0f} seconds, the last time: {why}")
+                if now >= news or wait > FIRST_NEWS and news == begun + FIRST_NEWS:
+                    self.tell(f"no answer for {now - begun:.0f} seconds, the last time: {why}")
+                    news = now + NEWS
+                time.sleep(min([until, news] if end is None else [until, news, end]) - now)
 
-    def send(self, message: Union[forms.Message, bytes]) -> answers.Answer:
-        """Sends the same bytes until they are answered, and gives the answer."""
+    def ask(self, text: bytes) -> answers.Answer:
+        """Sends the same bytes until they are answered. An answer that names another message is none."""
+        def call() -> Tuple[Optional[answers.Answer], str, float]:
+            was, self.is_unanswered = self.is_unanswered, True
+            told = answers.verdict(*self.once("POST", "/messages", text, {"Content-Type": "application/json"}))
+            if told.meaning is answers.Meaning.STOP:
+                self.is_unanswered = was
+                raise NotTaken(told.why)
+            if told.answer is None or answers.is_of(told.answer, text):
+                self.is_unanswered = was or told.answer is None
+                return told.answer, told.why, told.wait
+            self.close()
+            return None, f"what came is the answer to another message: {told.answer.text[:200].decode(errors='replace')}", 0.0
+        answer: answers.Answer = self.until(call)
+        return answer
+
+    def send(self, message: Union[forms.Message, bytes], is_tried: bool = False) -> answers.Answer:
+        """Sends the same bytes until they are answered, and returns the answer. `is_tried` is whether a run before may have sent them.
+
+        A message may have been accepted, its answer lost, and the desk begun anew: then the new desk refuses its UniqueID. It
+        knows for each UniqueID of its archive the Source and the minute, and says so to `answers.question`.
+        """
         text = message if isinstance(message, bytes) else message.text
         if len(text) > forms.LONGEST_MESSAGE:
             raise NotTaken(words.STOPS[413])
-
-        def call() -> Tuple[Optional[answers.Answer], str, float]:
-            told = answers.verdict(*self.once("POST", "/messages", text, {"Content-Type": "application/json"}))
-            if told.meaning is answers.Meaning.STOP:
-                raise NotTaken(told.why)
-            return told.answer, told.why, told.wait
-        answer: answers.Answer = self.until(call)
+        self.is_unanswered = is_tried
+        answer = self.ask(text)
+        if isinstance(answer, answers.Refused) and answer.refusal == "IdReused" and self.is_unanswered and isinstance(self.ask(answers.question(text)), answers.Accepted):
+            self.tell(f"{answer.unique_id} was accepted before the desk was begun anew: its first answer is in the archive")
+            answer = dataclasses.replace(answer, archived=True)
+        self.is_unanswered = False
         return answer
 
     # --- Reports

@@ -3,7 +3,7 @@
 usage: tracedesk-send [--url URL] [WHO] [HOW] MESSAGES ANSWERS
        tracedesk-send [--url URL] [WHO] [HOW] --spool FOLDER [--follow FOLDER | --follow - | --stay]
        tracedesk-send --spool FOLDER --put MESSAGES | --put -
-       tracedesk-send --spool FOLDER --again all | --again NAME ..
+       tracedesk-send --spool FOLDER --again all | --again NAME .. | --again TIME
 
 examples:
   tracedesk-send first.jsonl first.answers
@@ -11,70 +11,93 @@ examples:
   machine | tracedesk-send --url https://desk.plant --ca server.crt --cert m2.crt --key m2.key --spool m2 --follow -
   tracedesk-send --spool m1 --put mended.jsonl
   tracedesk-send --spool m1 --again 000000000007
+  tracedesk-send --spool m1 --again 2026-03-02T06:00Z
 
-With two files it posts the lines of MESSAGES, each with the UniqueID that stands in it, and adds the desk's answers to
-ANSWERS. Started again, it goes on behind the last whole line of ANSWERS.
+With two files it posts the lines of MESSAGES, each with the UniqueID in it, and adds the desk's answers to ANSWERS.
+Started again, it goes on behind the last whole line of ANSWERS.
 
 With --spool it sends what waits in that folder, and each message is on disk there before it is sent. Started again after
 whatever ended it, it goes on where it was. One sender has a spool at a time; any number may put messages in.
 --follow FOLDER  takes in the files *.json and *.jsonl of FOLDER, by their names, a message a line, and deletes each once it
-                 is in the spool. Write a file under another ending and rename it, so that it is there whole
+                 is in the spool. Write a file under another ending and rename it, so that it is there whole. A name may be
+                 used again at any time
 --follow -       takes in the lines of standard input, and prints 'kept NAME' for each once it is on disk
 --stay           goes on when nothing waits, for programs that put messages in
 --put            puts lines into the spool and sends nothing
---again          puts messages that were set aside behind those that wait, once what they name is mended
+--again          puts messages that were set aside behind those that wait, once what they name is mended. With a TIME, as
+                 2026-03-02T06:00Z, puts each message that was accepted since then before those that wait: after the desk was
+                 restored from a copy of that time. What the desk has already isn't done twice. No sender may run meanwhile
+--keep-days N    how long the spool keeps sent messages for --again TIME (7): longer than from one copy of the desk to the next
+--keep-mib N     how much disk they may take (512). The oldest go first, and standard error says so
 
-No answer is a connection that breaks, a port where nobody listens, and status 408, 429 or 5xx of the desk or of what
-stands in front of it. Then the same bytes are sent again, after a wait that grows, or as long as Retry-After says: a
+No answer is a connection that breaks, a port where nobody listens, status 408, 429 or 5xx of the desk or of what is
+in front of it, an answer that was cut, the answer to another message, and a certificate that isn't valid yet or any more.
+Then the same bytes are sent again, after a wait that grows, or that Retry-After asks for, ten minutes at most: a
 message that was accepted the first time gets its first answer and changes nothing. An answer is what a desk says of
 a message, with status 200, 202, 400, 409 or 422. Anything else ends the run, since sending again would change nothing:
-a log-in that is refused, a message that is too long, a certificate that is another's, an answer that is no desk's.
+a log-in that is refused, a certificate that is another's, an answer that is no desk's.
 
-A message that is refused, faulty, or Ignored though its name begins with TraceDesk. was not taken. With a spool it is set
-aside in its folder `aside`, with the reason beside it, and the next one is sent. With two files its answer stands in ANSWERS.
+A message that was accepted, whose answer was lost, and whose desk was then begun anew, is refused there: IdReused. The desk is
+asked whether its archive has that message. If it has, the message is done, and a line on standard error says so.
+
+A message that is refused, faulty, too long, or Ignored though its name begins with TraceDesk. was not taken. With a spool it is
+set aside in its folder `aside`, with the reason, and the next one is sent. With two files its answer is in ANSWERS.
 --stop-at-refusal  ends the run at such a message, on standard error. It stays the next one that is sent, so that it is sent
                    again once what it names is mended
 --rate N           at most so many tries in a second (with a spool 40, since nginx lets 50 pass); 0 is no limit
---patience SECONDS  for one message: 600, and with a spool no end. A line tells after ten seconds, and
-                   then each minute, that there is no answer, and why
-The password stands in FILE, or in the environment as TRACEDESK_PASSWORD.
+--patience SECONDS  for one message: 600, and with a spool no end. A line after ten seconds, and then each minute, says that
+                   there is no answer, and why
+The password is in FILE, or in the environment as TRACEDESK_PASSWORD.
+
+A full disk, and a file that can't be read, are reported and waited out. Standard output may be closed: nothing more is printed.
 
 Exit status: 0 every message has its answer; 1 stopped at a message that was not taken; or some are set aside in
 this run, or with two files were Ignored though their names begin with TraceDesk.; 2 bad command line, or a file or a spool that
 can't be used; 3 given up: no answer in all the time that was given; 4 a message can't be sent so, and standard error says
-why. With 3 and 4 what has no answer is sent by the next run.
+why; 5 an error of this program, which standard error has. With 3, 4 and 5 what has no answer is sent by the next run.
 """
 from __future__ import annotations
 
 import argparse
+import contextlib
+import datetime
+import fcntl
 import os
 import pathlib
+import re
 import sys
-import urllib.parse
-from typing import List, Optional
+import traceback
+from typing import BinaryIO, Iterator, List, Optional
 
 from . import answers, desk, sender, spool
+from .console import NAME, say, tell
 
-NAME = pathlib.Path(sys.argv[0]).name
 RATE = 40.0  # messages a second of one spool
+TIME = re.compile(r"\d{4}-\d\d-\d\d[Tt]\d\d:\d\d.*")
 
 
 class BadFile(Exception):
     """What is wrong with a file that was named."""
 
 
-def tell(line: object) -> None:
-    print(f"{NAME}: {line}", file=sys.stderr, flush=True)
-
-
 # --- Two files
 
 
-def whole_lines(path: str) -> List[bytes]:
-    """The whole lines of a file, which is made where there is none."""
-    with open(path, "a+b") as it:
-        it.seek(0)
-        return it.read().split(b"\n")[:-1]
+@contextlib.contextmanager
+def held(path: str) -> Iterator[BinaryIO]:
+    """A file of answers, which one sender has at a time; it is made if there is none."""
+    with open(path, "a+b") as file:
+        try:
+            fcntl.flock(file, fcntl.LOCK_EX | fcntl.LOCK_NB)
+        except BlockingIOError:
+            raise BadFile("another sender has it: end that one, or name another file for answers") from None
+        yield file
+
+
+def whole_lines(file: BinaryIO) -> List[bytes]:
+    """The whole lines of a file."""
+    file.seek(0)
+    return file.read().split(b"\n")[:-1]
 
 
 def compare(messages: List[bytes], known: List[bytes]) -> None:
@@ -90,61 +113,78 @@ def compare(messages: List[bytes], known: List[bytes]) -> None:
             raise BadFile(f"its line {number} answers {uid}, which is not the message of that line: name a new file for answers")
 
 
-def send_all(to: desk.Desk, messages: List[bytes], known: List[bytes], path: str, stops: bool) -> int:
+def send_all(to: desk.Desk, messages: List[bytes], known: List[bytes], file: BinaryIO, is_tried: bool, stops: bool) -> int:
     """Sends what has no answer yet, and adds each answer to the file before the next message goes out; how many were mistyped."""
     mistyped = 0
-    with open(path, "ab") as file:
-        file.truncate(sum(len(it) + 1 for it in known))  # a line that was cut goes
-        for line in messages[len(known):]:
-            answer = to.send(line)
-            if not answers.is_taken(answer):
-                if stops:
-                    raise sender.Stopped(answer.text.decode(errors="replace") + "\n" + answers.why(answer))
-                if isinstance(answer, answers.Ignored):
-                    tell(answers.why(answer))
-                    mistyped += 1
-            file.write(answer.text + b"\n")
-            file.flush()
-            os.fsync(file.fileno())
+    file.truncate(sum(len(it) + 1 for it in known))  # a line that was cut goes
+    for line in messages[len(known):]:
+        answer, is_tried = to.send(line, is_tried), False
+        if not answers.is_taken(answer):
+            if stops:
+                raise sender.Stopped(answer.text.decode(errors="replace") + "\n" + answers.why(answer))
+            if isinstance(answer, answers.Ignored):
+                tell(answers.why(answer))
+                mistyped += 1
+        file.write(answer.text + b"\n")
+        file.flush()
+        os.fsync(file.fileno())
     return mistyped
 
 
 def run_files(asked: argparse.Namespace, to: desk.Desk) -> int:
+    """Goes through two files. If there were answers, a run before may have sent the next message."""
+    is_tried = os.path.exists(asked.files[1])
     try:
-        messages, known = spool.lines_of(pathlib.Path(asked.files[0]).read_bytes()), whole_lines(asked.files[1])
-        compare(messages, known)
+        with held(asked.files[1]) as file:
+            messages, known = pathlib.Path(asked.files[0]).read_bytes(), whole_lines(file)
+            lines = [it.rstrip(b"\r") for it in messages.split(b"\n") if it.strip()]
+            compare(lines, known)
+            return 1 if send_all(to, lines, known, file, is_tried, asked.stop_at_refusal) else 0
     except BadFile as fault:
         tell(f"{asked.files[1]}: {fault}")
         return 2
-    return 1 if send_all(to, messages, known, asked.files[1], asked.stop_at_refusal) else 0
 
 
 # --- A spool
 
 
-def acknowledge(name: str) -> None:
-    print(f"kept {name}", flush=True)
+def spool_of(asked: argparse.Namespace) -> spool.Spool:
+    return spool.Spool(asked.spool, asked.keep_days, round(asked.keep_mib * (1 << 20)))
 
 
 def put(into: spool.Spool, file: str) -> int:
-    lines = spool.lines_of(sys.stdin.buffer.read() if file == "-" else pathlib.Path(file).read_bytes())
-    for line in lines:
-        into.put(line)
-    print(f"{len(lines)} put into {into.folder}, {len(into.names())} wait")
+    with open(sys.stdin.fileno() if file == "-" else file, "rb", closefd=file != "-") as stream:
+        count = sum(bool(into.put(it if isinstance(it, bytes) else b"".join(it))) for it in spool.lines_of(stream))
+    say(f"{count} put into {into.folder}, {len(into.names())} wait")
     return 0
 
 
+def moment(text: str) -> float:
+    """A second of the clock."""
+    try:
+        at = datetime.datetime.fromisoformat(re.sub("[Zz]$", "+00:00", text))
+    except ValueError:
+        raise spool.SpoolError(f"{text} is no time, as 2026-03-02T06:00Z") from None
+    if at.tzinfo is None:
+        raise spool.SpoolError(f"{text} has no offset: a time is spelled as 2026-03-02T06:00Z or 2026-03-02T07:00+01:00")
+    return at.timestamp()
+
+
 def again(into: spool.Spool, names: List[str]) -> int:
+    if len(names) == 1 and TIME.fullmatch(names[0]):
+        found = into.again_since(moment(names[0]))
+        say(f"{len(found)} wait again, before those that wait" + (f": {found[0]} to {found[-1]}" if found else f": {into.sent} has none that was sent since then"))
+        return 0
     found = into.again(into.set_aside() if names == ["all"] else names)
-    print(f"{len(found)} wait again{', as ' + ' '.join(found) if found else ''}")
+    say(f"{len(found)} wait again{', as ' + ' '.join(found) if found else ''}")
     return 0
 
 
 def run_spool(asked: argparse.Namespace, to: desk.Desk) -> int:
-    into = spool.Spool(asked.spool)
+    into = spool_of(asked)
     follower: Optional[sender.Follower] = None
     if asked.follow == "-":
-        follower = sender.Lines(into, sys.stdin.buffer, acknowledge, tell)
+        follower = sender.Lines(into, sys.stdin.buffer, lambda name: say(f"kept {name}"), tell)
     elif asked.follow:
         follower = sender.Folder(into, pathlib.Path(asked.follow), tell)
     run = sender.Sender(into, to, asked.stop_at_refusal, tell)
@@ -157,9 +197,10 @@ def run_spool(asked: argparse.Namespace, to: desk.Desk) -> int:
 
 def url(text: str) -> str:
     """A URL as it is written, if it names a machine."""
-    parts = urllib.parse.urlsplit(text)
-    if parts.scheme not in ("http", "https") or not parts.hostname or parts.port == 0:
-        raise ValueError
+    try:
+        desk.checked_url(text)
+    except (ValueError, UnicodeError) as fault:
+        raise argparse.ArgumentTypeError(str(fault)) from None
     return text
 
 
@@ -176,6 +217,8 @@ def reader_of_words() -> argparse.ArgumentParser:
     reader.add_argument("--patience", type=float, metavar="SECONDS", help="for one message")
     reader.add_argument("--timeout", type=float, default=desk.TIMEOUT, metavar="SECONDS", help=f"for one answer ({desk.TIMEOUT:.0f})")
     reader.add_argument("--spool", metavar="FOLDER", help="where messages wait")
+    reader.add_argument("--keep-days", type=float, default=spool.KEPT_DAYS, metavar="N", help="how long sent messages are kept")
+    reader.add_argument("--keep-mib", type=float, default=spool.KEPT_BYTES / (1 << 20), metavar="N", help="how much disk they may take")
     what = reader.add_mutually_exclusive_group()
     what.add_argument("--follow", metavar="FOLDER", help="what is taken into the spool: a folder, or - for standard input")
     what.add_argument("--stay", action="store_true")
@@ -216,9 +259,9 @@ def desk_of(asked: argparse.Namespace) -> desk.Desk:
 
 def run(asked: argparse.Namespace) -> int:
     if asked.put:
-        return put(spool.Spool(asked.spool), asked.put)
+        return put(spool_of(asked), asked.put)
     if asked.again:
-        return again(spool.Spool(asked.spool), asked.again)
+        return again(spool_of(asked), asked.again)
     to = desk_of(asked)
     try:
         return run_spool(asked, to) if asked.spool else run_files(asked, to)
@@ -245,6 +288,9 @@ def main() -> int:
         return 2
     except KeyboardInterrupt:
         return 130
+    except Exception:
+        tell(traceback.format_exc())
+        return 5
 
 
 if __name__ == "__main__":

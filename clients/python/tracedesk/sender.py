@@ -1,17 +1,21 @@
 """Sends what waits in a spool, one message at a time and in order, and takes in what comes meanwhile."""
 from __future__ import annotations
 
+import contextlib
+import fcntl
+import os
 import pathlib
 import threading
 import time
-from typing import BinaryIO, Callable, Optional
+from typing import BinaryIO, Callable, Iterator, Optional
 
-from . import answers
+from . import answers, forms
+from .console import NEWS_OF_A_FAULT, patiently
 from .desk import Desk
-from .spool import Spool, files_in
+from .spool import Spool, SpoolError, files_in, lines_of
 
 LOOK = 0.2  # seconds between two looks at a folder
-PAUSE_OF_A_FAULT = 5.0  # seconds, where the disk takes no more
+BEGUN = ".tracedesk-send.taking"  # the file of a followed folder that is taken in: no machine writes one of this name
 
 
 class Stopped(Exception):
@@ -24,37 +28,69 @@ class Sender:
     def __init__(self, spool: Spool, desk: Desk, stops: bool = False, tell: Callable[[str], None] = lambda line: None) -> None:
         self.spool, self.desk, self.stops, self.tell = spool, desk, stops, tell
         self.sent = self.aside = 0
-        self.news = threading.Event()
+        self.news, self.dropped, self.next_news = threading.Event(), 0, 0.0
+
+    def answer_to(self, name: str) -> Optional[answers.Answer]:
+        """The answer to a message; none if the message is gone. One that is too long for any desk has its answer at once."""
+        place = self.spool.waiting / f"{name}.json"
+        if not patiently(place.exists, self.tell):
+            self.tell(f"{place} was deleted before it was sent")
+            return None
+        if patiently(place.stat, self.tell).st_size > forms.LONGEST_MESSAGE:
+            return answers.LINE_TOO_LONG
+        try:
+            return self.desk.send(patiently(lambda: self.spool.text(name), self.tell), self.spool.is_tried(name))
+        finally:
+            self.spool.is_unanswered = self.desk.is_unanswered
 
     def send_waiting(self) -> int:
         """Sends each message that waits; how many they were."""
-        names = self.spool.names()
+        names = patiently(self.spool.names, self.tell)
         for name in names:
-            answer = self.desk.send(self.spool.text(name))
+            answer = self.answer_to(name)
+            if answer is None:
+                continue
             if not answers.is_taken(answer):
                 why = f"message {name} is {answers.why(answer)}"
                 if self.stops:
                     raise Stopped(f"{why}\n{answer.text.decode(errors='replace')}")
                 self.tell(f"{why}. It is set aside in {self.spool.aside}")
                 self.aside += 1
-            self.spool.done(name, answer)
-            self.sent += 1
+            self.keep(name, answer)
         return len(names)
+
+    def keep(self, name: str, answer: answers.Answer) -> None:
+        """Keeps an answer, and then moves its message."""
+        patiently(lambda: self.spool.keep_answer(name, answer), self.tell)
+        patiently(lambda: self.spool.finish(name, answer), self.tell)
+        self.sent += 1
+        self.look_at_what_is_kept()
+
+    def look_at_what_is_kept(self) -> None:
+        """Reports, once a minute, sent messages that were deleted before their days were over."""
+        if self.spool.dropped_early > self.dropped and time.monotonic() >= self.next_news:
+            self.dropped, self.next_news = self.spool.dropped_early, time.monotonic() + NEWS_OF_A_FAULT
+            self.tell(f"{self.spool.sent} has more than --keep-mib: {self.dropped} messages of less than --keep-days were deleted there, and can't be sent again")
 
     def run(self, follower: Optional["Follower"] = None, stays: bool = False) -> None:
         """Sends until nothing waits; with a follower until that has ended; or for good."""
-        with self.spool.sending():
+        with contextlib.ExitStack() as held:
+            held.enter_context(self.spool.sending())
+            self.aside += self.spool.is_made_good
             if follower:
+                held.enter_context(follower.held())
                 follower.begin(self.news)
             while True:
                 is_ended = follower is None or follower.is_ended
                 if self.send_waiting():
                     continue
                 if is_ended and not stays:
-                    return
+                    break
                 self.news.clear()
                 if not self.spool.names() and not self.news.wait(LOOK):
                     self.desk.close()
+            if follower and follower.fault:
+                raise follower.fault
 
 
 class Follower:
@@ -62,24 +98,18 @@ class Follower:
 
     def __init__(self, spool: Spool, tell: Callable[[str], None] = lambda line: None) -> None:
         self.spool, self.tell, self.is_ended = spool, tell, False
+        self.fault: Optional[OSError] = None
 
     def begin(self, news: threading.Event) -> None:
         self.news = news
         threading.Thread(target=self.run, daemon=True).start()
 
-    def run(self) -> None:
-        """Takes in what comes, to its end."""
+    def held(self) -> "contextlib.AbstractContextManager[None]":
+        """Held while it follows."""
+        return contextlib.nullcontext()
 
-    def kept(self, call: Callable[[], object]) -> None:
-        """Does this until the disk takes it."""
-        while True:
-            try:
-                call()
-                self.news.set()
-                return
-            except OSError as fault:
-                self.tell(f"{fault}. Nothing is taken in until that is mended; it is tried again each {PAUSE_OF_A_FAULT:.0f} seconds")
-                time.sleep(PAUSE_OF_A_FAULT)
+    def run(self) -> None:
+        """Takes in what comes, to its end. No fault ends it: `patiently` reports and waits."""
 
 
 class Lines(Follower):
@@ -90,28 +120,53 @@ class Lines(Follower):
         self.stream, self.acknowledge = stream, acknowledge
 
     def run(self) -> None:
-        for line in self.stream:
-            if line.strip():
-                self.kept(lambda: self.acknowledge(self.spool.put(line.rstrip(b"\r\n"))))
+        try:
+            for line in lines_of(self.stream):
+                text = line if isinstance(line, bytes) else b"".join(line)
+                name = patiently(lambda: self.spool.put(text), self.tell)
+                self.news.set()
+                self.acknowledge(name)
+        except OSError as fault:
+            self.fault = fault
+        except MemoryError:
+            self.fault = OSError("a line of standard input doesn't fit into memory")
         self.is_ended = True
         self.news.set()
 
 
 class Folder(Follower):
-    """Follows a folder: the files *.json and *.jsonl that are renamed into it, in the order of their names. Each is deleted
-    once its lines are in the spool."""
+    """Follows a folder: the files *.json and *.jsonl that are renamed into it, in the order of their names. Each gets a name of
+    its own first, so that a machine may use a name again, and is deleted once its lines are in the spool."""
 
     def __init__(self, spool: Spool, folder: pathlib.Path, tell: Callable[[str], None] = lambda line: None) -> None:
         super().__init__(spool, tell)
-        self.folder = folder
+        self.folder, self.begun = folder, folder / BEGUN
+
+    @contextlib.contextmanager
+    def held(self) -> Iterator[None]:
+        handle = os.open(self.folder, os.O_RDONLY | os.O_DIRECTORY)
+        try:
+            with contextlib.suppress(OSError):  # some network folders know no locks
+                try:
+                    fcntl.flock(handle, fcntl.LOCK_EX | fcntl.LOCK_NB)
+                except BlockingIOError:
+                    raise SpoolError(f"{self.folder}: another sender follows this folder: end that one, or name another folder") from None
+            yield
+        finally:
+            os.close(handle)
 
     def run(self) -> None:
-        self.kept(lambda: self.spool.forget_taken(self.folder))
         while True:
-            self.kept(self.look)
+            patiently(self.look, self.tell)
             time.sleep(LOOK)
 
     def look(self) -> None:
+        """Takes in what was begun before, and then each file that is there."""
+        self.spool.take_begun()
+        if self.begun.exists():
+            self.spool.take_file(self.begun)
         for path in files_in(self.folder):
-            self.spool.take_file(path)
-            self.news.set()
+            with contextlib.suppress(FileNotFoundError):
+                os.rename(path, self.begun)
+                self.spool.take_file(self.begun)
+                self.news.set()

@@ -2,6 +2,7 @@
 
     waiting/000000000012.json     a message, sent in the order of the names
     answers/2026-03-02.jsonl      a line for each answer, in the order sent: {"Answer":{..},"Message":"000000000012"}
+    sent/000000000011.json        a message that was accepted, kept for some days; .refused is a copy of one that was refused
     aside/000000000007.json       a message that was not taken, and beside it
     aside/000000000007.why        what was wrong, and what to do
 
@@ -9,19 +10,24 @@ Files of answers of earlier days may be deleted. Programs may put messages in at
 """
 from __future__ import annotations
 
+import collections
 import contextlib
 import datetime
 import fcntl
-import hashlib
 import json
 import os
 import pathlib
 import re
-from typing import Iterable, Iterator, List, Optional, Tuple, Union
+import time
+from typing import Any, BinaryIO, Deque, Dict, Iterable, Iterator, List, Optional, Tuple, Union
 
 from . import answers, forms
 
 NAME = re.compile(r"(\d{12})\.json")
+LOG = re.compile(r"\d{4}-\d\d-\d\d\.jsonl")
+BLOCK = 4096  # bytes that a small file takes on a disk
+KEPT_DAYS, KEPT_BYTES = 7.0, 512 << 20  # of sent messages, at most
+ALWAYS_KEPT = 16 << 20  # bytes of sent messages, however old a wrong clock makes them
 
 
 class SpoolError(Exception):
@@ -36,12 +42,13 @@ def sync_folder(path: pathlib.Path) -> None:
         os.close(handle)
 
 
-def write_synced(path: pathlib.Path, text: bytes) -> None:
-    """Puts a file of this text at its place, whole; it is on disk once its folder is synced."""
+def write_synced(path: pathlib.Path, text: Union[bytes, Iterable[bytes]]) -> None:
+    """Puts a file of this text, or of its pieces, at its place, whole; it is on disk once its folder is synced."""
     beside = path.with_name(f".{path.name}.new")
     try:
         with open(beside, "wb") as file:
-            file.write(text)
+            for piece in [text] if isinstance(text, bytes) else text:
+                file.write(piece)
             file.flush()
             os.fsync(file.fileno())
         os.rename(beside, path)
@@ -55,24 +62,50 @@ def spelled(number: int) -> str:
     return f"{number:012}"
 
 
-def lines_of(data: bytes) -> List[bytes]:
-    """The messages of a file: its lines, without those of spaces alone."""
-    return [it.rstrip(b"\r") for it in data.split(b"\n") if it.strip()]
+def names_in(folder: pathlib.Path) -> List[str]:
+    """The names of the messages in a folder, in their order."""
+    return sorted(found[1] for name in os.listdir(folder) if (found := NAME.fullmatch(name)))
+
+
+def lines_of(stream: BinaryIO) -> Iterator[Union[bytes, Iterator[bytes]]]:
+    """The messages of a stream: its lines, without those of spaces alone. A line longer than any message comes in pieces."""
+    most = forms.LONGEST_MESSAGE + 2
+    while line := stream.readline(most):
+        if len(line) < most or line.endswith(b"\n"):
+            if line.strip():
+                yield line.rstrip(b"\r\n")
+        else:
+            pieces = iter(lambda: stream.readline(most), b"")
+            whole = long_line(line, pieces)
+            yield whole
+            collections.deque(whole, 0)  # what the caller has not read of it
+
+
+def long_line(first: bytes, pieces: Iterator[bytes]) -> Iterator[bytes]:
+    piece: Optional[bytes] = first
+    while piece:
+        yield piece.rstrip(b"\r\n") if piece.endswith(b"\n") else piece
+        piece = None if piece.endswith(b"\n") else next(pieces, None)
 
 
 class Spool:
-    """A spool, which is made where there is none."""
+    """A spool, which is made if there is none. Sent messages are kept for `days`, and of at most so many bytes."""
 
-    def __init__(self, folder: Union[str, "os.PathLike[str]"]) -> None:
-        self.folder = pathlib.Path(folder)
-        self.waiting, self.aside, self.answered = (self.folder / it for it in ("waiting", "aside", "answers"))
-        for it in (self.folder, self.waiting, self.aside, self.answered):
+    def __init__(self, folder: Union[str, "os.PathLike[str]"], days: float = KEPT_DAYS, most: int = KEPT_BYTES) -> None:
+        self.folder, self.days, self.most = pathlib.Path(folder), days, most
+        self.waiting, self.aside, self.answered, self.sent = (self.folder / it for it in ("waiting", "aside", "answers", "sent"))
+        for it in (self.folder, self.waiting, self.aside, self.answered, self.sent):
             if not it.is_dir():
                 it.mkdir(mode=0o700, parents=it == self.folder, exist_ok=True)
                 sync_folder(it.parent)
-        self.is_counted, self.log = False, None  # type: Tuple[bool, Optional[Tuple[pathlib.Path, int]]]
+        self.is_counted, self.log = False, None  # type: Tuple[bool, Optional[Tuple[str, int]]]
+        self.state: Dict[str, Any] = {}
+        self.kept: Optional[Deque[Tuple[pathlib.Path, int]]] = None
+        self.kept_bytes = self.dropped_early = 0
+        self.is_made_good = False  # whether this run set a message aside that one before had an answer to
+        self.is_unanswered = False  # whether the run that ends leaves a message with a try and without an answer
 
-    # --- Numbers. The file .lock has the last one; "busy" stands in it while one more is put in.
+    # --- Numbers. The file .lock has the last one, and the word "busy" while one more message is put in.
 
     @contextlib.contextmanager
     def locked(self) -> Iterator[int]:
@@ -84,39 +117,36 @@ class Spool:
             os.close(handle)
 
     def last(self, lock: int) -> int:
-        """The greatest number that was given. It is counted anew once, and where a process ended in the midst of a `put`."""
+        """The greatest number so far. It is counted anew once, and after a process that ended in the middle of a `put`."""
         told = re.fullmatch(rb"(\d{12}) (busy|free)\n", os.pread(lock, 100, 0))
         stored = (int(told[1]) - (told[2] == b"busy")) if told else 0
         if told and told[2] == b"free" and self.is_counted:
             return stored
         self.is_counted = True
-        names = [int(found[1]) for it in (self.waiting, self.aside) for name in os.listdir(it) if (found := NAME.fullmatch(name))]
-        return max([stored, self.last_answer()[0], *names])
+        names = [int(it[-1]) for it in map(names_in, (self.waiting, self.aside, self.sent)) if it]
+        return max([stored, *names, *([] if told else [self.last_answer(it)[0] for it in self.logs()])])
 
     def put(self, message: Union[forms.Message, bytes]) -> str:
-        """Keeps a message, and gives its name in the spool: it is on disk then, and is sent after those before it."""
+        """Keeps a message, and returns its name in the spool: it is on disk then, and is sent after those before it."""
         with self.locked() as lock:
             last = self.last(lock)
             if intake := self.read_intake():
                 self.write_intake(intake[0], last + 2, intake[2] + max(0, last - intake[1] + 1))
             return self.put_next(lock, last, message if isinstance(message, bytes) else message.text)
 
-    def put_next(self, lock: int, last: int, text: bytes) -> str:
+    def put_next(self, lock: int, last: int, text: Union[bytes, Iterable[bytes]]) -> str:
         name = spelled(last + 1)
         os.pwrite(lock, f"{name} busy\n".encode(), 0)
-        if len(text) > forms.LONGEST_MESSAGE:
-            self.write_aside(name, text, f"it has {len(text):,} bytes, and a desk takes at most {forms.LONGEST_MESSAGE:,}. To do: split it")
-        else:
-            write_synced(self.waiting / f"{name}.json", text)
-            sync_folder(self.waiting)
+        write_synced(self.waiting / f"{name}.json", text)
+        sync_folder(self.waiting)
         os.pwrite(lock, f"{name} free\n".encode(), 0)
         return name
 
-    # --- Files of messages. While one is taken in, .intake says which, the number of its first line, and how many lines are
-    # in before that: whoever ends in its midst goes on with the next line.
+    # --- Files of messages. While one is taken in, .intake has its path, the number of its first line, and how many lines were
+    # in before that: a process that is started again goes on with the next line. Nobody else has a file of that path.
 
     def read_intake(self) -> Optional[Tuple[str, int, int]]:
-        with contextlib.suppress(FileNotFoundError, ValueError, KeyError):
+        with contextlib.suppress(FileNotFoundError, ValueError, KeyError, TypeError):
             told = json.loads((self.folder / ".intake").read_text())
             return told["File"], told["First"], told["Before"]
         return None
@@ -131,47 +161,69 @@ class Spool:
             sync_folder(self.folder)
 
     def take_file(self, path: pathlib.Path) -> int:
-        """Takes the lines of a file in, each once, and deletes the file; how many they are."""
-        data = path.read_bytes()
-        lines, file = lines_of(data), hashlib.sha256(os.fsencode(path.absolute()) + b"\0" + data).hexdigest()
-        with self.locked() as lock:
+        """Takes the lines of a file in, each once, and deletes the file; how many they are. Only this spool has that path."""
+        number = -1
+        with open(path, "rb") as file, self.locked() as lock:
             last, intake = self.last(lock), self.read_intake()
-            if intake is None or intake[0] != file:
-                intake = file, last + 1, 0
+            if intake is None or intake[0] != str(path.absolute()):
+                intake = str(path.absolute()), last + 1, 0
                 self.write_intake(*intake)
-            for line in lines[intake[2] + max(0, last - intake[1] + 1) :]:
-                self.put_next(lock, last, line)
-                last += 1
+            taken = intake[2] + max(0, last - intake[1] + 1)
+            for number, line in enumerate(lines_of(file)):
+                if number >= taken:
+                    self.put_next(lock, last, line)
+                    last += 1
             path.unlink()
             sync_folder(path.parent)
             self.drop_intake()
-        return len(lines)
+        return number + 1
 
-    def forget_taken(self, folder: pathlib.Path) -> None:
-        """Drops what is told of a file that is gone, so that one of the same name and text is another one."""
-        with self.locked() as lock:
-            intake = self.read_intake()
-            if intake and not any(self.is_of(it, intake[0]) for it in files_in(folder)):
+    def take_begun(self) -> None:
+        """Goes on with the file that a run before was taking in, if one was."""
+        if intake := self.read_intake():
+            with contextlib.suppress(FileNotFoundError):
+                self.take_file(pathlib.Path(intake[0]))
+                return
+            with self.locked() as lock:
                 self.last(lock)
                 self.drop_intake()
 
-    def is_of(self, path: pathlib.Path, file: str) -> bool:
-        with contextlib.suppress(FileNotFoundError):
-            return hashlib.sha256(os.fsencode(path.absolute()) + b"\0" + path.read_bytes()).hexdigest() == file
-        return False
+    # --- Sending. The file .sender has up to which message there may have been a try ("Tried"), whether a run is under way or was
+    # killed ("Runs"), which file has the last answer ("Answers"), and which sent messages go back to those that wait ("Again").
 
-    # --- Sending
+    def read_state(self) -> Dict[str, Any]:
+        state = {"Tried": 0, "Runs": False, "Answers": max(self.logs(), default=None), "Again": None}
+        with contextlib.suppress(FileNotFoundError, ValueError):
+            told = json.loads((self.folder / ".sender").read_text())
+            state.update(told if isinstance(told, dict) else {})
+        return state
+
+    def write_state(self, **changes: Any) -> None:
+        self.state.update(changes)
+        write_synced(self.folder / ".sender", json.dumps(self.state).encode())
+        sync_folder(self.folder)
 
     @contextlib.contextmanager
     def sending(self) -> Iterator[None]:
-        """Held by the one that sends. What ended between an answer and what follows of it is made good first."""
+        """Held by the one that sends. What a killed run left between an answer and what follows of it is made good first."""
         handle = os.open(self.folder / ".sending", os.O_RDWR | os.O_CREAT, 0o600)
         try:
             fcntl.flock(handle, fcntl.LOCK_EX | fcntl.LOCK_NB)
-            number, answer = self.last_answer(mends=True)
-            if answer is not None and (self.waiting / f"{spelled(number)}.json").exists():
+            self.state = self.read_state()
+            self.move_back()
+            number, answer = self.last_answer(self.state["Answers"], mends=True)
+            self.is_made_good = answer is not None and not answers.is_taken(answer) and (self.waiting / f"{spelled(number)}.json").exists()
+            if answer is not None:
                 self.finish(spelled(number), answer)
-            yield
+            tried = [int(it) for it in self.names()[:1] if self.state["Runs"]]
+            self.write_state(Tried=max([self.state["Tried"], *tried]), Runs=True, Answers=None)
+            self.is_unanswered = False
+            try:
+                yield
+            except Exception:
+                self.write_state(Runs=self.is_unanswered)
+                raise
+            self.write_state(Runs=self.is_unanswered)
         except BlockingIOError:
             raise SpoolError(f"{self.folder}: another sender has this spool: end that one, or name another spool") from None
         finally:
@@ -179,15 +231,24 @@ class Spool:
 
     def names(self) -> List[str]:
         """The messages that wait, in their order."""
-        return sorted(found[1] for name in os.listdir(self.waiting) if (found := NAME.fullmatch(name)))
+        return names_in(self.waiting)
 
     def text(self, name: str) -> bytes:
         return (self.waiting / f"{name}.json").read_bytes()
 
-    def last_answer(self, mends: bool = False) -> Tuple[int, Optional[answers.Answer]]:
-        """The last answer and the number of its message; `mends` cuts a line that was not written whole."""
-        for path in sorted(self.answered.glob("*.jsonl"), reverse=True):
-            with open(path, "r+b" if mends else "rb") as file:
+    def is_tried(self, name: str) -> bool:
+        """Whether a run before may have sent this message without an answer."""
+        return int(name) <= int(self.state["Tried"])
+
+    # --- Answers
+
+    def logs(self) -> List[str]:
+        return [it for it in os.listdir(self.answered) if LOG.fullmatch(it)]
+
+    def last_answer(self, log: Optional[str], mends: bool = False) -> Tuple[int, Optional[answers.Answer]]:
+        """The last answer in a file of answers and the number of its message; `mends` cuts a line that was not written whole."""
+        with contextlib.suppress(OSError, ValueError, KeyError, TypeError):
+            with open(self.answered / str(log), "r+b" if mends else "rb") as file:
                 size = file.seek(0, os.SEEK_END)
                 tail, at = b"", size
                 while at and tail.count(b"\n") < 2:
@@ -197,47 +258,103 @@ class Spool:
                 whole, _, cut = tail.rpartition(b"\n")
                 if mends and cut:
                     file.truncate(size - len(cut))
-                if line := whole.rpartition(b"\n")[2]:
-                    told = json.loads(line)
-                    return int(told["Message"]), answers.read(json.dumps(told["Answer"], separators=(",", ":")).encode())
+                told = json.loads(whole.rpartition(b"\n")[2])
+                return int(told["Message"]), answers.read(json.dumps(told["Answer"], separators=(",", ":")).encode(), told.get("Archived", False))
         return 0, None
 
     def done(self, name: str, answer: answers.Answer) -> None:
-        """Keeps the answer to a message on disk; then the message goes, or is set aside where it was not taken."""
-        today = self.answered / f"{datetime.date.today()}.jsonl"
-        if self.log is None or self.log[0] < today:
-            newest = max(self.answered.glob("*.jsonl"), default=today)
-            path = max(newest, today)
-            if self.log is not None:
-                os.close(self.log[1])
-            self.log = path, os.open(path, os.O_WRONLY | os.O_CREAT | os.O_APPEND, 0o600)
-            sync_folder(self.answered)
-        line = b'{"Answer":' + answer.text + b',"Message":"' + name.encode() + b'"}\n'
-        if os.write(self.log[1], line) != len(line):
-            raise OSError(f"{self.log[0]}: the line was not written whole: is the disk full?")
-        os.fsync(self.log[1])
+        """Keeps the answer to a message on disk; then the message goes where it belongs."""
+        self.keep_answer(name, answer)
         self.finish(name, answer)
 
+    def keep_answer(self, name: str, answer: answers.Answer) -> None:
+        """Adds an answer to the file of the day."""
+        today = f"{datetime.date.today()}.jsonl"
+        if self.log is None or self.log[0] != today:
+            if self.log is not None:
+                os.close(self.log[1])
+                self.log = None
+            self.log = today, os.open(self.answered / today, os.O_WRONLY | os.O_CREAT | os.O_APPEND, 0o600)
+            sync_folder(self.answered)
+        if self.state.get("Answers") != today:
+            self.write_state(Answers=today)
+        line = b'{"Answer":' + answer.text + (b',"Archived":true' if answers.is_archived(answer) else b"") + b',"Message":"' + name.encode() + b'"}\n'
+        size = os.fstat(self.log[1]).st_size
+        try:
+            if os.write(self.log[1], line) != len(line):
+                raise OSError(f"{self.answered / today}: the line was not written whole: is the disk full?")
+            os.fsync(self.log[1])
+        except OSError:
+            with contextlib.suppress(OSError):
+                os.ftruncate(self.log[1], size)
+            raise
+
     def finish(self, name: str, answer: answers.Answer) -> None:
+        """Moves a message that is answered: to those that were sent, or aside. Done once more it does nothing."""
         place = self.waiting / f"{name}.json"
+        if not place.exists():
+            return
+        size = place.stat().st_size
         if answers.is_taken(answer):
-            place.unlink()
+            kept = self.sent / place.name
+            os.rename(place, kept)
         else:
+            kept = self.sent / f"{name}.refused"
+            if size <= forms.LONGEST_MESSAGE:
+                write_synced(kept, place.read_bytes())
             write_synced(self.aside / f"{name}.why", f"{answers.why(answer)}\n{answer.text.decode()}\n".encode())
             os.rename(place, self.aside / place.name)
             sync_folder(self.aside)
         sync_folder(self.waiting)
+        self.drop_old(kept, size)
+
+    # --- What was sent
+
+    def drop_old(self, newest: pathlib.Path, size: int) -> None:
+        """Counts one more sent message, and deletes the oldest: what is older than `days`, and what is above `most` bytes."""
+        if self.kept is None:
+            found = sorted((it.name, it.stat().st_size) for it in os.scandir(self.sent) if re.fullmatch(r"\d{12}\.(json|refused)", it.name))
+            self.kept = collections.deque((self.sent / name, -(-it // BLOCK) * BLOCK) for name, it in found)
+            self.kept_bytes = sum(it for _, it in self.kept)
+        else:
+            self.kept.append((newest, -(-size // BLOCK) * BLOCK))
+            self.kept_bytes += self.kept[-1][1]
+        while len(self.kept) > 1 and self.kept_bytes > ALWAYS_KEPT:
+            path, taken = self.kept[0]
+            with contextlib.suppress(OSError):
+                is_old = time.time() - path.stat().st_ctime > self.days * 86400
+                if not is_old and self.kept_bytes <= self.most:
+                    return
+                path.unlink()
+                self.dropped_early += not is_old
+            self.kept.popleft()
+            self.kept_bytes -= taken
+
+    def again_since(self, since: float) -> List[str]:
+        """Puts each message that was sent since this second of the clock before those that wait, under its old name."""
+        with self.sending():
+            names = names_in(self.sent)
+            first = next((it for it in names if (self.sent / f"{it}.json").stat().st_ctime >= since), None)
+            names = [it for it in names if first is not None and it >= first]
+            if names:
+                self.write_state(Tried=max(self.state["Tried"], int(names[-1])), Again=[int(names[0]), int(names[-1])], Answers=None)
+                self.move_back()
+        return names
+
+    def move_back(self) -> None:
+        if again := self.state["Again"]:
+            for name in names_in(self.sent):
+                if again[0] <= int(name) <= again[1]:
+                    os.rename(self.sent / f"{name}.json", self.waiting / f"{name}.json")
+            sync_folder(self.waiting)
+            self.kept = None
+            self.write_state(Again=None, Answers=None)
 
     # --- What was set aside
 
-    def write_aside(self, name: str, text: bytes, why: str) -> None:
-        write_synced(self.aside / f"{name}.why", f"{why}\n".encode())
-        write_synced(self.aside / f"{name}.json", text)
-        sync_folder(self.aside)
-
     def set_aside(self) -> List[str]:
         """The names of the messages that were set aside, in their order."""
-        return sorted(found[1] for name in os.listdir(self.aside) if (found := NAME.fullmatch(name)))
+        return names_in(self.aside)
 
     def again(self, names: Iterable[str]) -> List[str]:
         """Puts messages that were set aside behind those that wait, the same bytes; their new names."""
@@ -245,7 +362,7 @@ class Spool:
         for name in names:
             place = self.aside / f"{name}.json"
             if not NAME.fullmatch(place.name) or not place.exists():
-                raise SpoolError(f"{place} is not there: name a message of {self.aside}")
+                raise SpoolError(f"{place} is not there: name a message of {self.aside}, or a time, as 2026-03-02T06:00Z")
             found.append(self.put(place.read_bytes()))
             place.unlink()
             with contextlib.suppress(FileNotFoundError):

@@ -1,0 +1,43 @@
+"""How a program reports: news on standard error, results on standard output. Neither ends a program when its reader is gone."""
+from __future__ import annotations
+
+import contextlib
+import os
+import pathlib
+import sys
+import time
+from typing import Callable, TypeVar
+
+NAME = pathlib.Path(sys.argv[0]).name
+PAUSE_OF_A_FAULT, NEWS_OF_A_FAULT = 5.0, 60.0  # seconds between two tries, and between two reports of them
+Found = TypeVar("Found")
+
+
+def tell(line: object) -> None:
+    """Writes a line of news."""
+    with contextlib.suppress(OSError, ValueError):
+        print(f"{NAME}: {line}", file=sys.stderr, flush=True)
+
+
+def say(line: str) -> None:
+    """Writes a line of results. Once standard output is closed, or takes no more, what follows goes nowhere."""
+    try:
+        print(line, flush=True)
+    except OSError as fault:
+        tell(f"standard output: {fault}. Nothing more is printed there; the work goes on")
+        nowhere = os.open(os.devnull, os.O_WRONLY)
+        os.dup2(nowhere, sys.stdout.fileno())
+        os.close(nowhere)
+
+
+def patiently(call: Callable[[], Found], news: Callable[[str], None] = tell) -> Found:
+    """Repeats a call until it succeeds. A full disk, a file that can't be read and the like are reported and waited out."""
+    since = None
+    while True:
+        try:
+            return call()
+        except Exception as fault:
+            if since is None or time.monotonic() - since >= NEWS_OF_A_FAULT:
+                since = time.monotonic()
+                news(f"{fault or repr(fault)}. It is tried again every {PAUSE_OF_A_FAULT:.0f} seconds until that is mended")
+            time.sleep(PAUSE_OF_A_FAULT)
