@@ -46,7 +46,6 @@ export class ChangeoverScreen {
   select(machine) {
     const asked = this.asked();
     if (asked) {
-      this.station.closeVerdict();
       this.station.act("SELECT", { machine, product: asked.product });
     }
   }

@@ -1,7 +1,10 @@
-// The time is the server's, as its last answer said it, and never before the last time that was sent.
+// The time is the server's, as its last answer said it.
+
+const APART = 5_000; // milliseconds: so far the tablet's two clocks are apart only after it slept, or after somebody set one
 
 let server = null; // milliseconds since 1970, by the server
 let at = 0; // of this page's steady clock, when it was said
+let wall = 0; // of the tablet's own clock, then
 
 /** Takes the time that an answer of the server says. */
 export function hear(headers) {
@@ -10,12 +13,19 @@ export function hear(headers) {
   if (said > 0) {
     server = said;
     at = performance.now();
+    wall = Date.now();
   }
 }
 
-/** The server's milliseconds since 1970, or null where it never answered. */
+/** The server's milliseconds since 1970; null where it never answered, or not since the tablet slept: the steady clock stands still then. */
 export function now() {
-  return server === null ? null : server + (performance.now() - at);
+  const passed = performance.now() - at;
+  return server === null || Math.abs(Date.now() - wall - passed) > APART ? null : server + passed;
+}
+
+/** How many milliseconds the server's clock is ahead of the tablet's. */
+export function ahead() {
+  return server - wall;
 }
 
 /** A time as messages have it. */

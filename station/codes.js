@@ -4,7 +4,7 @@ import { button, el } from "./dom.js";
 import { filled, LEVELS } from "./names.js";
 import { bars } from "./code128.js";
 import * as desk from "./desk.js";
-import { letterOf } from "./keys.js";
+import { isEnd, letterOf } from "./keys.js";
 import * as setup from "./setup.js";
 import { ACTIONS } from "./scan.js";
 
@@ -31,21 +31,24 @@ async function slotsOf({ machine, product }, codes) {
 function handOver() {
   let text = "";
   document.addEventListener("keydown", (event) => {
-    if (event.key === "Enter" && text !== "") {
-      event.preventDefault();
+    const letter = letterOf(event);
+    if (isEnd(event) ? text !== "" || event.ctrlKey : event.ctrlKey && letter !== null) {
+      event.preventDefault(); // a browser opens something at some of them
+    }
+    if (isEnd(event) && text !== "") {
       sessionStorage.setItem("scanned", text);
       location.assign("./");
-    } else if (event.key !== " " || text !== "") {
-      text += letterOf(event) ?? "";
+    } else if (!isEnd(event) && (event.key !== " " || text !== "")) {
+      text += letter ?? "";
     }
   }, true);
 }
 
 async function begin() {
   handOver();
-  const { setup: read, fault, member } = await setup.read(), texts = TEXTS.codesPage, main = document.getElementById("main");
+  const { setup: read, fault, ...told } = await setup.read(), texts = TEXTS.codesPage, main = document.getElementById("main");
   if (!read) {
-    main.replaceChildren(el("p", { class: "note wrong" }, filled(TEXTS.setup.wanting, { fault: filled(TEXTS.setup[fault], { member }) })));
+    main.replaceChildren(el("p", { class: "note wrong" }, filled(TEXTS.setup.wanting, { fault: filled(TEXTS.setup[fault], told) })));
     return;
   }
   const { codes } = read, action = (name) => filled(codes.action, { action: name });

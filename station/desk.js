@@ -69,6 +69,12 @@ export async function file(name) {
   return { status, told: status === 200 ? objectOf(text) : null, since: Date.parse(headers.get("Last-Modified") ?? "") || null };
 }
 
+/** Whether this log-in may send; null where nothing said so. It hears the server's time too. */
+export async function maySend(seconds = GET_SECONDS) {
+  const { status } = await asked("/station/may-send.json", {}, seconds);
+  return status === 200 ? true : status === 401 || status === 403 ? false : null;
+}
+
 /** Sends a message once. `answer` is the desk's, where there is one; `again` says that sending again may bring one. */
 export async function post(text, uid) {
   const { status, text: body, headers } = await asked("/station/messages", { method: "POST", body: text, headers: { "Content-Type": "application/json" } }, POST_SECONDS);

@@ -34,9 +34,28 @@ export function table(head, rows, classes = () => "") {
   return el("table", null, el("thead", null, el("tr", null, names)), el("tbody", null, lines));
 }
 
-/** A button that a keyboard reaches too. */
-export function button(text, act, attributes = {}) {
-  return el("button", { type: "button", ...attributes, on: { click: act } }, text);
+const TWICE = 700; // milliseconds: a second touch within them is the end of the first
+
+/** Whether an event comes again too soon to be meant; `last` is of the element or the screen that it is for. */
+export function isTwice(event, last) {
+  const was = last.at ?? -Infinity;
+  last.at = event.timeStamp;
+  return event.timeStamp - was < TWICE;
+}
+
+/** A button that a keyboard reaches too. A double touch presses it once, but where it `repeats`. */
+export function button(text, act, attributes = {}, repeats = false) {
+  const last = {};
+  return el("button", { type: "button", ...attributes, on: { click: (event) => (repeats || !isTwice(event, last)) && act(event) } }, text);
+}
+
+/** Puts children into an element, where they are others than it has: who listens to a page hears only what is new. */
+export function put(place, ...children) {
+  const made = place.cloneNode(false);
+  made.append(...children.flat());
+  if (!place.isEqualNode(made)) {
+    place.replaceChildren(...made.childNodes);
+  }
 }
 
 /** A field with its name. */

@@ -15,27 +15,25 @@ export class ScanScreen {
   }
 
   parts() {
-    this.now = el("div", { class: "now" });
     this.list = el("div", { class: "history" });
     const codes = this.station.setup.codes.action, act = (name) => () => {
       this.station.scan.take(codes.replace("{action}", name));
       document.getElementById("scan").focus();
     };
-    this.pad = el("div", { class: "pad", hidden: true }, [..."1234567890"].map((it) => button(it, act(it))), button(TEXTS.actions.ENTER, act("ENTER"), { class: "wide" }));
-    const actions = el("div", { class: "actions" }, ACTIONS.map((name) => button(TEXTS.actions[name], act(name))));
+    const press = (name, attributes, repeats) => button(TEXTS.actions[name] ?? name, act(name), attributes, repeats);
+    this.pad = el("div", { class: "pad" }, [..."1234567890"].map((it) => press(it, {}, true)), press("CANCEL", { class: "cancel" }), press("ENTER", { class: "enter" }));
+    this.actions = el("div", { class: "actions" }, ACTIONS.map((name) => press(name, {})));
     this.refresh();
-    return [el("div", { class: "hands" }, this.now, actions, this.pad), el("section", null, el("h2", null, TEXTS.scan.history), this.list)];
-  }
-
-  update() {
     this.held();
+    const unsafe = store.isKept() === false ? el("p", { class: "legend" }, TEXTS.strip.unsafe) : null;
+    return [el("div", { class: "hands" }, this.actions, this.pad), el("section", null, el("h2", null, TEXTS.scan.history), unsafe, this.list)];
   }
 
+  /** A number is asked for with the pad, and all else with the actions. */
   held() {
-    if (this.now) {
-      const [what, ...rest] = this.station.scan.held();
-      this.now.replaceChildren(el("h2", null, what), ...rest.map((it) => el("p", null, it)));
+    if (this.pad) {
       this.pad.hidden = !this.station.scan.asking;
+      this.actions.hidden = !this.pad.hidden;
     }
   }
 

@@ -3,6 +3,7 @@
 import { isName, readCode, stripped } from "./names.js";
 
 const CONTROLS = { "]": "\x1d", "^": "\x1e", 6: "\x1e", d: "\x04" }; // what a wedge types for the separators of a label
+const ENDS = ["m", "j"]; // with Ctrl: carriage return and line feed of a wedge that types control characters; browsers open something at one
 const TYPED = ["text", "search", "tel", "url", "email", "password"];
 const OF_THEIR_FORM = ["slot", "action", "badge", "label", "foreign"]; // codes that are told from a name by how they are written
 const PAUSE = 300; // milliseconds: keys that are further apart are of two scans
@@ -19,6 +20,11 @@ export function letterOf(event) {
   return event.ctrlKey ? CONTROLS[event.key] ?? null : isPlain ? event.key : null;
 }
 
+/** Whether a key ends a scan. */
+export function isEnd(event) {
+  return event.key === "Enter" || (event.ctrlKey && !event.altKey && !event.metaKey && ENDS.includes(event.key.toLowerCase()));
+}
+
 export class Keys {
   /** `field` is the scan field. `station` says what is waited for and whether a verdict is over the page; it takes scans and cancels. */
   constructor(station, field) {
@@ -31,19 +37,27 @@ export class Keys {
     document.addEventListener("focusin", ({ target }) => this.focused(target));
     document.addEventListener("click", ({ target }) => {
       this.forget();
-      if (target === this.clicked && isField(target)) {
+      if (target === this.clicked && target !== this.field && isField(target)) {
         target.select(); // the click that gave it the focus put a caret there
       }
       this.clicked = null;
     });
   }
 
-  /** The text of a field is selected once it has the focus: what is scanned there takes its place. */
+  /** The text of a form's field is selected once it has the focus: what is scanned there takes its place. */
   focused(target) {
     this.clicked = target;
     this.whole = null;
-    if (isField(target) && !(this.run?.into === target && performance.now() - this.last <= PAUSE)) {
+    if (isField(target) && target !== this.field && !(this.run?.into === target && performance.now() - this.last <= PAUSE)) {
       target.select();
+    }
+  }
+
+  /** Empties the scan field of letters that nobody ended, but where a number is asked for: that stays to be seen. */
+  tidy() {
+    if (this.field.value !== "" && !this.station.scan.asking && performance.now() - this.last > FORGOTTEN) {
+      this.forget();
+      this.field.value = "";
     }
   }
 
@@ -66,7 +80,7 @@ export class Keys {
     const letter = letterOf(event);
     if (event.key === "Escape") {
       this.station.cancel();
-    } else if (event.key === "Enter") {
+    } else if (isEnd(event)) {
       this.enter(event);
     } else if (letter !== null) {
       this.letter(event, letter);
@@ -75,16 +89,13 @@ export class Keys {
 
   letter(event, letter) {
     const { activeElement } = document, into = this.place(event);
-    if (event.key === " " && into !== activeElement && into.value === "" && !this.station.isCovered()) {
+    if (event.key === " " && into !== activeElement && into.value === "" && (!this.station.isCovered() || activeElement.closest("#verdict"))) {
       return; // it presses a button, or chooses a radio
     }
     if (into !== activeElement) {
       into.focus();
     }
     if (this.run?.into !== into || event.timeStamp - this.last > PAUSE) {
-      if (into === this.field && event.timeStamp - this.last > FORGOTTEN) {
-        into.select();
-      }
       this.run = { into, text: into.value, begin: into.selectionStart, end: into.selectionEnd };
       this.whole = this.whole?.into === into ? this.whole : this.run;
     }
@@ -127,23 +138,22 @@ export class Keys {
   }
 
   enter(event) {
-    const { activeElement } = document;
-    if (activeElement === this.field) {
-      return; // its form takes it
-    }
-    const found = isField(activeElement) ? this.scanIn(activeElement) : null;
-    this.forget();
-    if (found) {
+    const { activeElement } = document, isCovered = this.station.isCovered(), isOwn = activeElement === this.field || (isCovered && activeElement.closest("#verdict"));
+    const found = !isOwn && isField(activeElement) ? this.scanIn(activeElement) : null;
+    if (event.key !== "Enter" || found || (isCovered && !isOwn)) { // what lies beneath the verdict isn't seen
       event.preventDefault();
       event.stopPropagation();
+    }
+    if (!isOwn) {
+      this.forget();
+    }
+    if (found) {
       activeElement.value = found.rest;
       activeElement.dispatchEvent(new Event("input", { bubbles: true }));
       this.field.focus();
       this.station.scan.take(found.scan);
-    } else if (this.station.isCovered()) {
-      event.preventDefault(); // what lies beneath the verdict isn't seen
-      event.stopPropagation();
-      this.station.closeVerdict();
+    } else if (event.key !== "Enter" && (isOwn || !isCovered)) {
+      activeElement.form?.requestSubmit();
     }
   }
 }

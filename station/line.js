@@ -1,6 +1,6 @@
 // The screen Line: what needs a person on top, in letters for two metres, and below it all slots of each machine.
 import { TEXTS } from "./words.js";
-import { button, el, table } from "./dom.js";
+import { button, el, put, table } from "./dom.js";
 import { filled } from "./names.js";
 import { lifeText, piecesText } from "./life.js";
 import { dayAnd, productText, sheetText } from "./known.js";
@@ -61,7 +61,7 @@ export class LineScreen {
     const marks = counts.map(([state, count]) => el("span", { class: `mark ${state}` }, filled(TEXTS.line.alarms, { count, state: TEXTS.line.states[state] })));
     const isKnown = lines.every(({ line }) => line.slots && line.kit), { overdue, overdueHad } = this.station.model;
     const late = overdue ? [el("span", { class: "mark LATE" }, filled(TEXTS.line.overdue, { count: overdue, time: overdueHad ? dayAnd(overdueHad) : "" }))] : [];
-    this.alarms.replaceChildren(...(counts.length || !isKnown ? marks : [el("span", null, TEXTS.line.calm)]), ...late);
+    put(this.alarms, ...(counts.length || !isKnown ? marks : [el("span", null, TEXTS.line.calm)]), ...late);
   }
 
   order() {

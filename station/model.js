@@ -170,6 +170,12 @@ export class Model {
     return { known: Boolean(line?.slots), sheet: Boolean(line?.kit), part: wanted?.part ?? null, reels: (line?.slots ?? []).filter((it) => it.slot === slot) };
   }
 
+  /** The slot that a reel is on, by the slot lists; or null. */
+  place(reel) {
+    const line = this.lines.find((it) => it.slots?.some((on) => on.reel === reel));
+    return line ? { machine: line.machine, slot: line.slots.find((it) => it.reel === reel).slot } : null;
+  }
+
   /** Takes what an answer to a scan says of a slot: it holds until a later slot list says it. */
   heard({ word, body, answer }) {
     const isLive = answer.Answer === "Accepted" ? { MaterialsLoaded: true, MaterialsSpliced: true, MaterialsUnloaded: false }[word] : { SlotTaken: true, SlotEmpty: false }[answer.Refusal];

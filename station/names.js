@@ -37,13 +37,17 @@ export function stripped(text, scanner) {
   return read.trim();
 }
 
+/** What a code has before the last {place} of its pattern, and behind it. */
+export function around(pattern, values) {
+  const at = pattern.lastIndexOf("{");
+  return [filled(pattern.slice(0, at), values), pattern.slice(pattern.indexOf("}", at) + 1)];
+}
+
 /** What stands in a text where the pattern has its last {place}; null where the text is of another form. */
 function placed(text, pattern, values) {
-  const [, before, after] = /^(.*)\{\w+\}([^{}]*)$/.exec(filled(pattern, values)) ?? [];
-  if (before === undefined || before.includes("{") || !text.startsWith(before) || !text.endsWith(after) || text.length <= before.length + after.length) {
-    return null;
-  }
-  return text.slice(before.length, text.length - after.length);
+  const [before, after] = around(pattern, values);
+  const isOfForm = text.startsWith(before) && text.endsWith(after) && text.length > before.length + after.length;
+  return isOfForm ? text.slice(before.length, text.length - after.length) : null;
 }
 
 /** What a code is: a slot with its machine, an action, a badge, a supplier's label, or else a reel. */
@@ -51,7 +55,7 @@ export function readCode(text, setup) {
   if (text.startsWith("[)>")) {
     return { kind: "label", text };
   }
-  for (const { machine } of [...setup.machines].sort((a, b) => b.machine.length - a.machine.length)) {
+  for (const { machine } of setup.machines) {
     const slot = placed(text, setup.codes.slot, { machine });
     if (slot !== null) {
       return isName(slot) ? { kind: "slot", machine, slot } : { kind: "none", text };

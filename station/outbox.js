@@ -8,7 +8,7 @@ const FIRST_PAUSE = 250, LONGEST_PAUSE = 5000; // milliseconds
 const ANSWERED_BETWEEN_TIDYINGS = 50;
 
 export class Outbox {
-  /** `tell` is called with what changed: {answered: scan}, {waiting: scans}, {problem}. */
+  /** `tell` is called with what changed: {answered: scan}, or {waiting: scans, problem}. */
   constructor(tell) {
     this.tell = tell;
     this.channel = new BroadcastChannel("tracedesk-outbox");
@@ -16,13 +16,14 @@ export class Outbox {
     this.woken = false;
     this.resume = () => {};
     this.answered = 0;
+    this.waiting = [];
     this.problem = null;
   }
 
   /** Begins to send; of several tabs one sends for all. */
   begin() {
     navigator.locks.request("tracedesk-sender", () => this.sendAll());
-    this.count();
+    return this.count();
   }
 
   async hear(data) {
@@ -30,7 +31,7 @@ export class Outbox {
       this.wake();
     }
     if (data.answered) {
-      const scan = await store.byUid(data.answered);
+      const scan = await store.byUid(data.answered).catch(() => null);
       if (scan) {
         this.tell({ answered: scan });
       }
@@ -39,32 +40,32 @@ export class Outbox {
   }
 
   async count() {
-    this.tell({ waiting: await store.waiting(), problem: this.problem });
+    this.waiting = await store.waiting().catch(() => this.waiting);
+    this.tell({ waiting: this.waiting, problem: this.problem });
   }
 
   /** Makes a scan of a message and keeps it; it is sent once it is on disk. */
   async add(word, body, source, about) {
-    const time = clock.now();
-    if (time === null) {
-      throw new Error("the server never said its time");
-    }
-    const at = Math.max(time, (await store.note("lastTime")) ?? 0), uid = crypto.randomUUID();
+    const at = clock.now(), uid = crypto.randomUUID();
     const text = JSON.stringify({ MessageName: `TraceDesk.${word}`, UniqueID: uid, Source: source, TimeStamp: clock.stamp(at), MessageBody: body });
     const scan = { uid, word, body, source, text, at, about };
     scan.seq = await store.keep(scan);
     this.channel.postMessage({ kept: uid });
     this.wake();
-    this.count();
+    await this.count();
     return scan;
   }
 
+  /** Sends for good. Where the tablet's disk fails it begins anew: a message that was answered already has the same answer again. */
   async sendAll() {
     for (;;) {
-      const [next] = await store.waiting();
-      if (next) {
-        await this.send(next);
-      } else {
-        await this.pause(60_000);
+      try {
+        const [next] = await store.waiting();
+        await (next ? this.send(next) : this.pause(60_000));
+      } catch (fault) {
+        this.problem = { disk: fault.message };
+        this.count();
+        await this.pause(LONGEST_PAUSE);
       }
     }
   }

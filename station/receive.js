@@ -1,6 +1,6 @@
 // The screen Receive: a supplier's label or fields by hand, and one ReelReceived. What was filled in stays until the desk accepted it.
 import { TEXTS } from "./words.js";
-import { button, el, field } from "./dom.js";
+import { button, el, field, isTwice } from "./dom.js";
 import { filled, isName, LEVELS, MOST_MINUTES, MOST_PIECES, numberIn } from "./names.js";
 import { fieldsOf, receiptOf } from "./label.js";
 import { bodyOf, WORDS } from "./scan.js";
@@ -8,22 +8,27 @@ import { wordsOf } from "./verdict.js";
 
 const FIELDS = ["reel", "part", "lot", "quantity"];
 const ALL = [...FIELDS, "level", "minutes"];
+const NUMBERS = ["quantity", "minutes"];
+const UNMEANT = 400; // milliseconds: an Enter so soon behind a scan is the scan's second one
 
 export class ReceiveScreen {
   constructor(station) {
     this.station = station;
     this.levels = new Map(); // the level that a part had the last time
-    this.digits = ""; // those that were scanned as codes
+    this.digits = null; // {name, text}: those that were scanned as codes, and their field
+    this.isSent = false; // whether what the fields hold was sent
+    this.moved = -Infinity; // when the focus went on by itself
+    this.last = {}; // when it was sent last
     this.kept = {}; // what the fields hold, also while another screen is shown
     this.said = el("p", { class: "note", role: "status" }, TEXTS.receive.hint);
   }
 
   parts() {
     const texts = TEXTS.receive;
-    const levels = el("fieldset", { class: "levels" }, el("legend", null, texts.level), LEVELS.map((it) => el("label", null, el("input", { type: "radio", name: "level", value: it }), it)));
+    const levels = el("fieldset", { class: "levels" }, el("legend", null, texts.level), LEVELS.map((it) => el("label", null, el("input", { type: "radio", name: "level", value: it }), el("span", null, it))));
     this.form = el("form", { class: "receive", on: { submit: (event) => this.submit(event), input: () => this.keep() } }, el("h2", null, texts.title), this.said,
       FIELDS.map((name) => field(name, texts[name], { inputmode: name === "quantity" ? "numeric" : "text", maxlength: "200" })), levels, field("minutes", texts.minutes, { inputmode: "numeric" }),
-      el("p", { class: "buttons" }, el("button", { type: "submit" }, texts.go), button(texts.clear, () => this.clear())));
+      el("p", { class: "buttons" }, el("button", { type: "submit" }, texts.go), button(texts.clear, () => this.clear(), { class: "away" })));
     this.fill(this.kept);
     return [this.form];
   }
@@ -34,7 +39,9 @@ export class ReceiveScreen {
 
   keep() {
     this.kept = this.held();
-    this.digits = "";
+    this.digits = null;
+    this.isSent = false;
+    this.moved = -Infinity;
   }
 
   fill(values) {
@@ -54,16 +61,25 @@ export class ReceiveScreen {
     this.said.className = isWrong ? "note wrong" : "note";
   }
 
-  /** Fills the fields from a label. */
+  /** Takes a label. What another one filled in and nobody sent is not replaced without a question. */
   read(text) {
     const found = fieldsOf(text, this.station.setup.scanner.separators);
     if (!found) {
       this.say(TEXTS.fault.label, true);
       return;
     }
-    const receipt = receiptOf(found, this.station.setup.label), known = this.levels.get(receipt.part);
+    const receipt = receiptOf(found, this.station.setup.label), held = this.held(), isOther = FIELDS.some((name) => held[name] !== "" && receipt[name] !== "" && held[name] !== receipt[name]);
+    if (isOther && !this.isSent) {
+      this.station.verdict.ask(filled(TEXTS.ask.label, { held: FIELDS.map((name) => held[name]).filter(Boolean).join(", ") }), () => this.take(found, receipt));
+    } else {
+      this.take(found, receipt);
+    }
+  }
+
+  /** Fills the fields from a label. */
+  take(found, receipt) {
+    const known = this.levels.get(receipt.part), read = filled(TEXTS.receive.read, { fields: Object.entries(found).map(([name, value]) => `${name} ${value}`).join(", ") });
     this.fill(known ? { ...receipt, level: known } : receipt);
-    const read = filled(TEXTS.receive.read, { fields: Object.entries(found).map(([name, value]) => `${name} ${value}`).join(", ") });
     this.moveOn();
     this.say(`${read}. ${this.wanted()}`, false);
   }
@@ -83,6 +99,13 @@ export class ReceiveScreen {
   /** To the first empty field, or to the level. */
   moveOn() {
     (this.empty() ?? this.form.querySelector("input[type=radio]:checked") ?? this.form.querySelector("input[type=radio]")).focus();
+    this.moved = performance.now();
+  }
+
+  /** The field of a digit that is scanned: the one that has others of its kind, else the first that is empty, else the last. */
+  fieldOfDigit() {
+    const { elements } = this.form, names = elements.level.value === "6" ? NUMBERS : NUMBERS.slice(0, 1);
+    return this.digits?.name ?? names.find((name) => elements[name].value.trim() === "") ?? names.at(-1);
   }
 
   /** Takes an action code: a level, a digit of the pieces or of a label's minutes, or that all is filled in. */
@@ -91,9 +114,14 @@ export class ReceiveScreen {
     if (LEVELS.includes(level)) {
       elements.level.value = level;
     } else if (/^[0-9]$/.test(action)) {
-      this.digits += action; // the first one takes the place of what stood there
-      elements[elements.level.value === "6" ? "minutes" : "quantity"].value = this.digits;
-      this.kept = this.held();
+      const name = this.fieldOfDigit(), digits = `${this.digits?.text ?? ""}${action}`; // the first one takes the place of what stood there
+      elements[name].value = digits;
+      this.keep();
+      this.digits = { name, text: digits };
+      this.say(this.wanted(), false);
+      return true;
+    } else if (action === "ENTER" && this.digits && this.empty()) {
+      this.digits = null; // the number is whole, and the next one is wanted
       this.say(this.wanted(), false);
       return true;
     } else if (action === "ENTER") {
@@ -110,7 +138,7 @@ export class ReceiveScreen {
   /** The field that the desk would not take, or null. */
   wrongField(values) {
     const name = ["reel", "part", "lot"].find((it) => !isName(values[it]));
-    return name ?? (values.quantity === null ? "quantity" : values.level === "6" && values.minutes === null ? "minutes" : null);
+    return name ?? (values.quantity === null || this.form.elements.quantity.value.trim() === values.reel ? "quantity" : values.level === "6" && values.minutes === null ? "minutes" : null);
   }
 
   /** Enter in a field goes on to the next one, since a wedge ends each scan with it. The button, Enter on a level and the code of ENTER send. */
@@ -120,7 +148,7 @@ export class ReceiveScreen {
     if (activeElement?.form === this.form && activeElement.tagName === "INPUT" && activeElement.type !== "radio") {
       this.moveOn();
       this.say(this.wanted(), false);
-    } else {
+    } else if (performance.now() - this.moved > UNMEANT && !isTwice(event, this.last)) {
       this.send();
     }
   }
@@ -138,8 +166,8 @@ export class ReceiveScreen {
       return;
     }
     this.levels.set(values.part, values.level);
-    this.station.closeVerdict();
     if (await this.station.act("RECEIVE", values)) {
+      this.isSent = true;
       this.say(texts.sent, false);
     }
   }

@@ -13,11 +13,16 @@ export const WORDS = {
 };
 const isOfReceive = (action) => OF_RECEIVE.includes(action) || /^[0-9]$/.test(action);
 const FRESH = 3_000; // milliseconds: what is known of a slot is asked for again when it is older
+const CARD_WAIT = 3_000; // milliseconds that a count waits for the reel's card
+const RISE = { pieces: 100, part: 0.1 }; // a count may be so much above what the desk has of a reel without a question
 
 export class Scan {
   /** `station` is the page: its set-up, its model, and what it does with a message, a screen, a badge or a fault. */
   constructor(station) {
     this.station = station;
+    this.turn = Promise.resolve(); // scans are taken one behind the other
+    this.touched = 0; // when the last one came, by the tablet's own clock: that goes on while it sleeps
+    this.isForgotten = false;
     this.clear();
   }
 
@@ -26,8 +31,19 @@ export class Scan {
     this.reel = null;
     this.card = null;
     this.action = null;
-    this.asking = null; // {action, values}: a number is wanted
+    this.asking = null; // {action, values, card}: a number is wanted
     this.digits = "";
+  }
+
+  /** Forgets what is held when no scan came for long: it is not for whoever comes next. */
+  forget() {
+    if (this.slot || this.reel || this.action || this.asking) {
+      if (Math.abs(Date.now() - this.touched) > this.station.setup.heldSeconds * 1000) {
+        this.clear();
+        this.isForgotten = true;
+        this.station.scanned();
+      }
+    }
   }
 
   /** Whether the next scan is a reel, a slot or a number that belongs to what is held, whatever has the focus. */
@@ -35,20 +51,30 @@ export class Scan {
     return Boolean(this.slot || this.action || this.asking);
   }
 
-  /** Takes what the scanner or the keyboard read. */
+  /** Takes what the scanner or the keyboard read, behind what came before. */
   take(text) {
-    const read = stripped(text, this.station.setup.scanner);
+    this.turn = this.turn.then(() => this.taken(text)).catch((fault) => this.station.fault(fault.message));
+    return this.turn;
+  }
+
+  async taken(text) {
+    const { station } = this, read = stripped(text, station.setup.scanner);
     if (read === "") {
       return;
     }
-    this.station.closeVerdict();
-    const code = readCode(read, this.station.setup);
-    if (this.asking && code.kind !== "action" && code.kind !== "badge") {
-      this.number(read);
+    this.forget();
+    this.touched = Date.now();
+    this.isForgotten = false;
+    const code = readCode(read, station.setup), isNumber = this.asking && code.kind !== "action" && code.kind !== "badge";
+    if (station.verdict.isAsking()) {
+      await station.verdict.answer(code.action);
+    } else if (code.action === "CANCEL") {
+      station.cancel();
     } else {
-      this[`${code.kind}Scanned`](code);
+      station.verdict.pass();
+      await (isNumber ? this.number(this.digits + read) : this[`${code.kind}Scanned`](code));
     }
-    this.station.scanned();
+    station.scanned();
   }
 
   noneScanned({ text }) {
@@ -69,6 +95,7 @@ export class Scan {
 
   slotHeld(code) {
     this.clear();
+    this.station.verdict.seeAll({ Machine: code.machine, Slot: code.slot });
     this.slot = { machine: code.machine, slot: code.slot };
     const line = this.station.model.line(code.machine), known = this.station.model.state;
     if (!line.slots || !known.ok || performance.now() - known.at > FRESH) {
@@ -79,7 +106,7 @@ export class Scan {
   /** A slot is held for a reel, or is what the action was waiting for. */
   slotScanned(code) {
     if (this.action && OF_SLOT.includes(this.action)) {
-      this.act(this.action, { machine: code.machine, slot: code.slot });
+      return this.act(this.action, { machine: code.machine, slot: code.slot });
     } else if (this.action) {
       this.station.fault(filled(TEXTS.strip.actionReel, { action: TEXTS.actions[this.action] }));
     } else {
@@ -89,13 +116,14 @@ export class Scan {
 
   reelScanned({ reel }) {
     if (this.action && OF_REEL.includes(this.action)) {
-      this.act(this.action, { reel });
+      return this.act(this.action, { reel });
     } else if (this.action) {
       this.station.fault(filled(TEXTS.strip.actionSlot, { action: TEXTS.actions[this.action] }));
     } else if (this.slot) {
-      this.act(this.isLive(this.slot) ? "SPLICE" : "LOAD", { ...this.slot, reel });
+      return this.act(this.isLive(this.slot) ? "SPLICE" : "LOAD", { ...this.slot, reel });
     } else {
       this.clear();
+      this.station.verdict.seeAll({ Reel: reel });
       this.reel = reel;
       this.readCard(reel);
     }
@@ -112,13 +140,16 @@ export class Scan {
     return this.station.model.isLive(machine, slot);
   }
 
-  async readCard(reel) {
-    let card;
+  async cardOf(reel) {
     try {
-      card = { ...(await desk.rows("reel", { reel })).rows[0], known: true };
+      return { ...(await desk.rows("reel", { reel })).rows[0], known: true };
     } catch (fault) {
-      card = { known: false, none: fault.isDesk };
+      return { known: false, none: fault.isDesk };
     }
+  }
+
+  async readCard(reel) {
+    const card = await this.cardOf(reel);
     if (this.reel === reel) {
       this.card = card;
       this.station.scanned();
@@ -129,15 +160,13 @@ export class Scan {
     if (this.asking && /^[0-9]$/.test(action)) {
       this.digits = (this.digits + action).slice(0, 8);
     } else if (this.asking && action === "ENTER") {
-      this.number(this.digits);
-    } else if (action === "CANCEL") {
-      this.clear();
+      return this.number(this.digits);
     } else if (this.station.isScreen(action)) {
       this.station.go(action.toLowerCase());
     } else if (OF_SLOT.includes(action)) {
-      this.begin(action, this.slot);
+      return this.begin(action, this.slot);
     } else if (OF_REEL.includes(action)) {
-      this.begin(action, this.reel && { reel: this.reel });
+      return this.begin(action, this.reel && { reel: this.reel });
     } else if (!this.station.coded(action)) {
       this.station.fault(filled(isOfReceive(action) ? TEXTS.fault.receiveFirst : TEXTS.fault.action, { text: action }));
     }
@@ -146,30 +175,42 @@ export class Scan {
   /** An action with what it is of, where that is held; else it waits for it. */
   begin(action, values) {
     if (values) {
-      this.act(action, values);
-    } else {
-      this.clear();
-      this.action = action;
+      return this.act(action, values);
     }
+    this.clear();
+    this.action = action;
+    return null;
   }
 
-  number(text) {
-    const { action, values } = this.asking, quantity = numberIn(text, WITH_NUMBER[action], MOST_PIECES);
+  async number(text) {
+    const { asking } = this, { action, values, card } = asking, quantity = numberIn(text, WITH_NUMBER[action], MOST_PIECES), { fault } = TEXTS;
     this.digits = "";
-    if (quantity === null) {
-      this.station.fault(filled(TEXTS.fault.number, { text, least: WITH_NUMBER[action], most: piecesText(MOST_PIECES) }));
+    const names = [values.reel, ...(values.slot ? this.station.model.slot(values.machine, values.slot).reels.map((it) => it.reel) : [])];
+    if (quantity === null || names.includes(text)) {
+      this.station.fault(filled(quantity === null ? fault.number : fault.numberIsName, { text, least: WITH_NUMBER[action], most: piecesText(MOST_PIECES) }));
+      return;
+    }
+    const had = action === "COUNT" ? await Promise.race([card, new Promise((resolve) => setTimeout(resolve, CARD_WAIT))]) : null, left = Number(had?.remaining ?? 0);
+    if (this.asking !== asking) {
+      return; // somebody cancelled meanwhile
+    }
+    this.clear();
+    const send = () => this.station.act(action, { ...values, quantity });
+    if (action === "COUNT" && quantity > left + Math.max(RISE.pieces, left * RISE.part)) {
+      const told = { ...values, quantity: piecesText(quantity), left: piecesText(left) };
+      this.station.verdict.ask(filled(had?.known ? TEXTS.ask.rise : TEXTS.ask.count, told), send);
     } else {
-      this.act(action, { ...values, quantity });
+      await send();
     }
   }
 
   act(action, values) {
     this.clear();
     if (action in WITH_NUMBER && values.quantity === undefined) {
-      this.asking = { action, values };
-    } else {
-      this.station.send(action, bodyOf(action, values), values);
+      this.asking = { action, values, card: values.reel ? this.cardOf(values.reel) : null };
+      return null;
     }
+    return this.station.act(action, values);
   }
 
   /** What is held, in words: the first says what, the others what comes next. */
@@ -192,7 +233,7 @@ export class Scan {
       }
       return [...texts, strip.reelAsk];
     }
-    return [strip.idle];
+    return [this.isForgotten ? strip.forgotten : this.station.badgeName === null ? strip.idleNoBadge : strip.idle];
   }
 
   slotText() {

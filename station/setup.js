@@ -1,11 +1,14 @@
 // What whoever installs the station says of it: /etc/tracedesk/station/setup.json (docs/station.md).
-import { isName, MOST_BOARDS } from "./names.js";
+import { around, isName, MOST_BOARDS } from "./names.js";
 import * as desk from "./desk.js";
 
 export const USUAL = {
   title: "Line",
   boards: 10,
   expires: 60,
+  heldSeconds: 120, // without a scan: then a slot, a reel or an action that is held is forgotten
+  badgeMinutes: 60, // without a message: then the badge is
+  badgeWanted: false, // whether nothing is sent without a badge
   connectionsADay: 26_000, // of the desk's, which all stations of this line may use up together by looking
   scanner: { prefix: "", suffix: "", separators: ["{GS}"] },
   codes: { slot: "S/{machine}/{slot}", badge: "B/{badge}", action: "A/{action}" },
@@ -29,6 +32,9 @@ function faultOf(setup) {
     title: isText(setup.title) && setup.title !== "",
     boards: whole(setup.boards, MOST_BOARDS),
     expires: whole(setup.expires, 525_600),
+    heldSeconds: whole(setup.heldSeconds, 3_600),
+    badgeMinutes: whole(setup.badgeMinutes, 1_440),
+    badgeWanted: typeof setup.badgeWanted === "boolean",
     connectionsADay: whole(setup.connectionsADay, 1_000_000),
     scanner: isText(setup.scanner.prefix) && isText(setup.scanner.suffix) && Array.isArray(setup.scanner.separators) && setup.scanner.separators.every((it) => isText(it) && it !== ""),
     codes: hasPlaces(setup.codes.slot, "machine", "slot") && hasPlaces(setup.codes.badge, "badge") && hasPlaces(setup.codes.action, "action"),
@@ -42,7 +48,13 @@ function areMachines(machines) {
     && machines.every((it) => it && isName(it.machine ?? "") && (it.product === undefined || isName(it.product)));
 }
 
-/** Reads the set-up: {setup}, or {fault} with the name of its text and, of a member, its name. */
+/** Two machines of which a slot of one may have the code of a slot of the other, or none. */
+function alike({ machines, codes }) {
+  const begins = machines.map(({ machine }) => ({ machine, before: around(codes.slot, { machine })[0] }));
+  return begins.flatMap((it, at) => begins.filter((other, place) => place !== at && other.before.startsWith(it.before)).map((other) => [it.machine, other.machine]))[0];
+}
+
+/** Reads the set-up: {setup}, or {fault} with the name of its text and what that text names. */
 export async function read() {
   const { status, told, since } = await desk.file("setup.json");
   if (status !== 200) {
@@ -58,6 +70,6 @@ export async function read() {
   if (!areMachines(setup.machines)) {
     return { status, fault: "machines" };
   }
-  const member = faultOf(setup);
-  return member ? { status, fault: "member", member } : { status, setup };
+  const member = faultOf(setup), [machine, other] = member ? [] : alike(setup) ?? [];
+  return member ? { status, fault: "member", member } : machine ? { status, fault: "alike", machine, other } : { status, setup };
 }

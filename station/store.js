@@ -3,6 +3,7 @@
 const NAME = "tracedesk-station";
 const KEPT = 200; // answered scans that are kept to be looked at
 let database = null;
+let isSafe = null;
 
 function done(request) {
   return new Promise((resolve, reject) => {
@@ -14,12 +15,11 @@ function done(request) {
 function ended(transaction) {
   return new Promise((resolve, reject) => {
     transaction.oncomplete = () => resolve();
-    transaction.onabort = transaction.onerror = () => reject(transaction.error);
+    transaction.onabort = transaction.onerror = () => reject(transaction.error ?? new Error("the store broke off"));
   });
 }
 
-/** Opens the store; a browser that has none can't be a station. */
-export async function open() {
+async function opened() {
   const request = indexedDB.open(NAME, 1);
   request.onupgradeneeded = () => {
     const scans = request.result.createObjectStore("scans", { keyPath: "seq", autoIncrement: true });
@@ -27,39 +27,82 @@ export async function open() {
     scans.createIndex("state", "state");
     request.result.createObjectStore("notes");
   };
-  database = await done(request);
-  navigator.storage?.persist?.();
+  return done(request);
 }
 
-/** Keeps a scan on disk, and with it the time that it was given. */
+/** A transaction; where the browser has closed the store after a fault of the disk, in the store opened anew. */
+async function begun(names, ...how) {
+  try {
+    return database.transaction(names, ...how);
+  } catch (fault) {
+    if (fault.name !== "InvalidStateError") {
+      throw fault;
+    }
+    database = await opened();
+    return database.transaction(names, ...how);
+  }
+}
+
+/** Opens the store; a browser that has none can't be a station. */
+export async function open() {
+  database = await opened();
+  navigator.storage?.persist?.().then((it) => { isSafe = it; });
+}
+
+/** Whether the browser may not throw the store away where its disk is full; null where it hasn't said. */
+export function isKept() {
+  return isSafe;
+}
+
+/** Keeps a scan on disk. */
 export async function keep(scan) {
-  const transaction = database.transaction(["scans", "notes"], "readwrite", { durability: "strict" });
+  const transaction = await begun("scans", "readwrite", { durability: "strict" });
   const adding = done(transaction.objectStore("scans").add({ ...scan, state: "waiting" }));
-  transaction.objectStore("notes").put(scan.at, "lastTime");
   const [seq] = await Promise.all([adding, ended(transaction)]);
   return seq;
 }
 
-/** Keeps the answer to a scan. */
-export async function settle(scan, answer, status) {
-  const transaction = database.transaction("scans", "readwrite");
-  transaction.objectStore("scans").put({ ...scan, state: "answered", answer, status });
+async function put(scan) {
+  const transaction = await begun("scans", "readwrite");
+  transaction.objectStore("scans").put(scan);
   await ended(transaction);
+}
+
+/** Keeps the answer to a scan. One that isn't a yes is unseen until somebody has seen it. */
+export function settle(scan, answer, status) {
+  return put({ ...scan, state: "answered", answer, status, unseen: answer.Answer !== "Accepted" });
+}
+
+async function inState(state) {
+  return done((await begun("scans")).objectStore("scans").index("state").getAll(state));
 }
 
 /** The scans without an answer, in their order. */
 export function waiting() {
-  return done(database.transaction("scans").objectStore("scans").index("state").getAll("waiting"));
+  return inState("waiting");
 }
 
-export function byUid(uid) {
-  return done(database.transaction("scans").objectStore("scans").index("uid").get(uid));
+/** The scans with an answer that is no yes and that no one has seen, the newest first. */
+export async function unseen() {
+  return (await inState("answered")).filter((it) => it.unseen).reverse();
+}
+
+export async function byUid(uid) {
+  return done((await begun("scans")).objectStore("scans").index("uid").get(uid));
+}
+
+/** Notes that somebody has seen the answer to a scan. */
+export async function see(uid) {
+  const scan = await byUid(uid);
+  if (scan?.unseen) {
+    await put({ ...scan, unseen: false });
+  }
 }
 
 /** The latest scans, the newest first. */
-export function latest(count) {
+export async function latest(count) {
+  const request = (await begun("scans")).objectStore("scans").openCursor(null, "prev"), found = [];
   return new Promise((resolve, reject) => {
-    const found = [], request = database.transaction("scans").objectStore("scans").openCursor(null, "prev");
     request.onerror = () => reject(request.error);
     request.onsuccess = () => {
       if (request.result && found.length < count) {
@@ -74,18 +117,17 @@ export function latest(count) {
 
 /** Drops the oldest answered scans beyond those that are kept. */
 export async function tidy() {
-  const transaction = database.transaction("scans", "readwrite"), scans = transaction.objectStore("scans");
-  const answered = await done(scans.index("state").getAllKeys("answered"));
-  answered.slice(0, -KEPT).forEach((seq) => scans.delete(seq));
+  const answered = (await inState("answered")).filter((it) => !it.unseen), transaction = await begun("scans", "readwrite");
+  answered.slice(0, -KEPT).forEach(({ seq }) => transaction.objectStore("scans").delete(seq));
   await ended(transaction);
 }
 
-export function note(name) {
-  return done(database.transaction("notes").objectStore("notes").get(name));
+export async function note(name) {
+  return done((await begun("notes")).objectStore("notes").get(name));
 }
 
 export async function setNote(name, value) {
-  const transaction = database.transaction("notes", "readwrite");
+  const transaction = await begun("notes", "readwrite");
   transaction.objectStore("notes").put(value, name);
   await ended(transaction);
 }

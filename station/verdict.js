@@ -1,6 +1,6 @@
 // The answer to a scan, over the whole screen: what the desk said, in words, and what to do. Only what it accepted is green.
 import { TEXTS } from "./words.js";
-import { el } from "./dom.js";
+import { button, el } from "./dom.js";
 import { filled } from "./names.js";
 import { lifeText, piecesText } from "./life.js";
 import { sourceText } from "./known.js";
@@ -9,7 +9,10 @@ import { play } from "./sound.js";
 import { WORDS } from "./scan.js";
 
 const FREE_SHOWN = 4;
-const GREEN_SECONDS = 25; // then the screen behind it is seen again; a refusal stays until the next scan
+const GREEN_SECONDS = 25; // then the screen behind it is seen again; a refusal stays until somebody has seen it
+const UNMEANT = 600; // milliseconds: a touch so soon is the end of one before
+const BRIEF_SHOWN = 3; // refusals that are shown in a line each
+const LEAST_SIZE = 30; // percent of the letters
 const LOADS = ["LOAD", "SPLICE"];
 const BY_ANOTHER_SHEET = ["WrongPart", "SlotNotOnSheet"]; // where the page's sheet and the desk's may be two
 
@@ -25,10 +28,15 @@ export function whatOf(scan) {
   return filled(TEXTS.what[actionOf(scan)], { machine, slot, reel, product, part, quantity });
 }
 
-/** The slot and the reel of a scan, or what else it is of: what an operator looks for first. */
+/** The machine, the slot and the reel of a scan, or what else it is of: what an operator looks for first. */
 function whereOf(scan) {
   const { Machine: machine, Slot: slot, Reel, Product: product, Counts } = scan.body, reel = Reel ?? Counts?.[0].Reel, texts = TEXTS.verdict.where;
   return filled(slot && reel ? texts.both : slot ? texts.slot : reel ? texts.reel : texts.product, { machine, slot, reel, product });
+}
+
+/** What a message is about: its slot, else its reel or its machine. */
+function aboutOf({ Machine, Slot, Reel, Counts }) {
+  return JSON.stringify(Slot ? [Machine, Slot] : [Reel ?? Counts?.[0].Reel ?? Machine]);
 }
 
 /** The kind of an answer, the words for it, and what to do. */
@@ -36,6 +44,9 @@ export function wordsOf(scan) {
   const { answer } = scan;
   if (answer.Answer === "Accepted") {
     return { kind: "accepted", title: TEXTS.done[actionOf(scan)], todo: "" };
+  }
+  if (answer.Answer === "NotSent") { // the page's own
+    return { kind: "refused", title: answer.text, todo: "" };
   }
   if (answer.Answer === "Refused") {
     const [title, todo] = TEXTS.refusals[answer.Refusal] ?? TEXTS.otherRefusal;
@@ -47,79 +58,197 @@ export function wordsOf(scan) {
 }
 
 export class Verdict {
-  constructor(model, place) {
+  /** `isSeen` is called with each refusal that somebody has seen. */
+  constructor(model, place, isSeen) {
     this.model = model;
     this.place = place;
-    this.current = null; // the scan whose verdict is wanted
-    this.late = []; // answers to earlier scans that no one has seen yet
+    this.isSeen = isSeen;
+    this.current = null; // what the operator did last: {scan}, {fault} or {question, yes}
+    this.late = []; // accepted answers to earlier scans that no one has seen yet
+    this.shown = []; // those of them that are shown
+    this.refused = []; // refusals that no one has seen yet, the newest first
+    this.more = new Map(); // what the desk's reports say of an answer, by the scan's UniqueID
+    this.turn = 0; // how much that is new was shown
+    this.shownAt = 0;
     this.timer = null;
+    place.addEventListener("mousedown", (event) => event.preventDefault()); // what has the focus keeps it
+    place.addEventListener("click", ({ timeStamp, target }) => !target.closest(".answers") && timeStamp - this.shownAt > UNMEANT && this.dismiss());
+    new ResizeObserver(() => this.fit()).observe(place);
   }
 
-  /** Ends what is shown; answers that were not shown yet are kept for the next time. */
-  close() {
-    clearTimeout(this.timer);
-    if (!this.place.hidden && this.place.className !== "asked") {
-      this.late = [];
+  /** The next scan comes: a green, a fault and a wait end, a refusal and a question stay. */
+  pass() {
+    if (!this.isAsking() && (this.current || this.late.length)) {
+      this.end();
     }
-    this.current = null;
-    this.place.hidden = true;
-    this.place.replaceChildren();
   }
 
-  show(kind, ...children) {
-    clearTimeout(this.timer);
-    this.place.className = kind;
-    this.place.replaceChildren(...children, el("p", { class: "close" }, TEXTS.verdict.close));
-    this.place.hidden = false;
+  end() {
+    this.current = null;
+    this.late = this.late.filter((it) => !this.shown.includes(it));
+    this.show();
+  }
+
+  /** Somebody touched it or cancelled: what is in front goes. A question is answered by no. */
+  dismiss() {
+    if (this.current || !this.refused.length) {
+      this.end();
+    } else {
+      this.see([this.refused[0]]);
+    }
+  }
+
+  /** Refusals that somebody has seen go. */
+  see(seen) {
+    if (seen.length) {
+      this.refused = this.refused.filter((it) => !seen.includes(it));
+      seen.forEach((it) => this.isSeen(it));
+      this.show();
+    }
+  }
+
+  /** The next scan is of the same slot, or of the same reel where there is no slot: whoever made it knows what was refused. */
+  seeAll(body) {
+    this.see(this.refused.filter((it) => aboutOf(it.body) === aboutOf(body)));
+  }
+
+  /** Shows what is new. */
+  tell(current) {
+    this.current = current;
+    this.turn += 1;
+    this.show();
   }
 
   asked(scan) {
-    this.current = scan;
-    this.show("asked", el("p", { class: "word" }, TEXTS.verdict.asked), el("h2", null, whatOf(scan)), el("p", { class: "todo" }, TEXTS.verdict.askedWhat));
+    this.tell({ scan });
   }
 
+  /** A scan that the page can't take. */
   fault(text) {
-    this.show("fault", el("p", { class: "word" }, TEXTS.verdict.faulty), el("h2", null, text));
+    this.tell({ fault: text });
     play("refused");
   }
 
-  /** Shows an answer; `isLate` is one of a scan before the last one, or of before the page was loaded. */
+  /** A message that was wanted and not sent: it stays as a refusal does. */
+  notSent(word, body, text) {
+    this.refused.unshift({ uid: crypto.randomUUID(), word, body, at: clock.now(), answer: { Answer: "NotSent", text } });
+    this.tell(null);
+    play("refused");
+  }
+
+  /** Asks back; `yes` is done where somebody says so. */
+  ask(question, yes) {
+    this.tell({ question, yes });
+    play("refused");
+  }
+
+  isAsking() {
+    return Boolean(this.current?.question);
+  }
+
+  /** An answer to the question that is shown: ENTER or CANCEL. Nothing else is taken before. */
+  answer(action) {
+    const { yes } = this.current;
+    if (action !== "ENTER" && action !== "CANCEL") {
+      play("refused");
+      return null;
+    }
+    this.current = null;
+    this.show();
+    return action === "ENTER" ? yes() : null;
+  }
+
+  /** Takes an answer; `isLate` is one of a scan before the last one, or of before the page was loaded. */
   answered(scan, isLate) {
-    if (isLate) {
-      this.late.push(scan);
-      if (this.current && !this.current.answer) {
-        return; // the scan before the operator comes first
-      }
-    } else {
-      this.current = scan;
+    const { kind } = wordsOf(scan), told = { ...scan, isLate };
+    if (kind === "refused") {
+      this.refused.unshift(told);
+    } else if (isLate) {
+      this.late.push(told);
     }
-    const shown = this.current ? [this.current, ...this.late] : this.late;
-    const kind = shown.some((it) => wordsOf(it).kind === "refused") ? "refused" : "accepted";
-    this.show(kind, ...shown.map((it) => this.one(it, this.late.includes(it))));
-    play(kind);
-    if (kind === "accepted" && this.late.length === 0) {
-      this.timer = setTimeout(() => this.close(), GREEN_SECONDS * 1000);
-    }
-    if (this.current?.answer) {
-      this.explain(this.current);
+    this.tell(isLate ? this.current : kind === "refused" ? null : { scan: told });
+    if (kind === "refused" || this.current?.scan?.answer || !this.current) {
+      play(kind);
     }
   }
 
-  one(scan, isLate) {
-    const { kind, title, todo } = wordsOf(scan), { answer } = scan, isGreen = kind === "accepted", texts = TEXTS.verdict;
-    const word = isGreen ? filled(texts.accepted, { done: title }) : answer.Answer === "Refused" ? texts.refused : texts.faulty;
+  /** Shows what is in front in full, and below it what else nobody has seen. */
+  show() {
+    const { current, place } = this, { scan } = current ?? {}, [first, ...others] = this.refused, texts = TEXTS.verdict, line = (mark, text) => el("p", { class: mark }, text);
+    const waits = scan && !scan.answer, parts = [], front = current ? scan : first;
+    this.shown = current && !scan?.answer ? [] : this.late;
+    if (current?.question) {
+      parts.push(line("word", texts.question), el("h2", null, current.question), el("p", { class: "answers" },
+        button(texts.yes, () => this.answer("ENTER")), button(texts.no, () => this.answer("CANCEL"))));
+    } else if (current?.fault) {
+      parts.push(line("word", texts.faulty), el("h2", null, current.fault));
+    } else if (waits) {
+      parts.push(line("word", texts.asked), el("h2", null, whatOf(scan)), line("todo", texts.askedWhat));
+    } else if (front) {
+      parts.push(this.one(front));
+    }
+    parts.push(...this.shown.map((it) => this.one(it)));
+    const brief = current ? this.refused : others, rest = brief.slice(BRIEF_SHOWN).length;
+    parts.push(...brief.slice(0, BRIEF_SHOWN).map((it) => el("p", { class: "brief", data: { scan: it.uid } }, `\u2717 ${texts.refused}: ${whereOf(it)}: ${wordsOf(it).title}`)),
+      ...(rest ? [line("brief", filled(texts.moreRefused, { count: rest }))] : []));
+    const kind = current?.question ? "ask" : current?.fault ? "fault" : waits ? "asked" : !scan && first ? "refused" : "accepted";
+    clearTimeout(this.timer);
+    if (kind === "accepted" && !this.shown.length && parts.length) {
+      this.timer = setTimeout(() => this.pass(), GREEN_SECONDS * 1000);
+    }
+    this.shownAt = performance.now();
+    place.dataset.turn = this.turn;
+    place.hidden = parts.length === 0;
+    place.className = parts.length ? kind : "";
+    place.replaceChildren(...parts, ...(parts.length && kind !== "ask" ? [button(kind === "refused" ? texts.seen : texts.close, () => {}, { class: "close" })] : []));
+    this.fit();
+    this.more.forEach((_, uid) => this.isShown(uid) || this.more.delete(uid));
+    if (front?.answer && !this.more.has(front.uid)) {
+      this.more.set(front.uid, []);
+      this.explain(front);
+    }
+  }
+
+  isShown(uid) {
+    return [this.current?.scan, ...this.late, ...this.refused].some((it) => it?.uid === uid);
+  }
+
+  /** Makes all letters smaller until all of it is on the screen. */
+  fit() {
+    const { place } = this;
+    for (let size = 100; size >= LEAST_SIZE; size -= 5) {
+      place.style.setProperty("--size", size / 100);
+      if (place.scrollHeight <= place.clientHeight + 1) {
+        break;
+      }
+    }
+  }
+
+  one(scan) {
+    const { kind, title } = wordsOf(scan), todo = this.todoOf(scan), { answer } = scan, isGreen = kind === "accepted", texts = TEXTS.verdict;
+    const word = isGreen ? filled(texts.accepted, { done: title }) : answer.Answer === "Refused" ? texts.refused : answer.Answer === "NotSent" ? texts.notSent : texts.faulty;
     const line = (mark, text) => (text ? el("p", { class: mark }, text) : null);
     const life = "MinutesLeft" in answer ? filled(texts.minutes, { life: lifeText(answer.MinutesLeft) }) : "Taken" in answer ? filled(texts.taken, { taken: piecesText(answer.Taken) }) : "";
-    const more = el("div", { class: "more", data: { scan: scan.uid } });
-    const late = line("late", isLate ? filled(texts.again, { time: clock.shown(scan.at) }) : "");
+    const more = el("div", { class: "more" }, this.more.get(scan.uid));
+    const late = line("late", scan.isLate ? filled(texts.again, { time: clock.shown(scan.at) }) : "");
     const parts = isGreen ? [line("where", whereOf(scan)), line("life", life), more, line("facts", `${whatOf(scan)} · ${filled(texts.number, { number: answer.Number })}`)]
-      : [el("h2", null, title), line("where", whereOf(scan)), more, line("todo", todo), line("facts", whatOf(scan))];
-    return el("div", { class: `one ${kind}` }, late, el("p", { class: "word" }, el("span", { class: "sign" }, isGreen ? "\u2713 " : "\u2717 "), word), parts);
+      : [el("h2", null, title), line("todo", todo), line("where", whereOf(scan)), more, line("facts", whatOf(scan))];
+    return el("div", { class: `one ${kind}`, data: { scan: scan.uid } }, late, el("p", { class: "word" }, el("span", { class: "sign" }, isGreen ? "\u2713 " : "\u2717 "), word), parts);
+  }
+
+  /** What to do: of a reel that is on a slot the page says where. */
+  todoOf(scan) {
+    const { answer } = scan, place = answer.Refusal === "ReelMounted" ? this.model.place(answer.At) : null;
+    return place ? filled(TEXTS.verdict.isOn, { reel: answer.At, ...place }) : wordsOf(scan).todo;
   }
 
   /** Puts to an answer what the desk's reports say of it: of a load that is accepted the reel's own part, of one that is refused what to bring. */
   async explain(scan) {
     const { answer } = scan, { Machine: machine, Slot: slot, Reel: reel, PartNumber: part } = scan.body, isLoad = LOADS.includes(actionOf(scan)), more = [];
+    if (answer.Refusal === "ReelMounted") {
+      const since = clock.now(); // what the page knew before may be why the reel was scanned here
+      await Promise.all(this.model.lines.map((it) => this.model.refresh(it.machine, since)));
+    }
     if (answer.Answer === "Accepted") {
       more.push(...(part ? [this.own({ part, lot: scan.body.Lot })] : isLoad ? this.stood(await this.model.card(reel), scan.about) : []));
     } else if (isLoad && answer.Answer === "Refused") {
@@ -132,7 +261,11 @@ export class Verdict {
         more.push(el("p", { class: "from" }, filled(TEXTS.verdict.otherSheet, { machine })));
       }
     }
-    [...this.place.querySelectorAll(".more")].find((it) => it.dataset.scan === scan.uid)?.replaceChildren(...more);
+    if (this.isShown(scan.uid)) {
+      this.more.set(scan.uid, more);
+      [...this.place.querySelectorAll(".one")].find((it) => it.dataset.scan === scan.uid)?.replaceWith(this.one(scan));
+      this.fit();
+    }
   }
 
   own(card) {

@@ -2,6 +2,7 @@
 import collections
 import concurrent.futures
 import csv
+import http.server
 import io
 import json
 import os
@@ -10,6 +11,7 @@ import re
 import shutil
 import sqlite3
 import subprocess
+import threading
 import time
 
 from station_line import line_is_as_reported, report
@@ -158,12 +160,14 @@ def each_refusal_in_words(site):
 def refused_by_a_screen(it, refused):
     """By Receive and by Changeover."""
     for refusal, part in (("UnknownPart", "NOT-A-PART"), ("ReelExists", "CAP")):
+        it.seen()
         it.go("receive")
         it.script("""const form = document.querySelector('form.receive').elements; form.reel.value = 'K-1'; form.part.value = arguments[0]; form.lot.value = 'L'; form.quantity.value = '5';
                      form.level.value = '1'; document.querySelector('form.receive button[type=submit]').click()""", part)
         it.verdict()
         refused(refusal)
     for refusal, product in (("UnknownSheet", "NO-SUCH"),):
+        it.seen()
         it.go("changeover")
         it.script("document.querySelector('form.changeover').elements.product.value = arguments[0]; document.querySelectorAll('form.changeover button')[1].click()", product)
         it.verdict()
@@ -182,6 +186,7 @@ def refused_by_a_race(site, it, refused):
         site.say("MaterialsLoaded", {"Machine": "M2", "Slot": slot, "Reel": reel})
     if site.say("WorkStarted", {"Machine": "M2", "Board": "SN-1"})["Answer"] != "Accepted":
         raise Difference("the board was not started")
+    it.seen()
     it.script("document.querySelector('form.changeover').elements.product.value = 'CTRL-A'; document.querySelectorAll('form.changeover button')[2].click()")
     it.verdict()
     refused("MachineBusy")
@@ -440,6 +445,96 @@ def readers_may_only_read(site):
     return f"{len(wanted)} requests; a reader's scan is not even made"
 
 
+IMPORT = "/imports/counts?id=%s&source=store&time=2026-03-02T06:32:00Z"
+# What a page of another site can do unasked: a form that takes the place of the page itself, which has the log-in that the browser keeps; fetch and a beacon.
+FORM = """
+const [path, enctype, text] = arguments, made = document.createElement('form'), field = document.createElement('input');
+[made.method, made.action, made.enctype] = ['post', path, enctype];
+[field.name, field.value] = enctype === 'text/plain' && text.endsWith('}}') ? [text.slice(0, -2) + ',"x":"', '"}}'] : [text, ''];
+made.append(field);
+document.body.append(made);
+made.submit();
+"""
+FETCHES = """
+const [to, message, file] = arguments, send = (path, type, text) => fetch(to + path, { method: 'POST', mode: 'no-cors', credentials: 'include', body: new Blob([text], { type }) }).catch(() => {});
+navigator.sendBeacon(to + '/messages', new Blob([message], { type: 'text/plain' }));
+const tried = ['/messages', '/station/messages'].flatMap((path) => ['text/plain', '', 'application/json'].map((type) => send(path, type, message)));
+tried.push(...['text/plain', 'text/csv'].map((type) => send(file, type, 'reel,quantity\\nK-1,7\\n')));
+return Promise.all(tried).then(() => tried.length + 1);
+"""
+
+
+class Elsewhere(http.server.BaseHTTPRequestHandler):
+    """A page of another site."""
+
+    def do_GET(self):
+        self.send_response(200)
+        self.send_header("Content-Type", "text/html")
+        self.end_headers()
+        self.wfile.write(b"<!DOCTYPE html><title>elsewhere</title><body>")
+
+    def log_message(self, *_):
+        pass
+
+
+def another_site_commands_nothing(site):
+    """A page of another site, and one of the same machine's other port, in the browser of an operator who is logged in: nothing of it comes to the desk."""
+    plain = {"MessageName": "TraceDesk.ReelOpened", "Source": "x", "TimeStamp": time.strftime("%Y-%m-%dT%H:%M:%SZ", time.gmtime())}
+    message = json.dumps({**plain, "UniqueID": "by-request", "MessageBody": {"Reel": "K-1"}})
+    wanted = [({}, 200), ({"Content_Type": "application/json; charset=utf-8"}, 200), ({"Origin": site.url, "Sec_Fetch_Site": "same-origin"}, 200), ({"Sec_Fetch_Site": "none"}, 200),
+              ({"Content_Type": None}, 415), ({"Content_Type": "text/plain"}, 415), ({"Content_Type": "application/jsonx"}, 415), ({"Origin": "https://elsewhere.example"}, 403), ({"Origin": "null"}, 403),
+              ({"Origin": f"{site.url}.example"}, 403), ({"Sec_Fetch_Site": "same-site"}, 403), ({"Sec_Fetch_Site": "cross-site"}, 403), ({"Origin": site.url, "Sec_Fetch_Site": "cross-site"}, 403)]
+    for path in ("/messages", "/station/messages"):
+        for headers, status in wanted:
+            if (got := site.asked("POST", path, "op", message, **headers))[0] != status or (status != 200 and '"Proxy"' not in got[2]):
+                raise Difference(f"{path} with {headers}: wanted {status}, got {got}")
+    for headers, status in (({"Content_Type": "text/csv"}, 409), ({}, 415), ({"Content_Type": "text/csv", "Sec_Fetch_Site": "cross-site"}, 403)):
+        if (got := site.asked("POST", IMPORT % "by-request", "op", "reel,quantity\nNO-SUCH,7\n", **headers))[0] != status:
+            raise Difference(f"an import with {headers}: wanted {status}, got {got}")
+    tried, server = 0, http.server.ThreadingHTTPServer(("127.0.0.1", 0), Elsewhere)
+    threading.Thread(target=server.serve_forever, daemon=True).start()
+    with Operator(site) as it:
+        it.ready()
+        before = accepted(site)
+        for number, host in enumerate(("127.0.0.1", "localhost")):
+            elsewhere, message = f"http://{host}:{server.server_port}/", json.dumps({**plain, "UniqueID": f"by-form-{number}", "MessageBody": {"Reel": "K-2"}})
+            forms = [(path, enctype, message) for path in ("/messages", "/station/messages") for enctype in ("text/plain", "application/x-www-form-urlencoded", "multipart/form-data")]
+            for path, enctype, body in [*forms, (IMPORT % f"by-form-{number}", "text/plain", "reel,quantity")]:
+                it.page.get(elsewhere)
+                it.script(FORM, site.url + path, enctype, body)
+                wait_for("the form's answer", lambda: site.url in it.page.current_url and '"Proxy"' in it.page.page_source)
+                tried += 1
+            it.page.get(elsewhere)
+            tried += it.script(FETCHES, site.url, message, IMPORT % f"by-form-{number}")
+        time.sleep(0.5)
+        if (after := accepted(site)) != before:
+            raise Difference(f"the desk took {after - before}")
+        it.load()
+        it.ready().does("A/OPEN", "K-1", holds=("OPENED",))
+    server.shutdown()
+    server.server_close()
+    return f"{2 * len(wanted) + 3} requests by their headers; {tried} forms, fetches and beacons of two other sites in a browser that is logged in: none acted"
+
+
+def certificates_read_or_send(site):
+    """A certificate that is named as a sender's sends; another one only reads, and without the file so do all."""
+    message = json.dumps({"MessageName": "TraceDesk.ReelOpened", "UniqueID": "by-m2", "Source": "m2", "TimeStamp": time.strftime("%Y-%m-%dT%H:%M:%SZ", time.gmtime()), "MessageBody": {"Reel": "K-1"}})
+    wanted = {("GET", "/overdue"): (200, 200, 200), ("GET", "/station/"): (200, 200, 200), ("POST", "/messages"): (200, 401, 401), ("POST", "/station/messages"): (200, 403, 403),
+              ("GET", "/station/may-send.json"): (200, 403, 403), ("POST", IMPORT % "by-m2"): (409, 401, 401)}
+
+    def asked(certificate):
+        return [site.asked(method, path, None, None if method == "GET" else "reel,quantity\nNO-SUCH,7\n" if "imports" in path else message, certificate,
+                           **({"Content_Type": "text/csv"} if "imports" in path else {}))[0] for method, path in wanted]
+    got = [asked("m2"), asked("auditor")]
+    (site.room / "etc/certificates.conf").unlink()
+    site.stop_nginx()
+    site.start_nginx()
+    got.append(asked("m2"))
+    if list(zip(*got)) != list(wanted.values()):
+        raise Difference(f"of a sender's, a reader's, and without the file: {list(zip(wanted, zip(*got)))}")
+    return f"{len(wanted)} requests by each"
+
+
 def ten_stations_ask_once(site):
     """Twenty looks at the same moment are one connection of the desk; an answer to a POST is never kept."""
     time.sleep(2.2)
@@ -522,7 +617,7 @@ def one_accepted_one_refused_one_repeated(site):
 
 SHORT = [one_accepted_one_refused_one_repeated]
 FLOWS = [a_shift_from_the_printed_page, each_refusal_in_words, a_kill_of_the_desk_in_mid_scan, a_stop_of_nginx_in_mid_scan, a_kill_of_the_browser_in_mid_scan, a_desk_that_is_stopped_for_a_copy,
-         hostile_names, a_trace_is_the_report, a_changeover_counts_what_is_mounted, readers_may_only_read, ten_stations_ask_once, two_tabs_of_one_browser, a_plant_changes_texts_and_set_up]
+         hostile_names, a_trace_is_the_report, a_changeover_counts_what_is_mounted, readers_may_only_read, another_site_commands_nothing, certificates_read_or_send, ten_stations_ask_once, two_tabs_of_one_browser, a_plant_changes_texts_and_set_up]
 
 
 def folder():

@@ -50,13 +50,13 @@ def a_scan_whatever_has_the_focus(site):
             for number, name in enumerate(names):
                 is_field, chosen = it.script(FOCUS, number)
                 it.scan("S/M1/2")
-                wait_for(f"a slot is held on {screen}, with the focus on {name}", lambda: "Slot 2 of M1" in it.text("held"), 10)
+                wait_for(f"a slot is held on {screen}, with the focus on {name}", lambda: "M1 slot 2" in it.text("held"), 10)
                 value, after, sent = it.script(AFTER, number)
                 if (is_field and name.split()[-1] != "scan" and value != "KEEP") or after != chosen or sent:
                     raise Difference(f"{screen}: a scan at {name} left {value!r}, {chosen!r} became {after!r}, sent {sent}")
                 it.script(FOCUS, number)
                 it.scan("A/CANCEL")
-                wait_for(f"nothing is held on {screen}, after {name}", lambda: "Scan a slot" in it.text("held"), 10)
+                wait_for(f"nothing is held on {screen}, after {name}", lambda: "a reel or an action" in it.text("held"), 10)
                 it.script(FOCUS, number)
                 if not is_field:
                     it.scan("K-2")
@@ -85,12 +85,12 @@ def scans_beside_fields(site, it):
     it.keys("\ue00c", "le")
     time.sleep(0.5)
     it.scan("S/M1/2")
-    wait_for("a slot behind letters that were left", lambda: "Slot 2 of M1" in it.text("held"))
+    wait_for("a slot behind letters that were left", lambda: "M1 slot 2" in it.text("held"))
     it.keys("\ue00c")
     it.page.get(f"{site.url}/station/codes.html")
     wait_for("the codes", lambda: it.script("return document.querySelectorAll('figure').length > 20"))
     it.scan("S/M1/3")
-    wait_for("the station takes what was scanned among the codes", lambda: "Slot 3 of M1" in it.text("held"))
+    wait_for("the station takes what was scanned among the codes", lambda: "M1 slot 3" in it.text("held"))
     it.keys("\ue00c")
     whole(site, it, 1)
     return 4
@@ -184,6 +184,7 @@ def each_refused_load_says_what_to_bring(site):
         site.resume_desk()
         it.verdict(("refused",))
         wait_for("what to bring to a slot that is taken", lambda: "wants CAP" in it.text("verdict") and "has a reel with pieces left" in it.text("verdict"))
+        it.seen()
         it.does("S/M1/3", "K-7", holds=("SPLICED",))
         wait_for("the reel's own part", lambda: "CAP, lot L-7" in it.text("verdict"))
         if (sizes := letters(it, "word", "where", "life", "part")) != sorted(sizes, reverse=True) or min(sizes) < READ:

@@ -107,7 +107,7 @@ def a_real_line_is_on_one_screen(site):
         if not few or shown != [3 * few, 78 * 9]:
             raise Difference(f"{few} need a person; on the screen are {shown}")
         it.scan(f"S/{first}/17")
-        wait_for("the slot is held", lambda: f"Slot 17 of {first}" in it.text("held"))
+        wait_for("the slot is held", lambda: f"{first} slot 17" in it.text("held"))
         on_the_screen(it, "#held b", SCREEN, TWO_METRES)
         on_the_screen(it, ".line table td", SCREEN, 14)
         it.keys("\ue00c")

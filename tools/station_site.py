@@ -17,6 +17,7 @@ import uuid
 
 ROOT = pathlib.Path(__file__).resolve().parent.parent
 PEOPLE = {"op": "senders", "office": "readers"}  # their passwords are their names
+CERTIFICATES = {"m2": "sender", "auditor": "reader"}
 SETUP = {"title": "Line 1", "machines": [{"machine": "M1", "product": "CTRL-A"}, {"machine": "M2", "product": "CTRL-A"}], "boards": 50, "expires": 60}
 PATIENCE = 90  # seconds: of a machine that has much to do
 
@@ -96,10 +97,20 @@ class Site:
         at = self.room / "etc"
         subprocess.run(["openssl", "req", "-x509", "-newkey", "ec", "-pkeyopt", "ec_paramgen_curve:P-256", "-nodes", "-days", "9", "-subj", "/CN=localhost",
                         "-addext", "subjectAltName=DNS:localhost", "-keyout", at / "server.key", "-out", at / "server.crt"], check=True, capture_output=True)
-        shutil.copy(at / "server.crt", at / "clients.crt")
+        self.sign("clients", "trace desk clients")
+        for name in CERTIFICATES:
+            self.sign(name, name, "clients")
+        (at / "certificates.conf").write_text("".join(f'"CN={name}" sender;\n' for name, may in CERTIFICATES.items() if may == "sender"))
         lines = {name: f"{name}:{subprocess.run(['openssl', 'passwd', '-6', name], check=True, capture_output=True, text=True).stdout}" for name in PEOPLE}
         (at / "readers").write_text("".join(lines.values()))
         (at / "senders").write_text("".join(line for name, line in lines.items() if PEOPLE[name] == "senders"))
+
+    def sign(self, name, subject, by=None):
+        """Makes a key and a certificate; one that signs itself, or by another's key."""
+        at = self.room / "etc"
+        signed = ["-CA", at / f"{by}.crt", "-CAkey", at / f"{by}.key"] if by else []
+        subprocess.run(["openssl", "req", "-x509", "-newkey", "ec", "-pkeyopt", "ec_paramgen_curve:P-256", "-nodes", "-days", "9", "-subj", f"/CN={subject}", *signed,
+                        "-keyout", at / f"{name}.key", "-out", at / f"{name}.crt"], check=True, capture_output=True)
 
     def write_proxy(self):
         """The packaged configuration, with the paths and the ports of this folder."""
@@ -110,7 +121,8 @@ class Site:
             if old not in text:
                 raise Difference(f"packaging/nginx.conf has no {old}")
             text = text.replace(old, str(new))
-        (self.room / "tracedesk.conf").write_text(text, encoding="utf-8")
+        clock = f"map $msec $station_msec {{ default $msec; include {self.room}/clock.con[f]; }}\n"
+        (self.room / "tracedesk.conf").write_text(clock + text.replace("X-Station-Now $msec", "X-Station-Now $station_msec"), encoding="utf-8")
         temporary = "".join(f"{name}_temp_path {self.room}/temporary/{name};" for name in ("client_body", "proxy", "fastcgi", "uwsgi", "scgi"))
         user = "user root;" if os.geteuid() == 0 else ""
         (self.room / "nginx.conf").write_text(f"{user} daemon off; pid {self.room}/nginx.pid; error_log {self.room}/log/error.log; events {{}}\n"
@@ -125,6 +137,14 @@ class Site:
             self.nginx.send_signal(signal.SIGTERM)
             self.nginx.wait()
             self.nginx = None
+
+    def shift_clock(self, millions):
+        """Puts the clock of the station's server so many million seconds ahead."""
+        begins = [int(time.time()) // 10**6 + more for more in (0, 1)]
+        (self.room / "clock.conf").write_text("".join(f'"~^{it}(?<below>.*)$" "{it + millions}$below";\n' for it in begins))
+        self.nginx.send_signal(signal.SIGHUP)
+        wait_for("the clock is shifted", lambda: abs(float(self.asked("GET", "/station/", "op")[1]["X-Station-Now"]) - time.time() - millions * 10**6) < 60)
+        time.sleep(0.5)
 
     def kill_nginx(self):
         """Ends nginx with its workers as a power cut does."""
@@ -162,10 +182,17 @@ class Site:
         finally:
             link.close()
 
-    def asked(self, method, path, user=None, body=None):
-        """The status, the headers and the body of a request to nginx."""
-        link = http.client.HTTPSConnection("localhost", self.port, timeout=30, context=ssl.create_default_context(cafile=self.room / "etc/server.crt"))
-        headers = {"Authorization": "Basic " + base64.b64encode(f"{user}:{user}".encode()).decode()} if user else {}
+    def asked(self, method, path, user=None, body=None, certificate=None, **headers):
+        """The status, the headers and the body of a request to nginx. A header is named with _ in place of -; one that is None isn't sent."""
+        trust = ssl.create_default_context(cafile=self.room / "etc/server.crt")
+        if certificate:
+            trust.load_cert_chain(self.room / f"etc/{certificate}.crt", self.room / f"etc/{certificate}.key")
+        link = http.client.HTTPSConnection("localhost", self.port, timeout=30, context=trust)
+        if method == "POST":
+            headers = {"Content_Type": "application/json", **headers}
+        headers = {name.replace("_", "-"): value for name, value in headers.items() if value is not None}
+        if user:
+            headers["Authorization"] = "Basic " + base64.b64encode(f"{user}:{user}".encode()).decode()
         try:
             link.request(method, path, body, headers)
             answer = link.getresponse()
@@ -314,17 +341,30 @@ class Operator:
     def text(self, name):
         return self.script("return document.getElementById(arguments[0])?.innerText ?? ''", name)
 
-    def verdict(self, kinds=("accepted", "refused", "fault"), seconds=PATIENCE):
-        """The kind and the text of the verdict, once there is one of these kinds."""
+    def turn(self):
+        """The number of what the page showed last over its screens."""
+        return self.script("return Number(document.getElementById('verdict').dataset.turn ?? 0)")
+
+    def verdict(self, kinds=("accepted", "refused", "fault"), seconds=PATIENCE, after=0):
+        """The kind and the text of the verdict, once there is one of these kinds; `after` is the turn of what was there before."""
         def shown():
-            kind, text = self.script("const v = document.getElementById('verdict'); return v.hidden ? ['', ''] : [v.className, v.innerText]")
-            return (kind, text) if kind in kinds else None
+            kind, text, turn = self.script("const v = document.getElementById('verdict'); return v.hidden ? ['', '', 0] : [v.className, v.innerText, Number(v.dataset.turn)]")
+            return (kind, text) if kind in kinds and turn > after else None
         return wait_for(f"a verdict of {kinds}: {self.text('verdict')!r}", shown, seconds)
+
+    def seen(self):
+        """Cancels until nothing is shown over the screens."""
+        from selenium.webdriver.common.keys import Keys
+        def hidden():
+            self.keys(Keys.ESCAPE)
+            return self.script("return document.getElementById('verdict').hidden")
+        wait_for("nothing is shown", hidden)
 
     def does(self, *codes, kind="accepted", holds=()):
         """Scans, and looks whether the verdict is of this kind and has these texts."""
+        after = self.turn() if codes else 0
         self.scan(*codes)
-        got, text = self.verdict()
+        got, text = self.verdict(after=after)
         lacking = [it for it in holds if it not in text]
         if got != kind or lacking:
             raise Difference(f"{codes}: wanted {kind} with {lacking or 'no more'}, got {got}: {text!r}")
