@@ -7,7 +7,7 @@ of level 3's 10,080 minutes. K3 was baked, and has used up its label's 60 minute
 """
 import pathlib
 
-from spelling import accepted, message, refused, stamp, text
+from spelling import accepted, answer, message, refused, stamp, text
 
 SHEET = [{"Slot": "1", "PartNumber": "P", "Designators": ["R1"]}, {"Slot": "2", "PartNumber": "P", "Designators": ["R2"]}]
 SETUP = [
@@ -67,12 +67,19 @@ NEW = [(400, *it, {}) for it in SETUP] + [
     (1700, "ReelOpened", {"Reel": "K5"}, {}),
     (1940, "ReelOpened", {"Reel": "K3"}, {}),
     (2000, "ReelSealed", {"Reel": "K5"}, {}),
+    (2000, "ClockSet", {}, {}),  # else u20 would have number 20 in both desks
 ]
+KNOWN = [(f"u{n}", minute) for n, (minute, *_) in reversed(list(enumerate(OLD, 1)))]  # the old one's UniqueIDs, the newest first
+ALL = len(NEW) + len(KNOWN) + 1  # the last command is a ClockSet of its own
 
 
-def begun(number, minute, word, body):
+def own(number):
+    return f"goes-on-{number}"
+
+
+def begun(uid, minute, word, body, source="begin"):
     """A message of tools/begin."""
-    envelope = {"MessageName": "TraceDesk." + word, "UniqueID": f"begin-2000-{len(OLD)}-{number}", "Source": "begin"}
+    envelope = {"MessageName": "TraceDesk." + word, "UniqueID": uid, "Source": source}
     return text({**envelope, "TimeStamp": stamp(minute).removesuffix("Z"), "MessageBody": body})
 
 
@@ -93,13 +100,28 @@ def later(first):
     yield message("v9", "MaterialsLoaded", 10480, Machine="M", Slot="1", Reel="K2"), refused("v9", "Expired", "K2")
 
 
+def again():
+    """What the old desk accepted is sent to the new one, and once more as a ClockSet, by which the message is known."""
+    for place, (uid, minute) in enumerate(KNOWN, len(NEW) + 1):
+        _, word, body, _ = OLD[int(uid[1:]) - 1]
+        if word != "ClockSet":
+            yield message(uid, word, minute, **body), answer(Answer="Refused", Number=place, Refusal="IdReused", UniqueID=uid)
+        yield message(uid, "ClockSet", minute), accepted(place, uid)
+
+
 lines("messages.jsonl", [message(f"u{n}", word, minute, **body) for n, (minute, word, body, _) in enumerate(OLD, 1)])
 lines("answers.jsonl", [accepted(n, f"u{n}", **detail) for n, (*_, detail) in enumerate(OLD, 1)])
-lines("begin.jsonl", [begun(n, minute, word, body) for n, (minute, word, body, _) in enumerate(NEW, 1)])
-lines("begun.jsonl", [accepted(n, f"begin-2000-{len(OLD)}-{n}", **detail) for n, (*_, detail) in enumerate(NEW, 1)])
+lines("begin.jsonl", [
+    *(begun(own(n), minute, word, body) for n, (minute, word, body, _) in enumerate(NEW, 1)),
+    *(begun(uid, minute, "ClockSet", {}, "S") for uid, minute in KNOWN), begun(own(ALL), 2000, "ClockSet", {})])
+lines("begun.jsonl", [
+    *(accepted(n, own(n), **detail) for n, (*_, detail) in enumerate(NEW, 1)),
+    *(accepted(n, uid) for n, (uid, _) in enumerate(KNOWN, len(NEW) + 1)), accepted(ALL, own(ALL))])
+lines("again.jsonl", [asked for asked, _ in again()])
+lines("again_new.jsonl", [told for _, told in again()])
 lines("later.jsonl", [asked for asked, _ in later(1)])
 lines("later_old.jsonl", [told for _, told in later(len(OLD) + 1)])
-lines("later_new.jsonl", [told for _, told in later(len(NEW) + 1)])
+lines("later_new.jsonl", [told for _, told in later(ALL + 1)])
 # of both desks: K3 is expired, so of the free reels K5 alone is for the kit, with more than the 5 pieces of slot 1
 lines("slots.csv", ["slot,position,reel,part,lot,remaining,minutes_left", "1,1,K1,P,L1,9,0", "1,2,K2,P,L1,30,8480"])
 lines("kit.csv", ["slot,part,needed,reel,pieces,minutes_left", "1,P,5,K5,7,4020", "2,P,5,,5,short"])
