@@ -6,6 +6,7 @@ desk may be put off, killed, or given a fault, as the seed of the run says. Time
 import contextlib
 import errno
 import fcntl
+import hashlib
 import importlib.machinery
 import importlib.util
 import json
@@ -72,7 +73,8 @@ class Process:
     """A program that runs: what it said, and its status once it ended."""
 
     def __init__(self, world, main, words):
-        self.world, self.main, self.words, self.is_killed, self.is_interrupted, self.status, self.said, self.stops = world, main, list(map(str, words)), False, False, None, [], 0
+        self.world, self.main, self.words, self.is_killed, self.status, self.said, self.stops = world, main, list(map(str, words)), False, None, [], 0
+        self.is_interrupted = self.was_interrupted = False
         self.is_deaf = world.has_faults and world.chance.random() < 0.05  # nobody reads what it says
         self.aside = set(world.spool.set_aside())
         Task(world, self, self.run, takes_signals=True)
@@ -220,8 +222,8 @@ class World:
             return
         aside, status, told = set(self.spool.set_aside()) - process.aside, process.status, process.told()
         stopped = "--stop-at-refusal" in process.words
-        wrong = {0: bool(aside), 1: not aside and not stopped, 2: not self.has_faults, 3: "--patience" not in process.words, 4: not process.stops, 130: not self.has_faults}.get(status, True)
-        if wrong or status == 0 and not self.has_faults and self.spool.names():
+        wrong = {0: bool(aside), 1: not aside and not stopped, 2: not self.has_faults, 3: "--patience" not in process.words, 4: not process.stops, 130: not process.was_interrupted}.get(status, True)
+        if wrong:
             raise Wrong(f"status {status}, set aside {sorted(aside)}, waiting {self.spool.names()}: {told}")
         said = told + "".join(it.told() for it in self.processes)
         if silent := [it for it in aside if f"message {it} is" not in said and not any(it.is_deaf for it in self.processes)]:
@@ -439,8 +441,8 @@ class Run:
 
     def rotate(self):
         """The file is moved away; its writer stays on it for a line or two, and the file of that name comes after the last of them."""
-        if self.log is None:
-            return
+        if self.log is None or not (self.world.room / "spool/.position").exists():
+            return  # what was moved away before the bridge ever ran is given by hand
         self.number += 1
         self.world.log.rename(self.world.room / f"said.log.{self.number}")
         self.world.sleep(self.chance.choice((0, 0.3, 3)))
@@ -471,8 +473,8 @@ class Run:
             return True
         with contextlib.suppress(OSError, ValueError, LookupError):
             told = json.loads((self.world.room / "spool/.position").read_text())[str(self.world.log.absolute())]
-            there = {it.stat().st_ino: it.stat().st_size for it in self.world.room.glob("said.log*")}
-            return told[-1]["Inode"] == self.world.log.stat().st_ino and all(it["At"] == there.get(it["Inode"], -1) for it in told)
+            there = {it.stat().st_ino: it.read_bytes() for it in self.world.room.glob("said.log*")}
+            return told[-1]["Inode"] == self.world.log.stat().st_ino and all((it["At"], it["Before"]) == (len(data := there[it["Inode"]]), hashlib.sha256(data[-4096:]).hexdigest()[:16]) for it in told)
         return False
 
     # What supervisors and operators do
@@ -488,7 +490,7 @@ class Run:
     def signal(self):
         process = self.chance.choice([it for it in (self.sender, self.bridging) if it])
         if self.chance.random() < 0.3:
-            process.is_interrupted = True
+            process.is_interrupted = process.was_interrupted = True
         else:
             self.world.kill(process)
 
@@ -560,7 +562,7 @@ class Run:
     def drained(self):
         self.sender = self.world.send()
         self.until(self.sender.is_over)
-        if self.sender.status not in (0, 1):
+        if self.sender.status not in (0, 1) or self.world.spool.names():
             raise Wrong(f"status {self.sender.status}: {self.sender.told()}")
 
     def restore(self):

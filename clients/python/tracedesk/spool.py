@@ -22,6 +22,7 @@ import time
 from typing import Any, BinaryIO, Deque, Dict, Iterable, Iterator, List, Optional, Tuple, Union
 
 from . import answers, forms
+from .console import patiently
 
 NAME = re.compile(r"(\d{12})\.json")
 LOG = re.compile(r"\d{4}-\d\d-\d\d\.jsonl")
@@ -138,8 +139,9 @@ class Spool:
         name = spelled(last + 1)
         os.pwrite(lock, f"{name} busy\n".encode(), 0)
         write_synced(self.waiting / f"{name}.json", text)
-        sync_folder(self.waiting)
-        os.pwrite(lock, f"{name} free\n".encode(), 0)
+        patiently(lambda: sync_folder(self.waiting))  # it is there, and may be sent already: who puts it in must not do so again
+        with contextlib.suppress(OSError):
+            os.pwrite(lock, f"{name} free\n".encode(), 0)
         return name
 
     # --- Files of messages. While one is taken in, .intake has its path, the number of its first line, and how many lines were
