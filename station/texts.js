@@ -56,7 +56,7 @@ export const TEXTS = {
     number: "{action} {what}: how many pieces? Scan or type the number",
     waiting: "{count} scans have no answer yet. They are kept, and sent again",
     waitingOne: "1 scan has no answer yet. It is kept, and sent again",
-    unsafe: "This browser may throw kept scans away where the disk is full: docs/station.md says how to prevent it.",
+    unsafe: "This browser may throw kept scans away when the tablet's disk is full.",
     disk: "This tablet's disk fails: {fault}. It is tried again. Call the line leader",
     stuck: "The proxy takes no scan: status {status}. {count} are kept. Call the line leader",
   },

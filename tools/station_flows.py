@@ -115,8 +115,9 @@ def receives(operator):
         fields = operator.script("return ['reel', 'part', 'lot', 'quantity'].map((it) => document.getElementById(it).value)")
         if fields != ["R-900", "LED", "LOT-77", "3000"]:
             raise Difference(f"{label!r} was read as {fields}")
+    after = operator.turn()
     operator.keys(Keys.SPACE, Keys.ENTER)
-    kind, text = operator.verdict()
+    kind, text = operator.verdict(after=after)
     if kind != "accepted" or "RECEIVED" not in text:
         raise Difference(f"receive: {kind} {text}")
 
@@ -161,6 +162,7 @@ def refused_by_a_screen(it, refused):
     """By Receive and by Changeover."""
     for refusal, part in (("UnknownPart", "NOT-A-PART"), ("ReelExists", "CAP")):
         it.seen()
+        time.sleep(1)  # so that the button isn't touched twice
         it.go("receive")
         it.script("""const form = document.querySelector('form.receive').elements; form.reel.value = 'K-1'; form.part.value = arguments[0]; form.lot.value = 'L'; form.quantity.value = '5';
                      form.level.value = '1'; document.querySelector('form.receive button[type=submit]').click()""", part)
@@ -302,8 +304,8 @@ def a_desk_that_is_stopped_for_a_copy(site):
         site.drained.touch()
         site.kill_desk()
         wait_for("the page says that it is old", lambda: "OLD" in it.text("state"), 40)
-        rows, (status, headers, _) = it.rows(), site.asked("GET", "/station/desk/slots?machine=M1", "office")
-        if rows[0][2] != "K-1" or status != 200 or headers["X-Station-Cache"] != "STALE" or float(headers["X-Station-Now"]) <= float(headers["X-Desk-Answered"]):
+        rows, (status, headers, _) = it.rows(), wait_for("an old answer", lambda: (got := site.asked("GET", "/station/desk/slots?machine=M1", "office"))[1].get("X-Station-Cache") == "STALE" and got)
+        if rows[0][2] != "K-1" or status != 200 or float(headers["X-Station-Now"]) <= float(headers["X-Desk-Answered"]):
             raise Difference(f"while it is stopped: {rows[:1]}, {status} {headers}")
         it.scan("S/M1/1", "A/UNLOAD")
         it.verdict(("asked",))
