@@ -10,6 +10,7 @@ import json
 import os
 import pathlib
 import re
+import sqlite3
 import time
 
 import catalogue
@@ -44,9 +45,14 @@ def kept_in(to, db=None):
 
 def is_of(copy, db):
     """Whether a copy is one of the desk in that file, or doesn't say of which desk it is."""
+    return desk_of(copy) in ("", os.path.realpath(db))
+
+
+def desk_of(copy):
+    """The desk's file that a copy is of; empty where it doesn't say so."""
     with contextlib.suppress(plant.Fault):
-        return about(copy)["desk"] in ("", os.path.realpath(db))
-    return True
+        return about(copy)["desk"]
+    return ""
 
 
 def taken(copy):
@@ -84,8 +90,8 @@ def whole_archives(copy):
 
 
 def command(file, number):
-    """The command of this number of a desk that stands whole, with all that its sender said; or none."""
-    with catalogue.opened(file) as database:
+    """The command of this number of a desk that stands whole, with all that its sender said; none where there is none, or the file is damaged."""
+    with contextlib.suppress(sqlite3.Error), catalogue.opened(file) as database:
         return database.execute("SELECT uid, source, own, command FROM accepted WHERE number = ?", [number]).fetchone()
 
 
@@ -97,7 +103,8 @@ def commands(file):
 def have_the_same(file, other):
     """Whether one of two desks has all commands of the other: so it is where a roll-over was cut off."""
     least = min(commands(file), commands(other))
-    return least > 0 and command(file, least) == command(other, least)
+    last = command(file, least)
+    return last is not None and last == command(other, least)
 
 
 def goes_on_from(first, archive):

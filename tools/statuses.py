@@ -3,7 +3,7 @@ import pathlib
 import sys
 import traceback
 
-INTERRUPTED, UNEXPECTED = 130, 70
+INTERRUPTED, UNEXPECTED = 130, 9  # one digit: manual pages list such statuses
 
 
 def end(main):
