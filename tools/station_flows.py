@@ -110,6 +110,7 @@ def type_label(operator, label):
 def receives(operator):
     """A supplier's label, as control characters and as a wedge's words; then the level, and Enter."""
     from selenium.webdriver.common.keys import Keys
+    operator.seen()  # the fields are under a refusal
     for label in LABEL:
         type_label(operator, label)
         fields = operator.script("return ['reel', 'part', 'lot', 'quantity'].map((it) => document.getElementById(it).value)")
