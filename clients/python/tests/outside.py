@@ -527,7 +527,7 @@ class Run:
             does = [it for it, is_there in ((self.write_file, self.files), (self.write_line, self.lines and self.bridge), (lambda: world.spool.put(self.puts.pop(0)), self.puts), (self.rotate, self.bridge),
                                             (self.write_anew, self.bridge), (self.signal, True), (self.roll_over, self.chance.random() < 0.5), (self.copy, True)) if is_there]
             self.chance.choice(does)()
-            world.sleep(self.chance.choice((0, 0.1, 1, 5, 100)))
+            world.sleep(self.chance.choice((0, 0.1, 1, 5, 20)))
             world.ahead += self.chance.choice((0,) * 9 + (864000, -864000))
             self.look()
         self.settle()
