@@ -295,6 +295,9 @@ class Way:
             world.running.process.stops += 1
             self.answer = world.chance.choice(((401, b"<html>", None), (404, b"", None), (200, b"<html>", None), (302, b"", None)))
             return
+        if 0.29 <= fault < 0.32:  # the proxy gives away another one's answer, and the desk doesn't see the message
+            self.answer = 200, b'{"Answer":"Accepted","Number":1,"UniqueID":"somebody-else"}', None
+            return
         status, told = world.desk.judge(body)
         self.answer = status, json.dumps(told, separators=(",", ":")).encode(), None
         if fault < 0.20:
