@@ -295,6 +295,9 @@ class Way:
             world.running.process.stops += 1
             self.answer = world.chance.choice(((401, b"<html>", None), (404, b"", None), (200, b"<html>", None), (302, b"", None)))
             return
+        if 0.29 <= fault < 0.32:  # the proxy gives away another one's answer, and the desk doesn't see the message
+            self.answer = 200, b'{"Answer":"Accepted","Number":1,"UniqueID":"somebody-else"}', None
+            return
         status, told = world.desk.judge(body)
         self.answer = status, json.dumps(told, separators=(",", ":")).encode(), None
         if fault < 0.20:
@@ -527,7 +530,7 @@ class Run:
             does = [it for it, is_there in ((self.write_file, self.files), (self.write_line, self.lines and self.bridge), (lambda: world.spool.put(self.puts.pop(0)), self.puts), (self.rotate, self.bridge),
                                             (self.write_anew, self.bridge), (self.signal, True), (self.roll_over, self.chance.random() < 0.5), (self.copy, True)) if is_there]
             self.chance.choice(does)()
-            world.sleep(self.chance.choice((0, 0.1, 1, 5, 100)))
+            world.sleep(self.chance.choice((0, 0.1, 1, 5, 20)))
             world.ahead += self.chance.choice((0,) * 9 + (864000, -864000))
             self.look()
         self.settle()

@@ -50,7 +50,8 @@ class Answers(unittest.TestCase):
         message = b'{"MessageName":"TraceDesk.X","UniqueID":"u","Source":"S","TimeStamp":"t"}'
         for answer, wanted in ((Accepted(1, "u"), True), (Accepted(1, "v"), False), (Refused("Expired", "v"), False), (Ignored("TraceDesk.X"), True), (Ignored("CFX.X"), False), (Faulty("NotJson"), True)):
             self.assertEqual(answers.is_of(answer, message), wanted, answer)
-        self.assertTrue(answers.is_of(Accepted(1, "u"), b"{"))
+        self.assertFalse(answers.is_of(Accepted(1, "u"), b"{"))  # which no desk accepts
+        self.assertTrue(answers.is_of(Faulty("NotJson"), b"{"))
         self.assertEqual(json.loads(answers.question(message)), {"MessageName": "TraceDesk.ClockSet", "UniqueID": "u", "Source": "S", "TimeStamp": "t", "MessageBody": {}})
 
     def test_a_url_names_a_machine_and_nobody(self):

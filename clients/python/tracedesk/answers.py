@@ -121,11 +121,9 @@ def is_taken(answer: Answer) -> bool:
 def is_of(answer: Answer, message: bytes) -> bool:
     """Whether the answer names this message. A proxy may give away the answer to another one."""
     told = read_object(message)
-    if isinstance(answer, (Accepted, Refused)) and "UniqueID" in told:
-        return bool(answer.unique_id == told["UniqueID"])
-    if isinstance(answer, Ignored) and "MessageName" in told:
-        return bool(answer.message_name == told["MessageName"])
-    return True
+    if isinstance(answer, (Accepted, Refused)):
+        return bool(answer.unique_id == told.get("UniqueID"))
+    return not isinstance(answer, Ignored) or bool(answer.message_name == told.get("MessageName"))
 
 
 def question(message: bytes) -> bytes:

@@ -201,9 +201,10 @@ class Spool:
         return state
 
     def write_state(self, **changes: Any) -> None:
-        self.state.update(changes)
-        write_synced(self.folder / ".sender", json.dumps(self.state).encode())
+        state = {**self.state, **changes}
+        write_synced(self.folder / ".sender", json.dumps(state).encode())
         sync_folder(self.folder)
+        self.state = state  # what is on disk, and nothing else
 
     @contextlib.contextmanager
     def sending(self) -> Iterator[None]:
