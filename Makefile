@@ -25,9 +25,8 @@ plant-recall:  ## three lines in one PostgreSQL, and a recall over them, compare
 	$(say)
 	@examples/plant/try --check
 	@tools/three-ways-test >&2
-client-test:   ## kills `serve` twenty times under examples/client.py and tracedesk-send, puts a proxy that fails before it; tests the package | 1 min | openssl
+client-test:   ## kills `serve` twenty times under tracedesk-send, puts a proxy that fails before it; tests examples/client.py and the package | 1 min | openssl
 	@examples/client-test
-	@examples/client-test --client clients/python/tracedesk-send
 	@clients/python/tests/run
 send-test:     ## kills tracedesk-send, nginx and `serve` 200 times while 10,000 messages go through | 5 min | nginx openssl
 	$(say)
