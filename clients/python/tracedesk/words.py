@@ -260,7 +260,7 @@ MESSAGES: Tuple[Type[forms.Command], ...] = (
 
 # What to do about a refusal, and about a fault.
 REFUSALS: Dict[str, str] = {
-    'IdReused': 'programmer: give each message a UniqueID of its own',
+    'IdReused': 'programmer: give each message a UniqueID of its own. A sender whose message had no answer over a roll-over asks once with ClockSet',
     'DeskFull': 'begin with a new desk (operations.md)',
     'TooFarAhead': "set the sender's clock right; if it is right and the line stood still, send ClockSet first",
     'PartExists': 'nothing',
