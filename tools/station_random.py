@@ -240,7 +240,6 @@ def a_few_random_hands(site):
 
 def run(program, count, jobs, seed):
     """The long form: the exit status."""
-    from selenium.common.exceptions import WebDriverException
     sums, failed, begun = [0] * 5, 0, time.monotonic()
     with concurrent.futures.ThreadPoolExecutor(jobs) as threads:
         asked = [threads.submit(batch, program, seed + at, min(BATCH, count - at)) for at in range(0, count, BATCH)]
@@ -248,7 +247,7 @@ def run(program, count, jobs, seed):
             try:
                 sums = [a + b for a, b in zip(sums, one.result())]
                 print(f"{words(sums)} ({time.monotonic() - begun:.0f} s)", flush=True)
-            except (Difference, WebDriverException, OSError) as fault:
+            except Exception as fault:  # whatever it is, the other batches go on
                 failed += 1
                 print(f"FAILED  {type(fault).__name__} {str(fault)[:1500]}", flush=True)
     print(f"{sums[3]} passed, {failed} failed")
