@@ -314,6 +314,7 @@ STOPS: Dict[int, str] = {
     405: 'no path of a desk that takes messages: look at --url',
     411: 'the request has no length: something between takes it away',
     413: 'the message is too long: a desk takes at most 1,048,576 bytes. Split it',
+    415: 'the proxy takes messages as application/json and files as text/csv: send that Content-Type',
 }
 AGAIN: Tuple[int, ...] = (408, 429, 500, 502, 503, 504)
 FAULTS_OF_A_REQUEST: Tuple[str, ...] = ('BadQuery', 'BadMethod', 'BadHead', 'HeadTooLarge', 'LengthRequired', 'BadLength', 'BodyTooLarge')
