@@ -234,3 +234,8 @@ pub returns-in-Ok-Migrate-clause-named : goal.returns-in-Ok-Migrate-clause-named
 returns-in-Ok-Migrate-clause-named g c =
     let asks : AsksForMigration (map string_bytes c.args.words.now) (string_bytes c.in-Ok-Migrate.file) = search rules in
     names_migrated (map string_bytes c.args.words.now) c.migrate_file.result.1 c.migrate_file.ensures.left (string_bytes c.in-Ok-Migrate.file, asks)
+
+pub returns-in-Ok-Serve-clause-unserved : goal.returns-in-Ok-Serve-clause-unserved
+returns-in-Ok-Serve-clause-unserved g c = λ no_serving.
+    let asks : AsksForServing (map string_bytes c.args.words.now) (string_bytes c.in-Ok-Serve.file) c.in-Ok-Serve.port c.in-Ok-Serve.connections c.in-Ok-Serve.greatest = search rules in
+    absurd (no_serving (string_bytes c.in-Ok-Serve.file) c.in-Ok-Serve.port c.in-Ok-Serve.connections c.in-Ok-Serve.greatest asks)
