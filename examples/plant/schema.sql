@@ -1,5 +1,6 @@
 -- The tables of a plant: what the files of its lines say for good, each row with the file that said it.
 -- A file is an archive, which never changes, or the running desk of a line as of its last copy.
+SET client_min_messages = warning;  -- not what is there already
 CREATE SCHEMA IF NOT EXISTS plant;
 SET search_path TO plant;
 
@@ -90,3 +91,4 @@ SELECT s.board, p.designator, r.part, r.lot, r.reel, p.machine, p.slot, CASE WHE
 FROM (SELECT DISTINCT file, board FROM start) s JOIN file f ON f.id = s.file
 CROSS JOIN LATERAL (SELECT * FROM placement WHERE placement.file = s.file AND placement.board = s.board OFFSET 0) p
 JOIN reel r ON r.file = p.file AND r.reel = p.reel;
+RESET client_min_messages;
