@@ -4,9 +4,10 @@ use Rattle.desk_types.specs.History.{History}
 use Rattle.desk_types.proofs.BothRules.{judged-by-two}
 use Rattle.desk_types.specs.Tables.{tables_of}
 use Rattle.desk_types.specs.Edits.{with_edits, AreNew, AreTakesFirst, AreBalanced}
+use Rattle.state_rows.specs.Kept.{unnumbered}
 use Rattle.state_rows.specs.EditsOf.{pick_of, AreEditsOf, ArePiecesFitting}
-use Rattle.state_rows.proofs.RowsLess.{change-fits, rows-lead, rows-new, rows-fit}
-use Rattle.state_rows.proofs.rows.rows_of.Goals as goal
+use Rattle.state_rows.proofs.RowsLess.{change-fits, rows-lead, rows-same, rows-new, rows-fit}
+use Rattle.state_rows.proofs.rows.edits_for.Goals as goal
 
 pub edits_of-requires-clause-judged : goal.edits_of-requires-clause-judged
 edits_of-requires-clause-judged g c = λ H stands. judged-by-two _ H (c.is_judged.ensures H stands)
@@ -39,6 +40,14 @@ returns-clause-new g c = λ H stands next.
     subst (λ xs. AreNew xs (tables_of H)) (sym c.new.ensures)
     (rows-new _ H change.stamped change (c.requires.judged H stands) (c.is_judged.ensures H stands) c.ranges_hold.ensures range c.args.number c.in_ok-edits.edits.items
     (subst (λ takes. AreEditsOf H c.args.number change.minute takes change.stamped.command c.in_ok-edits.edits.items) c.takes.ensures (c.in_ok-edits.ensures H stands)) next)
+
+pub returns-clause-same : goal.returns-clause-same
+returns-clause-same g c = λ H stands.
+    let change = c.args.change.now in
+    let range : IsMinute change.minute = subst IsMinute c.get.ensures.value c.get.ensures.range in
+    ap (λ xs. unnumbered (with_edits xs (tables_of H))) c.new.ensures
+    ∙ rows-same _ H change.stamped change (c.requires.judged H stands) (c.is_judged.ensures H stands) c.ranges_hold.ensures range c.args.number c.in_ok-edits.edits.items
+    (subst (λ takes. AreEditsOf H c.args.number change.minute takes change.stamped.command c.in_ok-edits.edits.items) c.takes.ensures (c.in_ok-edits.ensures H stands))
 
 pub returns-clause-takes_first : goal.returns-clause-takes_first
 returns-clause-takes_first g c =
