@@ -16,7 +16,7 @@ use Rattle.line_audit.specs.Audit.{ArePlaced}
 use Rattle.line_rows.specs.Rows.{rows_of, ledger_tables}
 use Rattle.line_replay.specs.declared.fault.ReplayFault.{ReplayFault}
 use Rattle.line_replay.specs.declared.fault.ReplayFault.TheVariants.{NotLawful, Unavailable}
-use Rattle.line_replay.specs.declared.beside.Beside.{Beside}
+use Rattle.line_replay.specs.Expected.{Expected}
 use Rattle.line_replay.specs.Listed.{AreAt, StopsAt}
 use Rattle.line_replay.specs.Replay.{IsReplayed, IsFaultOf, IsNumbered, IsStuck, IsTaken, IsEnd, IsStop}
 use Rattle.line_replay.proofs.ReadOfCommitted.{reads_two, reads_back}
@@ -39,8 +39,8 @@ pub fault_before : (rules : Rules) (greatest : ℕ) (old mid : State) (f : Repla
 fault_before rules greatest old mid f kept numbered (inl is) = subst (IsFaultOf rules greatest old) (sym is) tt
 fault_before rules greatest old mid f kept numbered (inr stop) = subst (IsFaultOf rules greatest old) (sym stop.1) (stops_before rules greatest old mid stop.0 kept numbered stop.2)
 
-module _ {D : Type 0} (F : D → History → Type 0) (rules : Rules) (greatest : ℕ) (first mid last : State) (desk : D) (beside : Beside) (n : ℕ) (H : History) (Before After : Type 0)
-    (early : After → Before) (kept : After → KeepsCommit first mid) (kept_on : After → KeepsCommit mid last) (low : n ≤ greatest) (taken : IsTaken F rules Before mid.committed desk beside n H)
+module _ {D : Type 0} (F : D → History → Type 0) (rules : Rules) (greatest : ℕ) (first mid last : State) (desk : D) (expected : Expected) (n : ℕ) (H : History) (Before After : Type 0)
+    (early : After → Before) (kept : After → KeepsCommit first mid) (kept_on : After → KeepsCommit mid last) (low : n ≤ greatest) (taken : IsTaken F rules Before mid.committed desk expected n H)
     (are : Bool) (counted : After → Reads last (λ db. are ≡ (n == length (accepted_in db)))) where
   same : After → mid.committed ≡ first.committed
   same clean = (kept clean).committed ((kept_on clean).was_open (counted clean).was_open)
@@ -54,7 +54,7 @@ module _ {D : Type 0} (F : D → History → Type 0) (rules : Rules) (greatest :
   within : length H ≤ greatest
   within = omega (arith, low, taken.counted)
 
-  pub replayed : are ≡ true → IsReplayed F rules greatest After first desk beside n H
+  pub replayed : are ≡ true → IsReplayed F rules greatest After first desk expected n H
   replayed is = record {
     stands = taken.stands;
     judged = taken.judged;
@@ -72,7 +72,7 @@ module _ {D : Type 0} (F : D → History → Type 0) (rules : Rules) (greatest :
       named = taken.others.named;
       counted = taken.others.counted;
       told = λ clean schema.
-          subst (λ (db : Database). ArePlaced db beside.placed.all taken.others.pieces) (same clean) (taken.others.told (early clean) (subst (λ (db : Database). IsOurs db.schema) (sym (same clean)) schema));
+          subst (λ (db : Database). ArePlaced db expected.placed.all taken.others.pieces) (same clean) (taken.others.told (early clean) (subst (λ (db : Database). IsOurs db.schema) (sym (same clean)) schema));
     };
   }
 
@@ -93,10 +93,10 @@ module _ {D : Type 0} (F : D → History → Type 0) (rules : Rules) (greatest :
       }
 
 -- the list that was read again is the one whose tables these are
-pub same_list : {D : Type 0} (F : D → History → Type 0) (rules : Rules) (greatest : ℕ) (Clean : Type 0) (old : State) (desk : D) (beside : Beside) (count : ℕ) (H G : History)
-    → ((A B : History) → IsJudged rules A → IsJudged rules B → IsPermutation (rows_of A) (rows_of B) → A ≡ B) → IsReplayed F rules greatest Clean old desk beside count H → IsJudged rules G
+pub same_list : {D : Type 0} (F : D → History → Type 0) (rules : Rules) (greatest : ℕ) (Clean : Type 0) (old : State) (desk : D) (expected : Expected) (count : ℕ) (H G : History)
+    → ((A B : History) → IsJudged rules A → IsJudged rules B → IsPermutation (rows_of A) (rows_of B) → A ≡ B) → IsReplayed F rules greatest Clean old desk expected count H → IsJudged rules G
     → (IsTrue old.is_open → Holds old.committed (ledger_tables greatest G)) → Clean → H ≡ G
-same_list F rules greatest Clean old desk beside count H G tell all judged holds clean =
+same_list F rules greatest Clean old desk expected count H G tell all judged holds clean =
     let r = all.rows clean in
     let tables = holds r.was_open in
     tell H G all.judged judged (IsPermutation-trans _ _ _ (IsPermutation-sym _ _ (r.are (record { rules = Two; layout = tables.indexed; same = tables.schema })).same) tables.accepted)

@@ -14,21 +14,22 @@ use Rattle.line_tables.specs.Calls.{Reads, has_number, is_before, IsLeast}
 use Rattle.line_replay.specs.declared.fault.ReplayFault.{ReplayFault}
 use Rattle.line_replay.specs.declared.fault.ReplayFault.TheVariants.{NotLawful, Unavailable}
 use Rattle.line_replay.specs.Listed.{IsAt, AreAt, StopsAt, AreRowsOf}
-use Rattle.line_replay.specs.declared.beside.Beside.{Beside}
-use Rattle.line_replay.specs.Beside.{IsBeside, Adds}
+use Rattle.line_replay.specs.Expected.{Expected, AreExpected, Adds}
 use Rattle.line_rows.specs.Judging.{GoesOn, Lead}
+use Rattle.desk_types.specs.Edits.{with_edits}
+use Rattle.state_rows.specs.Kept.{KeptRows, tables_in, but_placements}
 use Rattle.desk_types.specs.declared.edit.RowEdit.{RowEdit}
 use Rattle.trace_lists.specs.declared.lists.TraceLists.{TraceLists}
 use Rattle.trace_lists.specs.Lists.{IsListed}
 
 -- The desk stands for a judged list of so many entries, no more than the greatest number, and the rows beside it are the list's; on a clean disk the list is lawful, and the rows of accepted commands that are committed are its rows.
-pub record IsReplayed {D : Type 0} (StandsFor : D → History → Type 0) (rules : Rules) (greatest : ℕ) (Clean : Type 0) (old : State) (desk : D) (beside : Beside) (count : ℕ) (H : History) : Type 0 where
+pub record IsReplayed {D : Type 0} (StandsFor : D → History → Type 0) (rules : Rules) (greatest : ℕ) (Clean : Type 0) (old : State) (desk : D) (expected : Expected) (count : ℕ) (H : History) : Type 0 where
   pub stands : StandsFor desk H
   pub judged : IsJudged rules H
   pub counted : length H ≡ count
   pub within : length H ≤ greatest
   pub rows : Clean → Reads old (λ db. AreRowsOf rules greatest (accepted_in db) H)
-  pub others : IsBeside Clean old.committed beside H
+  pub others : AreExpected Clean old.committed expected H
 
 -- what a fault says of the rows that are committed
 abbrev pub IsFaultOf : Rules → ℕ → State → ReplayFault → Type 0
@@ -52,15 +53,16 @@ pub record IsStuck (rules : Rules) (H : History) (rows : List Row) : Type 0 wher
   pub stuck : (e : Entry) → IsNext rules H e → IsAt rows H e → ⊥
 
 -- A row was taken with these edits of the state tables: the desk stands for the list with its entry, and no row of a lower number has its UniqueID.
-pub record Accepts {D : Type 0} (StandsFor : D → History → Type 0) (rules : Rules) (Clean : Type 0) (old : State) (number : ℕ) (row : Row) (H : History) (desk : D) (edits : List RowEdit) : Type 0 where
+pub record Accepts {D : Type 0} (StandsFor : D → History → Type 0) (rules : Rules) (Clean : Type 0) (old : State) (number : ℕ) (row : Row) (H : History) (desk : D) (edits : List RowEdit) (before after : KeptRows) : Type 0 where
   pub entry : Entry
   pub stands : StandsFor desk (entry ∷ H)
   pub goes : GoesOn rules H row entry
   pub lead : Lead edits H entry
+  pub rows : tables_in after ≡ but_placements (with_edits edits (tables_in before)) (tables_in before)
   pub first : Clean → Reads old (λ db. list_any (is_before entry.stamped.uid number) (accepted_in db) ≡ false)
 
 -- one entry more is taken
-pub record Takes {D : Type 0} (StandsFor : D → History → Type 0) (rules : Rules) (Clean : Type 0) (old : State) (H : History) (desk : D) (before after : Beside) : Type 0 where
+pub record Takes {D : Type 0} (StandsFor : D → History → Type 0) (rules : Rules) (Clean : Type 0) (old : State) (H : History) (desk : D) (before after : Expected) : Type 0 where
   pub entry : Entry
   pub stands : StandsFor desk (entry ∷ H)
   pub next : IsNext rules H entry
@@ -70,17 +72,17 @@ pub record Takes {D : Type 0} (StandsFor : D → History → Type 0) (rules : Ru
   pub adds : Adds Clean old edits before after
 
 -- A row was taken, or there is none of the next number, and the desk stands for the list.
-abbrev pub Goes : {D : Type 0} → (D → History → Type 0) → Rules → Type 0 → State → History → Beside → D → Beside → Bool → Type 0
+abbrev pub Goes : {D : Type 0} → (D → History → Type 0) → Rules → Type 0 → State → History → Expected → D → Expected → Bool → Type 0
 Goes StandsFor rules Clean old H before desk after true = Takes StandsFor rules Clean old H desk before after
 Goes StandsFor rules Clean old H before desk after false = StandsFor desk H × (Clean → Reads old (λ db. filter (has_number (length H + 1)) (accepted_in db) ≡ [])) × (after ≡ before)
 
 -- the desk stands for a judged list of so many entries, and the rows beside it are the list's; on a clean disk each entry has its row in our schema's table
-pub record IsTaken {D : Type 0} (StandsFor : D → History → Type 0) (rules : Rules) (Clean : Type 0) (db : Database) (desk : D) (beside : Beside) (count : ℕ) (H : History) : Type 0 where
+pub record IsTaken {D : Type 0} (StandsFor : D → History → Type 0) (rules : Rules) (Clean : Type 0) (db : Database) (desk : D) (expected : Expected) (count : ℕ) (H : History) : Type 0 where
   pub stands : StandsFor desk H
   pub judged : IsJudged rules H
   pub counted : length H ≡ count
   pub rows : Clean → IsOurs db.schema → AreAt (accepted_in db) H
-  pub others : IsBeside Clean db beside H
+  pub others : AreExpected Clean db expected H
 
 -- all numbers are taken, or there is no row of the next one
 abbrev pub IsEnd : ℕ → State → ℕ → Type 0

@@ -2,10 +2,10 @@ use Rattle.std.proofs.Common.{◌≡◌, inl, inr, map, length, rules}
 use Rattle.sqlite.specs.Effect.{Database}
 use Rattle.sqlite.specs.Held.{state}
 use Rattle.line_audit.specs.Audit.{ArePlaced, piece_of}
-use Rattle.line_replay.specs.Beside.{ArePlacedToo}
-use Rattle.line_replay.proofs.RowsBeside.{too_false, too_none, too_found}
+use Rattle.line_replay.specs.Expected.{ArePlacedToo}
+use Rattle.line_replay.proofs.ExpectedRows.{too_false, too_none, too_found}
 use Rattle.line_replay.proofs.ReadOfCommitted.{reads_as}
-use Rattle.line_replay.proofs.beside.are_found.Goals as goal
+use Rattle.line_replay.proofs.placed.are_found.Goals as goal
 
 pub returns-then-not-found-clause-told : goal.returns-then-not-found-clause-told
 returns-then-not-found-clause-told g c clean = inl (λ db. too_false db c.args.found c.args.rows.now c.if-not-found.true)

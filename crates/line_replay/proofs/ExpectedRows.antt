@@ -1,7 +1,7 @@
--- The rows beside a list with one entry more.
+-- The rows expected a list with one entry more.
 use Rattle.std.proofs.Common.{◌≡◌, ◌∙◌, ◌⊎◌, ◌↔◌, ◌+◌, inl, inr, ℕ, ◌<◌, take, get_or, sym, Bool, true, false, Option, Some, None, List, [], ◌∷◌, ◌++◌, length, map, refl, ap, ap₂, subst, if◌then◌else◌, ◌==◌, ◌&&◌, arith}
 use Rattle.std.specs.Bool.{⊤}
-use Rattle.std.specs.Option.{option_to_list}
+use Rattle.std.specs.Option.{option_to_list, option_map}
 use Rattle.std.specs.List.{AllByRecursion, cons_option}
 use Rattle.std.proofs.lemmas.Bool.{eqb-true, eq-eqb}
 use Rattle.std.proofs.lemmas.List.Elements.{filter_map-append}
@@ -16,15 +16,17 @@ use Rattle.desk_types.specs.declared.edit.RowEdit.TheVariants.{TakeSheetRow, Tak
 use Rattle.desk_types.specs.declared.row.PlacementRow.{PlacementRow}
 use Rattle.desk_types.specs.Tables.{Tables, tables_of as state_of, placement_row}
 use Rattle.desk_types.specs.Edits.{with_edit, with_edits, IsNew, AreNew}
-use Rattle.state_rows.specs.Kept.{but_placements}
+use Rattle.state_rows.specs.Kept.{KeptRows, tables_in, but_placements, without_number, unnumbered}
+use Rattle.desk_types.specs.Id.{Name}
+use Rattle.desk_types.specs.declared.row.MountRow.{MountRow}
+use Rattle.line_audit.specs.declared.auditing.Placed.{Placed}
 use Rattle.line_tables.specs.Line.{IsOurs}
 use Rattle.line_tables.specs.Line as line
 use Rattle.line_tables.specs.StateRows.{has_piece, rows_in, placement_columns}
 use Rattle.line_audit.specs.Alone.{Listed, IsNamed, AreAlone, IsNew as IsNewPiece}
 use Rattle.line_audit.specs.Audit.{Pieces, AreByPiece, ArePlaced, piece_of}
 use Rattle.line_rows.specs.Judging.{Lead}
-use Rattle.line_replay.specs.declared.beside.Beside.{Beside}
-use Rattle.line_replay.specs.Beside.{placement_by, placements_by, IsBeside, HoldsAsRead, ArePlacedToo, Adds}
+use Rattle.line_replay.specs.Expected.{Expected, placement_by, placements_by, AreExpected, HoldsAsRead, ArePlacedToo, LooksUp, Adds}
 use Rattle.line_replay.proofs.ReadOfCommitted.{reads_back}
 
 -- ---- the rows of the other tables
@@ -174,17 +176,35 @@ tells_back : (old mid : State) (P : Database → Type 0) → KeepsCommit old mid
 tells_back old mid P kept (inl all) = inl all
 tells_back old mid P kept (inr r) = inr (reads_back old mid P kept r)
 
-pub adds_back : (Clean : Type 0) (old mid : State) (edits : List RowEdit) (before after : Beside) → (Clean → KeepsCommit old mid) → Adds Clean mid edits before after → Adds Clean old edits before after
-adds_back Clean old mid edits before after kept a = record { rows = a.rows; count = a.count; told = λ clean. tells_back old mid _ (kept clean) (a.told clean) }
+pub looks_back : (Clean : Type 0) (old mid : State) (edits : List RowEdit) (before after : Placed) → (Clean → KeepsCommit old mid) → LooksUp Clean mid edits before after → LooksUp Clean old edits before after
+looks_back Clean old mid edits before after kept a = record { count = a.count; told = λ clean. tells_back old mid _ (kept clean) (a.told clean) }
 
 -- nothing is placed on an empty list
 pub none_placed : (number place : ℕ) → placement_row [] number place ≡ None
 unfolding takes_of
 none_placed number place = refl
 
--- an empty list has no rows, whatever the database
-pub beside_none : (Clean : Type 0) (db : Database) (b : Beside) → IsBeside ⊤ db b [] → IsBeside Clean db b []
-beside_none Clean db b none = record { rows = none.rows; pieces = none.pieces; listed = none.listed; named = none.named; counted = none.counted; told = λ clean schema. none.told tt schema }
+-- A desk of an empty history keeps no rows, except maybe placements.
+no_rows : (t : Tables) → unnumbered t ≡ unnumbered (state_of []) → but_placements t (state_of []) ≡ state_of []
+no_rows t is =
+    let none = state_of [] in
+    ap (λ (f : Name → Option MountRow). record t { mounts = f; placements = none.placements }) (λ j r. by (t.mounts r) (ap (λ (u : Tables). u.mounts r) is) j)
+    ∙ ap (λ (u : Tables). record u { mounts = none.mounts; placements = none.placements }) is
+  where
+    by : (o : Option MountRow) → option_map without_number o ≡ None → o ≡ None
+    by None p = refl
+    by (Some m) p = cc
+
+-- Nothing was taken yet.
+pub none_expected : (Clean : Type 0) (db : Database) (rows : KeptRows) → unnumbered (tables_in rows) ≡ unnumbered (state_of []) → AreExpected Clean db (record { rows = rows; placed = record { all = true; count = 0 } }) []
+none_expected Clean db rows is = record {
+  rows = no_rows (tables_in rows) is;
+  pieces = [];
+  listed = record { each = tt; all = λ key r is. let none = sym (none_placed key.0 key.1) ∙ is in cc; distinct = tt };
+  named = tt;
+  counted = refl;
+  told = λ clean schema. record { here = λ is. tt; missing = λ is. absurd cc };
+}
 
 -- the placements of one edit more
 pub placements-next : (xs : List RowEdit) (i : ℕ) (x : RowEdit) (rows : List PlacementRow) (o : Option PlacementRow) → i < length xs → x ≡ get_or xs i x → rows ≡ placements_by (take i xs) → placement_by x ≡ o
@@ -196,16 +216,18 @@ placements-next xs i x rows o inside is so_far by =
     one None = refl
     one (Some row) = refl
 
--- the rows beside the list with the entry
-pub beside_more : (Before After : Type 0) (old mid : State) (edits : List RowEdit) (b0 b1 : Beside) (H : History) (e : Entry) → (After → Before) → (After → KeepsCommit old mid) → IsBeside Before old.committed b0 H
-    → Lead edits H e → Adds After mid edits b0 b1 → IsBeside After old.committed b1 (e ∷ H)
-beside_more Before After old mid edits b0 b1 H e early kept was lead adds = record {
-  rows =
-      adds.rows ∙ ap (λ (t : Tables). but_placements (with_edits edits t) t) was.rows ∙ but-edits edits (state_of H) (state_of []) (state_of [])
-      ∙ ap (λ (t : Tables). but_placements t (state_of [])) lead.lead;
-  pieces = placed_onto edits was.pieces;
-  listed = subst (λ (t : Tables). Listed (placed_onto edits was.pieces) (pieces_in t)) lead.lead (listed_onto edits (state_of H) was.pieces lead.new was.listed);
-  named = (onto_all _ edits was.pieces).1 (was.named, named_pieces (placements_by edits));
-  counted = omega (arith, adds.count, was.counted, onto_length edits was.pieces);
-  told = λ clean schema. placed_onto_all old.committed b0.placed.all b1.placed.all edits was.pieces (tells_first old mid _ (kept clean) (adds.told clean) schema) (was.told (early clean) schema);
-}
+-- the rows expected the list with the entry
+pub expected_more : (Before After : Type 0) (old mid : State) (edits : List RowEdit) (b0 b1 : Expected) (H : History) (e : Entry) → (After → Before) → (After → KeepsCommit old mid) → AreExpected Before old.committed b0 H
+    → Lead edits H e → Adds After mid edits b0 b1 → AreExpected After old.committed b1 (e ∷ H)
+expected_more Before After old mid edits b0 b1 H e early kept was lead adds =
+    let none = state_of [] in record {
+      rows =
+          ap (λ (t : Tables). but_placements t none) adds.rows ∙ sym (but-edits edits (tables_in b0.rows) none none)
+          ∙ ap (λ (t : Tables). but_placements (with_edits edits t) none) was.rows ∙ but-edits edits (state_of H) none none
+          ∙ ap (λ (t : Tables). but_placements t none) lead.lead;
+      pieces = placed_onto edits was.pieces;
+      listed = subst (λ (t : Tables). Listed (placed_onto edits was.pieces) (pieces_in t)) lead.lead (listed_onto edits (state_of H) was.pieces lead.new was.listed);
+      named = (onto_all _ edits was.pieces).1 (was.named, named_pieces (placements_by edits));
+      counted = omega (arith, adds.placed.count, was.counted, onto_length edits was.pieces);
+      told = λ clean schema. placed_onto_all old.committed b0.placed.all b1.placed.all edits was.pieces (tells_first old mid _ (kept clean) (adds.placed.told clean) schema) (was.told (early clean) schema);
+    }

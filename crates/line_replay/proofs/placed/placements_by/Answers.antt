@@ -1,8 +1,8 @@
 use Rattle.std.proofs.Common.{◌∙◌, Some, None, Vec, Global, ap, sym, append-nil}
 use Rattle.desk_types.specs.declared.row.PlacementRow.{PlacementRow}
-use Rattle.line_replay.proofs.RowsBeside.{placements-next}
-use Rattle.line_replay.proofs.beside.placements_by.Goals.{in-Some+in_ok-push-in-Some, in-None}
-use Rattle.line_replay.proofs.beside.placements_by.Goals as goal
+use Rattle.line_replay.proofs.ExpectedRows.{placements-next}
+use Rattle.line_replay.proofs.placed.placements_by.Goals.{in-Some+in_ok-push-in-Some, in-None}
+use Rattle.line_replay.proofs.placed.placements_by.Goals as goal
 
 pub loop-edit-preserved : goal.loop-edit-preserved
 loop-edit-preserved c = elim c.match-placement_by.branch [
