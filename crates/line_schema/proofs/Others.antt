@@ -6,7 +6,7 @@ use Rattle.sqlite.specs.Effect.{Database}
 use Rattle.sqlite.specs.State.{State, HasCleanDisk, KeepsCommit, Survives}
 use Rattle.sqlite_trees.specs.declared.store.Store.{Ghosts}
 use Rattle.sqlite.specs.Held.{Held, state}
-use Rattle.line_tables.specs.declared.edit.Edit.{Edit}
+use Rattle.line_tables.specs.Edit.{Edit}
 use Rattle.line_tables.specs.Frames.{ReadsOnly}
 use Rattle.line_tables.specs.Calls.{HasOthers, KeepsOthers, LeavesEdited}
 use Rattle.line_tables.proofs.Beside.{others_stay, others_stay_then}

@@ -27,7 +27,7 @@ use Rattle.desk_laws.proofs.JudgedLists.{consistent}
 use Rattle.desk_answers.specs.declared.answer.Answer.{Answer}
 use Rattle.desk_answers.specs.Commands.{earlier_answer, judged_answer, is_full, command_after}
 use Rattle.desk_answers.proofs.FirstTime.{first-uid}
-use Rattle.line_tables.specs.declared.edit.Edit.{Edit}
+use Rattle.line_tables.specs.Edit.{Edit}
 use Rattle.line_tables.specs.Rows.{Tables, Holds, HoldsAt, AreNew, after_edits}
 use Rattle.line_tables.specs.Calls.{Edits, LeavesEdited}
 use Rattle.line_tables.specs.Frames.{ReadsOnly}

@@ -4,7 +4,7 @@ use Rattle.sqlite_trees.specs.Tree.{Trees}
 use Rattle.sqlite_trees.specs.declared.store.Store.{Ghosts}
 use Rattle.sqlite.specs.Effect.{Database}
 use Rattle.sqlite.specs.Held.{Held, state}
-use Rattle.line_tables.specs.declared.edit.Edit.{Edit}
+use Rattle.line_tables.specs.Edit.{Edit}
 use Rattle.desk_types.specs.declared.rules.Rules.TheVariants.{One}
 use Rattle.line_tables.specs.Rows.{Holds, HoldsBy, blank}
 use Rattle.line_tables.specs.Line.{no_schema}

@@ -3,7 +3,7 @@ use Rattle.std.proofs.Common.{◌≡◌, ◌∙◌, ◌&&◌, ◌==◌, ◌<◌,
 use Rattle.std.specs.List.{flat_map}
 use Rattle.std.specs.List.Sorted.{IsPermutation}
 use Rattle.std.proofs.lemmas.Bool.{and_parts, and_from}
-use Rattle.std.proofs.lemmas.List.{take_more, map-append, flat_map_more, length-map, length-take-le}
+use Rattle.std.proofs.lemmas.List.{map_more, map-append, flat_map_more, length-map, length-take-le}
 use Rattle.std.proofs.lemmas.List.Sorted.{IsPermutation-map}
 use Rattle.sqlite_value.specs.Order.{Row}
 use Rattle.sqlite.specs.Cast.{cast_row}
@@ -17,7 +17,9 @@ use Rattle.line_tables.specs.Line.{schema_of, placement, Layout}
 use Rattle.line_tables.specs.Rowids.{placement_id}
 use Rattle.line_tables.specs.StateRows.{AreRows, columns, has_piece, placement_columns, flag}
 use Rattle.line_tables.specs.Placing.{placement_edit, placement_kept, ArePlacing}
-use Rattle.line_tables.specs.declared.edit.Edit.{Edit}
+use Rattle.desk_types.specs.declared.edit.RowEdit.{RowEdit}
+use Rattle.desk_types.specs.declared.edit.RowEdit.TheVariants.{PutPlacement}
+use Rattle.line_tables.specs.Edit.{Edit, EditRow, row_edits}
 use Rattle.line_tables.specs.Rows.{Tables, Holds, AreNew, with_edit, after_edits, version_columns, accepted_columns}
 use Rattle.line_tables.specs.Calls.{Runs, Writes}
 use Rattle.line_tables.proofs.Inserts.{Inserted, insert_does}
@@ -125,15 +127,15 @@ eight_put rows a c eight ran = puts_pieces rows a c ran.shown.was_open (eight_in
 -- ---- the values of edits
 
 -- one edit more puts a placement
-pub placing_more : (edits : List Edit) (i : ℕ) (edit : Edit) (row : PlacementRow) (values : Row) → i < length edits → edit ≡ get_or edits i edit → edit ≡ placement_edit row → ArePlacing (take i edits) values → ArePlacing (take (i + 1) edits) (values ++ placement_kept row)
+pub placing_more : (edits : List RowEdit) (i : ℕ) (edit : RowEdit) (row : PlacementRow) (values : Row) → i < length edits → edit ≡ get_or edits i edit → edit ≡ PutPlacement row → ArePlacing (row_edits (take i edits)) values → ArePlacing (row_edits (take (i + 1) edits)) (values ++ placement_kept row)
 placing_more edits i edit row values inside item is was = (
   was.0 ++ row ∷ [],
-  take_more edits i edit inside ∙ ap₂ (λ l e. l ++ e ∷ []) was.1 (sym item ∙ is) ∙ sym (map-append placement_edit was.0 (row ∷ [])),
+  map_more EditRow edits i edit inside ∙ ap₂ (λ l e. l ++ EditRow e ∷ []) was.1 (sym item ∙ is) ∙ sym (map-append placement_edit was.0 (row ∷ [])),
   ap (λ v. v ++ placement_kept row) was.2 ∙ flat_map_more placement_kept [] was.0 row,
 )
 
 -- eight edits that put placements are made as their values are put in
-pub eight_first : (edits : List Edit) (values : Row) (a c : State) → 8 ≤ length edits → ArePlacing (take 8 edits) values → ((rows : List PlacementRow) → length rows ≡ 8 → values ≡ flat_map placement_kept rows → Writes (map placement_edit rows) a c) → Writes (take 8 edits) a c
+pub eight_first : (edits : List RowEdit) (values : Row) (a c : State) → 8 ≤ length edits → ArePlacing (row_edits (take 8 edits)) values → ((rows : List PlacementRow) → length rows ≡ 8 → values ≡ flat_map placement_kept rows → Writes (map placement_edit rows) a c) → Writes (row_edits (take 8 edits)) a c
 eight_first edits values a c long are put =
-    let eight : length are.0 ≡ 8 = sym (length-map are.0 placement_edit) ∙ ap length (sym are.1) ∙ length-take-le 8 edits long in
+    let eight : length are.0 ≡ 8 = sym (length-map are.0 placement_edit) ∙ ap length (sym are.1) ∙ length-map (take 8 edits) EditRow ∙ length-take-le 8 edits long in
     subst (λ l. Writes l a c) (sym are.1) (put are.0 eight are.2)

@@ -20,8 +20,8 @@ use Rattle.sqlite.specs.Rowids.TheVariants.{Chosen}
 use Rattle.sqlite.specs.State.{State}
 use Rattle.sqlite.specs.Effect.{Database}
 use Rattle.line_tables.specs.declared.edit.Accepted.{Accepted}
-use Rattle.line_tables.specs.declared.edit.Edit.{Edit}
-use Rattle.line_tables.specs.declared.edit.Edit.TheVariants.{PutAccepted}
+use Rattle.line_tables.specs.Edit.{Edit}
+use Rattle.line_tables.specs.Edit.{PutAccepted}
 use Rattle.desk_types.specs.declared.rules.Rules.TheVariants.{Two}
 use Rattle.line_tables.specs.Line.{schema_of, schema_tables, accepted, Layout}
 use Rattle.line_tables.specs.Rows.{Tables, Holds, AreNew, columns_of, accepted_columns, with_edit, after_edits}

@@ -19,8 +19,8 @@ use Rattle.sqlite_trees.specs.declared.store.Store.{Ghosts}
 use Rattle.sqlite.specs.Held.{Held, state}
 use Rattle.sqlite.specs.State.{State, Shows, Shown, Executes}
 use Rattle.line_tables.specs.declared.edit.Accepted.{Accepted}
-use Rattle.line_tables.specs.declared.edit.Edit.{Edit}
-use Rattle.line_tables.specs.declared.edit.Edit.TheVariants.{EditRow}
+use Rattle.line_tables.specs.Edit.{Edit}
+use Rattle.line_tables.specs.Edit.{EditRow}
 use Rattle.desk_types.specs.declared.edit.RowEdit.{RowEdit}
 use Rattle.line_tables.specs.declared.version.Version.{Version}
 use Rattle.sqlite_catalog.specs.Change.{KeepsRows}

@@ -5,8 +5,8 @@ use Rattle.sqlite.specs.declared.types.Value.TheVariants.{Int}
 use Rattle.sqlite_value.specs.Order.{Row}
 use Rattle.desk_types.specs.declared.edit.RowEdit.TheVariants.{PutPlacement}
 use Rattle.desk_types.specs.declared.row.PlacementRow.{PlacementRow}
-use Rattle.line_tables.specs.declared.edit.Edit.{Edit}
-use Rattle.line_tables.specs.declared.edit.Edit.TheVariants.{EditRow}
+use Rattle.line_tables.specs.Edit.{Edit}
+use Rattle.line_tables.specs.Edit.{EditRow}
 use Rattle.line_tables.specs.Rowids.{placement_id}
 use Rattle.line_tables.specs.StateRows.{placement_columns}
 

@@ -6,8 +6,8 @@ use Rattle.sqlite_value.specs.Order.{Row, column}
 use Rattle.sqlite.specs.Effect.{Database, IsDatabase}
 use Rattle.sqlite_trees.specs.Tree.{Trees}
 use Rattle.line_tables.specs.declared.edit.Accepted.{Accepted}
-use Rattle.line_tables.specs.declared.edit.Edit.{Edit}
-use Rattle.line_tables.specs.declared.edit.Edit.TheVariants.{PutAccepted, EditRow}
+use Rattle.line_tables.specs.Edit.{Edit}
+use Rattle.line_tables.specs.Edit.{PutAccepted, EditRow}
 use Rattle.desk_types.specs.Tables.{Tables as StateTables, tables_of as state_of}
 use Rattle.desk_types.specs.Edits.{with_edit as state_with, IsNew as IsNewRow}
 use Rattle.desk_types.specs.declared.rules.Rules.{Rules}

@@ -1,6 +1,4 @@
-//! What is written into the tables.
-
-use desk_types::RowEdit;
+//! The row of an accepted command.
 
 /// A row of `accepted`.
 #[derive(Debug, Drop)]
@@ -17,13 +15,4 @@ pub struct Accepted {
     pub command: String,
     /// The whole text of the answer.
     pub detail: String,
-}
-
-/// One change of one row.
-#[derive(Debug, Drop)]
-pub enum Edit {
-    /// A new row of `accepted`. It is refused where its number or its UniqueID is there.
-    PutAccepted(Accepted),
-    /// An edit of another table.
-    EditRow(RowEdit),
 }

@@ -20,7 +20,7 @@ pub mod values;
 mod version;
 mod writing;
 
-pub use edit::{Accepted, Edit};
+pub use edit::Accepted;
 pub use making::make;
 pub use migrating::migrate_tables;
 pub use naming::{has_accepted, has_our_name, has_state, has_version};

@@ -7,13 +7,13 @@ ghost use Rattle.sqlite.specs.Held.{state};
 ghost use Rattle.desk_types.specs.declared.edit.RowEdit.TheVariants as RowEdit;
 ghost use Rattle.desk_types.specs.declared.row.PlacementRow.{PlacementRow};
 ghost use Rattle.sqlite.specs.Values.{bound};
+ghost use Rattle.line_tables.specs.Edit.{row_edits};
 ghost use Rattle.line_tables.specs.Rowids.{placement_id};
 ghost use Rattle.line_tables.specs.Placing.{placement_edit, placement_kept, ArePlacing};
 ghost use Rattle.line_tables.specs.Calls.{Writes, WritesRow};
 ghost use Rattle.line_tables.specs.Faults.{OnlyWhere};
 ghost use Rattle.line_tables.specs.Frames.{InTransaction};
 
-use crate::edit::Edit;
 use crate::row_values::placement_values;
 use crate::statement::{change_or_put, run};
 use crate::values::{int, placement_id, text};
@@ -63,13 +63,13 @@ pub fn put_eight<S: Alter>(
 /// The values of the rows that the edits put, where each of them puts a placement.
 pub fn values_of_all<'a>(
     alloc: Global,
-    edits: &'a [Edit],
+    edits: &'a [RowEdit],
 ) -> Result<Option<Vec<ValueRef<'a>>>, Error>
-    ensures { IfOk result (λ found. IfSome found (λ values. ArePlacing edits.now (bound values.items))) }
+    ensures { IfOk result (λ found. IfSome found (λ values. ArePlacing (row_edits edits.now) (bound values.items))) }
 {
     let mut values = Vec::new(alloc);
     for edit in edits {
-        let Edit::EditRow(RowEdit::PutPlacement(row)) = edit else {
+        let RowEdit::PutPlacement(row) = edit else {
             return Ok(None);
         };
         add_values(&mut values, row)?;
