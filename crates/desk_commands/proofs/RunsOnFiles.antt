@@ -13,7 +13,7 @@ use Rattle.feeder_state.specs.declared.desk.StateDesk.{StateDesk}
 use Rattle.feeder_state.specs.contracts.desk.StateDeskDesk.TheImpl.{ghosts as state}
 use Rattle.line_schema.specs.declared.store.LineStore.{LineStore}
 use Rattle.line_schema.specs.Stands.{Kept, Stands, state_of}
-use Rattle.desk_file.specs.Files.{Begins, HasLineAlone}
+use Rattle.desk_file.specs.Files.{Begins, HasOursFirst}
 use Rattle.desk_runs.specs.Runs.{StaysSame}
 use Rattle.http_answers.specs.declared.gateway.Gateway.{Gateway}
 use Rattle.gateway_http.specs.declared.store.ReportedStore.{ReportedStore}
@@ -28,7 +28,7 @@ IsKept store G = (G.rules ≡ Two) × Stands over_files state.Stands state.kept_
 -- it was opened with a list, and went on from that
 pub runs_on : {T D : Type 0} {g : disk.Ghosts D} (first : start.Ghosts T) (make : Option ℕ) (old new : LineStore (FileStore D g) StateDesk) (Fact : Ledger → History → Type 0)
     → (HasCleanDisk (state_of over_files new) → HasCleanDisk (state_of over_files old))
-    → (HasCleanDisk (state_of over_files old) → HasLineAlone (image_at first) → (greatest : ℕ) × (H : History) × Begins (image_at first) make greatest H
+    → (HasCleanDisk (state_of over_files old) → HasOursFirst (image_at first) → (greatest : ℕ) × (H : History) × Begins (image_at first) make greatest H
     × Stands over_files state.Stands state.kept_rules old (record { greatest = greatest; history = H; own = true }))
     → ForLists IsKept (λ store. HasCleanDisk (state_of over_files store)) old new Fact → RunsOn first make (Desk new) Fact
 runs_on first make old new Fact trusts begins goes clean alone =
@@ -38,7 +38,7 @@ runs_on first make old new Fact trusts begins goes clean alone =
 
 -- it was opened with a list, and let be
 pub stays : {T D : Type 0} {g : disk.Ghosts D} (first : start.Ghosts T) (make : Option ℕ) (old new : LineStore (FileStore D g) StateDesk) → new ≡ old
-    → (HasCleanDisk (state_of over_files old) → HasLineAlone (image_at first) → (greatest : ℕ) × (H : History) × Begins (image_at first) make greatest H
+    → (HasCleanDisk (state_of over_files old) → HasOursFirst (image_at first) → (greatest : ℕ) × (H : History) × Begins (image_at first) make greatest H
     × Stands over_files state.Stands state.kept_rules old (record { greatest = greatest; history = H; own = true }))
     → RunsOn first make (Desk new) StaysSame
 stays first make old new same begins =
@@ -48,7 +48,7 @@ stays first make old new same begins =
 -- it was opened with a list, and counted
 pub audits : {T D : Type 0} {g : disk.Ghosts D} (first : start.Ghosts T) (store : LineStore (FileStore D g) StateDesk) (count : ℕ)
     → (L : Kept) × Stands over_files state.Stands state.kept_rules store L
-    → (HasCleanDisk (state_of over_files store) → HasLineAlone (image_at first) → (greatest : ℕ) × (H : History) × Begins (image_at first) None greatest H
+    → (HasCleanDisk (state_of over_files store) → HasOursFirst (image_at first) → (greatest : ℕ) × (H : History) × Begins (image_at first) None greatest H
     × Stands over_files state.Stands state.kept_rules store (record { greatest = greatest; history = H; own = true }))
     → ((L : Kept) → Stands over_files state.Stands state.kept_rules store L → count ≡ length L.history) → Audits first (Desk store) count
 audits first store count stands begins counts = (
@@ -67,11 +67,11 @@ stands_behind store gateway same stands = (stands.0, subst (λ (d : LineStore (F
 pub runs_behind : {T D : Type 0} {g : disk.Ghosts D} (first : start.Ghosts T) (make : Option ℕ) (store last : LineStore (FileStore D g) StateDesk) (old new : Gateway (ReportedStore (FileStore D g) StateDesk))
     (Fact : Ledger → History → Type 0) → store_in old ≡ store → last ≡ store_in new
     → (HasCleanDisk (state_of over_files (store_in new)) → HasCleanDisk (state_of over_files (store_in old)))
-    → (HasCleanDisk (state_of over_files store) → HasLineAlone (image_at first) → (greatest : ℕ) × (H : History) × Begins (image_at first) make greatest H
+    → (HasCleanDisk (state_of over_files store) → HasOursFirst (image_at first) → (greatest : ℕ) × (H : History) × Begins (image_at first) make greatest H
     × Stands over_files state.Stands state.kept_rules store (record { greatest = greatest; history = H; own = true }))
     → ForLists IsKept (λ store. HasCleanDisk (state_of over_files store)) (store_in old) (store_in new) Fact → RunsOn first make (Desk last) Fact
 runs_behind first make store last old new Fact before after trusts begins goes =
-    let begun = subst (λ (d : LineStore (FileStore _ _) StateDesk). HasCleanDisk (state_of over_files d) → HasLineAlone (image_at first) → (greatest : ℕ) × (H : History) × Begins (image_at first) make greatest H
+    let begun = subst (λ (d : LineStore (FileStore _ _) StateDesk). HasCleanDisk (state_of over_files d) → HasOursFirst (image_at first) → (greatest : ℕ) × (H : History) × Begins (image_at first) make greatest H
     × Stands over_files state.Stands state.kept_rules d (record { greatest = greatest; history = H; own = true })) (sym before) begins in
     subst (λ (d : LineStore (FileStore _ _) StateDesk). RunsOn first make (Desk d) Fact) (sym after) (runs_on first make (store_in old) (store_in new) Fact trusts begun goes)
 

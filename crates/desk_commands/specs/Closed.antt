@@ -24,7 +24,7 @@ use Rattle.line_schema.specs.declared.fault.OpenFault.{OpenFault}
 use Rattle.line_schema.specs.declared.fault.OpenFault.TheVariants.{NotADesk, NotBlank, Unavailable}
 use Rattle.line_schema.specs.declared.store.LineStore.{LineStore}
 use Rattle.line_schema.specs.Stands.{conn_of}
-use Rattle.desk_file.specs.Files.{Begins, Closes, Copies, HasLineAlone, IsFoundIn, IsOfOne, IsWhole, KeepsTables, Leaves}
+use Rattle.desk_file.specs.Files.{Begins, Closes, Copies, HasOursFirst, IsFoundIn, IsOfOne, IsWhole, KeepsTables, Leaves}
 use Rattle.desk_file.specs.Refused.{IsFaultFor, IsFaultIn}
 use Rattle.desk_commands.specs.declared.left.Left.{Left}
 use Rattle.desk_commands.specs.declared.left.Left.TheVariants.{Nothing, Desk, Migrated, Refused}
@@ -73,7 +73,7 @@ HoldsFound failed g files first = ⊤
 
 -- What holds of the list with which a run began, where its files told the truth to the end and no other table was beside the desk's: that list is lawful, the fact tells the list after it, which is lawful and consistent, and the files hold the tables of that one.
 abbrev pub RunsTo : {T D : Type 0} → Close → start.Ghosts T → disk.Ghosts D → Option (Files D) → Option ℕ → (Ledger → History → Type 0) → Type 0
-RunsTo how first g files make Fact = IsSomeAnd files (λ f. AreClean g f.log f.db → HasLineAlone (image_at first)
+RunsTo how first g files make Fact = IsSomeAnd files (λ f. AreClean g f.log f.db → HasOursFirst (image_at first)
     → (greatest : ℕ) × (H : History) × Begins (image_at first) make greatest H × IsLawful Two greatest H
     × (H' : History) × IsLawful Two greatest H' × IsConsistent H' × HoldsTables how g f (ledger_tables greatest H')
     × Fact (record { rules = Two; greatest = greatest; history = H }) H')
@@ -84,7 +84,7 @@ AuditsTo how first g files count = RunsTo how first g files None (λ G H. (H ≡
 
 -- files that held the tables of a list by version 1 hold them by version 2
 abbrev pub MigratesTo : {T D : Type 0} → Close → start.Ghosts T → disk.Ghosts D → Option (Files D) → Type 0
-MigratesTo how first g files = IsSomeAnd files (λ f. AreClean g f.log f.db → HasLineAlone (image_at first)
+MigratesTo how first g files = IsSomeAnd files (λ f. AreClean g f.log f.db → HasOursFirst (image_at first)
     → (greatest : ℕ) × (H : History) × IsOfOne (image_at first) greatest H × HoldsTables how g f (ledger_tables greatest H))
 
 -- The files were refused for this fault. Where they told the truth to the end, it stands in what they held, and they hold that still. Where none was opened it is Unavailable, or NotADesk where none may be made.

@@ -13,7 +13,7 @@ use Rattle.feeder_state.specs.contracts.desk.StateDeskDesk.TheImpl.{ghosts as st
 use Rattle.line_schema.specs.declared.fault.OpenFault.{OpenFault}
 use Rattle.line_schema.specs.Opening.{fault_text}
 use Rattle.line_schema.specs.Stands.{Kept, Stands, state_of}
-use Rattle.desk_file.specs.Files.{Begins, HasLineAlone, MigratedFrom}
+use Rattle.desk_file.specs.Files.{Begins, HasOursFirst, MigratedFrom}
 use Rattle.desk_file.specs.Refused.{RefusesMigration, RefusesRun}
 use Rattle.http_answers.specs.Requests.{request_rule}
 use Rattle.desk_runs.specs.Told.{unavailable_line}
@@ -30,7 +30,7 @@ fresh greatest = record { rules = Two; greatest = greatest; history = [] }
 -- What holds of the list with which a run on a file begins, where the disk told the truth and no other table was beside the desk's, of version 1 or of version 2: that list is lawful, and the desk that is left stands for a list that the fact tells. A run begins with tables of version 2 or with none, so a file of version 1 is not answered from.
 abbrev pub RunsOn : {T D : Type 0} {g : disk.Ghosts D} → start.Ghosts T → Option ℕ → Left D g → (Ledger → History → Type 0) → Type 0
 RunsOn first make (Desk d) Fact =
-    HasCleanDisk (state_of over_files d) → HasLineAlone (image_at first)
+    HasCleanDisk (state_of over_files d) → HasOursFirst (image_at first)
     → (greatest : ℕ) × (H : History) × Begins (image_at first) make greatest H × IsLawful Two greatest H
     × (H' : History) × Stands over_files state.Stands state.kept_rules d (record { greatest = greatest; history = H'; own = true })
     × Fact (record { rules = Two; greatest = greatest; history = H }) H'
@@ -43,7 +43,7 @@ Audits first _ count = ⊥
 
 -- A file was migrated: where its disk told the truth and no other table was beside the desk's, the files held the tables of a list by version 1, and its connection holds them by version 2, which a crash leaves alone.
 abbrev pub Migrates : {T D : Type 0} {g : disk.Ghosts D} → start.Ghosts T → Left D g → Type 0
-Migrates first (Migrated conn) = HasCleanDisk (file_state conn) → HasLineAlone (image_at first) → MigratedFrom (image_at first) conn
+Migrates first (Migrated conn) = HasCleanDisk (file_state conn) → HasOursFirst (image_at first) → MigratedFrom (image_at first) conn
 Migrates first _ = ⊥
 
 -- the files were refused for this fault, by a run that may make a desk in them up to this number

@@ -26,7 +26,7 @@ use Rattle.line_rows.specs.Rows.{rows_of, ledger_tables}
 use Rattle.line_schema.specs.Opening.{IsNamed, IsNamedBy}
 use Rattle.line_schema.specs.Versions.{IsMigrated}
 use Rattle.small_pages.specs.Found.{FindsAs}
-use Rattle.desk_file.specs.Files.{IsFoundIn, IsOfOne, HasLineAlone, FindsNoTable, Begins}
+use Rattle.desk_file.specs.Files.{IsFoundIn, IsOfOne, HasOursFirst, FindsNoTable, Begins}
 
 -- the tables of each version have our names
 named_by : (rules : Rules) (indexed : Layout) → list_any has_name (schema_of rules indexed).tables ≡ true
@@ -43,7 +43,7 @@ module _ (image : Image) (s : State) (finds : FindsAs image s) (opens : Opens s)
   not_bare rules named none = true≢false (sym named.0 ∙ ap (λ (x : Schema). list_any is_version x.tables) (ap (λ (db : Database). db.schema) opens.clean ∙ none))
 
   -- a new desk, in files with none of its tables
-  pub made_begins : (greatest : ℕ) → list_any has_name s.now.schema.tables ≡ false → HasLineAlone image → Begins image (Some greatest) greatest [] × (is_blank s.now.schema ≡ true)
+  pub made_begins : (greatest : ℕ) → list_any has_name s.now.schema.tables ≡ false → HasOursFirst image → Begins image (Some greatest) greatest [] × (is_blank s.now.schema ≡ true)
   made_begins greatest nameless alone =
       let seen : s.now.schema ≡ s.committed.schema = ap (λ (db : Database). db.schema) opens.clean in
       elim (alone s.committed found) [
@@ -56,7 +56,7 @@ module _ (image : Image) (s : State) (finds : FindsAs image s) (opens : Opens s)
   no_table none = is_blank_of s.now.schema (ap (λ (db : Database). db.schema) opens.clean ∙ none s.committed found)
 
   -- the desk that was read
-  pub opened_begins : (make : Option ℕ) (greatest : ℕ) (H : History) → IsNamed s → Reads s (λ db. Holds db (ledger_tables greatest H)) → HasLineAlone image
+  pub opened_begins : (make : Option ℕ) (greatest : ℕ) (H : History) → IsNamed s → Reads s (λ db. Holds db (ledger_tables greatest H)) → HasOursFirst image
       → Begins image make greatest H × (is_ours s.committed.schema ≡ true)
   opened_begins make greatest H named reads alone =
       elim (alone s.committed found) [
@@ -65,7 +65,7 @@ module _ (image : Image) (s : State) (finds : FindsAs image s) (opens : Opens s)
       ]
 
   -- the desk of version 1 that was migrated
-  pub migrates : (new : State) (greatest : ℕ) (H : History) (n : ℕ) → IsNamedBy One s → IsMigrated s new greatest H n → HasLineAlone image
+  pub migrates : (new : State) (greatest : ℕ) (H : History) (n : ℕ) → IsNamedBy One s → IsMigrated s new greatest H n → HasOursFirst image
       → IsOfOne image greatest H × Holds new.committed (ledger_tables greatest H) × ((trees : Trees) → new.may_leave trees → HoldsAt (ledger_tables greatest H) trees)
   migrates new greatest H n named m alone =
       elim (alone s.committed found) [
@@ -78,8 +78,8 @@ module _ (image : Image) (trees : Trees) (t : Tables) (holds : ∥ HoldsDatabase
   pub held : (db : Database) → IsFoundIn image db → Holds db t
   held db f = held_at t trees tables db f.sound (∥∥₁_elim holds (Trees-set _ _) (f.same trees))
 
-  pub line_alone : HasLineAlone image
-  line_alone db f = let tables = held db f in inl (record { rules = Two; layout = tables.indexed; same = tables.schema })
+  pub ours_first : HasOursFirst image
+  ours_first db f = let tables = held db f in inl (record { rules = Two; layout = tables.indexed; same = tables.schema })
 
 -- and a run begins with their list
 pub same_list : (image : Image) (trees : Trees) (greatest : ℕ) (H : History) → ((G H : History) → IsJudged Two G → IsJudged Two H → IsPermutation (rows_of G) (rows_of H) → G ≡ H)

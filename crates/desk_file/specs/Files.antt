@@ -30,8 +30,8 @@ pub record IsFoundIn (image : Image) (db : Database) : Type 0 where
   pub same : (trees : Trees) → HoldsDatabase image trees → db.trees ≡ trees
 
 -- the files hold the tables of a line, of version 1 with none beside them, or of version 2 with none before them and none that refers to them, or no table at all
-abbrev pub HasLineAlone : Image → Type 0
-HasLineAlone image = (db : Database) → IsFoundIn image db → IsOurs db.schema ⊎ (db.schema ≡ no_schema)
+abbrev pub HasOursFirst : Image → Type 0
+HasOursFirst image = (db : Database) → IsFoundIn image db → IsOurs db.schema ⊎ (db.schema ≡ no_schema)
 
 -- the files hold these tables, by version 2
 abbrev pub HasTables : Image → Tables → Type 0

@@ -13,7 +13,7 @@ ghost use Rattle.sqlite_trees.specs.Tree.{Trees};
 ghost use Rattle.line_tables.specs.Rows.{HoldsAt, blank};
 ghost use Rattle.line_schema.specs.declared.fault.OpenFault.TheVariants as Fault;
 ghost use Rattle.line_schema.specs.Stands.{Kept, Stands, conn_of, state_of};
-ghost use Rattle.desk_file.specs.Files.{Begins, Closes, Copies, FindsNoTable, HasLineAlone, KeepsTables, Leaves, MigratedFrom};
+ghost use Rattle.desk_file.specs.Files.{Begins, Closes, Copies, FindsNoTable, HasOursFirst, KeepsTables, Leaves, MigratedFrom};
 ghost use Rattle.desk_file.specs.Refused.{IsFaultFor, IsFaultIn, IsRefused, LeavesMade, RefusesMigration, RefusesRun};
 
 use crate::refusal::Refusal;
@@ -43,7 +43,7 @@ pub fn open_desk<T: Start, D: Desk + Drop>(
     requires range { IfSome make (λ greatest. (1 ≤ greatest) × (greatest ≤ MOST_ENTRIES)) }
     ensures stands { IfOk result (λ store. (L : Kept) × Stands over_files D.Stands D.kept_rules store L) }
     ensures refused { IfErr result (RefusesRun (image_at T.Start) make) }
-    ensures begins { IfOk result (λ store. HasCleanDisk (state_of over_files store) → HasLineAlone (image_at T.Start)
+    ensures begins { IfOk result (λ store. HasCleanDisk (state_of over_files store) → HasOursFirst (image_at T.Start)
         → (greatest : _) × (H : History) × Begins (image_at T.Start) make greatest H
         × Stands over_files D.Stands D.kept_rules store (record { greatest = greatest; history = H; own = true })) }
     ensures alone { IfOk result (λ store. HasCleanDisk (state_of over_files store) → FindsNoTable (image_at T.Start)
@@ -70,7 +70,7 @@ pub fn migrate_desk<T: Start, D: Desk + Drop>(
     path: &str,
     start: T,
 ) -> Result<DeskFile<T>, Refusal<FileFrom<T>>>
-    ensures migrated { IfOk result (λ conn. HasCleanDisk (file_state conn) → HasLineAlone (image_at T.Start)
+    ensures migrated { IfOk result (λ conn. HasCleanDisk (file_state conn) → HasOursFirst (image_at T.Start)
         → MigratedFrom (image_at T.Start) conn) }
     ensures refused { IfErr result (RefusesMigration (image_at T.Start)) }
 {
@@ -167,7 +167,7 @@ fn new_desk<T: Start, D: Desk + Drop>(
     requires most { greatest ≤ MOST_ENTRIES }
     ensures refused { IfErr result (RefusesRun (image_at T.Start) (Some greatest)) }
     ensures stands { IfOk result (λ store. (L : Kept) × Stands over_files D.Stands D.kept_rules store L) }
-    ensures begins { IfOk result (λ store. HasCleanDisk (state_of over_files store) → HasLineAlone (image_at T.Start)
+    ensures begins { IfOk result (λ store. HasCleanDisk (state_of over_files store) → HasOursFirst (image_at T.Start)
         → Begins (image_at T.Start) (Some greatest) greatest []
         × Stands over_files D.Stands D.kept_rules store (record { greatest = greatest; history = []; own = true })) }
     ensures alone { IfOk result (λ store. HasCleanDisk (state_of over_files store) → FindsNoTable (image_at T.Start)
@@ -190,7 +190,7 @@ fn kept_desk<T: Start, D: Desk + Drop>(
     start: T,
 ) -> Result<FileDesk<T, D>, Refusal<FileFrom<T>>>
     ensures stands { IfOk result (λ store. (L : Kept) × Stands over_files D.Stands D.kept_rules store L) }
-    ensures begins { IfOk result (λ store. HasCleanDisk (state_of over_files store) → HasLineAlone (image_at T.Start)
+    ensures begins { IfOk result (λ store. HasCleanDisk (state_of over_files store) → HasOursFirst (image_at T.Start)
         → (greatest : _) × (H : History) × Begins (image_at T.Start) None greatest H
         × Stands over_files D.Stands D.kept_rules store (record { greatest = greatest; history = H; own = true })) }
     ensures refused { IfErr result (IsRefused (image_at T.Start) (IsFaultIn (image_at T.Start) Two) (λ _ _. ⊥) ⊥) }

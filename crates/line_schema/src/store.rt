@@ -27,6 +27,7 @@ ghost use Rattle.line_schema.specs.Frames.{MakesDesk, LeavesUnmade, LetsOthersBe
 mod crash;
 mod migration;
 mod traces;
+mod view;
 
 use crate::fault::OpenFault;
 use crate::opening::{Opened, read_tables};

@@ -11,7 +11,7 @@ use Rattle.desk_laws.specs.Consistent.{IsConsistent}
 use Rattle.http_answers.specs.Requests.{Reports}
 use Rattle.line_tables.specs.Rows.{Tables, HoldsAt}
 use Rattle.line_rows.specs.Rows.{ledger_tables}
-use Rattle.desk_file.specs.Files.{Begins, HasLineAlone, IsWhole}
+use Rattle.desk_file.specs.Files.{Begins, HasOursFirst, IsWhole}
 use Rattle.headline.specs.Calls.{AnswersByTheList, Call}
 
 -- how a run ended: it closed its files, or crashed
@@ -47,7 +47,7 @@ pub record IsRunFrom (reports : Reports) (run : Run) (greatest : ℕ) (H H' : Hi
 
 -- where the files held the tables of a desk with none beside them, or no table at all, the run went on from their list
 abbrev pub IsRun : Reports → Run → Type 0
-IsRun reports run = HasLineAlone run.first → (greatest : ℕ) × (H : History) × (H' : History) × IsRunFrom reports run greatest H H'
+IsRun reports run = HasOursFirst run.first → (greatest : ℕ) × (H : History) × (H' : History) × IsRunFrom reports run greatest H H'
 
 -- the run made no call, and kept the tables of whatever list its files held: it was refused them
 abbrev pub KeepsList : Run → Type 0

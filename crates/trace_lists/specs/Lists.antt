@@ -1,5 +1,5 @@
 -- Where the placed pieces of a list are found.
-use Rattle.std.specs.Prelude.{◌≡◌, ℕ, zero, suc, ◌==◌, Bool, Option, None, List, [], map, length, unwrap_or, slice_get, All}
+use Rattle.std.specs.Prelude.{◌≡◌, ℕ, zero, suc, ◌<◌, ◌==◌, Bool, Option, None, List, [], map, length, unwrap_or, slice_get, All}
 use Rattle.std.specs.List.{filter, find, flat_map, range_with_len}
 use Rattle.std.specs.Option.{option_map}
 use Rattle.std.specs.BTreeMap as tree
@@ -34,6 +34,10 @@ keys_of_install i = map (λ place. (i.number, place)) (range_with_len 1 i.pieces
 abbrev pub keys_of_installs : List Install → List Key
 keys_of_installs installs = flat_map keys_of_install installs
 
+-- at least one piece was placed: so each install is kept once
+abbrev pub HasPieces : Install → Type 0
+HasPieces i = 0 < i.pieces
+
 -- ---- minutes
 
 -- the effective minute of the entry of this number
@@ -55,6 +59,7 @@ kept_at kept name = unwrap_or (tree.get by_name kept name) []
 pub record IsListed (lists : TraceLists) (H : History) : Type 0 where
   pub lots : (lot : Name) → map key_of (kept_at lists.lots lot) ≡ keys_where (λ p. same p.lot lot) H
   pub boards : (board : Name) → keys_of_installs (kept_at lists.boards board) ≡ keys_where (λ p. same p.board board) H
+  pub installs : (board : Name) → All HasPieces (kept_at lists.boards board)
   pub overdue : map key_of lists.overdue.items ≡ keys_where (λ p. p.overdue) H
   pub minutes : (number : ℕ) → minute_in lists.minutes.items number ≡ minute_of H number
   pub count : length lists.minutes.items ≡ length H

@@ -1,9 +1,9 @@
 //! What an accepted change puts into the lists.
 
-ghost use Rattle.std.specs.Prelude.{◌≡◌, ◌++◌, ◌&&◌, ◌∷◌, [], ℕ, if◌then◌else◌, map, length, OnOk};
+ghost use Rattle.std.specs.Prelude.{◌≡◌, ◌++◌, ◌&&◌, ◌∷◌, [], ℕ, if◌then◌else◌, map, length, All, OnOk};
 ghost use Rattle.desk_types.specs.Id.{Name, same};
 ghost use Rattle.desk_types.specs.Pieces.{is_placed};
-ghost use Rattle.trace_lists.specs.Lists.{kept_at, key_of, keys_of_installs};
+ghost use Rattle.trace_lists.specs.Lists.{HasPieces, kept_at, key_of, keys_of_installs};
 ghost use Rattle.trace_lists.specs.Noting.{keys_in, install_keys};
 
 use crate::kept::{Kept, keep, make_room};
@@ -54,18 +54,23 @@ fn is_placed(take: &Take) -> bool
     }
 }
 
-/// Puts the install of a command to those on its board.
+/// Adds the install of a command to those on its board, if it placed any piece.
 pub fn note_install(
     alloc: Global,
     boards: &mut BTreeMap<Id, Kept<Install>>,
     command: &Command,
     install: Install,
 ) -> Result<(), AllocError>
-    ensures { (n : Name)
+    ensures keys { (n : Name)
         → OnOk result
         (keys_of_installs (kept_at boards.new n) ≡ keys_of_installs
         (kept_at boards.old n) ++ install_keys n command.now install) }
+    ensures pieces { (n : Name) → All HasPieces (kept_at boards.old n)
+        → OnOk result (All HasPieces (kept_at boards.new n)) }
 {
+    if install.pieces == 0 {
+        return Ok(());
+    }
     if let Command::MaterialsInstalled { board, .. } = command {
         keep(alloc, boards, board, install)?;
     }

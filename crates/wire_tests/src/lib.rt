@@ -1,5 +1,5 @@
-//! What no clause says of reading: how much a read takes. It stands here and not in `desk_feed`, since a
-//! crate with tests is proved once more with them.
+//! Tests of what no contract says: how much a read and a write take, and that a failure is reported at once.
+//! They have a crate of their own, since a crate with tests is proved twice.
 #![tactic(auto)]
 
 #[cfg(test)]
