@@ -42,13 +42,18 @@ use Rattle.desk_laws.proofs.Openings.{starts-by}
 use Rattle.desk_laws.proofs.BoardsInWork.{work-next, in_work-next}
 use Rattle.reels.proofs.StandingReels.{last_bake-untouched}
 use Rattle.reels.specs.Reel.{StandsFor}
+use Rattle.desk_types.specs.declared.row.BoardRow.{BoardRow}
+use Rattle.desk_types.specs.Tables.{Tables, tables_of}
+use Rattle.state_rows.specs.Kept.{unnumbered}
 use Rattle.feeder_state.specs.declared.desk.StateDesk.{StateDesk}
 use Rattle.feeder_state.specs.declared.held.Held.{Held}
-use Rattle.feeder_state.specs.Held.{IsHeldOf, held_at}
+use Rattle.feeder_state.specs.Held.{IsHeldOf, held_in}
 use Rattle.feeder_state.specs.State.{IsState}
-use Rattle.feeder_state.proofs.AcceptedChanges.{state-two}
+use Rattle.feeder_state.proofs.AcceptedChanges.{state-two, state-rows}
 use Rattle.feeder_state.proofs.AlikeLists.{AreAlike, mark, marks_of, effective-alike, refusal-alike, picks-alike, detail-alike}
 use Rattle.feeder_state.proofs.FloorTells.{absent-left, absent-mounted}
+use Rattle.feeder_state.proofs.RestoredWork.{is_at_work, busy-row, product-row}
+use Rattle.feeder_state.proofs.RowReels.{rows-held}
 
 -- ---- floor life, one entry more
 
@@ -135,13 +140,15 @@ left-alike G H s a = λ j reel. unwrap_or (pieces_by reel s.command) (a.left j r
 alike-next : (G H : History) (s : Stamped) → AreAlike G H → IsJudged Two (accept G s) → IsJudged Two (accept H s) → AreAlike (accept G s) (accept H s)
 alike-next G H s a of_G of_H = record {
   minute = λ j. Some (max (max s.minute (unwrap_or (a.minute j) 0)) (unwrap_or (a.minute j) 0));
-  parts = λ j part. defines part s.command || a.parts j part;
-  alternates = λ j p q. allows p q s.command || a.alternates j p q;
+  parts = λ j. (same_rows j).parts;
+  alternates = λ j. (same_rows j).alternates;
   sheets = λ j product machine. option_or (sheet_by product machine s.command) (a.sheets j product machine);
-  selections = λ j machine. option_or (selection_by machine s.command) (a.selections j machine);
+  selections = λ j. (same_rows j).selected;
   running = λ j machine. (work-next G g machine ∙ (λ k. unwrap_or (work_by machine s.command) (a.running k machine)) ∙ sym (work-next H h machine)) j;
-  busy = λ j board. (in_work-next G g board of_G ∙ (λ k. in_work_after board s.command (a.busy k board)) ∙ sym (in_work-next H h board of_H)) j;
-  products = λ j board. option_or (a.products j board) (option_and_then (a.selections j) (start_by board s.command));
+  busy = λ j board.
+      (sym (busy-row G board two_G) ∙ ap (λ (t : Tables). option_map_or is_at_work (t.boards board) false) same_rows ∙ busy-row H board two_H) j;
+  products = λ j board.
+      (sym (product-row G board) ∙ ap (λ (t : Tables). option_and_then (λ (r : BoardRow). Some r.product) (t.boards board)) same_rows ∙ product-row H board) j;
   placed = λ j board d. places board d s.command || a.placed j board d;
   marks = λ j reel. (map-or (receipt_by reel g.effective s.command) (receipt_of G reel)
       ∙ (λ k. option_or (option_map mark (receipt_by reel (at k) s.command)) (a.marks k reel))
@@ -284,9 +291,23 @@ state-alike G H desk of_G of_H = record {
     minute : desk_minute G ≡ desk_minute H
     minute = sym of_G.minute ∙ of_H.minute
 
+    two_G : IsJudged Two G
+    two_G = state-two G desk of_G
+
+    two_H : IsJudged Two H
+    two_H = state-two H desk of_H
+
+    same_rows : unnumbered (tables_of G) ≡ unnumbered (tables_of H)
+    same_rows = sym of_G.rows ∙ of_H.rows
+
+    at : ℕ
+    at = unwrap_or desk.minute 0
+
     of_reel : (reel : Name) → IsSame G H reel
     of_reel reel =
-        same-held G H reel (held_at desk.floor.reels reel) (state-two G desk of_G) (state-two H desk of_H) (of_G.floor.reels reel) (of_H.floor.reels reel)
+        same-held G H reel (held_in desk.rows at reel) two_G two_H
+        (rows-held G desk.rows (state-rows G desk of_G) reel at (ap (λ o. unwrap_or o 0) (sym of_G.minute)))
+        (rows-held H desk.rows (state-rows H desk of_H) reel at (ap (λ o. unwrap_or o 0) (sym of_H.minute)))
 
 -- Two lists that leave one state are answered alike.
 pub state-replies : (G H : History) (desk : StateDesk) (messages : List Stamped) → All IsStamped messages → IsState G desk → IsState H desk

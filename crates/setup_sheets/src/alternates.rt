@@ -2,13 +2,14 @@
 
 ghost use Rattle.std.specs.Prelude.{◌≡◌, ◌||◌, [], OnOk, OnErr};
 ghost use Rattle.std.specs.BTreeSet.{insert_key};
+ghost use Rattle.std.specs.List.Sorted.{IsStrictlySortedBy};
 ghost use Rattle.desk_types.specs.Id.{Name};
 ghost use Rattle.desk_types.specs.Pair.{same_pair, by_pair};
 ghost use Rattle.setup_sheets.specs.Alternates.{is_pair_among, is_allowed_by};
 
 use desk_types::Id;
 use std::alloc::{AllocError, Global};
-use std::collections::BTreeSet;
+use std::collections::{BTreeSet, btree_set};
 use std::marker::Model;
 
 /// A set of pairs of a part and its alternate, kept in a search tree. Contracts see it as its
@@ -53,6 +54,25 @@ impl Alternates {
     {
         self.pairs.insert((part, alternate))?;
         Ok(())
+    }
+
+    /// The pairs of a part and its alternate in order. Takes no memory.
+    pub fn iter(&self) -> btree_set::Iter<'_, (Id, Id)>
+        ensures all { result ≡ self.now }
+        ensures ordered { IsStrictlySortedBy by_pair result }
+    {
+        self.pairs.iter()
+    }
+}
+
+impl Clone for Alternates {
+    ghost use Rattle.std.specs.Prelude.{◌≡◌};
+
+    ghost is_clone = { λ x y. y ≡ x };
+
+    fn clone(&self) -> Result<Alternates, AllocError> {
+        let pairs = self.pairs.clone()?;
+        Ok(Alternates { pairs })
     }
 }
 

@@ -1,7 +1,7 @@
 -- What lists of edits make of tables.
-use Rattle.std.proofs.Common.{◌≡◌, ℕ, ◌+◌, Bool, true, false, Option, Some, None, List, [], ◌∷◌, ◌++◌, map, refl, ap, ◌∙◌, arith, ◌<◌, length, take, get_or}
+use Rattle.std.proofs.Common.{◌≡◌, ℕ, ◌+◌, Bool, true, false, Option, Some, None, List, [], ◌∷◌, ◌++◌, map, refl, sym, ap, ◌∙◌, arith, ◌<◌, length, take, get_or}
 use Rattle.std.specs.Prelude.{if◌then◌else◌, ◌==◌, ◌&&◌, ◌||◌, is_some}
-use Rattle.std.specs.Option.{option_or}
+use Rattle.std.specs.Option.{option_or, option_map}
 use Rattle.std.proofs.lemmas.Bool.{eqb-true}
 use Rattle.desk_types.specs.declared.sheet.SheetRow.{SheetRow}
 use Rattle.desk_types.specs.Id.{Name, same}
@@ -9,10 +9,11 @@ use Rattle.desk_types.proofs.LoopSteps.{take-next}
 use Rattle.desk_laws.proofs.Mounts.{has}
 use Rattle.desk_types.specs.declared.row.MountRow.{MountRow}
 use Rattle.desk_types.specs.declared.edit.RowEdit.{RowEdit}
-use Rattle.desk_types.specs.declared.edit.RowEdit.TheVariants.{TakeMount}
+use Rattle.desk_types.specs.declared.edit.RowEdit.TheVariants.{TakeMount, PutMount}
 use Rattle.desk_types.specs.Tables.{Tables, at_place}
 use Rattle.desk_types.specs.Edits.{with_edit, with_edits}
 use Rattle.state_rows.specs.EditsOf.{taken_rows, put_rows}
+use Rattle.state_rows.specs.Kept.{without_number, unnumbered}
 use Rattle.state_rows.proofs.PlacementRows.{at_place-before}
 
 -- two sets of tables with the same rows
@@ -35,6 +36,31 @@ same-tables a b parts alternates sheets selected reels mounts boards placements 
 pub with_edits-append : (xs ys : List RowEdit) (t : Tables) → with_edits (xs ++ ys) t ≡ with_edits ys (with_edits xs t)
 with_edits-append [] ys t = refl
 with_edits-append (x ∷ xs) ys t = with_edits-append xs ys (with_edit x t)
+
+-- ---- tables without numbers
+
+twice : (row : Option MountRow) → option_map without_number row ≡ option_map without_number (option_map without_number row)
+twice None = refl
+twice (Some row) = refl
+
+edit-unnumbered : (x : RowEdit) (t : Tables) → unnumbered (with_edit x t) ≡ unnumbered (with_edit x (unnumbered t))
+edit-unnumbered (TakeMount reel) t = ap (λ (f : Name → Option MountRow). record (unnumbered t) { mounts = f }) (λ j r. by (same reel r) (t.mounts r) j)
+  where
+    by : (b : Bool) (o : Option MountRow) → option_map without_number (if b then None else o) ≡ option_map without_number (if b then None else option_map without_number o)
+    by true o = refl
+    by false o = twice o
+edit-unnumbered (PutMount row) t = ap (λ (f : Name → Option MountRow). record (unnumbered t) { mounts = f }) (λ j r. by (same row.reel r) (t.mounts r) j)
+  where
+    by : (b : Bool) (o : Option MountRow) → option_map without_number (if b then Some row else o) ≡ option_map without_number (if b then Some row else option_map without_number o)
+    by true o = refl
+    by false o = twice o
+edit-unnumbered x t = ap (λ (f : Name → Option MountRow). record (unnumbered (with_edit x t)) { mounts = f }) (λ j r. twice (t.mounts r) j)
+
+-- Edits of tables that are the same without numbers leave such tables.
+pub edits-unnumbered : (xs : List RowEdit) (s t : Tables) → unnumbered s ≡ unnumbered t → unnumbered (with_edits xs s) ≡ unnumbered (with_edits xs t)
+edits-unnumbered [] s t is = is
+edits-unnumbered (x ∷ xs) s t is =
+    edits-unnumbered xs (with_edit x s) (with_edit x t) (edit-unnumbered x s ∙ ap (λ u. unnumbered (with_edit x u)) is ∙ sym (edit-unnumbered x t))
 
 -- ---- slots
 

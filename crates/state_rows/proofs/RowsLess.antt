@@ -33,13 +33,13 @@ use Rattle.desk_types.specs.declared.edit.RowEdit.{RowEdit}
 use Rattle.desk_types.specs.declared.edit.RowEdit.TheVariants.{TakeMount, PutReel, PutPlacement}
 use Rattle.desk_types.specs.Tables.{Tables, tables_of, reel_row, placement_row}
 use Rattle.desk_types.specs.Edits.{with_edits, AreNew, AreTakesFirst, AreBalanced}
-use Rattle.state_rows.specs.Kept.{row_at}
+use Rattle.state_rows.specs.Kept.{row_at, unnumbered}
 use Rattle.state_rows.specs.After.{placed_row}
 use Rattle.state_rows.specs.EditsOf.{pick_of, is_picked, is_spent, less_row, AreTakeEdits, AreEditsOf, less_by, LessFits, ArePiecesFitting, picked_rows, with_reels, without_spent, take_spent, after_rows, place_rows, AreNamed}
 use Rattle.state_rows.proofs.EditLists.{with_edits-append}
 use Rattle.state_rows.proofs.GatheredPieces.{rows-named, picked_rows-next, picked_rows-fits, places-put}
 use Rattle.state_rows.proofs.SumsInRange.{pieces-fit, entry-next}
-use Rattle.state_rows.proofs.EditsLead.{edits-lead}
+use Rattle.state_rows.proofs.EditsLead.{edits-lead, edits-lead-same}
 use Rattle.state_rows.proofs.NewRows.{edits-fit}
 use Rattle.state_rows.proofs.PlacementRows.{unplaced-later}
 use Rattle.state_rows.proofs.TablesLess.{picks-again}
@@ -266,8 +266,10 @@ module _ (rules : Rules) (H : History) (s : Stamped) (change : Change) (is : IsC
 
       pub rows-lead : number ≡ length H + 1 → with_edits edits (tables_of H) ≡ tables_of (accept H s)
       rows-lead next =
-          edits-lead H (entry_of H s) edits next-judged
-          (subst (λ n. AreEditsOf H n (effective_minute H s.minute) (takes_by H (effective_minute H s.minute) s.command) s.command edits) next are-edits)
+          edits-lead H (entry_of H s) number edits next-judged are-edits next
+
+      pub rows-same : unnumbered (with_edits edits (tables_of H)) ≡ unnumbered (tables_of (accept H s))
+      rows-same = edits-lead-same H (entry_of H s) number edits next-judged are-edits
 
       pub rows-new : number ≡ length H + 1 → AreNew edits (tables_of H)
       rows-new next =

@@ -4,7 +4,7 @@ use Rattle.std.specs.BTreeMap.{is_at}
 use Rattle.std.specs.List.{All, list_any}
 use Rattle.std.specs.List.Sorted.{IsStrictlySortedBy}
 use Rattle.std.specs.Map.{keys_of, lookup}
-use Rattle.std.specs.Option.{option_and_then}
+use Rattle.std.specs.Option.{option_and_then, option_map}
 use Rattle.std.specs.Ordering.{ordering_then, nat_cmp}
 use Rattle.std.specs.declared.cmp.Ordering.{Ordering}
 use Rattle.desk_types.specs.declared.sheet.SheetRow.{SheetRow}
@@ -76,6 +76,14 @@ is_placement edit = false
 -- the tables t, but with the placements of another
 abbrev pub but_placements : Tables → Tables → Tables
 but_placements t other = record t { placements = other.placements }
+
+-- the row without its number
+abbrev pub without_number : MountRow → MountRow
+without_number row = record row { since = 0 }
+
+-- the tables without what is by the number of a command: placements, and when each reel was put onto its slot
+abbrev pub unnumbered : Tables → Tables
+unnumbered t = record t { mounts = λ r. option_map without_number (t.mounts r); placements = λ n k. None }
 
 -- ---- lists of a table's rows
 

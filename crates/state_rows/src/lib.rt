@@ -9,7 +9,9 @@ mod set;
 mod sheets;
 mod slot_rows;
 mod takes;
+mod views;
 
 pub use desk_types::{BoardRow, MountRow, PlacementRow, ReelRow, RowEdit, RowEdits};
-pub use rows::rows_of;
+pub use rows::{edits_for, rows_of};
 pub use set::RowSet;
+pub use views::Views;

@@ -75,6 +75,18 @@ impl Mounts {
     }
 }
 
+impl Clone for Mounts {
+    ghost use Rattle.std.specs.Prelude.{◌≡◌};
+
+    ghost is_clone = { λ x y. y ≡ x };
+
+    fn clone(&self) -> Result<Mounts, AllocError> {
+        let by_reel = self.by_reel.clone()?;
+        let by_since = self.by_since.clone()?;
+        Ok(Mounts { by_reel, by_since })
+    }
+}
+
 /// Takes the reel's row out of both maps.
 fn take_both(
     by_reel: &mut BTreeMap<Id, MountRow>,

@@ -10,7 +10,8 @@ ghost use Rattle.desk_types.specs.Tables.{columns_of, reel_row};
 ghost use Rattle.state_rows.specs.EditsOf.{opened_row, sealed_row, baked_row, reel_edit};
 ghost use Rattle.desk_types.specs.declared.edit.RowEdit.TheVariants.{PutMount};
 
-use desk_types::{Desk, Id, Minute, Moisture, MountRow, Quantity, ReelRow, ReelView, RowEdit};
+use crate::views::Views;
+use desk_types::{Id, Minute, Moisture, MountRow, Quantity, ReelRow, ReelView, RowEdit};
 use std::alloc::{AllocError, Global};
 
 /// What of a reel's view does not change with the minute.
@@ -34,7 +35,7 @@ pub fn columns(view: &ReelView) -> ReelRow
 }
 
 /// The row of a received reel.
-pub fn row<D: Desk>(desk: &D, reel: &Id) -> Option<ReelRow>
+pub fn row<D: Views>(desk: &D, reel: &Id) -> Option<ReelRow>
     ensures { (H : History) → D.Stands desk.now H → result ≡ reel_row H reel.now }
 {
     match desk.reel(reel) {
@@ -93,7 +94,7 @@ fn baked_row(row: ReelRow) -> ReelRow
 }
 
 /// The edit of an opened reel.
-pub fn open<D: Desk>(
+pub fn open<D: Views>(
     alloc: Global,
     desk: &D,
     reel: &Id,
@@ -113,7 +114,7 @@ pub fn open<D: Desk>(
 }
 
 /// The edit of a sealed reel.
-pub fn seal<D: Desk>(
+pub fn seal<D: Views>(
     alloc: Global,
     desk: &D,
     reel: &Id,
@@ -134,9 +135,8 @@ pub fn seal<D: Desk>(
 }
 
 /// The edit of a baked reel.
-pub fn bake<D: Desk>(alloc: Global, desk: &D, reel: &Id) -> Result<Vec<RowEdit>, AllocError>
-    ensures { (H : History) → D.Stands desk.now H
-        → IfOk result (λ edits. edits.items ≡ reel_edit baked_row (reel_row H reel.now)) }
+pub fn bake<D: Views>(alloc: Global, desk: &D, reel: &Id) -> Result<Vec<RowEdit>, AllocError>
+    ensures { (H : History) → D.Stands desk.now H → IfOk result (λ edits. edits.items ≡ reel_edit baked_row (reel_row H reel.now)) }
 {
     let mut edits = Vec::new(alloc);
     match row(desk, reel) {
@@ -149,7 +149,7 @@ pub fn bake<D: Desk>(alloc: Global, desk: &D, reel: &Id) -> Result<Vec<RowEdit>,
 }
 
 /// The edits of a reel that is put onto a slot.
-pub fn mount<D: Desk>(
+pub fn mount<D: Views>(
     alloc: Global,
     desk: &D,
     put: MountRow,

@@ -7,6 +7,7 @@ ghost use Rattle.desk_types.specs.Judged.{IsJudged};
 ghost use Rattle.desk_types.specs.Desk.{HasRoom, IsChange};
 ghost use Rattle.desk_types.specs.Tables.{tables_of};
 ghost use Rattle.desk_types.specs.Edits.{with_edits, AreNew, AreTakesFirst, AreBalanced};
+ghost use Rattle.state_rows.specs.Kept.{unnumbered};
 ghost use Rattle.state_rows.specs.EditsOf.{pick_of, AreEditsOf, ArePiecesFitting};
 
 use crate::counted::count;
@@ -14,6 +15,7 @@ use crate::reels::{bake, fresh_row, mount, open, seal};
 use crate::sheets::define;
 use crate::slot_rows::{board, unload};
 use crate::takes::take;
+use crate::views::{Told, Views};
 use desk_types::{Change, Command, Desk, Listing, Minute, MountRow, RowEdit, RowEdits, Take};
 use std::alloc::{AllocError, Global};
 
@@ -27,7 +29,7 @@ fn one(alloc: Global, edit: RowEdit) -> Result<Vec<RowEdit>, AllocError>
 }
 
 /// The edits of a command that takes effect at the minute, with this number and these takes.
-fn edits_of<D: Desk>(
+fn edits_of<D: Views>(
     alloc: Global,
     desk: &D,
     command: &Command,
@@ -109,6 +111,36 @@ fn edits_of<D: Desk>(
     }
 }
 
+/// The edits of a change, by views. Whatever the number, they lead to the tables with the change but for
+/// the rows that have a number.
+pub fn edits_for<D: Views>(
+    alloc: Global,
+    desk: &D,
+    change: &Change,
+    number: u64,
+) -> Result<RowEdits, AllocError>
+    requires room { HasRoom D.Stands desk.now 1 }
+    requires judged { (H : History) → D.Stands desk.now H → IsChange (D.kept_rules desk.now) H change.now.stamped change.now }
+    ensures lead { (H : History) → D.Stands desk.now H → number ≡ length H + 1 → IfOk result (λ edits. with_edits edits (tables_of H) ≡ tables_of (accept H change.now.stamped)) }
+    ensures new { (H : History) → D.Stands desk.now H → number ≡ length H + 1 → IfOk result (λ edits. AreNew edits (tables_of H)) }
+    ensures same { (H : History) → D.Stands desk.now H → IfOk result (λ edits. unnumbered (with_edits edits (tables_of H)) ≡ unnumbered (tables_of (accept H change.now.stamped))) }
+    ensures takes_first { IfOk result (λ edits. AreTakesFirst edits) }
+    ensures balanced { IfOk result (λ edits. AreBalanced edits) }
+{
+    desk.is_judged();
+    change.stamped.ranges_hold();
+    let _ = change.minute.get();
+    let edits = edits_of(
+        alloc,
+        desk,
+        &change.stamped.command,
+        number,
+        change.minute,
+        change.takes(),
+    )?;
+    Ok(Listing::new(edits))
+}
+
 /// The edits that lead the state tables to those with the change, which is accepted with this number.
 /// Made one after the other, they keep each table's keys and checks: rows are taken out before others
 /// are put in, a placement, a mount or a row of a sheet is only put where there is none, and each row
@@ -129,16 +161,6 @@ pub fn rows_of<D: Desk>(
     ensures takes_first { IfOk result (λ edits. AreTakesFirst edits) }
     ensures balanced { IfOk result (λ edits. AreBalanced edits) }
 {
-    desk.is_judged();
-    change.stamped.ranges_hold();
-    let _ = change.minute.get();
-    let edits = edits_of(
-        alloc,
-        desk,
-        &change.stamped.command,
-        number,
-        change.minute,
-        change.takes(),
-    )?;
-    Ok(Listing::new(edits))
+    let told = Told { desk };
+    edits_for(alloc, &told, change, number)
 }

@@ -9,7 +9,8 @@ ghost use Rattle.desk_types.specs.Setup.{selected_on};
 ghost use Rattle.state_rows.specs.EditsOf.{reel_on_slot, reels_on, board_edit};
 ghost use Rattle.desk_types.specs.declared.edit.RowEdit.TheVariants.{TakeMount};
 
-use desk_types::{BoardRow, Desk, Id, Mount, RowEdit};
+use crate::views::Views;
+use desk_types::{BoardRow, Id, Mount, RowEdit};
 use std::alloc::{AllocError, Global};
 
 /// The reel of a live reel's row, where it is on the slot.
@@ -44,7 +45,7 @@ fn take_mounts(edits: &mut Vec<RowEdit>, slot: &Id, mounts: &[Mount]) -> Result<
 }
 
 /// The edits of an unload.
-pub fn unload<D: Desk>(
+pub fn unload<D: Views>(
     alloc: Global,
     desk: &D,
     machine: &Id,
@@ -64,7 +65,7 @@ pub fn unload<D: Desk>(
 }
 
 /// The edit of a board that is started or completed.
-pub fn board<D: Desk>(
+pub fn board<D: Views>(
     alloc: Global,
     desk: &D,
     machine: &Id,

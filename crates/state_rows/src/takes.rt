@@ -16,7 +16,8 @@ ghost use Rattle.state_rows.specs.After.{placed_row};
 ghost use Rattle.state_rows.specs.EditsOf.{pick_of, less_by, LessFits, ArePiecesFitting, picked_rows, take_spent, place_rows, AreTakeEdits};
 
 use crate::reels::row;
-use desk_types::{Desk, Id, PlacementRow, Purpose, ReelRow, RowEdit, Take};
+use crate::views::Views;
+use desk_types::{Id, PlacementRow, Purpose, ReelRow, RowEdit, Take};
 use std::alloc::{AllocError, Global};
 use std::collections::BTreeMap;
 
@@ -41,7 +42,7 @@ fn lessen(row: &mut ReelRow, take: &Take)
 }
 
 /// Takes a take's pieces off the row of its reel: that among the rows, or else the desk's.
-fn note<D: Desk>(rows: &mut BTreeMap<Id, ReelRow>, desk: &D, take: &Take) -> Result<(), AllocError>
+fn note<D: Views>(rows: &mut BTreeMap<Id, ReelRow>, desk: &D, take: &Take) -> Result<(), AllocError>
     requires fits { (H : History) × D.Stands desk.now H
         × ((row : ReelRow) → option_or (get by_name rows.old take.now.reel) (reel_row H take.now.reel) ≡ Some row
         → LessFits (pick_of take.now) row) }
@@ -62,7 +63,7 @@ fn note<D: Desk>(rows: &mut BTreeMap<Id, ReelRow>, desk: &D, take: &Take) -> Res
 }
 
 /// The rows of the reels off which pieces come.
-fn gather<D: Desk>(
+fn gather<D: Views>(
     alloc: Global,
     desk: &D,
     takes: &[Take],
@@ -159,7 +160,7 @@ fn place_all(edits: &mut Vec<RowEdit>, number: u64, takes: &[Take]) -> Result<()
 }
 
 /// The edits of takes.
-pub fn take<D: Desk>(
+pub fn take<D: Views>(
     alloc: Global,
     desk: &D,
     number: u64,
