@@ -9,7 +9,7 @@ use Rattle.std.specs.declared.cmp.Ordering.{Ordering}
 use Rattle.std.specs.declared.cmp.Ordering.TheVariants.{Less, Equal, Greater}
 use Rattle.std.proofs.lemmas.Bool.{eqb-true, ltb-true}
 use Rattle.desk_types.specs.Id.{Name, same, by_name}
-use Rattle.desk_types.proofs.Keys.{is_at-by_name, is_at-by_pair, list_any-same}
+use Rattle.desk_types.proofs.Keys.{is_at-by_name, is_at-by_pair, is_eq-ordering_then, list_any-same}
 use Rattle.setup_sheets.specs.Names.{is_among}
 use Rattle.setup_sheets.specs.Alternates.{is_pair_among}
 use Rattle.desk_types.specs.Pair.{same_pair, by_pair}

@@ -136,7 +136,8 @@ pub fn seal<D: Views>(
 
 /// The edit of a baked reel.
 pub fn bake<D: Views>(alloc: Global, desk: &D, reel: &Id) -> Result<Vec<RowEdit>, AllocError>
-    ensures { (H : History) → D.Stands desk.now H → IfOk result (λ edits. edits.items ≡ reel_edit baked_row (reel_row H reel.now)) }
+    ensures { (H : History) → D.Stands desk.now H
+        → IfOk result (λ edits. edits.items ≡ reel_edit baked_row (reel_row H reel.now)) }
 {
     let mut edits = Vec::new(alloc);
     match row(desk, reel) {

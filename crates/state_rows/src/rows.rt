@@ -120,10 +120,14 @@ pub fn edits_for<D: Views>(
     number: u64,
 ) -> Result<RowEdits, AllocError>
     requires room { HasRoom D.Stands desk.now 1 }
-    requires judged { (H : History) → D.Stands desk.now H → IsChange (D.kept_rules desk.now) H change.now.stamped change.now }
-    ensures lead { (H : History) → D.Stands desk.now H → number ≡ length H + 1 → IfOk result (λ edits. with_edits edits (tables_of H) ≡ tables_of (accept H change.now.stamped)) }
-    ensures new { (H : History) → D.Stands desk.now H → number ≡ length H + 1 → IfOk result (λ edits. AreNew edits (tables_of H)) }
-    ensures same { (H : History) → D.Stands desk.now H → IfOk result (λ edits. unnumbered (with_edits edits (tables_of H)) ≡ unnumbered (tables_of (accept H change.now.stamped))) }
+    requires judged { (H : History) → D.Stands desk.now H
+        → IsChange (D.kept_rules desk.now) H change.now.stamped change.now }
+    ensures lead { (H : History) → D.Stands desk.now H → number ≡ length H + 1
+        → IfOk result (λ edits. with_edits edits (tables_of H) ≡ tables_of (accept H change.now.stamped)) }
+    ensures new { (H : History) → D.Stands desk.now H → number ≡ length H + 1
+        → IfOk result (λ edits. AreNew edits (tables_of H)) }
+    ensures same { (H : History) → D.Stands desk.now H
+        → IfOk result (λ edits. unnumbered (with_edits edits (tables_of H)) ≡ unnumbered (tables_of (accept H change.now.stamped))) }
     ensures takes_first { IfOk result (λ edits. AreTakesFirst edits) }
     ensures balanced { IfOk result (λ edits. AreBalanced edits) }
 {

@@ -13,7 +13,9 @@ ghost use Rattle.state_rows.specs.Kept.{tables_in, is_placement, but_placements,
 ghost use Rattle.desk_types.specs.declared.edit.RowEdit.TheVariants.{TakeSheetRow, TakeMount, PutPart, PutAlternate, PutSheetRow, PutSelected, PutReel, PutMount, PutBoard, PutPlacement, PutFound};
 
 use crate::mounts::Mounts;
-use desk_types::{BoardRow, Id, Minute, MountRow, PlacementRow, ReelRow, RowEdit, RowEdits, SheetRow};
+use desk_types::{
+    BoardRow, Id, Minute, MountRow, PlacementRow, ReelRow, RowEdit, RowEdits, SheetRow,
+};
 use setup_sheets::{Alternates, Parts};
 use std::alloc::{AllocError, Global};
 use std::collections::{BTreeMap, btree_map, btree_set};
