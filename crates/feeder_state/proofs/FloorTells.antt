@@ -17,10 +17,7 @@ use Rattle.desk_laws.specs.Place.{place_of}
 use Rattle.desk_laws.proofs.Balance.{unreceived-empty}
 use Rattle.desk_laws.proofs.Mounted.{mounted-is}
 use Rattle.desk_laws.proofs.Mounts.{live-received}
-use Rattle.feeder_state.specs.declared.held.Held.{Held}
-use Rattle.feeder_state.specs.Held.{held_in, IsHeldOf}
 use Rattle.feeder_state.specs.Rows.{AreRowsAt}
-use Rattle.feeder_state.proofs.RowReels.{rows-held}
 
 -- ---- reels
 
@@ -28,21 +25,16 @@ use Rattle.feeder_state.proofs.RowReels.{rows-held}
 pub told-now : (H : History) (minute : ℕ) (rows : KeptRows) → AreRowsAt H (Some minute) rows → now_of H ≡ minute
 told-now H minute rows told = ap (λ o. unwrap_or o 0) (sym told.minute_is)
 
--- the reel that it has at the desk minute
-pub told-held : (H : History) (minute : ℕ) (rows : KeptRows) (name : Name) → AreRowsAt H (Some minute) rows → IsHeldOf H name (held_in rows minute name)
-told-held H minute rows name told = rows-held H rows told.are name minute (told-now H minute rows told)
+-- nothing is told of a reel that was not received
+pub absent-view : (H : History) (name : Name) → receipt_of H name ≡ None → reel_view H name ≡ None
+absent-view H name none = ap (option_map (view_of H name)) none
 
--- a reel that is not held was not received, and nothing is told of it
-pub absent-view : (H : History) (name : Name) (found : Option Held) → IsHeldOf H name found → found ≡ None → reel_view H name ≡ None
-absent-view H name None is_held is = ap (option_map (view_of H name)) is_held
-absent-view H name (Some held) is_held is = cc
-
--- nothing is left of a reel that is not held
-pub absent-left : (H : History) (name : Name) → IsJudged Two H → IsHeldOf H name None → 0 ≡ left_of H name
+-- nothing is left of it
+pub absent-left : (H : History) (name : Name) → IsJudged Two H → receipt_of H name ≡ None → 0 ≡ left_of H name
 absent-left H name judged none = sym (unreceived-empty H name judged none)
 
 -- and it is on no slot
-pub absent-mounted : (H : History) (name : Name) → IsJudged Two H → IsHeldOf H name None → false ≡ is_mounted H name
+pub absent-mounted : (H : History) (name : Name) → IsJudged Two H → receipt_of H name ≡ None → false ≡ is_mounted H name
 absent-mounted H name judged none =
     by (is_some (place_of H name)) ∙ ap (λ n. is_some (place_of H name) && nat_lt 0 n) (absent-left H name judged none) ∙ sym (mounted-is H name judged)
   where
@@ -52,18 +44,11 @@ absent-mounted H name judged none =
 
 -- ---- slots
 
--- a received reel is held
-held-there : (H : History) (name : Name) (found : Option Held) → IsHeldOf H name found → is_some (receipt_of H name) ≡ true → is_some found ≡ true
-held-there H name None is_held received = sym (ap is_some is_held) ∙ received
-held-there H name (Some held) is_held received = refl
-
--- Each reel of a tape is held.
-pub all-held : (H : History) (minute : ℕ) (rows : KeptRows) (tape : List Name) (machine slot : Name) → AreRowsAt H (Some minute) rows → tape ≡ live_on H machine slot
-    → All (λ name. is_some (held_in rows minute name) ≡ true) tape
-all-held H minute rows tape machine slot told is =
-    subst (All (λ name. is_some (held_in rows minute name) ≡ true)) (sym is)
-    (All-from_any nat_list_eq_equiv (λ name. is_some (held_in rows minute name) ≡ true) _
-    (λ name there. held-there H name (held_in rows minute name) (told-held H minute rows name told) (live-received H machine slot name told.are.judged there)))
+-- Each reel of a tape was received.
+pub all-received : (H : History) (tape : List Name) (machine slot : Name) → IsJudged Two H → tape ≡ live_on H machine slot → All (λ name. is_some (receipt_of H name) ≡ true) tape
+all-received H tape machine slot judged is =
+    subst (All (λ name. is_some (receipt_of H name) ≡ true)) (sym is)
+    (All-from_any nat_list_eq_equiv (λ name. is_some (receipt_of H name) ≡ true) _ (λ name there. live-received H machine slot name judged there))
 
 -- ---- free reels
 

@@ -39,8 +39,9 @@ use Rattle.state_rows.proofs.MountedRows.{live-mount}
 use Rattle.state_rows.specs.Kept.{KeptRows, tables_in, without_number}
 use Rattle.state_rows.proofs.ReelRows.{used-then, found-kept}
 use Rattle.feeder_state.specs.declared.held.Held.{Held}
-use Rattle.feeder_state.specs.Held.{IsHeld, IsHeldOf, IsFitting, reel_at, held_in}
+use Rattle.feeder_state.specs.Held.{IsHeld, IsHeldOf, with_mount}
 use Rattle.feeder_state.specs.Rows.{AreRows, left_at}
+use Rattle.feeder_state.proofs.RowFits.{IsFitting}
 
 -- ---- what a row says
 
@@ -214,33 +215,66 @@ module _ (H : History) (rows : KeptRows) (are : AreRows H rows) (name : Name) wh
       by None none = sym (unreceived-empty H name are.judged none)
       by (Some receipt) says = refl
 
-  -- The reel that the rows have at the desk minute is as the list left it.
-  pub rows-held : (minute : ℕ) → now_of H ≡ minute → IsHeldOf H name (held_in rows minute name)
-  rows-held minute now = by ((tables_in rows).reels name) reels-row
-    where
-      by : (said : Option ReelRow) → said ≡ reel_row H name
-          → IsHeldOf H name (option_map (λ (reel : Reel). record { reel = reel; on_slot = is_some ((tables_in rows).mounts name) }) (option_map (λ (row : ReelRow). reel_in row (unwrap_or ((tables_in rows).found name) 0) minute) said))
-      by None is = row-none H name (sym is)
-      by (Some row) is = row-held H name row minute _ are.judged (sym is) now (record {
-        part = refl;
-        lot = refl;
-        level = refl;
-        label = refl;
-        received = refl;
-        finds = found-row;
-        placed = refl;
-        scrapped = refl;
-        remaining = refl;
-        used = refl;
-        open_since = refl;
-        baked = refl;
-        last = refl;
-        mounted = mounts-row;
-      })
+-- what is so of a reel with its mount is so of the reel
+pub held-reel : (H : History) (name : Name) (said : Option Reel) → IsHeldOf H name (with_mount H name said) → IsReelOf H name said
+held-reel H name None is_held = is_held
+held-reel H name (Some reel) is_held = (is_held.stands, is_held.by_now)
 
-  pub rows-reel : (minute : ℕ) → now_of H ≡ minute → IsReelOf H name (reel_at rows minute name)
-  rows-reel minute now = by (reel_at rows minute name) (rows-held minute now)
-    where
-      by : (said : Option Reel) → IsHeldOf H name (option_map (λ (reel : Reel). record { reel = reel; on_slot = is_some ((tables_in rows).mounts name) }) said) → IsReelOf H name said
-      by None is_held = is_held
-      by (Some reel) is_held = (is_held.stands, is_held.by_now)
+-- One reel stands for what two lists with these rows say of its name.
+pub both-held : (G H : History) (rows : KeptRows) (name : Name) (minute : ℕ) → AreRows G rows → AreRows H rows → now_of G ≡ minute → now_of H ≡ minute
+    → (held : Option Held) × IsHeldOf G name held × IsHeldOf H name held
+both-held G H rows name minute of_G of_H now_G now_H = by ((tables_in rows).reels name) (reels-row G rows of_G name) (reels-row H rows of_H name)
+  where
+    found : ℕ
+    found = unwrap_or ((tables_in rows).found name) 0
+
+    made : (row : ReelRow) → IsFitting row minute → found ≤ row.received → Held
+    made row fits few = record {
+      reel = record {
+        part = row.part;
+        lot = row.lot;
+        level = row.level;
+        label = row.label;
+        received = row.received;
+        found = found;
+        placed = row.placed;
+        scrapped = row.scrapped;
+        remaining = row.remaining;
+        used = row.used;
+        open_since = row.open_since;
+        baked = row.baked;
+        last = minute;
+        label_range = fits.label;
+        balance = fits.balance;
+        found_range = few;
+        open_minutes = fits.opened;
+        sealed_minutes = fits.sealed;
+      };
+      on_slot = is_some ((tables_in rows).mounts name);
+    }
+
+    of_row : (L : History) (row : ReelRow) (fits : IsFitting row minute) (few : found ≤ row.received) → AreRows L rows → reel_row L name ≡ Some row → now_of L ≡ minute
+        → IsHeld L name (made row fits few)
+    of_row L row fits few are is now = row-held L name row minute (made row fits few) are.judged is now (record {
+      part = refl;
+      lot = refl;
+      level = refl;
+      label = refl;
+      received = refl;
+      finds = found-row L rows are name;
+      placed = refl;
+      scrapped = refl;
+      remaining = refl;
+      used = refl;
+      open_since = refl;
+      baked = refl;
+      last = refl;
+      mounted = mounts-row L rows are name;
+    })
+
+    by : (said : Option ReelRow) → said ≡ reel_row G name → said ≡ reel_row H name → (held : Option Held) × IsHeldOf G name held × IsHeldOf H name held
+    by None in_G in_H = (None, row-none G name (sym in_G), row-none H name (sym in_H))
+    by (Some row) in_G in_H =
+        let fits = row-fits G name row minute of_G.judged (sym in_G) now_G in
+        let few = subst (λ n. n ≤ row.received) (sym (found-row G rows of_G name)) (found-fits G name row (sym in_G)) in
+        (Some (made row fits few), of_row G row fits few of_G (sym in_G) now_G, of_row H row fits few of_H (sym in_H) now_H)

@@ -1,6 +1,6 @@
 -- Reels as rows have them, each with whether it is on a slot.
-use Rattle.std.specs.Prelude.{◌≡◌, ℕ, ◌+◌, ◌-◌, ◌≤◌, nat_lt, nat_le, ◌==◌, Bool, ◌&&◌, Option, Some, None, is_some, unwrap_or}
-use Rattle.std.specs.Option.{option_map, ForSome, ForNone}
+use Rattle.std.specs.Prelude.{◌≡◌, ℕ, ◌-◌, ◌≤◌, nat_lt, nat_le, ◌==◌, Bool, ◌&&◌, Option, Some, None}
+use Rattle.std.specs.Option.{option_map}
 use Rattle.desk_types.specs.declared.limits.TheConstants.{GREATEST_LABEL}
 use Rattle.desk_types.specs.Id.{Name}
 use Rattle.desk_types.specs.History.{History, now_of}
@@ -9,7 +9,6 @@ use Rattle.desk_types.specs.Pieces.{left_of, placed_of, scrapped_of, found_of, i
 use Rattle.reels.specs.declared.reel.Reel.{Reel}
 use Rattle.reels.specs.Reel.{StandsFor}
 use Rattle.desk_types.specs.declared.row.ReelRow.{ReelRow}
-use Rattle.state_rows.specs.Kept.{KeptRows, tables_in}
 use Rattle.feeder_state.specs.declared.held.Held.{Held}
 
 -- whether the reel is on a slot and has pieces left
@@ -28,38 +27,9 @@ times_fit minute row = by row.open_since
     by (Some since) = nat_le row.used since && nat_le since minute
     by None = nat_le row.used minute
 
--- What a row says fits a reel at the desk minute.
-pub record IsFitting (row : ReelRow) (minute : ℕ) : Type 0 where
-  pub label : row.label ≤ GREATEST_LABEL
-  pub balance : row.received ≡ row.placed + row.scrapped + row.remaining
-  pub opened : ForSome row.open_since (λ since. (row.used ≤ since) × (since ≤ minute))
-  pub sealed : ForNone row.open_since (row.used ≤ minute)
-
--- the reel of a row, with so many found pieces
-abbrev pub reel_in : ReelRow → ℕ → ℕ → Reel
-reel_in row found minute = record {
-  part = row.part;
-  lot = row.lot;
-  level = row.level;
-  label = row.label;
-  received = row.received;
-  found = found;
-  placed = row.placed;
-  scrapped = row.scrapped;
-  remaining = row.remaining;
-  used = row.used;
-  open_since = row.open_since;
-  baked = row.baked;
-  last = minute;
-}
-
--- the reel of this name at the minute
-abbrev pub reel_at : KeptRows → ℕ → Name → Option Reel
-reel_at rows minute name = option_map (λ (row : ReelRow). reel_in row (unwrap_or ((tables_in rows).found name) 0) minute) ((tables_in rows).reels name)
-
--- the same, with whether it is on a slot
-abbrev pub held_in : KeptRows → ℕ → Name → Option Held
-held_in rows minute name = option_map (λ (reel : Reel). record { reel = reel; on_slot = is_some ((tables_in rows).mounts name) }) (reel_at rows minute name)
+-- whether a reel with these found pieces can be made of the row at the minute
+abbrev pub is_reel : ℕ → ℕ → ReelRow → Bool
+is_reel found minute row = ((nat_le row.label GREATEST_LABEL && nat_le found row.received) && balances row) && times_fit minute row
 
 -- The reel is as the list left the reel of this name: its receipt and its floor life, its pieces, and whether it is mounted.
 pub record IsHeld (H : History) (name : Name) (held : Held) : Type 0 where
@@ -75,3 +45,7 @@ pub record IsHeld (H : History) (name : Name) (held : Held) : Type 0 where
 abbrev pub IsHeldOf : History → Name → Option Held → Type 0
 IsHeldOf H name None = receipt_of H name ≡ None
 IsHeldOf H name (Some held) = IsHeld H name held
+
+-- the reel, with whether it is mounted
+abbrev pub with_mount : History → Name → Option Reel → Option Held
+with_mount H name reel = option_map (λ (r : Reel). record { reel = r; on_slot = is_mounted H name }) reel

@@ -1,9 +1,14 @@
 //! Reels, as the rows have them.
 
-ghost use Rattle.std.specs.Prelude.{◌≡◌, ◌≤◌, Some, true};
+ghost use Rattle.std.specs.Prelude.{◌≡◌, Some};
+ghost use Rattle.desk_types.specs.declared.rules.Rules.TheVariants.{Two};
+ghost use Rattle.desk_types.specs.Id.{Name};
 ghost use Rattle.desk_types.specs.History.{History, now_of};
-ghost use Rattle.feeder_state.specs.Rows.{AreRows};
-ghost use Rattle.feeder_state.specs.Held.{IsFitting, balances, times_fit, reel_in, reel_at, held_in};
+ghost use Rattle.desk_types.specs.Judged.{IsJudged};
+ghost use Rattle.desk_types.specs.Pieces.{found_of};
+ghost use Rattle.desk_types.specs.Tables.{reel_row};
+ghost use Rattle.feeder_state.specs.Rows.{AreRowsAt};
+ghost use Rattle.feeder_state.specs.Held.{balances, times_fit, is_reel, with_mount, IsHeldOf};
 
 use desk_types::{GREATEST_LABEL, Id, Minute, ReelRow};
 use reels::Reel;
@@ -35,43 +40,51 @@ fn times_fit(row: &ReelRow, minute: Minute) -> bool
     }
 }
 
+/// Whether a reel can be made of the row: so it is of each row of a list.
+fn is_reel(row: &ReelRow, found: u64, minute: Minute) -> bool
+    ensures { result ≡ is_reel found minute row.now }
+{
+    row.label <= GREATEST_LABEL && found <= row.received && balances(row) && times_fit(row, minute)
+}
+
 /// The reel of a row at the desk minute, which stands for the minute of its last command; or none where
 /// the row is of no list.
 fn reel_of(row: &ReelRow, found: u64, minute: Minute) -> Option<Reel>
-    ensures { IsFitting row.now minute → found ≤ row.now.received → result ≡ Some (reel_in row.now found minute) }
+    ensures { (H : History) (name : Name) → IsJudged Two H → reel_row H name ≡ Some row.now → now_of H ≡ minute
+        → found ≡ found_of H name → IsHeldOf H name (with_mount H name result) }
 {
-    let fits = row.label <= GREATEST_LABEL && found <= row.received;
-    if !(fits && balances(row) && times_fit(row, minute)) {
-        return None;
+    if is_reel(row, found, minute) {
+        return Some(Reel {
+            part: row.part,
+            lot: row.lot,
+            level: row.level,
+            label: row.label,
+            received: row.received,
+            found,
+            placed: row.placed,
+            scrapped: row.scrapped,
+            remaining: row.remaining,
+            used: row.used,
+            open_since: row.open_since,
+            baked: row.baked,
+            last: minute,
+        });
     }
-    Some(Reel {
-        part: row.part,
-        lot: row.lot,
-        level: row.level,
-        label: row.label,
-        received: row.received,
-        found,
-        placed: row.placed,
-        scrapped: row.scrapped,
-        remaining: row.remaining,
-        used: row.used,
-        open_since: row.open_since,
-        baked: row.baked,
-        last: minute,
-    })
+    None
 }
 
 /// The reel of this name at the desk minute, or none where it was not received.
 pub fn reel_now(rows: &RowSet, minute: Minute, name: &Id) -> Option<Reel>
-    ensures { (H : History) → AreRows H rows.now → now_of H ≡ minute → result ≡ reel_at rows.now minute name.now }
+    ensures { (H : History) → AreRowsAt H (Some minute) rows.now
+        → IsHeldOf H name.now (with_mount H name.now result) }
 {
     let row = rows.reel(name)?;
     reel_of(row, rows.found_on(name), minute)
 }
 
-/// The same, with whether it is live on a slot.
+/// The same, with whether it is on a slot.
 pub fn find(rows: &RowSet, minute: Minute, name: &Id) -> Option<Held>
-    ensures { (H : History) → AreRows H rows.now → now_of H ≡ minute → result ≡ held_in rows.now minute name.now }
+    ensures { (H : History) → AreRowsAt H (Some minute) rows.now → IsHeldOf H name.now result }
 {
     let reel = reel_now(rows, minute, name)?;
     let on_slot = rows.is_mounted(name);

@@ -5,7 +5,8 @@ ghost use Rattle.std.specs.List.{flat_map, enumerate_from};
 ghost use Rattle.desk_types.specs.History.{History, now_of};
 ghost use Rattle.desk_types.specs.View.{has_sheet as is_on_sheet, reel_view, mount_of, slot_mounts, loaded_slots, mounts_on};
 ghost use Rattle.feeder_state.specs.Floor.{IsFloor};
-ghost use Rattle.feeder_state.specs.Held.{held_in, is_live, IsHeld};
+ghost use Rattle.desk_types.specs.Setup.{receipt_of};
+ghost use Rattle.feeder_state.specs.Held.{is_live, IsHeld};
 ghost use Rattle.feeder_state.specs.Rows.{AreRowsAt};
 
 use crate::floor::Floor;
@@ -82,7 +83,7 @@ fn mount_of(held: &Held, minute: Minute, slot: &Id, position: u64, name: &Id) ->
     }
 }
 
-/// Tells the reels of a tape, the front first, each of which is held.
+/// Tells the reels of a tape, the front first, each of which was received.
 fn put_tape(
     mounts: &mut Vec<Mount>,
     rows: &RowSet,
@@ -90,7 +91,8 @@ fn put_tape(
     slot: &Id,
     tape: &Tape,
 ) -> Result<(), AllocError>
-    ensures { (H : History) → AreRowsAt H (Some minute) rows.now → All (λ name. is_some (held_in rows.now minute name) ≡ true) tape.now
+    ensures { (H : History) → AreRowsAt H (Some minute) rows.now
+        → All (λ name. is_some (receipt_of H name) ≡ true) tape.now
         → OnOk result (mounts.new.items ≡ mounts.old.items ++ map (mount_of H slot.now) (enumerate_from 1 tape.now)) }
 {
     for index in 0..tape.reels.len() {

@@ -9,7 +9,7 @@ use Rattle.desk_types.specs.View.{slot_mounts, mount_of}
 use Rattle.desk_types.proofs.Keys.{same-true}
 use Rattle.entry_search.specs.Floor.{tape_at}
 use Rattle.feeder_state.proofs.SlotsOfMachines.{by_pair-total, slots_among, told-loaded}
-use Rattle.feeder_state.proofs.FloorTells.{all-held}
+use Rattle.feeder_state.proofs.FloorTells.{all-received}
 use Rattle.feeder_state.proofs.views.put_slots.Goals as goal
 
 pub loop-key-preserved : goal.loop-key-preserved
@@ -32,9 +32,8 @@ loop-key-preserved-in-Continue-1 c = λ H told is_floor.
     let tape : tape_at floor.tapes key.0 key.1 ≡ c.in-Some.tape.now = ap (λ found. unwrap_or found []) there.1 in
     let live : c.in-Some.tape.now ≡ live_on H machine key.1 =
     sym tape ∙ is_floor.tapes key.0 key.1 ∙ ap (λ m. live_on H m key.1) (same-true key.0 machine (sym c.if-eq.ensures)) in
-    let held = all-held H c.args.minute c.args.rows.now c.in-Some.tape.now machine key.1 told live in
     ap (λ told_now. told_now ++ flat_map (slot_mounts H machine) rest) (
-    c.in_ok-put_tape.ensures H told held
+    c.in_ok-put_tape.ensures H told (all-received H c.in-Some.tape.now machine key.1 told.are.judged live)
     ∙ ap (λ reels. items ++ map (mount_of H key.1) (enumerate_from 1 reels)) live)
     ∙ append_assoc items (slot_mounts H machine key.1) (flat_map (slot_mounts H machine) rest)
     ∙ ap (λ here. items ++ flat_map (slot_mounts H machine) (cons_option (if here then Some key.1 else None) rest)) c.if-eq.ensures

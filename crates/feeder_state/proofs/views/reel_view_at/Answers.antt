@@ -1,20 +1,13 @@
 use Rattle.std.proofs.Common.{sym, subst, ◌∙◌}
-use Rattle.feeder_state.specs.Held.{IsHeldOf, held_in}
-use Rattle.feeder_state.proofs.FloorTells.{told-now, told-held, absent-view}
+use Rattle.feeder_state.specs.Held.{IsHeldOf}
+use Rattle.feeder_state.proofs.FloorTells.{told-now, absent-view}
 use Rattle.feeder_state.proofs.views.reel_view_at.Goals as goal
 
 pub returns-in_err-held : goal.returns-in_err-held
 returns-in_err-held c = λ H told.
-    let rows = c.args.rows.now in
-    let minute = c.args.minute in
     let name = c.args.name.now in
-    c.from_residual.ensures
-    ∙ sym (absent-view H name (held_in rows minute name) (told-held H minute rows name told) (sym (c.find.ensures H told.are (told-now H minute rows told)) ∙ c.in_err-held.is))
+    c.from_residual.ensures ∙ sym (absent-view H name (subst (IsHeldOf H name) c.in_err-held.is (c.find.ensures H told)))
 
 pub returns : goal.returns
 returns c = λ H told.
-    let rows = c.args.rows.now in
-    let minute = c.args.minute in
-    let name = c.args.name.now in
-    let now = told-now H minute rows told in
-    sym (c.view_of.ensures H (subst (IsHeldOf H name) (sym (c.find.ensures H told.are now) ∙ c.in_ok-held.is) (told-held H minute rows name told)) now)
+    sym (c.view_of.ensures H (subst (IsHeldOf H c.args.name.now) c.in_ok-held.is (c.find.ensures H told)) (told-now H c.args.minute c.args.rows.now told))

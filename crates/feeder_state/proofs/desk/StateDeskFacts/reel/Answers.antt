@@ -1,7 +1,8 @@
-use Rattle.std.proofs.Common.{None, refl, sym, ap, subst, unwrap_or, ◌∙◌}
+use Rattle.std.proofs.Common.{None, refl, sym, subst, ◌∙◌}
 use Rattle.entry_search.specs.Life.{IsReelOf}
-use Rattle.feeder_state.proofs.AcceptedChanges.{none-accepted, state-rows}
-use Rattle.feeder_state.proofs.RowReels.{rows-reel}
+use Rattle.feeder_state.specs.Rows.{AreRowsAt}
+use Rattle.feeder_state.proofs.AcceptedChanges.{none-accepted, state-told}
+use Rattle.feeder_state.proofs.RowReels.{held-reel}
 use Rattle.feeder_state.proofs.desk.StateDeskFacts.reel.Goals as goal
 
 pub returns-in_err-minute : goal.returns-in_err-minute
@@ -10,6 +11,4 @@ returns-in_err-minute c = λ H state.
 
 pub returns : goal.returns
 returns c = λ H state.
-    let rows = state-rows H c.args.self.now state in
-    let at = ap (λ o. unwrap_or o 0) (sym state.minute ∙ c.in_ok-minute.is) in
-    subst (IsReelOf H c.args.reel.now) (sym (c.reel_now.ensures H rows at)) (rows-reel H c.args.self.now.rows rows c.args.reel.now c.in_ok-minute.minute at)
+    held-reel H c.args.reel.now c.reel_now.result (c.reel_now.ensures H (subst (λ m. AreRowsAt H m c.args.self.now.rows) c.in_ok-minute.is (state-told H c.args.self.now state)))
