@@ -69,8 +69,10 @@ fn turn_at(
     ensures { (H : History) → AreRowsAt H (Some minute) rows.now → AreAlternates H alternates.now
         → result ≡ option_map (turn_of H) (if_free H part.now name.now) }
 {
-    let held = find(rows, minute, name)?;
-    turn_of(&held, minute, alternates, part, name)
+    match find(rows, minute, name) {
+        Some(held) => turn_of(&held, minute, alternates, part, name),
+        None => None,
+    }
 }
 
 /// The turns of the free reels, which are among those that may be at rest. The set orders them,

@@ -53,8 +53,10 @@ fn view_of(held: &Held, minute: Minute, name: &Id) -> ReelView
 pub fn reel_view_at(rows: &RowSet, minute: Minute, name: &Id) -> Option<ReelView>
     ensures { (H : History) → AreRowsAt H (Some minute) rows.now → result ≡ reel_view H name.now }
 {
-    let held = find(rows, minute, name)?;
-    Some(view_of(&held, minute, name))
+    match find(rows, minute, name) {
+        Some(held) => Some(view_of(&held, minute, name)),
+        None => None,
+    }
 }
 
 /// The reel at the desk minute, or none where it was not received. Takes no memory.
