@@ -15,7 +15,7 @@ use Rattle.desk_types.specs.declared.rules.Rules.TheVariants.{Two}
 use Rattle.desk_types.specs.Id.{Name}
 use Rattle.desk_types.specs.Pieces.{left_of, live_on, is_mounted}
 use Rattle.desk_laws.proofs.PicksOfOneSlot.{live-pieces}
-use Rattle.desk_types.specs.Setup.{selected_on}
+use Rattle.desk_types.specs.Setup.{is_part, is_alternate, selected_on}
 use Rattle.desk_types.specs.Tables.{Tables, board_row}
 use Rattle.state_rows.specs.Kept.{tables_in}
 use Rattle.entry_search.specs.Floor.{tape_at}
@@ -86,6 +86,12 @@ state-told H desk state = record { are = state-rows H desk state; minute_is = st
 
 pub state-selected : (H : History) (desk : StateDesk) (machine : Name) → IsState H desk → (tables_in desk.rows).selected machine ≡ selected_on H machine
 state-selected H desk machine state = ap (λ (t : Tables). t.selected machine) state.rows
+
+pub state-part : (H : History) (desk : StateDesk) (part : Name) → IsState H desk → (tables_in desk.rows).parts part ≡ is_part H part
+state-part H desk part state = ap (λ (t : Tables). t.parts part) state.rows
+
+pub state-alternate : (H : History) (desk : StateDesk) (p q : Name) → IsState H desk → (tables_in desk.rows).alternates p q ≡ is_alternate H p q
+state-alternate H desk p q state = ap (λ (t : Tables). t.alternates p q) state.rows
 
 pub state-left : (H : History) (desk : StateDesk) (reel : Name) → IsState H desk → left_at desk.rows reel ≡ left_of H reel
 state-left H desk reel state = row-left H desk.rows (state-rows H desk state) reel

@@ -140,15 +140,13 @@ left-alike G H s a = λ j reel. unwrap_or (pieces_by reel s.command) (a.left j r
 alike-next : (G H : History) (s : Stamped) → AreAlike G H → IsJudged Two (accept G s) → IsJudged Two (accept H s) → AreAlike (accept G s) (accept H s)
 alike-next G H s a of_G of_H = record {
   minute = λ j. Some (max (max s.minute (unwrap_or (a.minute j) 0)) (unwrap_or (a.minute j) 0));
-  parts = λ j. (same_rows j).parts;
-  alternates = λ j. (same_rows j).alternates;
+  parts = λ j part. defines part s.command || a.parts j part;
+  alternates = λ j p q. allows p q s.command || a.alternates j p q;
   sheets = λ j product machine. option_or (sheet_by product machine s.command) (a.sheets j product machine);
-  selections = λ j. (same_rows j).selected;
+  selections = λ j machine. option_or (selection_by machine s.command) (a.selections j machine);
   running = λ j machine. (work-next G g machine ∙ (λ k. unwrap_or (work_by machine s.command) (a.running k machine)) ∙ sym (work-next H h machine)) j;
-  busy = λ j board.
-      (sym (busy-row G board two_G) ∙ ap (λ (t : Tables). option_map_or is_at_work (t.boards board) false) same_rows ∙ busy-row H board two_H) j;
-  products = λ j board.
-      (sym (product-row G board) ∙ ap (λ (t : Tables). option_and_then (λ (r : BoardRow). Some r.product) (t.boards board)) same_rows ∙ product-row H board) j;
+  busy = λ j board. (in_work-next G g board of_G ∙ (λ k. in_work_after board s.command (a.busy k board)) ∙ sym (in_work-next H h board of_H)) j;
+  products = λ j board. option_or (a.products j board) (option_and_then (a.selections j) (start_by board s.command));
   placed = λ j board d. places board d s.command || a.placed j board d;
   marks = λ j reel. (map-or (receipt_by reel g.effective s.command) (receipt_of G reel)
       ∙ (λ k. option_or (option_map mark (receipt_by reel (at k) s.command)) (a.marks k reel))

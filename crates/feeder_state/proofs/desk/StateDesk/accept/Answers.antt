@@ -3,7 +3,7 @@ use Rattle.desk_types.specs.Number.{IsMinute}
 use Rattle.desk_types.specs.History.{entry_of}
 use Rattle.desk_types.specs.Tables.{Tables}
 use Rattle.desk_types.specs.Edits.{with_edits}
-use Rattle.state_rows.specs.Kept.{tables_in, unnumbered}
+use Rattle.state_rows.specs.Kept.{tables_in, but_placements, unnumbered}
 use Rattle.state_rows.proofs.EditLists.{edits-unnumbered}
 use Rattle.feeder_state.specs.Noted.{IsNoted}
 use Rattle.feeder_state.proofs.AcceptedChanges.{accepted-judged, accepted-noted, accepted-minute}

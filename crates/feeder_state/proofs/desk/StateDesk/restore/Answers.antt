@@ -11,7 +11,7 @@ pub returns-clause-stands : goal.returns-clause-stands
 returns-clause-stands c = λ H rows minute. record {
   judged = rows.judged;
   minute = minute;
-  rows = ap (λ kept. unnumbered (tables_in kept)) c.in_ok-copy.ensures ∙ ap unnumbered rows.tables;
+  rows = ap (λ kept. unnumbered (tables_in kept)) c.in_ok-copy.ensures.cases ∙ ap unnumbered rows.tables;
   setup = c.in_ok-setup.ensures H rows;
   floor = c.in_ok-floor.ensures H rows;
   work = c.in_ok-work.ensures H rows;

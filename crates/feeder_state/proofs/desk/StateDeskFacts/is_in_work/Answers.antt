@@ -1,4 +1,4 @@
-use Rattle.std.proofs.Common.{Option, None, is_some, sym, ap, ◌∙◌}
+use Rattle.std.proofs.Common.{false, sym, ap, ◌∙◌}
 use Rattle.std.specs.Option.{option_map_or, option_copied}
 use Rattle.desk_types.specs.declared.row.BoardRow.{BoardRow}
 use Rattle.feeder_state.proofs.AcceptedChanges.{state-two, state-board}

@@ -1,4 +1,5 @@
-use Rattle.std.proofs.Common.{ap, sym, ◌∙◌, option_map_or}
+use Rattle.std.proofs.Common.{ap, sym, ◌∙◌}
+use Rattle.std.specs.Option.{option_map_or, option_copied}
 use Rattle.desk_types.specs.declared.row.ReelRow.{ReelRow}
 use Rattle.feeder_state.proofs.AcceptedChanges.{state-left}
 use Rattle.feeder_state.proofs.desk.StateDeskFacts.left_of.Goals as goal
