@@ -1,11 +1,10 @@
 //! The desk that keeps the current state.
 
 ghost use Rattle.std.specs.Prelude.{◌≡◌, ◌∷◌, [], IfOk, OnOk};
+ghost use Rattle.std.specs.Option.{option_copied};
 ghost use Rattle.desk_types.specs.declared.rules.Rules.TheVariants.{Two};
 ghost use Rattle.desk_types.specs.History.{History, accept, desk_minute};
-ghost use Rattle.desk_types.specs.declared.command.Command.TheVariants.{WorkStarted};
-ghost use Rattle.desk_types.specs.Id.{Name};
-ghost use Rattle.desk_types.specs.Setup.{selected_on};
+ghost use Rattle.desk_types.specs.Setup.{sheet_on};
 ghost use Rattle.desk_types.specs.Desk.{HasRoom, IsChange};
 ghost use Rattle.feeder_state.specs.Restored.{AreRowsOf};
 ghost use Rattle.feeder_state.specs.State.{IsState, rules_of};
@@ -95,6 +94,15 @@ impl StateDesk {
         })
     }
 
+    /// The sheet of the selected product on the machine.
+    #[tactic(auto, using(crate::proofs::AcceptedChanges::of_state))]
+    fn sheet_on(&self, machine: &Id) -> Option<&Sheet>
+        ensures { (H : History) → IsState H self.now → option_copied result ≡ sheet_on H machine.now }
+    {
+        let product = self.rows.selected_on(machine)?;
+        self.setup.sheet(&product, machine)
+    }
+
     /// Accepts what was judged. After an `Err` nothing is known of the desk: drop it.
     fn accept(&mut self, change: Change) -> Result<(), AllocError>
         requires room { HasRoom (λ desk H. IsState H desk) self.old 1 }
@@ -154,17 +162,16 @@ impl Facts for StateDesk {
     }
 
     fn look_ups_on(&self, machine: &Id) -> Option<&Sheet> {
-        let product = self.rows.selected_on(machine)?;
-        self.setup.sheet(&product, machine)
+        self.sheet_on(machine)
     }
 
     fn row_on(&self, machine: &Id, slot: &Id) -> Option<&SheetRow> {
-        let sheet = self.look_ups_on(machine)?;
+        let sheet = self.sheet_on(machine)?;
         sheet.row(slot)
     }
 
     fn slot_on(&self, machine: &Id, designator: &Designator) -> Option<Id> {
-        let sheet = self.look_ups_on(machine)?;
+        let sheet = self.sheet_on(machine)?;
         sheet.slot(designator)
     }
 
