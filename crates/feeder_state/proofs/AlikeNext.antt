@@ -42,13 +42,18 @@ use Rattle.desk_laws.proofs.Openings.{starts-by}
 use Rattle.desk_laws.proofs.BoardsInWork.{work-next, in_work-next}
 use Rattle.reels.proofs.StandingReels.{last_bake-untouched}
 use Rattle.reels.specs.Reel.{StandsFor}
+use Rattle.desk_types.specs.declared.row.BoardRow.{BoardRow}
+use Rattle.desk_types.specs.Tables.{Tables, tables_of}
+use Rattle.state_rows.specs.Kept.{unnumbered}
 use Rattle.feeder_state.specs.declared.desk.StateDesk.{StateDesk}
 use Rattle.feeder_state.specs.declared.held.Held.{Held}
-use Rattle.feeder_state.specs.Held.{IsHeldOf, held_at}
+use Rattle.feeder_state.specs.Held.{IsHeldOf}
 use Rattle.feeder_state.specs.State.{IsState}
-use Rattle.feeder_state.proofs.AcceptedChanges.{state-two}
+use Rattle.feeder_state.proofs.AcceptedChanges.{state-two, state-rows}
 use Rattle.feeder_state.proofs.AlikeLists.{AreAlike, mark, marks_of, effective-alike, refusal-alike, picks-alike, detail-alike}
 use Rattle.feeder_state.proofs.FloorTells.{absent-left, absent-mounted}
+use Rattle.feeder_state.proofs.RestoredWork.{is_at_work, busy-row, product-row}
+use Rattle.feeder_state.proofs.RowReels.{both-held}
 
 -- ---- floor life, one entry more
 
@@ -265,13 +270,13 @@ same-held G H reel (Some held) of_G of_H in_G in_H = record {
 state-alike : (G H : History) (desk : StateDesk) → IsState G desk → IsState H desk → AreAlike G H
 state-alike G H desk of_G of_H = record {
   minute = minute;
-  parts = λ j part. (sym (of_G.setup.parts part) ∙ of_H.setup.parts part) j;
-  alternates = λ j p q. (sym (of_G.setup.alternates p q) ∙ of_H.setup.alternates p q) j;
+  parts = λ j. (same_rows j).parts;
+  alternates = λ j. (same_rows j).alternates;
   sheets = λ j product machine. (sym (of_G.setup.sheets product machine) ∙ of_H.setup.sheets product machine) j;
-  selections = λ j machine. (sym (of_G.setup.selections machine) ∙ of_H.setup.selections machine) j;
+  selections = λ j. (same_rows j).selected;
   running = λ j machine. (sym (of_G.work.running machine) ∙ of_H.work.running machine) j;
-  busy = λ j board. (sym (of_G.work.busy board) ∙ of_H.work.busy board) j;
-  products = λ j board. (sym (of_G.work.products board) ∙ of_H.work.products board) j;
+  busy = λ j board. (sym (busy-row G board two_G) ∙ ap (λ (t : Tables). option_map_or is_at_work (t.boards board) false) same_rows ∙ busy-row H board two_H) j;
+  products = λ j board. (sym (product-row G board) ∙ ap (λ (t : Tables). option_and_then (λ (r : BoardRow). Some r.product) (t.boards board)) same_rows ∙ product-row H board) j;
   placed = λ j board d. (sym (of_G.work.placed board d) ∙ of_H.work.placed board d) j;
   marks = λ j reel. (of_reel reel).marks j;
   baked = λ j reel. (of_reel reel).baked j;
@@ -284,9 +289,22 @@ state-alike G H desk of_G of_H = record {
     minute : desk_minute G ≡ desk_minute H
     minute = sym of_G.minute ∙ of_H.minute
 
+    two_G : IsJudged Two G
+    two_G = state-two G desk of_G
+
+    two_H : IsJudged Two H
+    two_H = state-two H desk of_H
+
+    same_rows : unnumbered (tables_of G) ≡ unnumbered (tables_of H)
+    same_rows = sym of_G.rows ∙ of_H.rows
+
+    at : ℕ
+    at = unwrap_or desk.minute 0
+
     of_reel : (reel : Name) → IsSame G H reel
     of_reel reel =
-        same-held G H reel (held_at desk.floor.reels reel) (state-two G desk of_G) (state-two H desk of_H) (of_G.floor.reels reel) (of_H.floor.reels reel)
+        let held = both-held G H desk.rows reel at (state-rows G desk of_G) (state-rows H desk of_H) (ap (λ o. unwrap_or o 0) (sym of_G.minute)) (ap (λ o. unwrap_or o 0) (sym of_H.minute)) in
+        same-held G H reel held.0 two_G two_H held.1 held.2
 
 -- Two lists that leave one state are answered alike.
 pub state-replies : (G H : History) (desk : StateDesk) (messages : List Stamped) → All IsStamped messages → IsState G desk → IsState H desk

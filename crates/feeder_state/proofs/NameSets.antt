@@ -26,31 +26,6 @@ pub says-over : {X : Type 0} (b : Bool) (value old : X) → cond b value old ≡
 says-over true value old = refl
 says-over false value old = refl
 
--- the same where what was may be nothing
-pub says-or : {X : Type 0} (b : Bool) (value : X) (old : Option X) → cond b (Some value) old ≡ option_or (cond b (Some value) None) old
-says-or true value old = refl
-says-or false value old = refl
-
--- there is nothing where the look-up says so
-pub absent : {X : Type 0} (o : Option X) → is_some o ≡ false → o ≡ None
-absent None gone = refl
-absent (Some x) gone = cc
-
--- nothing in the second place adds nothing
-or-nothing : {X : Type 0} (o : Option X) → o ≡ option_or o None
-or-nothing None = refl
-or-nothing (Some x) = refl
-
--- what is put where there was nothing
-pub first-put : (k q at : Name) (value : Name) (old : Name → Option Name) → old k ≡ None
-    → cond (same k q) (Some value) (old q) ≡ option_or (old q) (option_and_then (λ (m : Name). Some value) (cond (same k q) (Some at) None))
-first-put k q at value old none = by (same k q) refl
-  where
-    by : (b : Bool) → same k q ≡ b
-        → cond b (Some value) (old q) ≡ option_or (old q) (option_and_then (λ (m : Name). Some value) (cond b (Some at) None))
-    by true one = ap (λ o. option_or o (Some value)) (sym none ∙ ap old (same-true k q one))
-    by false one = or-nothing (old q)
-
 -- whether a thing is in a part of a map, where things are put into the part of the key k: of each other key it is as before
 pub placed-put : (k q : Name) (put now : Bool) (old : Name → Bool) → now ≡ (put || old k) → cond (same k q) now (old q) ≡ (same k q && put || old q)
 placed-put k q put now old is = by (same k q) refl

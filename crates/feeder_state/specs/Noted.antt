@@ -1,9 +1,8 @@
 -- An entry that a desk takes in.
-use Rattle.std.specs.Prelude.{◌≡◌, ℕ, ◌+◌, ◌≤◌, Bool, true, false, List, ◌∷◌, length}
+use Rattle.std.specs.Prelude.{◌≡◌, ℕ, Bool, true, false, List, ◌∷◌}
 use Rattle.desk_types.specs.declared.command.Command.{Command}
 use Rattle.desk_types.specs.declared.command.Command.TheVariants.{MaterialsInstalled, MaterialsScrapped, CountsTaken}
 use Rattle.desk_types.specs.declared.command.Entry.{Entry}
-use Rattle.desk_types.specs.declared.limits.TheConstants.{MOST_ENTRIES}
 use Rattle.desk_types.specs.declared.rules.Rules.TheVariants.{Two}
 use Rattle.desk_types.specs.declared.take.Take.{Take}
 use Rattle.desk_types.specs.History.{History}
@@ -16,10 +15,6 @@ pub record IsNoted (H : History) (e : Entry) (command : Command) (at : ℕ) (tak
   pub command_is : e.stamped.command ≡ command
   pub effective : e.effective ≡ at
   pub takes_are : takes ≡ takes_by H at command
-
--- there is room for one entry more
-abbrev pub HasPlace : History → Type 0
-HasPlace H = length H + 1 ≤ MOST_ENTRIES
 
 -- whether the command may take pieces
 abbrev pub may_take : Command → Bool

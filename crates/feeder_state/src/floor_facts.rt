@@ -15,34 +15,6 @@ use desk_types::Id;
 use reels::Reel;
 
 impl Floor {
-    /// The reel of this name, or none where it was not received.
-    pub fn reel(&self, name: &Id) -> Option<Reel>
-        ensures { (H : History) → IsFloor H self.now → IsReelOf H name.now result }
-    {
-        let held = self.reels.get(name)?;
-        Some(held.reel)
-    }
-
-    /// The pieces left of the reel, 0 where it was not received.
-    pub fn left_of(&self, name: &Id) -> u64
-        ensures { (H : History) → IsJudged Two H → IsFloor H self.now → result ≡ left_of H name.now }
-    {
-        match self.reels.get(name) {
-            Some(held) => held.reel.remaining,
-            None => 0,
-        }
-    }
-
-    /// Whether the reel is live on some slot.
-    pub fn is_mounted(&self, name: &Id) -> bool
-        ensures { (H : History) → IsJudged Two H → IsFloor H self.now → result ≡ is_mounted H name.now }
-    {
-        match self.reels.get(name) {
-            Some(held) => is_live(held),
-            None => false,
-        }
-    }
-
     /// How many live reels the slot has.
     pub fn reel_count(&self, machine: &Id, slot: &Id) -> usize
         ensures { result ≡ length (tape_at self.now.tapes machine.now slot.now) }

@@ -8,7 +8,6 @@ mod free;
 mod groups;
 mod held;
 mod maps;
-mod noting;
 mod placed;
 mod resting;
 mod same_state;

@@ -10,7 +10,7 @@ ghost use Rattle.desk_types.specs.View.{has_sheet};
 ghost use Rattle.setup_sheets.specs.Names.{is_among};
 ghost use Rattle.setup_sheets.specs.Alternates.{is_pair_among};
 ghost use Rattle.state_rows.specs.Kept.{tables_in};
-ghost use Rattle.feeder_state.specs.Setup.{IsSetup, sheet_at, selected_at, is_sheeted};
+ghost use Rattle.feeder_state.specs.Setup.{IsSetup, sheet_at, is_sheeted};
 ghost use Rattle.feeder_state.specs.Restored.{AreRowsOf, group_at, sheet_in};
 
 use super::{Setup, put_sheet};
@@ -21,40 +21,6 @@ use setup_sheets::{Alternates, Parts, Sheet};
 use state_rows::RowSet;
 use std::alloc::{AllocError, Global};
 use std::collections::{BTreeMap, BTreeSet};
-
-/// The parts of the rows.
-pub fn parts_of(alloc: Global, rows: &RowSet) -> Result<Parts, AllocError>
-    ensures { (p : Name) → IfOk result (λ parts. is_among parts p ≡ (tables_in rows.now).parts p) }
-{
-    let mut parts = Parts::new(alloc);
-    for part in rows.parts() {
-        parts.add(*part)?;
-    }
-    Ok(parts)
-}
-
-/// The alternates of the rows.
-pub fn alternates_of(alloc: Global, rows: &RowSet) -> Result<Alternates, AllocError>
-    ensures { (p q : Name)
-        → IfOk result (λ alternates. is_pair_among alternates p q ≡ (tables_in rows.now).alternates p q) }
-{
-    let mut alternates = Alternates::new(alloc);
-    for pair in rows.alternates() {
-        alternates.add(pair.0, pair.1)?;
-    }
-    Ok(alternates)
-}
-
-/// The selections of the rows.
-pub fn selections_of(alloc: Global, rows: &RowSet) -> Result<BTreeMap<Id, Id>, AllocError>
-    ensures { (m : Name) → IfOk result (λ selections. selected_at selections m ≡ (tables_in rows.now).selected m) }
-{
-    let mut selections = BTreeMap::new(alloc);
-    for (machine, product) in rows.selected() {
-        let _: Option<Id> = put(&mut selections, *machine, *product)?;
-    }
-    Ok(selections)
-}
 
 /// The rows of each sheet, in the order of their places.
 fn sheet_rows(
@@ -119,16 +85,7 @@ pub fn sheeted_of(alloc: Global, rows: &RowSet) -> Result<BTreeSet<Id>, AllocErr
 pub fn setup_of(alloc: Global, rows: &RowSet) -> Result<Setup, AllocError>
     ensures { (H : History) → AreRowsOf H rows.now → IfOk result (IsSetup H) }
 {
-    let parts = parts_of(alloc, rows)?;
-    let alternates = alternates_of(alloc, rows)?;
     let sheets = sheets_of(alloc, rows)?;
     let sheeted = sheeted_of(alloc, rows)?;
-    let selections = selections_of(alloc, rows)?;
-    Ok(Setup {
-        parts,
-        alternates,
-        sheets,
-        sheeted,
-        selections,
-    })
+    Ok(Setup { sheets, sheeted })
 }

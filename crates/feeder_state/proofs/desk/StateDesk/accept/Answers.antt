@@ -1,6 +1,10 @@
-use Rattle.std.proofs.Common.{refl, sym, subst}
+use Rattle.std.proofs.Common.{refl, sym, ap, subst, ◌∙◌}
 use Rattle.desk_types.specs.Number.{IsMinute}
 use Rattle.desk_types.specs.History.{entry_of}
+use Rattle.desk_types.specs.Tables.{Tables}
+use Rattle.desk_types.specs.Edits.{with_edits}
+use Rattle.state_rows.specs.Kept.{tables_in, but_placements, unnumbered}
+use Rattle.state_rows.proofs.EditLists.{edits-unnumbered}
 use Rattle.feeder_state.specs.Noted.{IsNoted}
 use Rattle.feeder_state.proofs.AcceptedChanges.{accepted-judged, accepted-noted, accepted-minute}
 use Rattle.feeder_state.proofs.desk.StateDesk.accept.Goals as goal
@@ -12,7 +16,7 @@ note-requires c =
     let change = c.args.change in
     let s = change.stamped in
     let noted = accepted-noted c.args.self.now.rules H s change room.1.judged c.ranges_hold.ensures (subst IsMinute c.get.ensures.value c.get.ensures.range) (c.requires.judged H room.1) in
-    (H, entry_of H s, subst (IsNoted H (entry_of H s) s.command change.minute) (sym c.as_slice.ensures) noted, room.1.floor, room.2)
+    (H, entry_of H s, change.minute, subst (IsNoted H (entry_of H s) s.command change.minute) (sym c.as_slice-2.ensures) noted, room.1.floor)
 
 pub returns-clause-stands : goal.returns-clause-stands
 returns-clause-stands c = λ H state.
@@ -20,12 +24,17 @@ returns-clause-stands c = λ H state.
     let change = c.args.change in
     let s = change.stamped in
     let is = c.requires.judged H state in
-    let judged = accepted-judged rules H s change state.judged c.ranges_hold.ensures (subst IsMinute c.get.ensures.value c.get.ensures.range) is in
-    let noted = accepted-noted rules H s change state.judged c.ranges_hold.ensures (subst IsMinute c.get.ensures.value c.get.ensures.range) is in
+    let range = subst IsMinute c.get.ensures.value c.get.ensures.range in
+    let judged = accepted-judged rules H s change state.judged c.ranges_hold.ensures range is in
+    let noted = accepted-noted rules H s change state.judged c.ranges_hold.ensures range is in
+    let rows = ap unnumbered (c.in_ok-apply_but_placements.ensures ∙ ap (λ edits. but_placements (with_edits edits (tables_in c.args.self.now.rows)) (tables_in c.args.self.now.rows)) c.as_slice.ensures)
+    ∙ edits-unnumbered c.in_ok-edits.edits _ _ state.rows
+    ∙ c.in_ok-edits.ensures.same H state in
     record {
       judged = judged;
       minute = accepted-minute rules H s change is;
+      rows = rows;
       setup = c.in_ok-note-3.ensures H (entry_of H s) refl state.setup;
-      floor = c.in_ok-note.ensures H (entry_of H s) (subst (IsNoted H (entry_of H s) s.command change.minute) (sym c.as_slice.ensures) noted) state.floor;
-      work = c.in_ok-note-2.ensures H (entry_of H s) noted.judged refl (c.selected_at_start-selected.ensures H state) state.work;
+      floor = c.in_ok-note.ensures H (entry_of H s) change.minute (subst (IsNoted H (entry_of H s) s.command change.minute) (sym c.as_slice-2.ensures) noted) (record { judged = noted.judged; same = rows }) state.floor;
+      work = c.in_ok-note-2.ensures H (entry_of H s) refl state.work;
     }
