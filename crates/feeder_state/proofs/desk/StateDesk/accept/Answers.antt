@@ -16,7 +16,7 @@ note-requires c =
     let change = c.args.change in
     let s = change.stamped in
     let noted = accepted-noted c.args.self.now.rules H s change room.1.judged c.ranges_hold.ensures (subst IsMinute c.get.ensures.value c.get.ensures.range) (c.requires.judged H room.1) in
-    (H, entry_of H s, change.minute, subst (IsNoted H (entry_of H s) s.command change.minute) (sym c.as_slice-2.ensures) noted, room.1.floor)
+    (H, entry_of H s, change.minute, subst (IsNoted H (entry_of H s) s.command change.minute) (sym c.as_slice.ensures) noted, room.1.floor)
 
 pub returns-clause-stands : goal.returns-clause-stands
 returns-clause-stands c = λ H state.
@@ -27,14 +27,12 @@ returns-clause-stands c = λ H state.
     let range = subst IsMinute c.get.ensures.value c.get.ensures.range in
     let judged = accepted-judged rules H s change state.judged c.ranges_hold.ensures range is in
     let noted = accepted-noted rules H s change state.judged c.ranges_hold.ensures range is in
-    let rows = ap unnumbered (c.in_ok-apply_but_placements.ensures ∙ ap (λ edits. but_placements (with_edits edits (tables_in c.args.self.now.rows)) (tables_in c.args.self.now.rows)) c.as_slice.ensures)
-    ∙ edits-unnumbered c.in_ok-edits.edits _ _ state.rows
-    ∙ c.in_ok-edits.ensures.same H state in
+    let rows = ap unnumbered c.in_ok-apply_but_placements.ensures ∙ edits-unnumbered c.args.edits.now _ _ state.rows ∙ c.requires.lead H state in
     record {
       judged = judged;
       minute = accepted-minute rules H s change is;
       rows = rows;
       setup = c.in_ok-note-3.ensures H (entry_of H s) refl state.setup;
-      floor = c.in_ok-note.ensures H (entry_of H s) change.minute (subst (IsNoted H (entry_of H s) s.command change.minute) (sym c.as_slice-2.ensures) noted) (record { judged = noted.judged; same = rows }) state.floor;
+      floor = c.in_ok-note.ensures H (entry_of H s) change.minute (subst (IsNoted H (entry_of H s) s.command change.minute) (sym c.as_slice.ensures) noted) (record { judged = noted.judged; same = rows }) state.floor;
       work = c.in_ok-note-2.ensures H (entry_of H s) refl state.work;
     }
