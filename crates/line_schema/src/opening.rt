@@ -12,16 +12,17 @@ ghost use Rattle.line_schema.specs.declared.fault.OpenFault.TheVariants as Fault
 ghost use Rattle.line_schema.specs.Opening.{IsVersion, IsFaultBy, IsNamedBy, IsOfVersion, IsToldBy, IsOpened, IsGreatest};
 
 use crate::fault::OpenFault;
-use desk_types::{Desk, MOST_ENTRIES, Rules};
+use desk_types::{MOST_ENTRIES, Rules};
 use line_audit::audit;
 use line_replay::{Replayed, replay};
 use line_tables::{Version, are_apart, find_version, has_accepted, has_state, has_version};
 use sqlite::{Alter, Connection};
+use state_rows::KeepsRows;
 use std::alloc::Global;
 use trace_lists::TraceLists;
 
 /// The desk of a list, the lists beside it, how many entries it has, and how many it may have.
-pub struct Opened<D: Desk + Drop> {
+pub struct Opened<D: KeepsRows + Drop> {
     pub desk: D,
     pub lists: TraceLists,
     pub count: u32,
@@ -30,7 +31,7 @@ pub struct Opened<D: Desk + Drop> {
 
 /// Reads the version, which is to be that of the rules, and then the list, each of whose entries is
 /// judged again by them, and compares the other tables with the list's.
-pub fn read_tables<S: Alter, D: Desk + Drop>(
+pub fn read_tables<S: Alter, D: KeepsRows + Drop>(
     alloc: Global,
     conn: &mut Connection<S>,
     rules: Rules,
@@ -55,13 +56,13 @@ pub fn read_tables<S: Alter, D: Desk + Drop>(
         desk,
         lists,
         count,
-        beside,
-    } = replay(alloc, conn, rules, greatest)?;
+        placed,
+    } = replay::<S, D>(alloc, conn, rules, greatest)?;
     let apart = are_apart(conn, rules)?;
     if !apart {
         return Err(OpenFault::Unavailable);
     }
-    let other = audit(alloc, conn, rules, &beside.rows, beside.placed)?;
+    let other = audit(alloc, conn, rules, desk.rows(), placed)?;
     match other {
         None => Ok(Opened {
             desk,

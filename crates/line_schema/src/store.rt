@@ -34,11 +34,12 @@ use crate::opening::{Opened, read_tables};
 use crate::settling::settle_both;
 use crate::unavailable::Unavailable;
 use desk_answers::Answer;
-use desk_types::{Change, Desk, JudgeFault, Rules, Stamped};
+use desk_types::{Change, JudgeFault, Rules, Stamped};
 use line_replay::{Replayed, rebuild};
 use line_rows::{Acceptance, answer_under, prepare};
 use line_tables::{append, find, has_our_name, make};
 use sqlite::{Alter, Connection};
+use state_rows::KeepsRows;
 use std::alloc::Global;
 use trace_lists::TraceLists;
 
@@ -46,7 +47,7 @@ use trace_lists::TraceLists;
 /// Accepted once it is committed; after a restart the list is read again.
 ///
 /// It is closed by giving its connection back: [`LineStore::into_connection`].
-pub struct LineStore<S: Alter, D: Desk + Drop> {
+pub struct LineStore<S: Alter, D: KeepsRows + Drop> {
     alloc: Global,
     conn: Connection<S>,
     desk: Option<D>,
@@ -55,7 +56,7 @@ pub struct LineStore<S: Alter, D: Desk + Drop> {
     greatest: u32,
 }
 
-impl<S: Alter, D: Desk + Drop> LineStore<S, D> {
+impl<S: Alter, D: KeepsRows + Drop> LineStore<S, D> {
     /// The store of an empty list, whose numbers are given up to the greatest, from 1 to
     /// 1,000,000,000. Tables of other names are let be, and then what is committed is not told. Its
     /// faults are NotBlank and Unavailable; in an open transaction of the caller's it is Unavailable.
@@ -210,7 +211,7 @@ impl<S: Alter, D: Desk + Drop> LineStore<S, D> {
                     desk,
                     lists,
                     count,
-                    beside: _beside,
+                    placed: _placed,
                 },
             ) => {
                 self.desk = Some(desk);
@@ -378,14 +379,20 @@ impl<S: Alter, D: Desk + Drop> LineStore<S, D> {
         let Some(desk) = &self.desk else {
             return Err(Unavailable);
         };
-        let Acceptance { text, edits } = prepare(self.alloc, number, desk, &change)?;
+        let Acceptance { text, row, edits } = prepare(self.alloc, number, desk, &change)?;
         let Some(lists) = &mut self.lists else {
             return Err(Unavailable);
         };
         lists.reserve(&change)?;
-        append(self.alloc, &mut self.conn, edits.as_slice())?;
+        append(self.alloc, &mut self.conn, &row, edits.as_slice())?;
         self.count = number;
-        let (desk, lists) = settle_both(self.desk.take(), self.lists.take(), number, change);
+        let (desk, lists) = settle_both(
+            self.desk.take(),
+            self.lists.take(),
+            number,
+            change,
+            edits.as_slice(),
+        );
         self.desk = desk;
         self.lists = lists;
         Ok(Answer::Accepted(u64::from(number), text))

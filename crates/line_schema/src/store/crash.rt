@@ -8,10 +8,10 @@ ghost use Rattle.line_rows.specs.Rows.{ledger_tables};
 ghost use Rattle.line_schema.specs.Stands.{Kept, Stands, state_of};
 
 use crate::store::LineStore;
-use desk_types::Desk;
 use sqlite::Alter;
+use state_rows::KeepsRows;
 
-impl<S: Alter, D: Desk + Drop> LineStore<S, D> {
+impl<S: Alter, D: KeepsRows + Drop> LineStore<S, D> {
     /// A law: while the connection is open, a crash leaves the tables of the store's history and no
     /// others. That holds between any two calls, also after a refusal, a report or Unavailable.
     pub fn crash_leaves_the_list(&self)

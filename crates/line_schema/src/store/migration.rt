@@ -13,12 +13,13 @@ ghost use Rattle.line_schema.specs.Versions.{IsMigrated};
 use crate::fault::OpenFault;
 use crate::opening::{Opened, read_tables};
 use crate::store::LineStore;
-use desk_types::{Desk, Rules};
+use desk_types::Rules;
 use line_tables::migrate_tables;
 use sqlite::{Alter, Connection};
+use state_rows::KeepsRows;
 use std::alloc::Global;
 
-impl<S: Alter, D: Desk + Drop> LineStore<S, D> {
+impl<S: Alter, D: KeepsRows + Drop> LineStore<S, D> {
     /// Makes the tables of version 1 those of version 2, and answers how many commands are accepted.
     /// Each of these is judged again first, by rules One, and the other tables are compared with the
     /// list's. No row but that of `version` changes, and a table for what counts find is added. After

@@ -10,11 +10,12 @@ ghost use Rattle.line_schema.specs.Frames.{ReadsStore};
 
 use crate::store::LineStore;
 use crate::unavailable::Unavailable;
-use desk_types::{Desk, Id, IdList};
+use desk_types::{Id, IdList};
 use line_traces::PlacedRows;
 use sqlite::Alter;
+use state_rows::KeepsRows;
 
-impl<S: Alter, D: Desk + Drop> LineStore<S, D> {
+impl<S: Alter, D: KeepsRows + Drop> LineStore<S, D> {
     /// The pieces on a board by number, then place; none where no accepted command started the board.
     pub fn board_rows(&mut self, board: &Id) -> Result<Option<PlacedRows>, Unavailable>
         ensures trace { ForKept S.Store D.Stands D.kept_rules self.old self.new

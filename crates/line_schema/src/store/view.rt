@@ -10,10 +10,10 @@ ghost use Rattle.line_schema.specs.Stands.{Kept, Stands};
 
 use crate::store::LineStore;
 use crate::unavailable::Unavailable;
-use desk_types::Desk;
 use sqlite::Alter;
+use state_rows::KeepsRows;
 
-impl<S: Alter, D: Desk + Drop> LineStore<S, D> {
+impl<S: Alter, D: KeepsRows + Drop> LineStore<S, D> {
     /// Borrows the desk, and rebuilds it from the tables first if it isn't loaded.
     pub fn view(&mut self) -> Result<&D, Unavailable>
         requires stands { (L : Kept) × Stands S.Store D.Stands D.kept_rules self.old L }
