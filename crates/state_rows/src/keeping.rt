@@ -38,5 +38,6 @@ pub trait KeepsRows: Desk {
             → OnOk result (Self.Stands self.new (accept H change.stamped)) }
         ensures rules { OnOk result (Self.kept_rules self.new ≡ Self.kept_rules self.old) }
         ensures rows { OnOk result (tables_in (kept_rows self.new)
-            ≡ but_placements (with_edits edits.now (tables_in (kept_rows self.old))) (tables_in (kept_rows self.old))) };
+            ≡ but_placements (with_edits edits.now (tables_in (kept_rows self.old)))
+            (tables_in (kept_rows self.old))) };
 }
