@@ -1,6 +1,6 @@
 //! The desk that keeps the current state.
 
-ghost use Rattle.std.specs.Prelude.{◌≡◌, ◌∷◌, [], IfOk, OnOk};
+ghost use Rattle.std.specs.Prelude.{◌≡◌, [], IfOk, OnOk};
 ghost use Rattle.std.specs.Option.{option_copied};
 ghost use Rattle.desk_types.specs.declared.rules.Rules.TheVariants.{Two};
 ghost use Rattle.desk_types.specs.History.{History, accept, desk_minute};
@@ -16,8 +16,8 @@ use crate::setup::{Setup, setup_of};
 use crate::views::{reel_view, slots_of};
 use crate::work::{Work, work_of};
 use desk_types::{
-    Change, Command, Designator, Desk, Fronts, Id, JudgeFault, Minute, Mounts, ReelView, ReelViews,
-    Rules, SheetRow, SheetRows, Stamped,
+    Change, Designator, Desk, Fronts, Id, JudgeFault, Minute, Mounts, ReelView, ReelViews, Rules,
+    SheetRow, SheetRows, Stamped,
 };
 use judging::fronts::fronts;
 use judging::{Facts, judge};
