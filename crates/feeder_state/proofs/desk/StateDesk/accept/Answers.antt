@@ -1,7 +1,6 @@
 use Rattle.std.proofs.Common.{refl, sym, ap, subst, ◌∙◌}
 use Rattle.desk_types.specs.Number.{IsMinute}
 use Rattle.desk_types.specs.History.{entry_of}
-use Rattle.desk_types.specs.Tables.{Tables}
 use Rattle.desk_types.specs.Edits.{with_edits}
 use Rattle.state_rows.specs.Kept.{tables_in, but_placements, unnumbered}
 use Rattle.state_rows.proofs.EditLists.{edits-unnumbered}
