@@ -81,7 +81,7 @@ but_placements t other = record t { placements = other.placements }
 abbrev pub without_number : MountRow → MountRow
 without_number row = record row { since = 0 }
 
--- the tables without what is by the number of a command: placements, and when each reel was put onto its slot
+-- the tables without the numbers of commands: without placements, and without the `since` of each mount
 abbrev pub unnumbered : Tables → Tables
 unnumbered t = record t { mounts = λ r. option_map without_number (t.mounts r); placements = λ n k. None }
 

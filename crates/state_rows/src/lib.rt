@@ -2,6 +2,7 @@
 #![tactic(auto)]
 
 mod counted;
+mod keeping;
 mod mounts;
 mod reels;
 mod rows;
@@ -12,6 +13,7 @@ mod takes;
 mod views;
 
 pub use desk_types::{BoardRow, MountRow, PlacementRow, ReelRow, RowEdit, RowEdits};
+pub use keeping::KeepsRows;
 pub use rows::{edits_for, rows_of};
 pub use set::RowSet;
 pub use views::Views;

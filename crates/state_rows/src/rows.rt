@@ -15,7 +15,7 @@ use crate::reels::{bake, fresh_row, mount, open, seal};
 use crate::sheets::define;
 use crate::slot_rows::{board, unload};
 use crate::takes::take;
-use crate::views::{Told, Views};
+use crate::views::{DeskViews, Views};
 use desk_types::{Change, Command, Desk, Listing, Minute, MountRow, RowEdit, RowEdits, Take};
 use std::alloc::{AllocError, Global};
 
@@ -111,8 +111,8 @@ fn edits_of<D: Views>(
     }
 }
 
-/// The edits of a change, by views. Whatever the number, they lead to the tables with the change but for
-/// the rows that have a number.
+/// Makes the edits of a change, as `rows_of`, from views. Under any number they lead to the tables with
+/// the change, except for what has that number: placements, and the `since` of a mount.
 pub fn edits_for<D: Views>(
     alloc: Global,
     desk: &D,
@@ -127,7 +127,8 @@ pub fn edits_for<D: Views>(
     ensures new { (H : History) → D.Stands desk.now H → number ≡ length H + 1
         → IfOk result (λ edits. AreNew edits (tables_of H)) }
     ensures same { (H : History) → D.Stands desk.now H
-        → IfOk result (λ edits. unnumbered (with_edits edits (tables_of H)) ≡ unnumbered (tables_of (accept H change.now.stamped))) }
+        → IfOk result
+        (λ edits. unnumbered (with_edits edits (tables_of H)) ≡ unnumbered (tables_of (accept H change.now.stamped))) }
     ensures takes_first { IfOk result (λ edits. AreTakesFirst edits) }
     ensures balanced { IfOk result (λ edits. AreBalanced edits) }
 {
@@ -162,9 +163,12 @@ pub fn rows_of<D: Desk>(
         → IfOk result (λ edits. with_edits edits (tables_of H) ≡ tables_of (accept H change.now.stamped)) }
     ensures new { (H : History) → D.Stands desk.now H → number ≡ length H + 1
         → IfOk result (λ edits. AreNew edits (tables_of H)) }
+    ensures same { (H : History) → D.Stands desk.now H
+        → IfOk result
+        (λ edits. unnumbered (with_edits edits (tables_of H)) ≡ unnumbered (tables_of (accept H change.now.stamped))) }
     ensures takes_first { IfOk result (λ edits. AreTakesFirst edits) }
     ensures balanced { IfOk result (λ edits. AreBalanced edits) }
 {
-    let told = Told { desk };
-    edits_for(alloc, &told, change, number)
+    let views = DeskViews { desk };
+    edits_for(alloc, &views, change, number)
 }

@@ -286,21 +286,21 @@ impl RowSet {
         self.found.iter()
     }
 
-    /// The parts as a set. Takes no memory, as each of these.
+    /// Returns the parts as a set. Takes no memory, like the next four.
     pub fn part_set(&self) -> &Parts
         ensures { (part : Name) → is_among result.now part ≡ (tables_in self.now).parts part }
     {
         &self.parts
     }
 
-    /// The alternates as a set.
+    /// Returns the alternates as a set.
     pub fn alternate_set(&self) -> &Alternates
         ensures { (p q : Name) → is_pair_among result.now p q ≡ (tables_in self.now).alternates p q }
     {
         &self.alternates
     }
 
-    /// The product that is selected on the machine.
+    /// Returns the product that is selected on the machine.
     pub fn selected_on(&self, machine: &Id) -> Option<Id>
         ensures { result ≡ (tables_in self.now).selected machine.now }
     {
@@ -310,14 +310,14 @@ impl RowSet {
         }
     }
 
-    /// The row of the reel.
+    /// Returns the row of the reel.
     pub fn reel(&self, reel: &Id) -> Option<&ReelRow>
         ensures { option_copied result ≡ (tables_in self.now).reels reel.now }
     {
         self.reels.get(reel)
     }
 
-    /// The row of the board.
+    /// Returns the row of the board.
     pub fn board(&self, board: &Id) -> Option<&BoardRow>
         ensures { option_copied result ≡ (tables_in self.now).boards board.now }
     {
