@@ -6,6 +6,9 @@ ghost use Rattle.desk_types.specs.declared.rules.Rules.TheVariants.{Two};
 ghost use Rattle.desk_types.specs.History.{History, accept, desk_minute};
 ghost use Rattle.desk_types.specs.Setup.{sheet_on};
 ghost use Rattle.desk_types.specs.Desk.{HasRoom, IsChange};
+ghost use Rattle.desk_types.specs.Tables.{tables_of};
+ghost use Rattle.desk_types.specs.Edits.{with_edits};
+ghost use Rattle.state_rows.specs.Kept.{tables_in, but_placements, unnumbered};
 ghost use Rattle.feeder_state.specs.Restored.{AreRowsOf};
 ghost use Rattle.feeder_state.specs.State.{IsState, rules_of};
 
@@ -23,7 +26,7 @@ use judging::fronts::fronts;
 use judging::{Facts, judge};
 use reels::Reel;
 use setup_sheets::{Alternates, Parts, Sheet};
-use state_rows::{RowSet, Views, edits_for};
+use state_rows::{KeepsRows, RowEdit, RowSet, Views, edits_for};
 use std::alloc::{AllocError, Global};
 
 /// A desk that keeps what is so now, in maps, and no list of commands: it looks names up, and searches
@@ -110,12 +113,26 @@ impl StateDesk {
         ensures stands { (H : History) → IsState H self.old → OnOk result (IsState (accept H change.stamped) self.new) }
         ensures rules { OnOk result (self.new.rules ≡ self.old.rules) }
     {
+        let edits = edits_for(self.alloc, self, &change, 0)?;
+        self.apply(change, edits.as_slice())
+    }
+
+    /// Accepts what was judged, by its edits. After an `Err` nothing is known of the desk: drop it.
+    fn apply(&mut self, change: Change, edits: &[RowEdit]) -> Result<(), AllocError>
+        requires room { HasRoom (λ desk H. IsState H desk) self.old 1 }
+        requires judged { (H : History) → IsState H self.old → IsChange self.old.rules H change.stamped change }
+        requires lead { (H : History) → IsState H self.old
+            → unnumbered (with_edits edits.now (tables_of H)) ≡ unnumbered (tables_of (accept H change.stamped)) }
+        ensures stands { (H : History) → IsState H self.old → OnOk result (IsState (accept H change.stamped) self.new) }
+        ensures rules { OnOk result (self.new.rules ≡ self.old.rules) }
+        ensures rows { OnOk result (tables_in self.new.rows
+            ≡ but_placements (with_edits edits.now (tables_in self.old.rows)) (tables_in self.old.rows)) }
+    {
         change.stamped.ranges_hold();
         let _ = change.minute.get();
-        let edits = edits_for(self.alloc, self, &change, 0)?;
         let command = &change.stamped.command;
         self.minute = Some(change.minute);
-        self.rows.apply_but_placements(edits.as_slice())?;
+        self.rows.apply_but_placements(edits)?;
         self.floor
             .note(self.alloc, &self.rows, command, change.takes.as_slice())?;
         self.work.note(self.alloc, command)?;
@@ -334,5 +351,17 @@ impl Desk for StateDesk {
             self.rows.alternate_set(),
             part,
         )
+    }
+}
+
+impl KeepsRows for StateDesk {
+    ghost kept_rows = { λ desk. desk.rows };
+
+    fn rows(&self) -> &RowSet {
+        &self.rows
+    }
+
+    fn settle_edits(&mut self, change: Change, edits: &[RowEdit]) -> Result<(), AllocError> {
+        self.apply(change, edits)
     }
 }
