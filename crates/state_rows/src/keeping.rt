@@ -7,8 +7,8 @@ use std::alloc::AllocError;
 /// A desk that keeps the rows of its state tables, except those of `placement`.
 ///
 /// Whoever owns a desk and a database makes the edits of a command once, commits them, and then
-/// passes them to `settle_edits`. `Desk::settle` has no number, so the rows of `mount` that it puts
-/// in have number 0.
+/// passes them to `settle_edits`. After `Desk::settle`, which gets no number, rows of `mount` may have
+/// other numbers than in the database.
 pub trait KeepsRows: Desk {
     ghost use Rattle.std.specs.Prelude.{◌≡◌, OnOk};
     ghost use Rattle.desk_types.specs.History.{History, accept};
