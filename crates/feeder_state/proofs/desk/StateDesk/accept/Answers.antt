@@ -1,4 +1,4 @@
-use Rattle.std.proofs.Common.{sym, ap, ◌∙◌}
+use Rattle.std.proofs.Common.{ap, ◌∙◌}
 use Rattle.desk_types.specs.Tables.{tables_of}
 use Rattle.desk_types.specs.Edits.{with_edits}
 use Rattle.state_rows.specs.Kept.{unnumbered}
