@@ -1,7 +1,6 @@
 -- Sets and maps by names after one name is put in or taken out.
-use Rattle.std.proofs.Common.{◌≡◌, Bool, true, false, cond, Option, Some, None, is_some, unwrap_or, refl, sym, ap, ◌∙◌}
+use Rattle.std.proofs.Common.{◌≡◌, Bool, true, false, cond, Some, None, unwrap_or, refl, ap, ◌∙◌}
 use Rattle.std.specs.Prelude.{◌||◌, ◌&&◌}
-use Rattle.std.specs.Option.{option_or, option_and_then}
 use Rattle.std.specs.BTreeMap.{is_at}
 use Rattle.desk_types.specs.Id.{Name, same, by_name}
 use Rattle.desk_types.proofs.Keys.{is_at-by_name, same-true}

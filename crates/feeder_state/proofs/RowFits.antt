@@ -1,6 +1,5 @@
 -- Rows that fit a reel, by the tests of a desk.
-use Rattle.std.proofs.Common.{◌≡◌, ℕ, ◌+◌, ◌-◌, ◌≤◌, nat_le, Bool, true, false, Option, Some, None, refl, sym, ap, ◌∙◌, arith, le-leb, leb-true, eq-eqb, eqb-true}
-use Rattle.std.specs.Prelude.{◌&&◌, ◌==◌}
+use Rattle.std.proofs.Common.{◌≡◌, ℕ, ◌+◌, ◌-◌, ◌≤◌, true, Option, Some, None, refl, ap, arith, le-leb, leb-true, eq-eqb, eqb-true}
 use Rattle.std.specs.Option.{ForSome, ForNone, option_map_or}
 use Rattle.std.proofs.lemmas.Bool.{and_from, and_parts}
 use Rattle.desk_types.specs.declared.limits.TheConstants.{GREATEST_LABEL}

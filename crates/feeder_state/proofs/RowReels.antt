@@ -1,9 +1,8 @@
 -- Reels as their rows tell them.
-use Rattle.std.proofs.Common.{◌≡◌, ℕ, ◌+◌, ◌-◌, ◌≤◌, nat_lt, Bool, true, false, List, Option, Some, None, ◌∷◌, [], refl, sym, ap, subst, ◌∙◌, unwrap_or, arith, is_some}
+use Rattle.std.proofs.Common.{◌≡◌, ℕ, ◌+◌, ◌-◌, ◌≤◌, nat_lt, Bool, true, false, Option, Some, None, ◌∷◌, [], refl, sym, ap, subst, ◌∙◌, unwrap_or, arith, is_some}
 use Rattle.std.specs.Prelude.{◌&&◌, if◌then◌else◌}
-use Rattle.std.specs.Option.{option_map, option_map_or, option_or, ForSome, ForNone}
+use Rattle.std.specs.Option.{option_map, option_map_or, option_or}
 use Rattle.std.specs.Cmp.Lexicographic.{nat_list_eq_equiv}
-use Rattle.std.proofs.lemmas.Cmp.{nat_list_cmp_total}
 use Rattle.std.proofs.lemmas.Map.Views.{list_any-from_Contains}
 use Rattle.desk_types.specs.declared.command.Command.{Command}
 use Rattle.desk_types.specs.declared.command.Command.TheVariants.{ReelReceived}
@@ -14,14 +13,13 @@ use Rattle.desk_types.specs.declared.limits.TheConstants.{GREATEST_LABEL}
 use Rattle.desk_types.specs.declared.rules.Rules.TheVariants.{Two}
 use Rattle.desk_types.specs.Command.{IsCommand}
 use Rattle.desk_types.specs.Level.{IsLabel}
-use Rattle.desk_types.specs.Id.{Name, same, by_name}
+use Rattle.desk_types.specs.Id.{Name, same}
 use Rattle.desk_types.specs.History.{History, now_of}
 use Rattle.desk_types.specs.Setup.{receipt_of, receipt_by}
 use Rattle.desk_types.specs.Pieces.{left_of, found_of, live_on, is_mounted}
 use Rattle.desk_types.specs.FloorLife.{out_since, exposure_of}
 use Rattle.desk_types.specs.View.{view_of, used_of}
 use Rattle.desk_types.specs.Judged.{IsJudged}
-use Rattle.desk_types.proofs.Keys.{is_at-by_name, same-true}
 use Rattle.desk_laws.specs.Place.{place_of}
 use Rattle.desk_laws.proofs.Balance.{balance, unreceived-empty}
 use Rattle.desk_laws.proofs.Exposures.{exposure-within}

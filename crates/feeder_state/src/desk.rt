@@ -1,15 +1,15 @@
 //! The desk that keeps the current state.
 
-ghost use Rattle.std.specs.Prelude.{◌≡◌, ◌∷◌, [], IfOk, OnOk};
+ghost use Rattle.std.specs.Prelude.{◌≡◌, [], IfOk, OnOk};
 ghost use Rattle.std.specs.Option.{option_copied};
 ghost use Rattle.desk_types.specs.declared.rules.Rules.TheVariants.{Two};
 ghost use Rattle.desk_types.specs.History.{History, accept, desk_minute};
 ghost use Rattle.desk_types.specs.Setup.{sheet_on};
 ghost use Rattle.desk_types.specs.Desk.{HasRoom, IsChange};
-ghost use Rattle.feeder_state.specs.Restored.{AreRowsOf};
-ghost use Rattle.desk_types.specs.Edits.{with_edits};
 ghost use Rattle.desk_types.specs.Tables.{tables_of};
+ghost use Rattle.desk_types.specs.Edits.{with_edits};
 ghost use Rattle.state_rows.specs.Kept.{tables_in, but_placements, unnumbered};
+ghost use Rattle.feeder_state.specs.Restored.{AreRowsOf};
 ghost use Rattle.feeder_state.specs.State.{IsState, rules_of};
 
 use crate::floor::{Floor, floor_of};
@@ -19,8 +19,8 @@ use crate::setup::{Setup, setup_of};
 use crate::views::{reel_view, slots_of};
 use crate::work::{Work, work_of};
 use desk_types::{
-    Change, Command, Designator, Desk, Fronts, Id, JudgeFault, Minute, Mounts, ReelView, ReelViews,
-    Rules, SheetRow, SheetRows, Stamped,
+    Change, Designator, Desk, Fronts, Id, JudgeFault, Minute, Mounts, ReelView, ReelViews, Rules,
+    SheetRow, SheetRows, Stamped,
 };
 use judging::fronts::fronts;
 use judging::{Facts, judge};
@@ -106,8 +106,19 @@ impl StateDesk {
         self.setup.sheet(&product, machine)
     }
 
-    /// Accepts a judged change by its edits. After an `Err` drop the desk, whose state is unknown.
-    fn accept(&mut self, change: Change, edits: &[RowEdit]) -> Result<(), AllocError>
+    /// Accepts what was judged. After an `Err` nothing is known of the desk: drop it.
+    fn accept(&mut self, change: Change) -> Result<(), AllocError>
+        requires room { HasRoom (λ desk H. IsState H desk) self.old 1 }
+        requires judged { (H : History) → IsState H self.old → IsChange self.old.rules H change.stamped change }
+        ensures stands { (H : History) → IsState H self.old → OnOk result (IsState (accept H change.stamped) self.new) }
+        ensures rules { OnOk result (self.new.rules ≡ self.old.rules) }
+    {
+        let edits = edits_for(self.alloc, self, &change, 0)?;
+        self.apply(change, edits.as_slice())
+    }
+
+    /// Accepts what was judged, by its edits. After an `Err` nothing is known of the desk: drop it.
+    fn apply(&mut self, change: Change, edits: &[RowEdit]) -> Result<(), AllocError>
         requires room { HasRoom (λ desk H. IsState H desk) self.old 1 }
         requires judged { (H : History) → IsState H self.old → IsChange self.old.rules H change.stamped change }
         requires lead { (H : History) → IsState H self.old
@@ -294,8 +305,7 @@ impl Desk for StateDesk {
     }
 
     fn settle(&mut self, change: Change) -> Result<(), AllocError> {
-        let edits = edits_for(self.alloc, self, &change, 0)?;
-        self.accept(change, edits.as_slice())
+        self.accept(change)
     }
 
     fn minute(&self) -> Option<Minute> {
@@ -344,10 +354,7 @@ impl Desk for StateDesk {
     }
 }
 
-#[tactic(auto, using(crate::proofs::AcceptedChanges::of_state))]
 impl KeepsRows for StateDesk {
-    ghost use Rattle.feeder_state.specs.State.{IsState};
-
     ghost kept_rows = { λ desk. desk.rows };
 
     fn rows(&self) -> &RowSet {
@@ -355,6 +362,6 @@ impl KeepsRows for StateDesk {
     }
 
     fn settle_edits(&mut self, change: Change, edits: &[RowEdit]) -> Result<(), AllocError> {
-        self.accept(change, edits)
+        self.apply(change, edits)
     }
 }

@@ -2,13 +2,9 @@
 
 mod rows;
 
-ghost use Rattle.std.specs.Prelude.{◌≡◌, ℕ, List, ◌∷◌, [], true, false, OnOk};
+ghost use Rattle.std.specs.Prelude.{◌≡◌, ℕ, ◌∷◌, [], true, false, OnOk};
 ghost use Rattle.desk_types.specs.declared.command.Entry.{Entry};
-ghost use Rattle.desk_types.specs.declared.take.Take.{Take as Taking};
-ghost use Rattle.desk_types.specs.Id.{Name};
 ghost use Rattle.desk_types.specs.History.{History};
-ghost use Rattle.desk_types.specs.Pieces.{live_on};
-ghost use Rattle.entry_search.specs.Floor.{tape_at};
 ghost use Rattle.feeder_state.specs.Floor.{IsFloor};
 ghost use Rattle.feeder_state.specs.Rows.{AreRows};
 ghost use Rattle.feeder_state.specs.Noted.{IsNoted, may_take};
@@ -51,7 +47,8 @@ impl Floor {
         takes: &[Take],
     ) -> Result<(), AllocError>
         requires { (H : History) × (e : Entry) × (at : ℕ) × IsNoted H e command.now at takes.now × IsFloor H self.old }
-        ensures { (H : History) (e : Entry) (at : ℕ) → IsNoted H e command.now at takes.now → AreRows (e ∷ H) rows.now → IsFloor H self.old → OnOk result (IsFloor (e ∷ H) self.new) }
+        ensures { (H : History) (e : Entry) (at : ℕ) → IsNoted H e command.now at takes.now → AreRows (e ∷ H) rows.now
+            → IsFloor H self.old → OnOk result (IsFloor (e ∷ H) self.new) }
     {
         if may_take(command) {
             self.note_takes(rows, command, takes);
@@ -65,8 +62,10 @@ impl Floor {
     /// Takes the reels that a command spent off their slots and out of those at rest.
     fn note_takes(&mut self, rows: &RowSet, command: &Command, takes: &[Take])
         requires takes { may_take command.now ≡ true }
-        requires known { (H : History) × (e : Entry) × (at : ℕ) × IsNoted H e command.now at takes.now × IsFloor H self.old }
-        ensures { (H : History) (e : Entry) (at : ℕ) → IsNoted H e command.now at takes.now → AreRows (e ∷ H) rows.now → IsFloor H self.old → IsFloor (e ∷ H) self.new }
+        requires known { (H : History) × (e : Entry) × (at : ℕ) × IsNoted H e command.now at takes.now
+            × IsFloor H self.old }
+        ensures { (H : History) (e : Entry) (at : ℕ) → IsNoted H e command.now at takes.now → AreRows (e ∷ H) rows.now
+            → IsFloor H self.old → IsFloor (e ∷ H) self.new }
     {
         drop_all_spent(rows, &mut self.tapes, takes);
         end_rests(rows, &mut self.resting, command, takes);

@@ -1,18 +1,10 @@
 //! Single facts of the floor, each found by one look-up or two, with no memory taken.
 
 ghost use Rattle.std.specs.Prelude.{◌≡◌, length, slice_get};
-ghost use Rattle.desk_types.specs.declared.rules.Rules.TheVariants.{Two};
-ghost use Rattle.desk_types.specs.History.{History};
-ghost use Rattle.desk_types.specs.Judged.{IsJudged};
-ghost use Rattle.desk_types.specs.Pieces.{left_of, is_mounted};
 ghost use Rattle.entry_search.specs.Floor.{tape_at};
-ghost use Rattle.entry_search.specs.Life.{IsReelOf};
-ghost use Rattle.feeder_state.specs.Floor.{IsFloor};
 
 use crate::floor::Floor;
-use crate::views::is_live;
 use desk_types::Id;
-use reels::Reel;
 
 impl Floor {
     /// How many live reels the slot has.

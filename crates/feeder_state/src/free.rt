@@ -86,7 +86,9 @@ fn turns(
     part: &Id,
 ) -> Result<BTreeSet<(Left, Id)>, AllocError>
     ensures { (H : History) → AreRowsAt H (Some minute) rows.now → IsFloor H floor.now → AreAlternates H alternates.now
-        → IfOk result (λ turns. turns.keys ≡ map (turn_of H) (in_order (by_turn H) (filter (is_free H part.now) (reels_received H)))) }
+        → IfOk result
+        (λ turns. turns.keys ≡ map (turn_of H)
+        (in_order (by_turn H) (filter (is_free H part.now) (reels_received H)))) }
 {
     let mut turns = BTreeSet::new(alloc);
     for name in &floor.resting {
@@ -102,7 +104,8 @@ fn views_of(
     minute: Minute,
     turns: &BTreeSet<(Left, Id)>,
 ) -> Result<Vec<ReelView>, AllocError>
-    ensures { (H : History) → AreRowsAt H (Some minute) rows.now → IfOk result (λ views. views.items ≡ filter_map (λ turn. reel_view H turn.1) turns.now.keys) }
+    ensures { (H : History) → AreRowsAt H (Some minute) rows.now
+        → IfOk result (λ views. views.items ≡ filter_map (λ turn. reel_view H turn.1) turns.now.keys) }
 {
     let mut views = Vec::new(alloc);
     for turn in turns {
@@ -121,7 +124,8 @@ pub fn free_reels(
     alternates: &Alternates,
     part: &Id,
 ) -> Result<ReelViews, AllocError>
-    ensures { (H : History) → AreRowsAt H minute rows.now → IsFloor H floor.now → AreAlternates H alternates.now → IfOk result (λ reels. reels ≡ free_reels H part.now) }
+    ensures { (H : History) → AreRowsAt H minute rows.now → IsFloor H floor.now → AreAlternates H alternates.now
+        → IfOk result (λ reels. reels ≡ free_reels H part.now) }
 {
     let Some(minute) = minute else {
         return Ok(Listing::new(Vec::new(alloc)));

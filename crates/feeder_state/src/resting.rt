@@ -2,10 +2,8 @@
 
 ghost use Rattle.std.specs.Prelude.{◌≡◌, ◌||◌, ◌==◌, true, false, IfOk, OnOk};
 ghost use Rattle.std.specs.List.{list_any};
-ghost use Rattle.desk_types.specs.declared.rules.Rules.TheVariants.{Two};
 ghost use Rattle.desk_types.specs.Id.{Name, same};
 ghost use Rattle.desk_types.specs.History.{History};
-ghost use Rattle.desk_types.specs.Judged.{IsJudged};
 ghost use Rattle.entry_search.specs.Floor.{tape_at};
 ghost use Rattle.feeder_state.specs.Held.{IsHeld};
 ghost use Rattle.feeder_state.specs.Restored.{AreRowsOf};
@@ -121,7 +119,8 @@ fn row_rests(rows: &RowSet, name: &Id, row: &ReelRow) -> bool
 
 /// The reels at rest.
 pub fn resting_of(alloc: Global, rows: &RowSet) -> Result<BTreeSet<Id>, AllocError>
-    ensures { (H : History) → AreRowsOf H rows.now → (r : Name) → IfOk result (λ resting. rests H r ≡ true → is_resting resting r ≡ true) }
+    ensures { (H : History) → AreRowsOf H rows.now → (r : Name)
+        → IfOk result (λ resting. rests H r ≡ true → is_resting resting r ≡ true) }
 {
     let mut resting = BTreeSet::new(alloc);
     for (name, row) in rows.reels() {

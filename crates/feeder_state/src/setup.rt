@@ -7,15 +7,13 @@ ghost use Rattle.std.specs.Option.{option_copied, option_or};
 ghost use Rattle.desk_types.specs.declared.command.Entry.{Entry as Accepted};
 ghost use Rattle.desk_types.specs.Id.{Name, same};
 ghost use Rattle.desk_types.specs.History.{History};
-ghost use Rattle.desk_types.specs.Setup.{defines, is_part, allows, sheet_by, sheet_of, selection_by, selected_on, sheet_on, row_on, slot_on};
+ghost use Rattle.desk_types.specs.Setup.{sheet_by, sheet_of};
 ghost use Rattle.desk_types.specs.View.{defines_on, has_sheet};
-ghost use Rattle.setup_sheets.specs.Names.{is_among};
-ghost use Rattle.setup_sheets.specs.Alternates.{is_pair_among, AreAlternates};
 ghost use Rattle.feeder_state.specs.Setup.{IsSetup, sheet_at, is_sheeted};
 
 pub use self::rows::setup_of;
-use desk_types::{Command, Designator, Id, SheetRow, SheetRows};
-use setup_sheets::{Alternates, Parts, Sheet};
+use desk_types::{Command, Id, SheetRows};
+use setup_sheets::Sheet;
 use std::alloc::{AllocError, Global};
 use std::collections::{BTreeMap, BTreeSet};
 

@@ -1,10 +1,8 @@
 //! The live reels of slots.
 
-ghost use Rattle.std.specs.Prelude.{◌≡◌, not, ◌&&◌, ◌==◌, nat_lt, All};
+ghost use Rattle.std.specs.Prelude.{◌≡◌, not, ◌&&◌, ◌==◌};
 ghost use Rattle.std.specs.List.{list_any, filter, IsDistinct};
-ghost use Rattle.desk_types.specs.declared.take.Take.{Take as Taking};
 ghost use Rattle.desk_types.specs.Id.{Name, same};
-ghost use Rattle.desk_laws.specs.Slots.{comes_off};
 ghost use Rattle.entry_search.specs.Floor.{tape_at};
 ghost use Rattle.feeder_state.specs.Rows.{left_at};
 ghost use Rattle.feeder_state.specs.Spending.{is_spent_by};
@@ -52,7 +50,9 @@ pub fn is_spent(rows: &RowSet, reel: &Id) -> bool
 /// Takes the reel of a take off its slot, where that spent it.
 fn drop_spent(rows: &RowSet, tapes: &mut BTreeMap<(Id, Id), Tape>, take: &Take)
     requires { (m s : Name) → IsDistinct same (tape_at tapes.old m s) }
-    ensures { (m s : Name) → tape_at tapes.new m s ≡ filter (λ r. not (is_spent_by (left_at rows.now) m s r take.now)) (tape_at tapes.old m s) }
+    ensures { (m s : Name)
+        → tape_at tapes.new m s ≡ filter (λ r. not (is_spent_by (left_at rows.now) m s r take.now))
+        (tape_at tapes.old m s) }
 {
     if !is_spent(rows, &take.reel) {
         return;
@@ -67,7 +67,9 @@ fn drop_spent(rows: &RowSet, tapes: &mut BTreeMap<(Id, Id), Tape>, take: &Take)
 /// Takes the reels that takes spent off their slots.
 pub fn drop_all_spent(rows: &RowSet, tapes: &mut BTreeMap<(Id, Id), Tape>, takes: &[Take])
     requires { (m s : Name) → IsDistinct same (tape_at tapes.old m s) }
-    ensures { (m s : Name) → tape_at tapes.new m s ≡ filter (λ r. not (list_any (is_spent_by (left_at rows.now) m s r) takes.now)) (tape_at tapes.old m s) }
+    ensures { (m s : Name)
+        → tape_at tapes.new m s ≡ filter (λ r. not (list_any (is_spent_by (left_at rows.now) m s r) takes.now))
+        (tape_at tapes.old m s) }
 {
     for take in takes {
         drop_spent(rows, tapes, take);

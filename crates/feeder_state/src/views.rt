@@ -115,7 +115,9 @@ fn put_slots(
     minute: Minute,
     machine: &Id,
 ) -> Result<(), AllocError>
-    ensures { (H : History) → AreRowsAt H (Some minute) rows.now → IsFloor H floor.now → OnOk result (mounts.new.items ≡ mounts.old.items ++ flat_map (slot_mounts H machine.now) (loaded_slots H machine.now)) }
+    ensures { (H : History) → AreRowsAt H (Some minute) rows.now → IsFloor H floor.now
+        → OnOk result
+        (mounts.new.items ≡ mounts.old.items ++ flat_map (slot_mounts H machine.now) (loaded_slots H machine.now)) }
 {
     for (key, tape) in &floor.tapes {
         if key.0 == *machine {
@@ -135,7 +137,8 @@ pub fn slots_of(
     has_sheet: bool,
     machine: &Id,
 ) -> Result<Option<Mounts>, AllocError>
-    ensures { (H : History) → AreRowsAt H minute rows.now → IsFloor H floor.now → has_sheet ≡ is_on_sheet H machine.now → IfOk result (λ mounts. mounts ≡ mounts_on H machine.now) }
+    ensures { (H : History) → AreRowsAt H minute rows.now → IsFloor H floor.now
+        → has_sheet ≡ is_on_sheet H machine.now → IfOk result (λ mounts. mounts ≡ mounts_on H machine.now) }
 {
     if !has_sheet {
         return Ok(None);

@@ -4,16 +4,11 @@ mod rows;
 
 ghost use Rattle.std.specs.Prelude.{◌≡◌, ◌||◌, ◌&&◌, [], ◌∷◌, unwrap_or, OnOk};
 ghost use Rattle.std.specs.List.{list_any};
-ghost use Rattle.std.specs.Option.{option_or};
 ghost use Rattle.desk_types.specs.declared.command.Command.TheVariants.{WorkStarted};
 ghost use Rattle.desk_types.specs.declared.command.Entry.{Entry as Accepted};
-ghost use Rattle.desk_types.specs.declared.rules.Rules.TheVariants.{Two};
 ghost use Rattle.desk_types.specs.Id.{Name, same};
 ghost use Rattle.desk_types.specs.History.{History};
-ghost use Rattle.desk_types.specs.Judged.{IsJudged};
-ghost use Rattle.desk_types.specs.Setup.{selected_on};
-ghost use Rattle.desk_types.specs.Work.{work_by, in_work_on, is_in_work, product_of, places, is_placed_on};
-ghost use Rattle.desk_laws.specs.Working.{in_work_after};
+ghost use Rattle.desk_types.specs.Work.{work_by, in_work_on, places, is_placed_on};
 ghost use Rattle.judging.specs.Facts.{ArePlacedOn};
 ghost use Rattle.feeder_state.specs.Work.{IsWork, running_at, is_placed_at};
 
@@ -21,7 +16,7 @@ pub use self::rows::work_of;
 use crate::placed::Placed;
 use desk_types::{Command, Designator, Id};
 use std::alloc::{AllocError, Global};
-use std::collections::{BTreeMap, BTreeSet};
+use std::collections::BTreeMap;
 
 /// The board in work on each machine, and what is placed on each board.
 #[derive(Drop)]
@@ -43,7 +38,8 @@ impl Work {
 
     /// The work after an accepted command. Fails only where memory is refused; the work is of no use then.
     pub fn note(&mut self, alloc: Global, command: &Command) -> Result<(), AllocError>
-        ensures { (H : History) (e : Accepted) → e.stamped.command ≡ command.now → IsWork H self.old → OnOk result (IsWork (e ∷ H) self.new) }
+        ensures { (H : History) (e : Accepted) → e.stamped.command ≡ command.now → IsWork H self.old
+            → OnOk result (IsWork (e ∷ H) self.new) }
     {
         note_running(&mut self.running, command)?;
         note_placed(alloc, &mut self.placed, command)?;

@@ -1,13 +1,10 @@
 //! The shop floor, made from rows.
 
-ghost use Rattle.std.specs.Prelude.{◌≡◌, false, Some, ◌++◌, ◌∷◌, [], if◌then◌else◌, ◌&&◌, IfOk, OnOk};
-ghost use Rattle.desk_types.specs.declared.rules.Rules.TheVariants.{Two};
+ghost use Rattle.std.specs.Prelude.{◌≡◌, Some, ◌++◌, ◌∷◌, [], if◌then◌else◌, ◌&&◌, IfOk, OnOk};
 ghost use Rattle.desk_types.specs.Id.{Name, same};
-ghost use Rattle.desk_types.specs.History.{History, now_of};
-ghost use Rattle.desk_types.specs.Pieces.{live_on, found_of, is_mounted};
-ghost use Rattle.desk_types.specs.Judged.{IsJudged};
+ghost use Rattle.desk_types.specs.History.{History};
+ghost use Rattle.desk_types.specs.Pieces.{live_on};
 ghost use Rattle.entry_search.specs.Floor.{tape_at};
-ghost use Rattle.desk_types.specs.Tables.{reel_row};
 ghost use Rattle.feeder_state.specs.Floor.{IsFloor};
 ghost use Rattle.feeder_state.specs.Restored.{AreRowsOf};
 

@@ -7,17 +7,13 @@ ghost use Rattle.desk_types.specs.Pair.{by_pair};
 ghost use Rattle.desk_types.specs.History.{History};
 ghost use Rattle.desk_types.specs.Setup.{sheet_of};
 ghost use Rattle.desk_types.specs.View.{has_sheet};
-ghost use Rattle.setup_sheets.specs.Names.{is_among};
-ghost use Rattle.setup_sheets.specs.Alternates.{is_pair_among};
-ghost use Rattle.state_rows.specs.Kept.{tables_in};
 ghost use Rattle.feeder_state.specs.Setup.{IsSetup, sheet_at, is_sheeted};
 ghost use Rattle.feeder_state.specs.Restored.{AreRowsOf, group_at, sheet_in};
 
 use super::{Setup, put_sheet};
 use crate::groups::{Group, gather};
-use crate::maps::put;
 use desk_types::{Bounded, Id, SheetRow};
-use setup_sheets::{Alternates, Parts, Sheet};
+use setup_sheets::Sheet;
 use state_rows::RowSet;
 use std::alloc::{AllocError, Global};
 use std::collections::{BTreeMap, BTreeSet};

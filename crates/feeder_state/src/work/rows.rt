@@ -4,7 +4,7 @@ ghost use Rattle.std.specs.Prelude.{◌≡◌, IfOk};
 ghost use Rattle.std.specs.List.{list_any};
 ghost use Rattle.desk_types.specs.Id.{Name, same, by_name};
 ghost use Rattle.desk_types.specs.History.{History};
-ghost use Rattle.desk_types.specs.Work.{in_work_on, is_in_work, product_of, is_placed_on};
+ghost use Rattle.desk_types.specs.Work.{in_work_on, is_placed_on};
 ghost use Rattle.feeder_state.specs.Restored.{AreRowsOf, group_at};
 ghost use Rattle.feeder_state.specs.Work.{IsWork, running_at, is_placed_at};
 
@@ -15,7 +15,7 @@ use crate::placed::Placed;
 use desk_types::{Designator, Id};
 use state_rows::RowSet;
 use std::alloc::{AllocError, Global};
-use std::collections::{BTreeMap, BTreeSet};
+use std::collections::BTreeMap;
 
 /// The board that the rows have in work on each machine.
 pub fn running_of(alloc: Global, rows: &RowSet) -> Result<BTreeMap<Id, Id>, AllocError>

@@ -1,4 +1,4 @@
-use Rattle.std.proofs.Common.{sym, ap, subst, ◌∙◌}
+use Rattle.std.proofs.Common.{sym, ap, subst}
 use Rattle.std.specs.Option.{option_map}
 use Rattle.entry_search.specs.Turns.{turn_of}
 use Rattle.entry_search.proofs.FreeReels.{untold-free}

@@ -1,4 +1,4 @@
-use Rattle.std.proofs.Common.{rules, map, ◌≡◌, true, is_some, Some, None, All, unwrap_or, append_assoc, append-nil, ◌++◌, [], sym, ap, subst, ◌∙◌}
+use Rattle.std.proofs.Common.{rules, map, ◌≡◌, Some, None, unwrap_or, append_assoc, append-nil, ◌++◌, [], sym, ap, ◌∙◌}
 use Rattle.std.specs.Prelude.{if◌then◌else◌}
 use Rattle.std.specs.List.{flat_map, cons_option, enumerate_from}
 use Rattle.std.specs.Map.{keys_of}

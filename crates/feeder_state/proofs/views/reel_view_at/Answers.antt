@@ -1,4 +1,4 @@
-use Rattle.std.proofs.Common.{sym, subst, ◌∙◌}
+use Rattle.std.proofs.Common.{sym, subst}
 use Rattle.feeder_state.specs.Held.{IsHeldOf}
 use Rattle.feeder_state.proofs.FloorTells.{told-now, absent-view}
 use Rattle.feeder_state.proofs.views.reel_view_at.Goals as goal

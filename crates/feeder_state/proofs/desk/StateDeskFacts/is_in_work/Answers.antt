@@ -1,6 +1,5 @@
 use Rattle.std.proofs.Common.{false, sym, ap, ◌∙◌}
 use Rattle.std.specs.Option.{option_map_or, option_copied}
-use Rattle.desk_types.specs.declared.row.BoardRow.{BoardRow}
 use Rattle.feeder_state.proofs.AcceptedChanges.{state-two, state-board}
 use Rattle.feeder_state.proofs.RestoredWork.{is_at_work, busy-row}
 use Rattle.feeder_state.proofs.desk.StateDeskFacts.is_in_work.Goals as goal
