@@ -17,9 +17,9 @@ ghost use Rattle.desk_file.specs.Files.{Begins, Closes, Copies, FindsNoTable, Ha
 ghost use Rattle.desk_file.specs.Refused.{IsFaultFor, IsFaultIn, IsRefused, LeavesMade, RefusesMigration, RefusesRun};
 
 use crate::refusal::Refusal;
-use desk_types::Desk;
 use line_schema::{LineStore, OpenFault};
 use sqlite::{Connection, FileFrom, FileStore, Files, Start};
+use state_rows::KeepsRows;
 use std::fs;
 use std::fs::Metadata;
 use std::io::ErrorKind;
@@ -34,7 +34,7 @@ pub type DeskFile<T> = Connection<FileStore<FileFrom<T>>>;
 /// empty list is made in it if `make` says up to which number, from 1 to 1,000,000,000; else it is
 /// NotADesk. What is no regular file, or can't be opened, is Unavailable. A file that is refused comes
 /// back, unchanged.
-pub fn open_desk<T: Start, D: Desk + Drop>(
+pub fn open_desk<T: Start, D: KeepsRows + Drop>(
     rt: &HostRuntime,
     path: &str,
     start: T,
@@ -65,7 +65,7 @@ pub fn open_desk<T: Start, D: Desk + Drop>(
 /// its commands is judged again by rules One, and its tables are compared, before it is written to.
 /// Where there is no file, or one of no bytes, it is NotADesk, and none is made. A file that is refused
 /// comes back, unchanged; after Unavailable a crash may leave it of version 2.
-pub fn migrate_desk<T: Start, D: Desk + Drop>(
+pub fn migrate_desk<T: Start, D: KeepsRows + Drop>(
     rt: &HostRuntime,
     path: &str,
     start: T,
@@ -92,7 +92,7 @@ pub fn migrate_desk<T: Start, D: Desk + Drop>(
 
 /// Closes the file of a desk: what was committed is in it then, without its log. The files come back
 /// for clauses to name, those too that could not be closed; they go where they are dropped.
-pub fn close_desk<T: Start, D: Desk + Drop>(
+pub fn close_desk<T: Start, D: KeepsRows + Drop>(
     desk: FileDesk<T, D>,
 ) -> Result<Files<FileFrom<T>>, (OpenFault, Files<FileFrom<T>>)>
     ensures whole { IfOk result (Closes D.Stands D.kept_rules desk) }
@@ -157,7 +157,7 @@ fn no_connection<T: Start>() -> Refusal<FileFrom<T>>
 }
 
 /// A desk of an empty list in the file, which is made where it is missing.
-fn new_desk<T: Start, D: Desk + Drop>(
+fn new_desk<T: Start, D: KeepsRows + Drop>(
     rt: &HostRuntime,
     path: &str,
     start: T,
@@ -184,7 +184,7 @@ fn new_desk<T: Start, D: Desk + Drop>(
 }
 
 /// The desk that the file keeps.
-fn kept_desk<T: Start, D: Desk + Drop>(
+fn kept_desk<T: Start, D: KeepsRows + Drop>(
     rt: &HostRuntime,
     path: &str,
     start: T,

@@ -10,10 +10,11 @@ ghost use Rattle.report_texts.specs.declared.kind.Kind.TheVariants as Kind;
 ghost use Rattle.trace_reports.specs.Reports.{Answers};
 
 use crate::fault::ReportFault;
-use desk_types::{Boards, Desk, Id, Text};
+use desk_types::{Boards, Id, Text};
 use line_schema::LineStore;
 use report_texts::Kind;
 use sqlite::Alter;
+use state_rows::KeepsRows;
 use std::alloc::Global;
 
 fn or_not_found(text: Option<Text>, kind: Kind) -> Result<Text, ReportFault>
@@ -27,7 +28,7 @@ fn or_not_found(text: Option<Text>, kind: Kind) -> Result<Text, ReportFault>
 
 /// The card of a reel: what was received of it, where its pieces went, and its floor life at the desk
 /// minute. It is not found where no such reel was received.
-pub fn reel_card<S: Alter, D: Desk + Drop>(
+pub fn reel_card<S: Alter, D: KeepsRows + Drop>(
     alloc: Global,
     store: &mut LineStore<S, D>,
     reel: &Id,
@@ -46,7 +47,7 @@ pub fn reel_card<S: Alter, D: Desk + Drop>(
 
 /// The live reels of a machine's slots, by slot and then by position. It is not found where no sheet
 /// names the machine.
-pub fn slot_list<S: Alter, D: Desk + Drop>(
+pub fn slot_list<S: Alter, D: KeepsRows + Drop>(
     alloc: Global,
     store: &mut LineStore<S, D>,
     machine: &Id,
@@ -68,7 +69,7 @@ pub fn slot_list<S: Alter, D: Desk + Drop>(
 
 /// The reels to bring for so many boards of a product on a machine. It is not found where the product
 /// has no sheet there.
-pub fn kit_list<S: Alter, D: Desk + Drop>(
+pub fn kit_list<S: Alter, D: KeepsRows + Drop>(
     alloc: Global,
     store: &mut LineStore<S, D>,
     product: &Id,

@@ -6,14 +6,15 @@ ghost use Rattle.report_texts.specs.declared.kind.Kind.TheVariants as Kind;
 ghost use Rattle.trace_reports.specs.Reports.{board_trace, lot_trace, overdue_list, Answers, AnswersAlways};
 
 use crate::fault::ReportFault;
-use desk_types::{Desk, Id, Text, TraceDetail};
+use desk_types::{Id, Text, TraceDetail};
 use line_schema::LineStore;
 use report_texts::{Kind, board_text, lot_text, overdue_text};
 use sqlite::Alter;
+use state_rows::KeepsRows;
 use std::alloc::Global;
 
 /// The trace of a board: what is on it. It is not found where no accepted command started the board.
-pub fn board_trace<S: Alter, D: Desk + Drop>(
+pub fn board_trace<S: Alter, D: KeepsRows + Drop>(
     alloc: Global,
     store: &mut LineStore<S, D>,
     board: &Id,
@@ -31,7 +32,7 @@ pub fn board_trace<S: Alter, D: Desk + Drop>(
 
 /// The trace of a lot: which boards hold its pieces. It is not found where no accepted command received
 /// a reel of the lot.
-pub fn lot_trace<S: Alter, D: Desk + Drop>(
+pub fn lot_trace<S: Alter, D: KeepsRows + Drop>(
     alloc: Global,
     store: &mut LineStore<S, D>,
     lot: &Id,
@@ -49,7 +50,7 @@ pub fn lot_trace<S: Alter, D: Desk + Drop>(
 
 /// The pieces that were placed off reels whose floor life was used up, by number, then place, with the
 /// effective minutes of their installs.
-pub fn overdue_list<S: Alter, D: Desk + Drop>(
+pub fn overdue_list<S: Alter, D: KeepsRows + Drop>(
     alloc: Global,
     store: &mut LineStore<S, D>,
 ) -> Result<Text, ReportFault>
