@@ -30,7 +30,9 @@ pub fn append<S: Alter>(
     edits: &[RowEdit],
 ) -> Result<(), Error>
     ensures done { HasCleanDisk (state S.Store conn.new)
-        → OnOk result (Edits (command_edits row.now edits.now) (state S.Store conn.old).committed (state S.Store conn.new).committed) }
+        → OnOk result
+        (Edits (command_edits row.now edits.now) (state S.Store conn.old).committed
+        (state S.Store conn.new).committed) }
     ensures others { HasCleanDisk (state S.Store conn.new)
         → OnOk result (KeepsOthers (state S.Store conn.old).committed (state S.Store conn.new).committed) }
     ensures stays_open { HasCleanDisk (state S.Store conn.new)
@@ -84,7 +86,8 @@ fn put_first<S: Alter>(
     ensures some { IfOk result (λ taken. 0 < taken × taken ≤ length edits.now) }
     ensures done { HasCleanDisk (state S.Store tx.new.conn.now)
         → IfOk result
-        (λ taken. Writes (row_edits (take taken edits.now)) (state S.Store tx.old.conn.now) (state S.Store tx.new.conn.now)) }
+        (λ taken. Writes (row_edits (take taken edits.now)) (state S.Store tx.old.conn.now)
+        (state S.Store tx.new.conn.now)) }
     ensures within { InTransaction S.Store tx.old tx.new }
 {
     if let Some(values) = first_eight(alloc, edits)? {
@@ -98,7 +101,8 @@ fn put_first<S: Alter>(
 /// The values of the first eight edits, where there are so many and each puts a placement.
 fn first_eight<'a>(alloc: Global, edits: &'a [RowEdit]) -> Result<Option<Vec<ValueRef<'a>>>, Error>
     ensures { IfOk result
-        (λ found. IfSome found (λ values. 8 ≤ length edits.now × ArePlacing (row_edits (take 8 edits.now)) (bound values.items))) }
+        (λ found. IfSome found (λ values. 8 ≤ length edits.now
+        × ArePlacing (row_edits (take 8 edits.now)) (bound values.items))) }
 {
     match edits.get(..8) {
         Some(eight) => values_of_all(alloc, eight),
