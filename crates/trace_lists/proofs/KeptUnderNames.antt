@@ -1,4 +1,4 @@
--- What is kept under names after something is put there, or memory is taken for it.
+-- The index after adding an element or reserving memory.
 use Rattle.std.proofs.Common.{◌≡◌, Bool, true, false, cond, List, [], ◌∷◌, ◌++◌, map, length, refl, sym, ap, ◌∙◌}
 use Rattle.std.specs.Prelude.{if◌then◌else◌}
 use Rattle.std.proofs.lemmas.List.{append-nil}
@@ -10,7 +10,7 @@ use Rattle.desk_types.proofs.Keys.{same-true}
 use Rattle.trace_lists.specs.declared.lists.TraceLists.{TraceLists}
 use Rattle.trace_lists.specs.Lists.{IsListed, kept_at, key_of, keys_of_installs, minute_in}
 
--- one thing more under the name k
+-- One more element under the name k.
 pub one-more : {X : Type 0} (k n : Name) (old : Name → List X) (now : List X) (thing : X) → now ≡ old k ++ thing ∷ []
     → cond (same k n) now (old n) ≡ old n ++ (if same k n then thing ∷ [] else [])
 one-more k n old now thing is = by (same k n) refl
@@ -19,7 +19,7 @@ one-more k n old now thing is = by (same k n) refl
     by true one = is ∙ ap (λ name. old name ++ thing ∷ []) (same-true k n one)
     by false one = sym (append-nil (old n))
 
--- nothing more
+-- No more elements.
 pub no-more : {X : Type 0} (k n : Name) (old : Name → List X) (now : List X) → now ≡ old k → cond (same k n) now (old n) ≡ old n
 no-more k n old now is = by (same k n) refl
   where
@@ -27,7 +27,7 @@ no-more k n old now is = by (same k n) refl
     by true one = is ∙ ap old (same-true k n one)
     by false one = refl
 
--- lists that keep the same under every name list the same
+-- Indexes with the same elements under every name represent the same history.
 pub listed-still : (old new : TraceLists) (H : History) → ((n : Name) → kept_at new.lots n ≡ kept_at old.lots n) → ((n : Name) → kept_at new.boards n ≡ kept_at old.boards n)
     → new.overdue.items ≡ old.overdue.items → new.minutes.items ≡ old.minutes.items → IsListed old H → IsListed new H
 listed-still old new H lots boards overdue minutes is = record {
