@@ -32,7 +32,7 @@ is_in_work_where_started H board _ = false
 abbrev pub is_in_work : History → Name → Bool
 is_in_work H board = list_any (λ (e : Entry). is_in_work_where_started H board e.stamped.command) H
 
--- The machine on which the command starts the board.
+-- The machine where the command starts the board.
 abbrev pub start_by : Name → Command → Option Name
 start_by board (WorkStarted machine b) = if same b board then Some machine else None
 start_by board _ = None

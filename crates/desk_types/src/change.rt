@@ -8,7 +8,7 @@ use crate::list::Listing;
 use crate::number::Minute;
 use crate::take::Take;
 
-/// Takes in the order in which the pieces leave their reels.
+/// Takes, ordered as the pieces leave their reels.
 pub type Takes = Listing<Take>;
 
 /// The effect of a command that isn't refused. The desk accepts it when it settles the change.
