@@ -72,7 +72,6 @@ command-by-two H minute (MaterialsScrapped machine slot quantity) none = none
 command-by-two H minute (CountsTaken counts) none = counts-by-two H [] counts none
 command-by-two H minute ClockSet none = none
 
--- A command that either rules accept is accepted by rules Two.
 pub accepted-by-two : (rules : Rules) (H : History) (s : Stamped) → refusal_of rules H s ≡ None → refusal_of Two H s ≡ None
 unfolding refusal_of
 accepted-by-two Two H s none = none

@@ -75,7 +75,6 @@ exposure-anew H e name says starts minute =
     ap (λ s. count_by (is_out_at (e ∷ H) name) (minutes_between s minute)) starts
     ∙ count-one (is_out_at (e ∷ H) name) false e.effective minute (λ t from to. is_out-after H e name false t says from)
 
--- An entry that is no command on the reel keeps its exposure.
 pub exposure-untouched : (H : History) (e : Entry) (name : Name) → open_by name e.stamped.command ≡ None → exposure_starts (e ∷ H) name ≡ exposure_starts H name
     → (minute : ℕ) → exposure_of (e ∷ H) name minute ≡ exposure_of H name minute
 unfolding exposure_of

@@ -65,7 +65,6 @@ pub name-written : {V X : Type 0} (old new : Name → Option V) (k : Name) (w : 
     → ((q : Name) → new q ≡ cond (is_at (by_name k) q) w (old q)) → (q : Name) → read (new q) ≡ cond (same k q) (read w) (read (old q))
 name-written old new k w read after q = ap read (after q) ∙ cond-of read _ _ _ ∙ ap (λ b. cond b (read w) (read (old q))) (is_at-by_name k q)
 
--- The same for a map by pairs of names.
 pub pair-written : {V X : Type 0} (old new : Name × Name → Option V) (k : Name × Name) (w : Option V) (read : Option V → X)
     → ((q : Name × Name) → new q ≡ cond (is_at (by_pair k) q) w (old q)) → (a b : Name) → read (new (a, b)) ≡ cond (same_pair k (a, b)) (read w) (read (old (a, b)))
 pair-written old new k w read after a b = ap read (after (a, b)) ∙ cond-of read _ _ _ ∙ ap (λ t. cond t (read w) (read (old (a, b)))) (is_at-by_pair k (a, b))
@@ -79,7 +78,6 @@ name-changed x y old step k was is q = by (same k q) refl
     by true one = sym is ∙ ap step (sym was ∙ ap old (same-true k q one))
     by false one = refl
 
--- The same for pairs.
 pub pair-changed : {X : Type 0} (x y : X) (old : Name → Name → X) (step : X → X) (k : Name × Name) → old k.0 k.1 ≡ x → step x ≡ y → (a b : Name)
     → cond (same_pair k (a, b)) y (old a b) ≡ cond (same_pair k (a, b)) (step (old a b)) (old a b)
 pair-changed x y old step k was is a b = by (same_pair k (a, b)) refl

@@ -17,6 +17,5 @@ left-cmp Unbaked (Minutes b) = refl
 left-cmp Unbaked Unlimited = refl
 left-cmp Unbaked Unbaked = refl
 
--- The same for the orders as functions.
 pub left-order : ghosts.cmp ≡ by_left
 left-order = λ j a b. left-cmp a b j

@@ -47,7 +47,6 @@ pub pieces_balance_after_a_splice :
 unfolding refusal_of command_refusal part_refusal definition_refusal sheet_refusal selection_refusal receipt_refusal mounting_refusal tape_of left_of live_on start_refusal install_refusal install_picks all_picks found_of
 pieces_balance_after_a_splice = (refl, refl, refl, refl)
 
--- The slot's tape keeps the spent reel, which is no longer live.
 pub a_tape_keeps_a_spent_reel : (tape_of after_splice M S1 ≡ K1 ∷ K2 ∷ []) × (live_on after_splice M S1 ≡ K2 ∷ [])
 unfolding refusal_of command_refusal part_refusal definition_refusal sheet_refusal selection_refusal receipt_refusal mounting_refusal tape_of left_of live_on start_refusal install_refusal install_picks
 a_tape_keeps_a_spent_reel = (refl, refl)

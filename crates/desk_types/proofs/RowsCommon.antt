@@ -14,14 +14,14 @@ use Rattle.desk_types.specs.Id.{Name}
 
 -- ---- names
 
--- parts.
+-- Parts.
 abbrev pub P : Name
 P = codes "P"
 
 abbrev pub Q : Name
 Q = codes "Q"
 
--- lots.
+-- Lots.
 abbrev pub L : Name
 L = codes "L"
 
@@ -31,28 +31,28 @@ L1 = codes "L1"
 abbrev pub L2 : Name
 L2 = codes "L2"
 
--- products.
+-- Products.
 abbrev pub PR : Name
 PR = codes "PR"
 
 abbrev pub PS : Name
 PS = codes "PS"
 
--- machines.
+-- Machines.
 abbrev pub M : Name
 M = codes "M"
 
 abbrev pub N : Name
 N = codes "N"
 
--- slots.
+-- Slots.
 abbrev pub S1 : Name
 S1 = codes "1"
 
 abbrev pub S2 : Name
 S2 = codes "2"
 
--- reels.
+-- Reels.
 abbrev pub K1 : Name
 K1 = codes "K1"
 
@@ -65,14 +65,14 @@ K3 = codes "K3"
 abbrev pub K4 : Name
 K4 = codes "K4"
 
--- boards.
+-- Boards.
 abbrev pub B1 : Name
 B1 = codes "B1"
 
 abbrev pub B2 : Name
 B2 = codes "B2"
 
--- designators.
+-- Designators.
 abbrev pub R1 : Name
 R1 = codes "R1"
 

@@ -99,7 +99,6 @@ pieces_of_both =
     ∷ piece 14 1 B2 R1 K2 L 0 false
     ∷ []
 
--- These are the placements, and none is overdue.
 pub placements_of_two_boards : (placements_of after_two_boards ≡ pieces_of_both) × (overdue_of after_two_boards ≡ [])
 unfolding refusal_of command_refusal part_refusal definition_refusal sheet_refusal selection_refusal receipt_refusal mounting_refusal tape_of left_of live_on start_refusal completion_refusal install_refusal install_picks takes_of
 placements_of_two_boards = (refl, refl)

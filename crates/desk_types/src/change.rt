@@ -11,7 +11,7 @@ use crate::take::Take;
 /// Takes, ordered as the pieces leave their reels.
 pub type Takes = Listing<Take>;
 
-/// The effect of a command that isn't refused. The desk accepts it when it settles the change.
+/// The effect of a command that isn't refused. Settling the change accepts the command.
 #[derive(Debug, PartialEq, Eq, Drop)]
 pub struct Change {
     pub stamped: Stamped,

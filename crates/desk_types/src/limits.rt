@@ -43,7 +43,7 @@ pub const LONGEST_INPUT: usize = 1_048_576;
 /// The most digits of a quantity in an input file.
 pub const MOST_DIGITS: usize = 8;
 
-/// The most bytes of a stream's unread input that are searched for a request head.
+/// The most bytes of a request head, and of the unread input that is searched for one.
 pub const HEAD_LIMIT: usize = 16_384;
 
 /// The most header lines of a head, which is the room that `httparse` is given.
@@ -71,7 +71,7 @@ pub const ONE_WRITE: usize = 4_096;
 /// Pages of 1,024 bytes save an eighth of the work of the kit's 4,096.
 pub const PAGE_SIZE: usize = 1_024;
 
-/// Each limit has this value.
+/// The value of each limit.
 pub fn limits_have_their_numbers()
     ensures names { (LONGEST_ID ≡ 64) × (LONGEST_DESIGNATOR ≡ 16) }
     ensures pieces { (GREATEST_QUANTITY ≡ 10000000) × (MOST_DIGITS ≡ 8) }
