@@ -37,7 +37,6 @@ pub command-accepted : (H : History) (s : Stamped) → refusal_of Two H s ≡ No
 unfolding refusal_of
 command-accepted H s none = (if-none (is_too_far_ahead H s) TooFarAhead _ none).1
 
--- So does the next entry, at its effective minute.
 pub next-accepted : (H : History) (e : Entry) → IsNext Two H e → command_refusal Two H e.effective e.stamped.command ≡ None
 next-accepted H e next = ap (λ m. command_refusal Two H m e.stamped.command) next.effective ∙ command-accepted H e.stamped next.accepted
 
@@ -71,7 +70,6 @@ receivable H reel part none =
     let all = none-holds ((not (is_part H part), UnknownPart part) ∷ (is_some (receipt_of H reel), ReelExists reel) ∷ []) none in
     record { known = all.0; new = all.1.0 }
 
--- An accepted open is of a received reel.
 pub openable : (H : History) (reel : Name) → opening_refusal H reel ≡ None → is_none (receipt_of H reel) ≡ false
 unfolding opening_refusal
 openable H reel none = (none-holds ((is_none (receipt_of H reel), UnknownReel reel) ∷ []) none).0
@@ -147,7 +145,6 @@ pub handled-received : (H : History) (e : Entry) (name : Name) (out : Bool) → 
     → open_by name e.stamped.command ≡ Some out → receipt_of H name ≡ None → ⊥
 handled-received H e name out next none says unknown = cc (handled-by H e.effective name e.stamped.command out (next-accepted H e next) none says)
 
--- An accepted receipt is of a reel that was not received.
 pub received-by : (H : History) (minute : ℕ) (name : Name) (command : Command) (receipt : Receipt) → command_refusal Two H minute command ≡ None
     → receipt_by name minute command ≡ Some receipt → receipt_of H name ≡ None
 unfolding command_refusal
@@ -155,7 +152,6 @@ received-by H minute name (ReelReceived r part lot moisture quantity) receipt ac
     sym (ap (receipt_of H) (same-true r name (if-some (same r name) _ receipt is))) ∙ not-some (receipt_of H r) (receivable H r part accepted).new
 received-by H minute name _ receipt accepted is = cc
 
--- A reel is received only once.
 pub received-once : (H : History) (e : Entry) (name : Name) (receipt : Receipt) → IsNext Two H e → receipt_by name e.effective e.stamped.command ≡ Some receipt
     → receipt_of H name ≡ None
 received-once H e name receipt next is = received-by H e.effective name e.stamped.command receipt (next-accepted H e next) is

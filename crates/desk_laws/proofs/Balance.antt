@@ -97,7 +97,6 @@ received-picks H minute (ReelReceived r part lot moisture quantity) reel receipt
     by false is = cc
 received-picks H minute _ reel receipt is = cc
 
--- A receipt leaves all its pieces.
 pub left-received : (H : History) (e : Entry) (reel : Name) (receipt : Receipt) → receipt_by reel e.effective e.stamped.command ≡ Some receipt
     → left_of (e ∷ H) reel ≡ receipt.quantity
 unfolding left_of
@@ -121,7 +120,6 @@ taken-next : (H : History) (e : Entry) (reel : Name) → taken_of (e ∷ H) reel
 unfolding all_picks
 taken-next H e reel = pieces_picked-append (all_picks H) (picks_of H e.stamped.command) reel
 
--- Received pieces were taken or remain.
 received-taken : (H : History) (reel : Name) → IsJudged Two H → received_of H reel ≡ taken_of H reel + left_of H reel
 unfolding left_of all_picks found_of
 received-taken [] reel judged = refl

@@ -45,7 +45,6 @@ startable H minute machine board none =
         ∷ (differ (product_of H board) (selected_on H machine), OtherProduct board)
         ∷ []
 
--- An accepted completion names the board in work.
 pub completable : (H : History) (machine board : Name) → completion_refusal H machine board ≡ None → in_work_on H machine ≡ Some board
 unfolding completion_refusal
 completable H machine board none = by (in_work_on H machine) (not-false _ (none-holds ((not (is_in_work_on H machine board), NotInWork board) ∷ []) none).0)
@@ -93,14 +92,12 @@ one-step H minute m n board (WorkCompleted k b) accepted before on_m on_n = by (
     by false false on_m on_n = before on_m on_n
 one-step H minute m n board _ accepted before on_m on_n = before on_m on_n
 
--- A board is in work on at most one machine.
 pub one-machine : (H : History) (m n board : Name) → IsJudged Two H → in_work_on H m ≡ Some board → in_work_on H n ≡ Some board → m ≡ n
 one-machine [] m n board judged on_m on_n = cc
 one-machine (e ∷ H) m n board (next, judged) on_m on_n =
     one-step H e.effective m n board e.stamped.command (next-accepted H e next) (one-machine H m n board judged)
     (sym (work-next H e m) ∙ on_m) (sym (work-next H e n) ∙ on_n)
 
--- A board on some machine after an accepted command is in work.
 there-after : (H : History) (minute : ℕ) (board : Name) (command : Command) (machine : Name) → IsJudged Two H → command_refusal Two H minute command ≡ None
     → unwrap_or (work_by machine command) (in_work_on H machine) ≡ Some board → in_work_after board command (is_in_work H board) ≡ true
 unfolding command_refusal
@@ -122,7 +119,6 @@ there-after H minute board (WorkCompleted k b) machine judged accepted on = by (
     by false false elsewhere other on = somewhere-in_work H board (machine, on)
 there-after H minute board _ machine judged accepted on = somewhere-in_work H board (machine, on)
 
--- A board in work after an accepted command is on some machine.
 after-there : (H : History) (minute : ℕ) (board : Name) (command : Command) → command_refusal Two H minute command ≡ None
     → in_work_after board command (is_in_work H board) ≡ true → (machine : Name) × (unwrap_or (work_by machine command) (in_work_on H machine) ≡ Some board)
 unfolding command_refusal
@@ -170,7 +166,6 @@ some-is : {X : Type 0} (o : Option X) → is_none o ≡ false → is_some o ≡ 
 some-is None is = cc
 some-is (Some x) is = refl
 
--- A start needs a selected product.
 pub work-selected : (H : History) (e : Entry) (machine board : Name) → IsNext Two H e → e.stamped.command ≡ WorkStarted machine board → is_some (selected_on H machine) ≡ true
 unfolding command_refusal
 work-selected H e machine board next is =
@@ -184,7 +179,6 @@ or-second : {X : Type 0} (a b : Option X) → is_some b ≡ true → is_some (op
 or-second None b is = is
 or-second (Some x) b is = refl
 
--- A board in work after an accepted command has a product.
 product-step : (H : History) (minute : ℕ) (machine board : Name) (command : Command) → command_refusal Two H minute command ≡ None
     → (in_work_on H machine ≡ Some board → is_some (product_of H board) ≡ true) → unwrap_or (work_by machine command) (in_work_on H machine) ≡ Some board
     → is_some (option_or (product_of H board) (option_and_then (selected_on H) (start_by board command))) ≡ true

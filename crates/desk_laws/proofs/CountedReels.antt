@@ -20,7 +20,6 @@ use Rattle.desk_laws.proofs.Picks.{IsCountable, countable}
 
 -- ---- mounted reels
 
--- An accepted count has no row for a mounted reel.
 pub unmounted-rows : (H : History) (seen : List Name) (rows : List CountRow) (reel : Name) → counts_refusal Two H seen rows ≡ None → is_mounted H reel ≡ true
     → find (λ (row : CountRow). same row.reel reel) rows ≡ None
 unmounted-rows H seen [] reel none mounted = refl
@@ -64,7 +63,6 @@ absent-rows H seen (row ∷ rows) reel none before = (
 abbrev IsFoundIn : List CountRow → CountRow → Type 0
 IsFoundIn rows row = find (λ (r : CountRow). same r.reel row.reel) rows ≡ Some row
 
--- Each row of an accepted count is the only one for its reel.
 rows-found : (H : History) (seen : List Name) (rows : List CountRow) → counts_refusal Two H seen rows ≡ None → All (IsFoundIn rows) rows
 rows-found H seen [] none = All-nil (IsFoundIn [])
 rows-found H seen (row ∷ rows) none =
@@ -96,7 +94,6 @@ left-told : (H : History) (s : Stamped) (reel : Name) (n : ℕ) → pieces_by re
 unfolding left_of
 left-told H s reel n told = ap (λ o. unwrap_or o (left_of H reel - pieces_picked (picks_of H s.command) reel)) told
 
--- An accepted count leaves the counted pieces on each reel.
 pub counts-exact : (H : History) (s : Stamped) (rows : List CountRow) → refusal_of Two H s ≡ None → s.command ≡ CountsTaken rows
     → All (λ (row : CountRow). left_of (accept H s) row.reel ≡ row.quantity) rows
 counts-exact H s rows none is k d inside = each _ (found-rows H (effective_minute H s.minute) s.command rows (command-accepted H s none) is k d inside)

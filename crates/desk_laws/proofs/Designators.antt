@@ -50,7 +50,6 @@ spots_named _ = []
 
 -- ---- one command
 
--- One pick for each designator gives one spot for each.
 placed-spots : (machine board : Name) (ds : List Name) (ps : List Pick) → ArePlacedFor machine board ds ps → spots ps ≡ map (λ (x : Name). (board, x)) ds
 placed-spots machine board [] [] all = refl
 placed-spots machine board (d ∷ ds) (p ∷ ps) ((slot, is), all) =
@@ -87,7 +86,6 @@ board-named board (x ∷ xs) b d =
     both true s t = refl
     both false s t = refl
 
--- A command places pieces on exactly the spots that it names.
 named-placed : (command : Command) (b d : Name) → list_any (same_pair (b, d)) (spots_named command) ≡ places b d command
 named-placed (MaterialsInstalled machine board ds) b d = board-named board ds b d
 named-placed _ b d = refl
@@ -101,7 +99,6 @@ board-distinct board (d ∷ ds) (apart, distinct) = (others ds apart, board-dist
     others [] all = tt
     others (x ∷ xs) (first, all) = (and_right (same board board) (same d x) first, others xs all)
 
--- The spots that an accepted command names are distinct.
 named-distinct : (H : History) (minute : ℕ) (command : Command) → command_refusal Two H minute command ≡ None → IsDistinct same_pair (spots_named command)
 unfolding command_refusal IsDistinct
 named-distinct H minute (MaterialsInstalled machine board ds) none =
@@ -109,7 +106,6 @@ named-distinct H minute (MaterialsInstalled machine board ds) none =
     designators-differ (slot_on H machine) (tape_of H machine) (left_of H) (is_placed_on H board) machine board [] [] ds (installable H machine board ds none) tt)
 named-distinct H minute _ none = tt
 
--- The spots that an accepted command names are new.
 named-new : (H : History) (minute : ℕ) (command : Command) → command_refusal Two H minute command ≡ None
     → AllByRecursion (λ (s : Name × Name). is_placed_on H s.0 s.1 ≡ false) (spots_named command)
 unfolding command_refusal
@@ -124,7 +120,6 @@ named-new H minute _ none = tt
 
 -- ---- histories
 
--- An entry's placements and picks have the same spots.
 entry-spots : (H : History) (e : Entry) (place : ℕ) (ps : List Pick)
     → spots_of (filter_map placement_of (
     map (λ (place, take). record { number = e.number; place = place; effective = e.effective; take = take }) (enumerate_from place (map (take_of H e.effective) ps))))
@@ -148,7 +143,6 @@ entry-spots H e place (p ∷ ps) = by p.purpose (entry-spots H e (place + 1) ps)
     by (Rejected machine slot) is = is
     by Counted is = is
 
--- One more entry adds the spots that it names.
 spots-next : (H : History) (e : Entry) → IsJudged Two (e ∷ H) → spots_of (placements_of (e ∷ H)) ≡ spots_of (placements_of H) ++ spots_named e.stamped.command
 unfolding takes_of
 spots-next H e (next, judged) =

@@ -24,7 +24,6 @@ use Rattle.desk_laws.proofs.ReelsLater.{receipt-prefix}
 
 -- ---- one history
 
--- Exposure is at most the minutes since it started.
 pub exposure-within : (H : History) (reel : Name) (minute : ℕ) → exposure_of H reel minute ≤ minute - exposure_starts H reel
 unfolding exposure_of
 exposure-within H reel minute =
@@ -73,7 +72,6 @@ exposure-kept more G reel minute starts all =
     ap (λ s. count_by (is_out_at (more ++ G) reel) (minutes_between s minute)) starts
     ∙ count-agree (is_out_at (more ++ G) reel) (is_out_at G reel) (exposure_starts G reel) minute (λ t low high. out-later more G reel t minute all high)
 
--- A command other than the reel's bake doesn't bake it.
 bake-other : (reel : Name) (minute : ℕ) (command : Command) → command ≢ ReelBaked reel → bake_by reel minute command ≡ None
 bake-other reel minute (ReelBaked r) other = by (same r reel) refl
   where

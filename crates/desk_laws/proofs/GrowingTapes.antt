@@ -22,7 +22,6 @@ splice-joins : (reels : List Name) (reel : Name) → GoesOn (tape_with reels ree
 splice-joins [] reel = ([], refl)
 splice-joins (r ∷ rs) reel = (reel ∷ [], refl)
 
--- A command that doesn't restart the tape only joins reels to its end.
 command-joins : (machine slot : Name) (command : Command) (reels : List Name) → restarts machine slot command ≡ false → GoesOn (tape_after machine slot command reels) reels
 command-joins machine slot (MaterialsSpliced m s reel) reels other = by (same m machine && same s slot)
   where

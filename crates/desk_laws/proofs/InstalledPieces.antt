@@ -98,14 +98,12 @@ IsUnplaced p = is_placed p.purpose ≡ false
 abbrev pub AreUnplaced : List Pick → Type 0
 AreUnplaced picks = AllByRecursion IsUnplaced picks
 
--- No pick of a scrap places a piece.
 pub unplaced-scrap : (pieces : Name → ℕ) (machine slot : Name) (reels : List Name) (n : ℕ) → AreUnplaced (scrap_picks pieces (Rejected machine slot) reels n)
 unplaced-scrap pieces machine slot [] n = tt
 unplaced-scrap pieces machine slot (r ∷ rs) n =
     all-append IsUnplaced (pieces_off r (min n (pieces r)) (Rejected machine slot)) _ (all-off IsUnplaced r (min n (pieces r)) (Rejected machine slot) refl)
     (unplaced-scrap pieces machine slot rs (n - pieces r))
 
--- No pick of a count places a piece.
 pub unplaced-count : (pieces : Name → ℕ) (rows : List CountRow) → AreUnplaced (count_picks pieces rows)
 unplaced-count pieces [] = tt
 unplaced-count pieces (row ∷ rows) =
@@ -121,7 +119,6 @@ unplaced-picked H command before (p ∷ ps) (first, all) = (by p.purpose first, 
     by (Rejected machine slot) is = tt
     by Counted is = tt
 
--- Each pick of a command is the one for its designator.
 pub picks-picked : (H : History) (command : Command) → ArePicked H command [] (picks_of H command)
 picks-picked H (MaterialsInstalled machine board ds) = install-picked H machine board ds [] ds tt
 picks-picked H (MaterialsScrapped machine slot n) =
@@ -131,7 +128,6 @@ picks-picked H _ = tt
 
 -- ---- placements
 
--- A found name is in the list.
 pub find-there : (p : Name → Bool) (names : List Name) (name : Name) → find p names ≡ Some name → has names name ≡ true
 find-there p [] name is = cc
 find-there p (x ∷ xs) name is = by (p x) is (find-there p xs name)
@@ -150,7 +146,6 @@ find-there p (x ∷ xs) name is = by (p x) is (find-there p xs name)
 take-before : (before ps : List Pick) (place : ℕ) → place ≡ length before + 1 → take (place - 1) (before ++ ps) ≡ before
 take-before before ps place is = take_at before ps (place - 1) (omega (arith, is))
 
--- An entry's placements are rightly placed.
 entry-placed : (H : History) (e : Entry) → IsJudged Two H → ((m b : Name) (ds : List Name) → e.stamped.command ≡ MaterialsInstalled m b ds → ArePlacedFor m b ds (picks_of H e.stamped.command))
     → (before ps : List Pick) (place : ℕ) → place ≡ length before + 1 → picks_of H e.stamped.command ≡ before ++ ps
     → ArePicked H e.stamped.command before ps
@@ -205,7 +200,6 @@ entry-placed H e judged each before (p ∷ ps) place there all (first, right) =
     by (Rejected machine slot) says is others = others
     by Counted says is others = others
 
--- Later entries keep a placement rightly placed.
 placed-later : (H : History) (e : Entry) (p : Placement) → IsRightlyPlaced H p → IsRightlyPlaced (e ∷ H) p
 placed-later H e p is = record {
   before = is.before;
@@ -227,7 +221,6 @@ placed-later H e p is = record {
   verified = is.verified;
 }
 
--- Each placement is rightly placed.
 pub rightly-placed : (H : History) → IsJudged Two H → All (IsRightlyPlaced H) (placements_of H)
 unfolding takes_of
 rightly-placed [] judged = All-nil (IsRightlyPlaced [])

@@ -37,7 +37,6 @@ placed-push machine board (x ∷ xs) (q ∷ qs) d slot p (first, all) is = (firs
 placed-push machine board [] (q ∷ qs) d slot p all is = absurd all
 placed-push machine board (x ∷ xs) [] d slot p all is = absurd all
 
--- A designator and its pick are at the same place.
 pub placed-at : (m b : Name) (ds : List Name) (before ps : List Pick) (p : Pick) (board d machine slot : Name) → ArePlacedFor m b ds (before ++ p ∷ ps)
     → p.purpose ≡ Placed board d machine slot → slice_get ds (length before) ≡ Some d
 placed-at m b [] [] ps p board d machine slot all is = absurd all
@@ -138,7 +137,6 @@ each-placed H minute command machine board ds none is =
     (install-placed (slot_on H machine) (tape_of H machine) (left_of H) (is_placed_on H board) machine board [] [] ds
     (installable H machine board ds (sym (ap (command_refusal Two H minute) is) ∙ none)) tt)
 
--- The designators of an accepted install are distinct.
 pub named-once : (H : History) (minute : ℕ) (command : Command) (machine board : Name) (ds : List Name) → command_refusal Two H minute command ≡ None
     → command ≡ MaterialsInstalled machine board ds → IsDistinct same ds
 unfolding command_refusal IsDistinct

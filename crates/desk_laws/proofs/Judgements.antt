@@ -47,7 +47,6 @@ by-desk_minute [] = tt
 by-desk_minute (e ∷ H) =
     (le-max_left e.effective _, by-later H _ _ (le-max_right e.effective (now_of H)) (by-desk_minute H))
 
--- The desk minute never falls.
 minute-later : (later : List Entry) (G : History) (minute : ℕ) → desk_minute G ≡ Some minute → (x : ℕ) × (desk_minute (later ++ G) ≡ Some x) × (minute ≤ x)
 minute-later [] G minute is = (minute, is, omega arith)
 minute-later (e ∷ later) G minute is =
@@ -64,6 +63,5 @@ judged-before : (later : List Entry) (G : History) → IsJudged Two (later ++ G)
 judged-before [] G judged = judged
 judged-before (e ∷ later) G (next, judged) = judged-before later G judged
 
--- A prefix of an accepted history is accepted.
 pub judged-prefix : (G H : History) → IsPrefix G H → IsJudged Two H → IsJudged Two G
 judged-prefix G H (later, is) judged = judged-before later G (subst (IsJudged Two) is judged)

@@ -42,7 +42,6 @@ filter-twice p q (x ∷ xs) weaker =
     by false true weak strong rest = let passes = weaker x (or_left (same x x) (has xs x) (same-refl x)) strong in cc
     by false false weak strong rest = rest
 
--- The same for a search.
 find-filter : (p q : Name → Bool) → ((r : Name) → p r ≡ true → q r ≡ true) → (reels : List Name) → find p (filter q reels) ≡ find p reels
 find-filter p q weaker [] = refl
 find-filter p q weaker (x ∷ xs) = by (q x) (p x) refl refl (find-filter p q weaker xs)
@@ -134,7 +133,6 @@ picks-live-after H slot_of machine board before (d ∷ ds) =
     ap (λ (o : Option Pick). install_picks slot_of (live_on H machine) (left_of H) machine board (before ++ option_to_list o) ds) (pick-live H slot_of machine board before d)
     ∙ picks-live-after H slot_of machine board (before ++ option_to_list (pick_for slot_of (tape_of H machine) (left_of H) machine board before d)) ds
 
--- The same for all picks of an install.
 pub picks-live : (H : History) (slot_of : Name → Option Name) (machine board : Name) (ds : List Name)
     → install_picks slot_of (live_on H machine) (left_of H) machine board [] ds ≡ install_picks slot_of (tape_of H machine) (left_of H) machine board [] ds
 picks-live H slot_of machine board ds = picks-live-after H slot_of machine board [] ds
@@ -151,7 +149,6 @@ designators-live H slot_of placed machine board before seen (d ∷ ds) =
     (pick_for slot_of (tape_of H machine) (left_of H) machine board before d)) o)
     (designators-live H slot_of placed machine board (before ++ option_to_list (pick_for slot_of (tape_of H machine) (left_of H) machine board before d)) (seen ++ d ∷ []) ds)
 
--- A spent reel gives no pieces to a scrap.
 scrap-filter : (pieces : Name → ℕ) (purpose : Purpose) (reels : List Name) (n : ℕ)
     → scrap_picks pieces purpose (filter (λ r. nat_lt 0 (pieces r)) reels) n ≡ scrap_picks pieces purpose reels n
 scrap-filter pieces purpose [] n = refl
@@ -171,7 +168,6 @@ scrap-filter pieces purpose (r ∷ rs) n = by (nat_lt 0 (pieces r)) refl (scrap-
     by true some rest = ap (λ l. pieces_off r (min n (pieces r)) purpose ++ l) (rest (n - pieces r))
     by false few rest = rest n ∙ none (pieces r) (let nothing = ltb-false 0 (pieces r) few in omega (arith, nothing))
 
--- The same for the picks of a scrap.
 pub scrap-live : (H : History) (purpose : Purpose) (machine slot : Name) (n : ℕ)
     → scrap_picks (left_of H) purpose (live_on H machine slot) n ≡ scrap_picks (left_of H) purpose (tape_of H machine slot) n
 unfolding live_on

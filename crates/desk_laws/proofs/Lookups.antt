@@ -50,7 +50,6 @@ spots-any : (ps : List Placement) (board d : Name)
 spots-any [] board d = refl
 spots-any (p ∷ ps) board d = ap (λ b. (same board p.board && same d p.designator) || b) (spots-any ps board d)
 
--- A placed designator is among the placements.
 pub placed-among : (H : History) (board d : Name) → IsJudged Two H → is_placed_on H board d ≡ true → Any (IsOf board d) (placements_of H)
 placed-among H board d judged is =
     let some = Any-from_list_any (λ (p : Placement). same board p.board && same d p.designator) (placements_of H) (
@@ -58,7 +57,6 @@ placed-among H board d judged is =
     let both = and_parts (same board some.1.board) (same d some.1.designator) some.4 in
     (some.0, some.1, some.2, some.3, (sym (same-true board some.1.board both.0), sym (same-true d some.1.designator both.1)))
 
--- A designator among the placements is placed.
 pub among-placed : (H : History) (board d : Name) → IsJudged Two H → Any (IsOf board d) (placements_of H) → is_placed_on H board d ≡ true
 among-placed H board d judged (k, p, within, at, (of_board, of_designator)) =
     sym (spot-placed H board d judged) ∙ spots-any (placements_of H) board d
@@ -114,7 +112,6 @@ somewhere-in_work H board (machine, at) = started-by H machine board (is_in_work
 
 -- ---- loaded slots
 
--- A search in the names read from a list.
 has-given : {X : Type 0} (read : X → Option Name) (xs : List X) (name : Name) → list_any (λ x. option_map_or (same name) (read x) false) xs ≡ has (filter_map read xs) name
 has-given read [] name = refl
 has-given read (x ∷ xs) name = by (read x) (has-given read xs name)
@@ -124,7 +121,6 @@ has-given read (x ∷ xs) name = by (read x) (has-given read xs name)
     by None rest = rest
     by (Some y) rest = ap (λ b. same name y || b) rest
 
--- A slot with a tape is a loaded slot.
 pub tape-loaded : (H : History) (machine slot : Name) → tape_of H machine slot ≢ [] → Contains (loaded_slots H machine) slot
 tape-loaded H machine slot some =
     Contains-from_any same-true slot (loaded_slots H machine) (

@@ -73,13 +73,11 @@ placed-mounted H reel (Some q) judged is some =
     has-live_on H q.0 q.1 reel
     ∙ and_from _ _ some (placed H q.0 q.1 reel judged some ∙ ap (is_at q.0 q.1) is ∙ and_from _ _ (same-refl q.0) (same-refl q.1)))
 
--- A reel is mounted exactly if it has a place and pieces left.
 pub mounted-is : (H : History) (reel : Name) → IsJudged Two H → is_mounted H reel ≡ (is_some (place_of H reel) && some_left H reel)
 mounted-is H reel judged = iff _ _ (from-any H reel H judged) (placed-mounted H reel (place_of H reel) judged refl)
 
 -- ---- one more entry
 
--- A vacant slot is the place of no reel with pieces left.
 off : (H : History) (machine slot reel : Name) → IsJudged Two H → is_vacant H machine slot ≡ true → some_left H reel ≡ true → is_at machine slot (place_of H reel) ≡ false
 off H machine slot reel judged vacant some =
     sym (placed H machine slot reel judged some) ∙ sym (has-live_on H machine slot reel ∙ ap (λ b. b && has (tape_of H machine slot) reel) some) ∙ none (live_on H machine slot) vacant
@@ -97,7 +95,6 @@ less H reel command had = by (nat_lt 0 (left_after H command reel)) refl
     by true some = sym (and-true (is_placed_with_some H reel) ∙ ap (λ x. is_some (place_of H reel) && x) (had some))
     by false none = and-false _ ∙ sym (and-false (is_placed_with_some H reel))
 
--- The same after an accepted command.
 mounted-step : (H : History) (minute : ℕ) (reel : Name) (command : Command) → IsJudged Two H → command_refusal Two H minute command ≡ None
     → (receipt_by reel minute command ≡ None → nat_lt 0 (left_after H command reel) ≡ true → some_left H reel ≡ true)
     → (is_some (place_after reel command (place_of H reel)) && nat_lt 0 (left_after H command reel))

@@ -74,7 +74,6 @@ mounted-step machine slot reel (MaterialsUnloaded m s) reels rest is there = by 
     by false is = there is
 mounted-step machine slot reel _ reels rest is there = there is
 
--- Some entry loaded or spliced each reel on a tape.
 pub mounted-by : (H : History) (machine slot reel : Name) → has (tape_of H machine slot) reel ≡ true
     → list_any (λ (e : Entry). mounts machine slot reel e.stamped.command) H ≡ true
 unfolding tape_of
@@ -99,7 +98,6 @@ mounts-none (e ∷ H) machine slot reel (none, all) =
     ap (λ b. b || list_any (λ (e' : Entry). mounts machine slot reel e'.stamped.command) H) (untouched-mounts machine slot reel e.stamped.command none)
     ∙ mounts-none H machine slot reel all
 
--- A reel that was not received is on no tape.
 pub unreceived-nowhere : (H : History) (machine slot reel : Name) → IsJudged Two H → receipt_of H reel ≡ None → has (tape_of H machine slot) reel ≡ false
 unreceived-nowhere H machine slot reel judged none = by (has (tape_of H machine slot) reel) refl
   where

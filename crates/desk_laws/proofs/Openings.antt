@@ -24,12 +24,10 @@ use Rattle.desk_laws.proofs.Mounted.{mounted-next}
 
 -- ---- out of its bag
 
--- An opened reel is out.
 opened : (since : Option ℕ) (minute : ℕ) → is_some (option_or since (Some minute)) ≡ true
 opened None minute = refl
 opened (Some earlier) minute = refl
 
--- A reel at rest is not mounted.
 resting : (H : History) (r reel : Name) → same r reel ≡ true → is_mounted H r ≡ false → is_mounted H reel ≡ true → true ≡ false
 resting H r reel here rest mounted = sym mounted ∙ ap (is_mounted H) (sym (same-true r reel here)) ∙ rest
 
@@ -92,7 +90,6 @@ out-at (e ∷ H) reel minute (first, all) out = by (open_by reel e.stamped.comma
     by (Some false) is out before = cc
     by None is out before = is_out-untouched H e reel minute is ∙ before out
 
--- The bake's minute is its command's.
 bake-minute : (reel : Name) (minute : ℕ) (command : Command) (told : ℕ) → bake_by reel minute command ≡ Some told → told ≡ minute
 bake-minute reel minute (ReelBaked r) told is = by (same r reel) is
   where
@@ -143,7 +140,6 @@ starts-by H reel minute all = by (last_bake H reel) refl
     by (Some told) is = last_bake-by H reel minute told all is
     by None is = at (receipt_of H reel) refl
 
--- The exposure of a reel that is out grows every minute.
 out-goes-on : (H : History) (reel : Name) (now minute : ℕ) → AreBy H now → is_some (out_since H reel) ≡ true → now ≤ minute
     → exposure_of H reel minute ≡ exposure_of H reel now + (minute - now)
 unfolding exposure_of

@@ -29,7 +29,6 @@ use Rattle.desk_laws.proofs.Judgements.{or-none}
 pub pieces_picked-append : (before after : List Pick) (reel : Name) → pieces_picked (before ++ after) reel ≡ pieces_picked before reel + pieces_picked after reel
 pieces_picked-append before after reel = sum_by-append (λ (p : Pick). if same p.reel reel then p.quantity else 0) before after
 
--- A pick of n pieces counts n for its own reel.
 pub pieces_picked-off : (r : Name) (n : ℕ) (purpose : Purpose) (reel : Name) → pieces_picked (pieces_off r n purpose) reel ≡ if same r reel then n else 0
 pieces_picked-off r n purpose reel = by (nat_lt 0 n) refl
   where
@@ -186,7 +185,6 @@ and-nothing n = omega arith
 pub spent-none : (left counted : ℕ) → ((left == 0) && nat_lt 0 counted) ≡ false → left ≡ 0 → counted ≡ 0
 spent-none left counted test none = let few = ltb-false 0 counted (sym (ap (λ n. (n == 0) && nat_lt 0 counted) none) ∙ test) in omega (arith, few)
 
--- An accepted count does this.
 pub counted : (H : History) (seen : List Name) (rows : List CountRow) (reel : Name) → counts_refusal Two H seen rows ≡ None → IsCounted H rows reel
 counted H seen [] reel none = record { within = omega arith; told = and-nothing _; spent = λ empty. refl }
 counted H seen (row ∷ rows) reel none = by (same row.reel reel) refl (both ∙ ap (λ k. k + rest) (pieces_picked-off row.reel (left_of H row.reel - row.quantity) Counted reel))

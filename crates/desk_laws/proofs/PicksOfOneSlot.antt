@@ -32,7 +32,6 @@ use Rattle.desk_laws.proofs.InstalledPieces.{find-there}
 pub live-pieces : (H : History) (machine slot reel : Name) → has (live_on H machine slot) reel ≡ true → nat_lt 0 (left_of H reel) ≡ true
 live-pieces H machine slot reel live = (and_parts _ (has (tape_of H machine slot) reel) (sym (has-live_on H machine slot reel) ∙ live)).0
 
--- A live reel is live on only one slot.
 alone : (H : History) (m s machine slot reel : Name) → IsJudged Two H → has (live_on H m s) reel ≡ true → has (live_on H machine slot) reel ≡ true
     → (same m machine && same s slot) ≡ true
 alone H m s machine slot reel judged here there =
@@ -72,7 +71,6 @@ install-alone H slot_of machine board before (d ∷ ds) judged all =
 
 -- ---- scraps and counts
 
--- The reels of a scrap are live only on its slot.
 scrap-alone : (H : History) (m s : Name) (reels : List Name) (n : ℕ) → IsJudged Two H → ((r : Name) → has reels r ≡ true → has (live_on H m s) r ≡ true)
     → AllByRecursion (IsOnItsSlot (live_on H)) (scrap_picks (left_of H) (Rejected m s) reels n)
 scrap-alone H m s [] n judged live = tt
@@ -81,7 +79,6 @@ scrap-alone H m s (r ∷ rs) n judged live =
     (all-off (IsOnItsSlot (live_on H)) r _ (Rejected m s) (λ machine slot there. alone H m s machine slot r judged (live r (or_left (same r r) _ (same-refl r))) there))
     (scrap-alone H m s rs (n - left_of H r) judged (λ x there. live x (or_right (same x r) _ there)))
 
--- A counted reel is live on no slot.
 count-alone : (H : History) (seen : List Name) (rows : List CountRow) → counts_refusal Two H seen rows ≡ None
     → AllByRecursion (IsOnItsSlot (live_on H)) (count_picks (left_of H) rows)
 count-alone H seen [] none = tt
@@ -104,6 +101,5 @@ alone-by H minute (MaterialsScrapped m s n) judged accepted =
 alone-by H minute (CountsTaken counts) judged accepted = count-alone H [] counts accepted
 alone-by H minute _ judged accepted = tt
 
--- The same for the next entry.
 pub picks-alone : (H : History) (e : Entry) → IsJudged Two (e ∷ H) → AllByRecursion (IsOnItsSlot (live_on H)) (picks_of H e.stamped.command)
 picks-alone H e (next, judged) = alone-by H e.effective e.stamped.command judged (next-accepted H e next)

@@ -40,7 +40,6 @@ joined H machine slot r some = by (tape_of H machine slot) some
     by [] some = cc
     by (x ∷ xs) some = refl
 
--- The same for equal names of the slot.
 pub joined-same : (H : History) (machine slot m s r : Name) → (same m machine && same s slot) ≡ true → is_vacant H m s ≡ false
     → tape_with (tape_of H machine slot) r ≡ tape_of H machine slot ++ r ∷ []
 joined-same H machine slot m s r here some = joined H machine slot r (sym (vacant-same H machine slot m s here) ∙ some)
@@ -61,7 +60,6 @@ untouched-after reel (MaterialsSpliced m s r) none = by (same r reel) none
 untouched-after reel (MaterialsUnloaded m s) none = refl
 untouched-after reel _ none = refl
 
--- A reel that no command handles has no place.
 pub untouched-unplaced : (H : History) (reel : Name) → IsUntouched H reel → place_of H reel ≡ None
 unfolding place_of
 untouched-unplaced [] reel all = refl
@@ -69,7 +67,7 @@ untouched-unplaced (e ∷ H) reel (none, all) = ap (place_after reel e.stamped.c
 
 -- ---- reels with pieces left
 
--- An accepted command keeps such a reel only at its place.
+-- An accepted command keeps a reel with pieces left only at its place.
 on-step : (H : History) (minute : ℕ) (machine slot reel : Name) (command : Command) → IsJudged Two H → command_refusal Two H minute command ≡ None
     → (receipt_by reel minute command ≡ None → nat_lt 0 (left_of H reel) ≡ true)
     → (nat_lt 0 (left_of H reel) ≡ true → IsOn machine slot reel (tape_of H machine slot) (place_of H reel))
@@ -110,13 +108,11 @@ placed (e ∷ H) machine slot reel (next, judged) some =
     (λ other. some-next H e reel (next, judged) other some)
     (placed H machine slot reel judged)
 
--- A live reel is at its place.
 pub live-placed : (H : History) (machine slot reel : Name) → IsJudged Two H → has (live_on H machine slot) reel ≡ true → is_at machine slot (place_of H reel) ≡ true
 live-placed H machine slot reel judged live =
     let both = and_parts (nat_lt 0 (left_of H reel)) (has (tape_of H machine slot) reel) (sym (has-live_on H machine slot reel) ∙ live) in
     sym (placed H machine slot reel judged both.0) ∙ both.1
 
--- A reel is live on at most one slot.
 pub one-slot : (H : History) (m s machine slot reel : Name) → IsJudged Two H → Contains (live_on H m s) reel → Contains (live_on H machine slot) reel
     → (m ≡ machine) × (s ≡ slot)
 one-slot H m s machine slot reel judged one other =

@@ -20,7 +20,6 @@ pub after-append : (rules : Rules) (H : History) (first second : List Stamped) �
 after-append rules H [] second = refl
 after-append rules H (s ∷ ss) second = after-append rules (after_command rules H s) ss second
 
--- Later entries only append takes.
 takes-later : (later : List Entry) (G : History) → (more : List EntryTake) × (takes_of (later ++ G) ≡ takes_of G ++ more)
 unfolding takes_of
 takes-later [] G = ([], sym (append-nil (takes_of G)))

@@ -19,7 +19,6 @@ use Rattle.desk_types.specs.Judged.{IsJudged}
 
 -- ---- one command
 
--- A count's row is within the greatest quantity.
 counted-range : (reel : Name) (rows : List CountRow) (row : CountRow) → All IsCountRow rows → find (λ (r : CountRow). same r.reel reel) rows ≡ Some row
     → row.quantity ≤ GREATEST_QUANTITY
 counted-range reel [] row ranges is = cc
@@ -79,7 +78,6 @@ found-range (e ∷ H) reel (next, judged) =
     let more = found_by-range (left_of H reel) reel e.stamped.command next.in_range.stamped.command in
     omega (arith, before, more)
 
--- A receipt has at most the greatest quantity.
 receipt-range : (H : History) (reel : Name) → IsJudged Two H → option_map_or (λ (r : Receipt). r.quantity) (receipt_of H reel) 0 ≤ GREATEST_QUANTITY
 receipt-range [] reel judged = omega arith
 receipt-range (e ∷ H) reel (next, judged) = by (receipt_by reel e.effective e.stamped.command) refl (receipt-range H reel judged)

@@ -30,7 +30,6 @@ uncleared machine slot m s (Some q) other = by (same q.0 m && same q.1 s) refl
         sym (ap (λ x. same x machine && same q.1 slot) (same-true q.0 m (and_parts _ _ there).0) ∙ ap (λ x. same m machine && same x slot) (same-true q.1 s (and_parts _ _ there).1) ∙ other)
     by false there = refl
 
--- The same as the first, for equal names of the slot.
 cleared-same : (machine slot m s : Name) (place : Option (Name × Name)) → (same m machine && same s slot) ≡ true
     → is_at machine slot (if is_at m s place then None else place) ≡ false
 cleared-same machine slot m s place here =
@@ -45,7 +44,6 @@ one r reel = or-false (same reel r) ∙ same-sym reel r
 abbrev pub IsOn : Name → Name → Name → List Name → Option (Name × Name) → Type 0
 IsOn machine slot reel tape place = has tape reel ≡ is_at machine slot place
 
--- A load keeps this.
 pub on-load : (machine slot reel m s r : Name) (tape : List Name) (place : Option (Name × Name)) → IsOn machine slot reel tape place
     → (same r reel ≡ true → has tape reel ≡ false)
     → IsOn machine slot reel (if same m machine && same s slot then r ∷ [] else tape) (if same r reel then Some (m, s) else (if is_at m s place then None else place))
@@ -58,7 +56,6 @@ on-load machine slot reel m s r tape place on away = by (same m machine && same 
     by false true here is = away is ∙ sym here
     by false false here is = on ∙ sym (uncleared machine slot m s place here)
 
--- A splice keeps this.
 pub on-splice : (machine slot reel m s r : Name) (tape : List Name) (place : Option (Name × Name)) → IsOn machine slot reel tape place
     → ((same m machine && same s slot) ≡ true → tape_with tape r ≡ tape ++ r ∷ []) → (same r reel ≡ true → has tape reel ≡ false)
     → IsOn machine slot reel (if same m machine && same s slot then tape_with tape r else tape) (if same r reel then Some (m, s) else place)
@@ -74,7 +71,6 @@ on-splice machine slot reel m s r tape place on joined away = by (same m machine
     by false true here is = away is ∙ sym here
     by false false here is = on
 
--- An unload keeps this.
 pub on-unload : (machine slot reel m s : Name) (tape : List Name) (place : Option (Name × Name)) → IsOn machine slot reel tape place
     → IsOn machine slot reel (if same m machine && same s slot then [] else tape) (if is_at m s place then None else place)
 on-unload machine slot reel m s tape place on = by (same m machine && same s slot) refl

@@ -71,7 +71,6 @@ tape-distinct [] machine slot judged = tt
 tape-distinct (e ∷ H) machine slot (next, judged) =
     distinct-step H e.effective machine slot e.stamped.command (next-accepted H e next) (tape-distinct H machine slot judged)
 
--- A slot's live reels have no duplicates.
 pub live-distinct : (H : History) (machine slot : Name) → IsJudged Two H → IsDistinct same (live_on H machine slot)
 unfolding live_on
 live-distinct H machine slot judged = distinct-filter same (λ reel. nat_lt 0 (left_of H reel)) (tape_of H machine slot) (tape-distinct H machine slot judged)

@@ -11,7 +11,6 @@ use Rattle.desk_types.specs.History.{History}
 use Rattle.desk_types.specs.Pieces.{pieces_picked, picks_of, all_picks, is_placed, placed_of, scrapped_of}
 use Rattle.desk_laws.proofs.Picks.{pieces_picked-append}
 
--- Picked pieces are placed or scrapped.
 pub pieces_picked-split : (picks : List Pick) (reel : Name)
     → pieces_picked picks reel ≡ pieces_picked (filter (λ p. is_placed p.purpose) picks) reel + pieces_picked (filter (λ p. not (is_placed p.purpose)) picks) reel
 pieces_picked-split picks reel =
@@ -23,13 +22,11 @@ pub pieces_picked-filter : (test : Pick → Bool) (before after : List Pick) (re
 pieces_picked-filter test before after reel =
     ap (λ picks. pieces_picked picks reel) (filter-append test before after) ∙ pieces_picked-append (filter test before) (filter test after) reel
 
--- The next entry adds its placed pieces.
 pub placed-next : (H : History) (e : Entry) (reel : Name)
     → placed_of (e ∷ H) reel ≡ placed_of H reel + pieces_picked (filter (λ p. is_placed p.purpose) (picks_of H e.stamped.command)) reel
 unfolding all_picks
 placed-next H e reel = pieces_picked-filter (λ p. is_placed p.purpose) (all_picks H) (picks_of H e.stamped.command) reel
 
--- The next entry adds its scrapped and missing pieces.
 pub scrapped-next : (H : History) (e : Entry) (reel : Name)
     → scrapped_of (e ∷ H) reel ≡ scrapped_of H reel + pieces_picked (filter (λ p. not (is_placed p.purpose)) (picks_of H e.stamped.command)) reel
 unfolding all_picks

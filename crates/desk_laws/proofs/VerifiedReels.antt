@@ -25,7 +25,6 @@ use Rattle.desk_laws.proofs.Mounts.{has, mounted-step}
 
 -- ---- loads and splices
 
--- A reel that passes the tests of a load is verified.
 verified-mountable : (H : History) (minute : ℕ) (machine slot reel : Name) (slot_test : Bool) → IsMountable H minute machine slot reel slot_test → IsVerified H minute machine slot reel
 verified-mountable H minute machine slot reel slot_test tests = by (receipt_of H reel) (row_on H machine slot) refl refl
   where
@@ -47,7 +46,6 @@ verified-mountable H minute machine slot reel slot_test tests = by (receipt_of H
       not_expired = tests.not_expired;
     }
 
--- The same for equal names of the slot and the reel.
 verified-same : (H : History) (minute : ℕ) (machine slot reel m s r : Name) → ((same m machine && same s slot) && same r reel) ≡ true → IsVerified H minute m s r
     → IsVerified H minute machine slot reel
 verified-same H minute machine slot reel m s r is verified =

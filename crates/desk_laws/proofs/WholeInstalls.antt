@@ -30,7 +30,6 @@ use Rattle.desk_laws.proofs.Installs.{ArePlacedFor, each-placed}
 
 -- ---- installs
 
--- One pick for each designator gives one placement for each.
 spots-placed : (H : History) (e : Entry) (machine board : Name) (place : ℕ) (ds : List Name) (ps : List Pick) → ArePlacedFor machine board ds ps
     → map spot_of (filter_map placement_of (
     map (λ (place, take). record { number = e.number; place = place; effective = e.effective; take = take }) (enumerate_from place (map (take_of H e.effective) ps))))
@@ -61,7 +60,6 @@ install-whole H s machine board ds none is = (
   spots-placed H (entry_of H s) machine board 1 ds (picks_of H s.command) (each-placed H (effective_minute H s.minute) s.command machine board ds (command-accepted H s none) is),
 )
 
--- The placements have the reels of the picks.
 reels-placed : (H : History) (e : Entry) (machine board : Name) (place : ℕ) (ds : List Name) (ps : List Pick) → ArePlacedFor machine board ds ps
     → map (λ (p : Placement). p.reel) (filter_map placement_of (
     map (λ (place, take). record { number = e.number; place = place; effective = e.effective; take = take }) (enumerate_from place (map (take_of H e.effective) ps))))
@@ -82,7 +80,6 @@ reels-placed H e machine board place (d ∷ ds) (p ∷ ps) ((slot, is), all) =
 reels-placed H e machine board place [] (p ∷ ps) all = absurd all
 reels-placed H e machine board place (d ∷ ds) [] all = absurd all
 
--- The reply to an accepted install names the reels of its placements in order.
 pub install-told : (H : History) (s : Stamped) (machine board : Name) (ds : List Name) (more : List Placement) (minute : ℕ) → refusal_of Two H s ≡ None
     → s.command ≡ MaterialsInstalled machine board ds → placements_of (accept H s) ≡ placements_of H ++ more
     → detail_of H minute s.command ≡ Reels (map (λ (p : Placement). p.reel) more)
