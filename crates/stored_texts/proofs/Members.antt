@@ -81,7 +81,6 @@ made MaterialsScrapped m = command.MaterialsScrapped m.0 m.1 m.2
 made CountsTaken m = command.CountsTaken m
 made ClockSet m = command.ClockSet
 
--- Each command is made of its kind and members.
 opened : (c : Command) → (m : MembersOf (word_of c)) × (c ≡ made (word_of c) m)
 opened (command.PartDefined part) = (part, refl)
 opened (command.AlternateAllowed part alternate) = ((part, alternate), refl)
@@ -101,7 +100,6 @@ opened (command.MaterialsScrapped machine slot quantity) = ((machine, slot, quan
 opened (command.CountsTaken counts) = (counts, refl)
 opened command.ClockSet = (tt, refl)
 
--- A command's fields are its kind and its members.
 pub fields_are : (c : Command) → fields_of c ≡ word_text (word_of c) ∷ members_of c
 fields_are (command.PartDefined part) = refl
 fields_are (command.AlternateAllowed part alternate) = refl
@@ -121,7 +119,6 @@ fields_are (command.MaterialsScrapped machine slot quantity) = refl
 fields_are (command.CountsTaken counts) = refl
 fields_are command.ClockSet = refl
 
--- A command with this first field is made of some members.
 pub said : (word : Word) (c : Command) → fields_of c ≡ word_text word ∷ members_of c → (m : MembersOf word) × (c ≡ made word m)
 said word c is =
     let texts : word_text (word_of c) ≡ word_text word = let e = fields_are c in cc in
@@ -142,7 +139,6 @@ word_unread W Is spelling is spelled word same before after then fault (Err f) e
         let m = said W c here.1 in
         unread m.0 more (is m.0 (subst IsCommand m.1 here.0)) (e ∙ ap (λ x. members_of x ++ more) m.1 ∙ ap (λ fields. fields ++ more) (spelled m.0))
 
--- A label fits in 64 bits.
 pub label_fits : (level : Level) (label : ℕ) → IsLabel level label → IsNumber label
 label_fits One label is = omega arith
 label_fits Two label is = omega arith
@@ -153,7 +149,7 @@ label_fits Five label is = omega arith
 label_fits FiveA label is = omega arith
 label_fits Six label is = omega arith
 
--- The members of a receipt, as they are read.
+-- The members of a receipt, in reading order.
 abbrev pub AreOfReceipt : MembersOf ReelReceived → Type 0
 AreOfReceipt m = TripleInRange IsId IsId IsId m.0 × TripleInRange (λ _. ⊤) IsQuantity IsNumber m.1
 
@@ -196,7 +192,6 @@ apart_by_word MaterialsScrapped = two_names_and IsQuantity number_fields (number
 apart_by_word CountsTaken = lists_apart IsCountRow count_fields counts_apart
 apart_by_word ClockSet = λ a b left right is_a is_b e. (refl, e)
 
--- The same for commands.
 pub commands_apart : (word : Word) → IsPrefixFree (IsSaidBy word) members_of
 commands_apart word a b left right is_a is_b e =
     let m = said word a is_a.1 in

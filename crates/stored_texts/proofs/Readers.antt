@@ -41,7 +41,6 @@ value_unread {X} Is spelling apart count found before here after then fault (Err
         let front = front_apart Is spelling apart found xs here more each (recursion_from_All Is xs is.0) (omega (arith, is.1)) (sym so_far ∙ e) in
         next xs more unread is.1 front.0 front.1 front.2 front.3
 
--- The length that was read is the list's own.
 pub length_read : {X : Type 0} (Is : X → Type 0) (spelling : X → List Field) (count : ℕ) (before here : List Field) → count < 2 ^ 64 → before ≡ decimal count ∷ here
     → (xs : List X) (more : List Field) → IsListOf Is xs → before ≡ list_fields spelling xs ++ more → (count ≡ length xs) × (here ≡ flat_map spelling xs ++ more)
 length_read Is spelling count before here fits read xs more is e =

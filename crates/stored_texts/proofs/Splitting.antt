@@ -20,7 +20,6 @@ cut_at text end is = by (nat_lt (position_or_len is_tab text) (length text)) ref
         slice_split_first is_tab text 0 (grind (arith, nat_tests)) ∙ ap (λ n. take n text ∷ fields_in (drop (n + 1) text)) at
     by false past is = absurd cc
 
--- A text without a tab is one field.
 pub cut_nowhere : (text : List ℕ) → position is_tab text ≡ None → fields_in text ≡ text ∷ []
 cut_nowhere text is = by (nat_lt (position_or_len is_tab text) (length text)) refl is
   where
@@ -30,6 +29,5 @@ cut_nowhere text is = by (nat_lt (position_or_len is_tab text) (length text)) re
         let far : length text ≤ position_or_len is_tab text = grind (arith, nat_tests) in
         slice_split_none is_tab text (λ k d inside. fails_before_first is_tab text k d (omega arith))
 
--- Every text has a field.
 pub some_field : (text : List ℕ) → ¬ (fields_in text ≡ [])
 some_field text none = let n = length-slice_split is_tab text in let z = ap length none in absurd (omega arith)

@@ -122,7 +122,6 @@ no_tab (MaterialsScrapped machine slot quantity) is = (no_tab_word word.Material
 no_tab (CountsTaken counts) is = (no_tab_word word.CountsTaken, no_tab_list IsCountRow count_fields no_tab_count counts is)
 no_tab ClockSet is = (no_tab_word word.ClockSet, tt)
 
--- A command in range has a text with exactly its fields.
 pub fields_in-stored_text : (c : Command) → IsCommand c → fields_in (stored_text c) ≡ fields_of c
 unfolding stored_text
 fields_in-stored_text c is = by (fields_of c) (word_text (word_of c)) (members_of c) (fields_are c) (no_tab c is)
@@ -131,7 +130,6 @@ fields_in-stored_text c is = by (fields_of c) (word_text (word_of c)) (members_o
     by [] field fields e none = absurd cc
     by (x ∷ xs) field fields e none = cut_again x xs none
 
--- A text with a command's fields is the command's text.
 pub stored_text-fields_in : (c : Command) (text : List ℕ) → fields_in text ≡ fields_of c → text ≡ stored_text c
 unfolding stored_text
 stored_text-fields_in c text e = sym (join_with_byte-slice_split 0x09 text) ∙ ap (join_with_byte 0x09) e

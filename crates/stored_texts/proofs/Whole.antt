@@ -11,7 +11,6 @@ use Rattle.stored_texts.specs.declared.word.Word.{Word}
 use Rattle.stored_texts.proofs.Members.{word_of, fields_are}
 use Rattle.stored_texts.proofs.Tabs.{fields_in-stored_text}
 
--- The fields of a command's text are its kind and members.
 pub begins : (text : List ℕ) (c : Command) → IsCommand c → text ≡ stored_text c → fields_in text ≡ word_text (word_of c) ∷ members_of c
 begins text c is e = ap fields_in e ∙ fields_in-stored_text c is ∙ fields_are c
 
@@ -25,7 +24,6 @@ said_in text first rest word fields is_word c is e =
     let others : rest ≡ members_of c = cc in
     ((is, word_is), others ∙ sym (append-nil (members_of c)))
 
--- If reading the members fails, the text is of no command.
 pub unread : (text : List ℕ) (first : Field) (rest after : List Field) (word : Word) → fields_in text ≡ first ∷ rest → first ≡ word_text word
     → (fault : Unread) (r : Result Command Unread) → IsErrAnd r (λ e. e ≡ fault) → Reads (IsSaidBy word) members_of rest after (Err fault) → IsReading text r
 unread text first rest after word fields is_word fault (Ok c) err none = absurd err

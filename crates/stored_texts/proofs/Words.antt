@@ -43,13 +43,11 @@ found_passes test [] = tt
 found_passes {X} test (x ∷ xs) =
     elim (test x) as (λ b. test x ≡ b → IfSome (cond b (Some x) (find test xs)) (λ y. test y ≡ true)) [ true ↦ λ is. is | false ↦ λ _. found_passes test xs ] refl
 
--- The kind that is found has this text.
 pub word_in-read : (text : Field) (r : Option Word) → r ≡ word_in text → IfSome r (λ word. text ≡ word_text word)
 word_in-read text None e = tt
 word_in-read text (Some word) e =
     sym (same-true (word_text word) text (subst (λ r. IfSome r (λ w. same (word_text w) text ≡ true)) (sym e) (found_passes (λ w. same (word_text w) text) words)))
 
--- If no kind is found, none has this text.
 pub word_in-refused : (text : Field) (r : Option Word) → r ≡ word_in text → IfNone r ((word : Word) → ¬ (text ≡ word_text word))
 word_in-refused text (Some word) e = tt
 word_in-refused text None e = λ word is. let found : None ≡ Some word = e ∙ ap word_in is ∙ word_in-word_text word in cc

@@ -78,7 +78,6 @@ impl<'a> Fields<'a> {
     }
 }
 
-/// Returns the position of the first tab.
 fn first_tab(text: &[u8]) -> Option<usize>
     ensures { result ≡ position (λ byte. byte == 0x09) text.now }
 {

@@ -45,7 +45,6 @@ fn put_field(text: &mut Vec<u8>, field: &[u8]) -> Result<(), AllocError>
     text.extend_from_slice(field)
 }
 
-/// Takes the next field.
 fn next_field<'a>(fields: &mut Fields<'a>) -> Result<&'a [u8], Unread>
     ensures ok { IfOk result (λ field. fields.old ≡ field.now ∷ fields.new) }
     ensures err { IfErr result (λ fault. (fault ≡ NotStored) × (fields.old ≡ [])) }

@@ -18,7 +18,6 @@ pub fn fields_text(alloc: Global, command: &Command) -> Result<Vec<u8>, AllocErr
     Ok(text)
 }
 
-/// Returns the command's kind.
 fn word_of(command: &Command) -> Word
     ensures { fields_of command.now ≡ word_text result ∷ members_of command.now }
 {
