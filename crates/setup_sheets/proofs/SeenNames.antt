@@ -16,7 +16,6 @@ put-last true false = refl
 put-last false true = refl
 put-last false false = refl
 
--- Adding a name to the set adds it to the names seen.
 pub HasSeen-push : (old new : BTreeSet Name) (x : Name) (names : List Name) → HasSeen old names
     → ((q : Name) → contains by_name new q ≡ cond (is_at (by_name x) q) true (contains by_name old q)) → HasSeen new (names ++ x ∷ [])
 HasSeen-push old new x names has after q =
@@ -26,12 +25,10 @@ HasSeen-push old new x names has after q =
     ∙ put-last (same q x) (list_any (same q) names)
     ∙ sym (list_any-append (same q) names (x ∷ []))
 
--- A new name is not the first repeated one.
 pub name_twice-new : (before : List Name) (x : Name) (xs : List Name) → list_any (same x) before ≡ false
     → name_twice before (x ∷ xs) ≡ name_twice (before ++ x ∷ []) xs
 name_twice-new before x xs new = ap (λ b. if b then Some x else name_twice (before ++ x ∷ []) xs) new
 
--- A name seen before is the first repeated one.
 pub name_twice-seen : (before : List Name) (x : Name) (xs : List Name) → list_any (same x) before ≡ true → name_twice before (x ∷ xs) ≡ Some x
 name_twice-seen before x xs seen = ap (λ b. if b then Some x else name_twice (before ++ x ∷ []) xs) seen
 

@@ -84,7 +84,6 @@ fn places_in(alloc: Global, rows: &[SheetRow]) -> Result<BTreeMap<Id, usize>, Al
     Ok(places)
 }
 
-/// Maps the row's designators to its slot.
 fn note_row(slots: &mut BTreeMap<Designator, Id>, row: &SheetRow) -> Result<(), AllocError>
     ensures { (d : Name)
         → OnOk result

@@ -76,8 +76,7 @@ fn designator_twice(alloc: Global, rows: &[SheetRow]) -> Result<Option<Designato
     Ok(None)
 }
 
-/// Returns the first designator that was seen before. If there is none, all of them are added to
-/// `seen`.
+/// Returns the first designator that was seen before. Otherwise all of them are added to `seen`.
 fn twice_in(
     seen: &mut BTreeSet<Designator>,
     designators: &[Designator],

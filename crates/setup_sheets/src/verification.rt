@@ -15,9 +15,10 @@ use desk_types::{Front, FrontReel, Fronts, Id, Life, Minute, Refusal, SheetRow, 
 /// Checks the front reels before a start of work, without taking memory.
 ///
 /// It reports the first faulty slot in sheet order with `SlotEmpty`, `WrongPart`, `NotBaked` or
-/// `Expired`, tested in this order. For the selected product's sheet at or after the desk minute,
-/// the result agrees with a start of work. The slots are ready exactly if a start finds no fault in
-/// them; otherwise the fault is the one that refuses the start, unless an earlier test does.
+/// `Expired`, tested in this order. Given the selected product's sheet, and the fronts and
+/// alternates of an accepted history, it agrees with a start of work at or after the desk minute.
+/// The slots are ready exactly if a start finds no fault in them. Otherwise the start is refused
+/// for the reported fault, unless it has another fault.
 pub fn verify(
     rows: &SheetRows,
     fronts: &Fronts,
