@@ -146,7 +146,6 @@ StandsFor-seal H e name old new stands command same pieces baked used le at seal
 
 -- ---- bakes and receipts
 
--- A reel in its bag whose exposure starts at the entry.
 anew : (H : History) (e : Entry) (name : Name) (new : Reel) → HasReceipt (e ∷ H) name new → new.baked ≡ is_baked (e ∷ H) name
     → open_by name e.stamped.command ≡ Some false → exposure_starts (e ∷ H) name ≡ e.effective → e.effective ≡ new.last → new.used ≡ 0 → new.open_since ≡ None
     → StandsFor (e ∷ H) name new
