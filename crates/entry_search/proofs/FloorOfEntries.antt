@@ -43,7 +43,6 @@ pub tape_of-none : (machine slot : Name) → [] ≡ tape_of [] machine slot
 unfolding tape_of
 tape_of-none machine slot = refl
 
--- The floor's live reels on a slot are the history's.
 pub floor-live : (H : History) (floor : Floor) (machine slot : Name) → IsFloor H floor
     → filter (λ reel. nat_lt 0 (pieces_at floor.stock reel)) (tape_at floor.tapes machine slot) ≡ live_on H machine slot
 unfolding live_on
@@ -51,7 +50,6 @@ floor-live H floor machine slot is_floor =
     ap (λ (left : Name → ℕ). filter (λ reel. nat_lt 0 (left reel)) (tape_at floor.tapes machine slot)) (λ j reel. is_floor.stock reel j)
     ∙ ap (filter (λ reel. nat_lt 0 (left_of H reel))) (is_floor.tapes machine slot)
 
--- The floor's front reel on a slot is the history's.
 pub floor-front : (H : History) (floor : Floor) (machine slot : Name) → IsFloor H floor
     → find (λ reel. nat_lt 0 (pieces_at floor.stock reel)) (tape_at floor.tapes machine slot) ≡ front_of H machine slot
 floor-front H floor machine slot is_floor =
@@ -74,7 +72,6 @@ floor-there H floor name is_floor received = by (reel_at floor.reels name) (is_f
     by (Some reel) is_reel = refl
     by None is_reel = sym (ap is_some is_reel) ∙ received
 
--- The floor's mounted reels are the history's.
 pub floor-mounted : (H : History) (floor : Floor) (reel : Name) → IsJudged Two H → IsFloor H floor
     → (nat_lt 0 (pieces_at floor.stock reel) && is_on (tape_at floor.tapes) reel (mount_at floor.mounts reel)) ≡ is_mounted H reel
 floor-mounted H floor reel judged is_floor =

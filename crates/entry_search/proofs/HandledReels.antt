@@ -49,7 +49,6 @@ some-if : {X : Type 0} (b : Bool) (x y : X) → cond b (Some x) None ≡ Some y 
 some-if true x y is = cc
 some-if false x y is = cc
 
--- Only a `ReelReceived` command is a receipt.
 pub received : (name : Name) (minute : ℕ) (command : Command) (receipt : Receipt) → receipt_by name minute command ≡ Some receipt
     → command ≡ ReelReceived name receipt.part receipt.lot receipt.moisture receipt.quantity
 received name minute (ReelReceived r part lot moisture quantity) receipt is =
@@ -63,7 +62,6 @@ received name minute _ receipt is = cc
 pub so-far : (entries : List Entry) (i : ℕ) (e : Entry) → i < length entries → e ≡ get_or entries i e → reverse (take (i + 1) entries) ≡ e ∷ reverse (take i entries)
 so-far entries i e inside is = reverse-last (take (i + 1) entries) (take i entries) e (take-next entries i e inside is)
 
--- A reversed list, split at its i-th element.
 pub split-at : {X : Type 0} (xs : List X) (i : ℕ) (x : X) → i < length xs → x ≡ get_or xs i x → reverse xs ≡ reverse (drop (i + 1) xs) ++ x ∷ reverse (take i xs)
 split-at xs i x inside is =
     ap reverse split ∙ reverse-append (take i xs) (x ∷ drop (i + 1) xs)

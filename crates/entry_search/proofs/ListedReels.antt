@@ -18,7 +18,6 @@ use Rattle.entry_search.proofs.FloorOfEntries.{floor-there}
 
 -- ---- reels on the floor
 
--- Every live reel of a slot is on the floor.
 pub all-there : (H : History) (floor : Floor) (machine slot : Name) → IsJudged Two H → IsFloor H floor
     → All (λ reel. is_some (reel_at floor.reels reel) ≡ true) (live_on H machine slot)
 all-there H floor machine slot judged is_floor =
@@ -27,7 +26,6 @@ all-there H floor machine slot judged is_floor =
 
 -- ---- lists
 
--- No sheet is for a machine in an empty history.
 pub no-mounts : (H : History) (machine : Name) → desk_minute H ≡ None → mounts_on H machine ≡ None
 no-mounts [] machine none = refl
 no-mounts (e ∷ H) machine none = cc
@@ -39,7 +37,6 @@ enumerate-push n (y ∷ ys) x =
     let is : n + 1 + length ys ≡ n + length (y ∷ ys) = omega arith in
     ap (λ es. (n, y) ∷ es) (enumerate-push (n + 1) ys x ∙ ap (λ k. enumerate_from (n + 1) ys ++ (k, x) ∷ []) is)
 
--- The numbered elements so far, with the next one.
 pub place-next : {X Y : Type 0} (f : ℕ × X → Y) (old now : List Y) (xs : List X) (i : ℕ) (x : X) → i < length xs → x ≡ get_or xs i x
     → now ≡ old ++ map f (enumerate_from 1 (take i xs)) → now ++ f (i + 1, x) ∷ [] ≡ old ++ map f (enumerate_from 1 (take (i + 1) xs))
 place-next f old now xs i x inside at is =

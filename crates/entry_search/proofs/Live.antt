@@ -16,7 +16,6 @@ first-filter p (x ∷ xs) = by (p x) (first-filter p xs)
     by true rest = refl
     by false rest = rest
 
--- The front reel of a slot is the first on its tape with pieces left.
 pub front_of-tape : (H : History) (machine slot : Name) → front_of H machine slot ≡ find (λ reel. nat_lt 0 (left_of H reel)) (tape_of H machine slot)
 unfolding live_on
 front_of-tape H machine slot = first-filter (λ reel. nat_lt 0 (left_of H reel)) (tape_of H machine slot)

@@ -37,7 +37,6 @@ last-after reel (MaterialsUnloaded m s) place last p before is = by (is_at m s p
     by false is = before is
 last-after reel _ place last p before is = before is
 
--- A reel's place is where it was last mounted.
 place-last : (H : History) (reel : Name) (p : Name × Name) → place_of H reel ≡ Some p → last_mount H reel ≡ Some p
 unfolding place_of
 place-last [] reel p is = cc

@@ -14,7 +14,6 @@ use Rattle.reels.specs.declared.reel.Usage.{Usage}
 use Rattle.reels.specs.declared.reel.Usage.TheVariants.{Placed, Scrapped}
 use Rattle.entry_search.specs.Totals.{total_of}
 
--- Reversing keeps the length.
 pub few-reversed : (entries : List Entry) → length entries ≤ MOST_ENTRIES → length (reverse entries) ≤ MOST_ENTRIES
 few-reversed entries few = let same_length = length-reverse entries in omega (arith, same_length, few)
 

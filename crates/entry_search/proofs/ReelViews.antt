@@ -12,7 +12,6 @@ use Rattle.desk_types.specs.View.{life_left, used_of, view_of, reel_view}
 use Rattle.reels.specs.declared.reel.Reel.{Reel}
 use Rattle.reels.specs.Reel.{StandsFor}
 
--- No reel is received in an empty history.
 pub no-reel : (H : History) (name : Name) → desk_minute H ≡ None → reel_view H name ≡ None
 no-reel [] name none = refl
 no-reel (e ∷ H) name none = cc
@@ -27,14 +26,12 @@ used-is H name found stands by_now = by found.open_since refl ∙ ap (λ since. 
         let none = ap (λ since. option_map_or (λ m. now_of H - m) since 0) is in
         omega (arith, exposure, none)
 
--- Received pieces beyond the receipt's were found.
 pub found-is : (H : History) (name : Name) (told : Receipt) (received : ℕ) → receipt_of H name ≡ Some told → received ≡ received_of H name
     → (told.quantity ≤ received) × (received - told.quantity ≡ found_of H name)
 found-is H name told received is received_is =
     let first : option_map_or (λ (r : Receipt). r.quantity) (receipt_of H name) 0 ≡ told.quantity = ap (λ o. option_map_or (λ (r : Receipt). r.quantity) o 0) is in
     (omega (arith, received_is, first), omega (arith, received_is, first))
 
--- The view of a reel that represents the history is the definition's.
 pub viewed : (H : History) (name : Name) (found : Reel) (received new placed scrapped remaining : ℕ) (left : Left) (mounted is_open : Bool)
     → StandsFor H name found → found.last ≤ now_of H → received ≡ received_of H name → new ≡ found_of H name → placed ≡ placed_of H name → scrapped ≡ scrapped_of H name → remaining ≡ left_of H name
     → left ≡ life_left H name → mounted ≡ is_mounted H name → is_open ≡ is_some found.open_since

@@ -13,7 +13,6 @@ use Rattle.std.proofs.lemmas.List.Sums.{sum_by-cons}
 use Rattle.entry_search.specs.Kept.{AreTakes, pieces_taken}
 use Rattle.entry_search.proofs.Ranges.{most}
 
--- Takes have as many pieces as their picks.
 pub pieces_taken-map : (H : History) (minute : ℕ) (picks : List Pick) (reel : Name) → pieces_taken (map (take_of H minute) picks) reel ≡ pieces_picked picks reel
 pieces_taken-map H minute [] reel = refl
 pieces_taken-map H minute (p ∷ ps) reel =
@@ -45,7 +44,6 @@ pub record Going (H : History) (kept : List (List Take)) (gone whole : ℕ) (ree
 pub going-first : (H : History) (kept : List (List Take)) (reel : Name) → AreTakes H kept → Going H kept 0 (left_of H reel) reel
 going-first H kept reel takes = record { takes = takes; exact = 0; gone_is = omega arith; whole_is = omega arith }
 
--- An entry that only takes pieces.
 pub going-back : (H : History) (e : Entry) (takes : List Take) (kept : List (List Take)) (gone more gone' whole : ℕ) (reel : Name)
     → Going (e ∷ H) (takes ∷ kept) gone whole reel → pieces_by reel e.stamped.command ≡ None → more ≡ min (pieces_taken takes reel) most → gone' ≡ min (gone + more) most
     → Going H kept gone' whole reel
@@ -58,7 +56,6 @@ going-back H e takes kept gone more gone' whole reel going none is_more is_gone 
       whole_is = omega (arith, going.whole_is, left);
     }
 
--- An entry that states the pieces.
 pub going-told : (H : History) (e : Entry) (kept : List (List Take)) (gone whole pieces : ℕ) (reel : Name)
     → Going (e ∷ H) kept gone whole reel → pieces_by reel e.stamped.command ≡ Some pieces → pieces ≤ GREATEST_QUANTITY → pieces - gone ≡ whole
 going-told H e kept gone whole pieces reel going told range =

@@ -35,13 +35,11 @@ pub unhandled : (said : Option Bool) (handled : Option Name) (name : Name) → (
 unhandled None handled name names is = refl
 unhandled (Some out) handled name names is = let it = names out refl in cc
 
--- A command that handles one reel handles no other.
 pub others-unhandled : (said : Option Bool) (handled : Option Name) (k name : Name) → ((out : Bool) → said ≡ Some out → handled ≡ Some name) → handled ≡ Some k
     → same k name ≡ false → said ≡ None
 others-unhandled None handled k name names is other = refl
 others-unhandled (Some out) handled k name names is other = let it = names out refl in let one = same-refl k in cc
 
--- After an entry on reel k, only that reel is written.
 pub reel-written : (H : History) (e : Entry) (k : Name) (old new : Name → Option Reel) (after : Option Reel) → ((q : Name) → IsReelOf H q (old q))
     → IsReelOf (e ∷ H) k after → ((q : Name) → same k q ≡ false → open_by q e.stamped.command ≡ None) → ((q : Name) → new q ≡ cond (same k q) after (old q))
     → (q : Name) → IsReelOf (e ∷ H) q (new q)

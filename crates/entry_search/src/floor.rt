@@ -48,7 +48,6 @@ fn bare(alloc: Global) -> Floor
     }
 }
 
-/// Updates the floor for an entry and its takes.
 fn note(alloc: Global, floor: &mut Floor, entry: &Entry, takes: &[Take]) -> Result<(), AllocError>
     requires { AreReelsBy floor.old.reels entry.now.effective }
     ensures { (H : History) → IsJudged Two (entry.now ∷ H)

@@ -29,7 +29,6 @@ fn open_by(name: &Id, command: &Command) -> Option<bool>
     }
 }
 
-/// Returns the reel if the entry receives it.
 fn received_reel(name: &Id, entry: &Entry) -> Option<Reel>
     ensures { (H : History) → IsJudged Two (entry.now ∷ H) → receipt_of H name.now ≡ None
         → IsReelOf (entry.now ∷ H) name.now result }

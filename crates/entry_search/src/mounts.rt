@@ -10,7 +10,6 @@ ghost use Rattle.entry_search.specs.Kept.{AreTakes};
 use crate::pieces::left_of;
 use desk_types::{Command, Entry, Id, Takes};
 
-/// Returns the place unless it is this slot.
 fn unless_at(machine: &Id, slot: &Id, place: Option<(Id, Id)>) -> Option<(Id, Id)>
     ensures { result ≡ (if is_at machine.now slot.now place then None else place) }
 {

@@ -34,7 +34,6 @@ fn allows(part: &Id, alternate: &Id, command: &Command) -> bool
     }
 }
 
-/// Returns whether the alternate was named for the part.
 fn is_alternate(entries: &[Entry], part: &Id, alternate: &Id) -> bool
     ensures { result ≡ is_alternate (reverse entries.now) part.now alternate.now }
 {

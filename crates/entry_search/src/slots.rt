@@ -26,7 +26,6 @@ fn defines_on(machine: &Id, command: &Command) -> bool
     }
 }
 
-/// Returns whether some sheet is for the machine.
 fn has_sheet(entries: &[Entry], machine: &Id) -> bool
     ensures { result ≡ has_sheet (reverse entries.now) machine.now }
 {

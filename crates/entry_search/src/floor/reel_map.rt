@@ -15,7 +15,6 @@ use reels::Reel;
 use std::alloc::AllocError;
 use std::collections::BTreeMap;
 
-/// Returns the reel that a command handles.
 fn handled_reel(command: &Command) -> Option<Id>
     ensures { (name : Name) → ForSome (open_by name command.now) (λ out. result ≡ Some name) }
 {

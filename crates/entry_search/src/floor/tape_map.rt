@@ -28,7 +28,6 @@ impl Model for Tape {
 }
 
 impl Tape {
-    /// Returns a tape of one reel.
     fn of(alloc: Global, reel: Id) -> Result<Tape, AllocError>
         ensures { IfOk result (λ tape. tape ≡ reel ∷ []) }
     {
@@ -112,7 +111,6 @@ fn splice(
     Ok(())
 }
 
-/// Removes a slot's tape.
 fn unload(tapes: &mut BTreeMap<(Id, Id), Tape>, machine: Id, slot: Id)
     ensures { (m s : Name)
         → tape_at tapes.new m s ≡ (if same machine m && same slot s then [] else tape_at tapes.old m s) }
