@@ -56,7 +56,6 @@ module _ (picks : List Pick) (p : Pick) where
   untouched-still [] away all = tt
   untouched-still (r ∷ rs) (other, away) (none, all) = (picked-same r other ∙ none, untouched-still rs away all)
 
--- A reel that is not in a list differs from all its elements.
 all-other : (x : Name) (reels : List Name) → has reels x ≡ false → AllByRecursion (λ r. same x r ≡ false) reels
 all-other x [] absent = tt
 all-other x (r ∷ rs) absent = let both = or_parts (same x r) (has rs x) absent in (both.0, all-other x rs both.1)
@@ -159,7 +158,6 @@ module _ (pieces : Name → ℕ) (live reels : List Name) (picks : List Pick) wh
 
 -- ---- all slots of a machine
 
--- A reel is live on one slot of a machine.
 one-place : (H : History) (machine slot s reel : Name) → IsJudged Two H → has (live_on H machine slot) reel ≡ true → has (live_on H machine s) reel ≡ true → same slot s ≡ true
 one-place H machine slot s reel judged here there =
     let one = one-slot H machine slot machine s reel judged (Contains-from_any same-true reel (live_on H machine slot) here)
@@ -211,7 +209,6 @@ feeds-next H machine reels picks old new slot f p judged distinct own one is her
 
 -- ---- a piece from the current reel
 
--- The current reel is given if it has pieces left.
 pub given_by-reel : (o : Option Feed) (reel : Name) → given_by o ≡ Reel reel → (f : Feed) × (o ≡ Some f) × (reel ≡ f.reel) × (0 < f.pieces)
 given_by-reel None reel is = cc
 given_by-reel (Some f) reel is = by (f.pieces == 0) refl is
@@ -220,7 +217,6 @@ given_by-reel (Some f) reel is = by (f.pieces == 0) refl is
     by true none is = cc
     by false some is = let more = eqb-false f.pieces 0 some in (f, refl, cc, omega (arith, more))
 
--- Nothing is given if no piece is left.
 pub given_by-nothing : (o : Option Feed) (past : ℕ) → given_by o ≡ Nothing past → IsEmptyHanded o × (past ≡ option_map_or (λ (f : Feed). f.passed) o 0)
 given_by-nothing None past is = (tt, cc)
 given_by-nothing (Some f) past is = by (f.pieces == 0) refl is

@@ -97,7 +97,6 @@ picks-some H (MaterialsScrapped machine slot n) = scrap-some (left_of H) (Reject
 picks-some H (CountsTaken rows) = count-some (left_of H) rows
 picks-some H _ = tt
 
--- A reel with pieces was received.
 some-known : (H : History) (reel : Name) → IsJudged Two H → nat_lt 0 (left_of H reel) ≡ true → IsKnownReel H reel
 some-known H reel judged some = by (receipt_of H reel) refl
   where
@@ -109,7 +108,6 @@ known : (H : History) (picks : List Pick) → IsJudged Two H → HaveSome (left_
 known H [] judged all = tt
 known H (p ∷ ps) judged (some, all) = (some-known H p.reel judged some, known H ps judged all)
 
--- Each pick of a command is of a received reel.
 pub picks-known : (H : History) (command : Command) → IsJudged Two H → AllByRecursion (λ (p : Pick). IsKnownReel H p.reel) (picks_of H command)
 picks-known H command judged = known H (picks_of H command) judged (picks-some H command)
 

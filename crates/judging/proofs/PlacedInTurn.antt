@@ -57,23 +57,19 @@ picks-end bench picks = refl
 
 -- ---- one designator
 
--- The pick for a designator whose slot has a piece.
 pub pick-found : (bench : Bench) (before : Before) (d : Name) (piece : Feeder) → bench.slot_of d ≡ Some piece.slot
     → find (λ reel. nat_lt (pieces_picked before.picks reel) (bench.pieces reel)) (bench.tape piece.slot) ≡ Some piece.reel
     → next_pick bench before d ≡ Some (pick_of bench d piece)
 pick-found bench before d piece slot reel = rw (slot, reel)
 
--- A new designator with a pick is not refused.
 pub not-refused : (d slot : Name) (found : Option Name) (twice placed : Bool) (pieces_picked : Option Pick) (pick : Pick) → found ≡ Some slot → twice ≡ false → placed ≡ false
     → pieces_picked ≡ Some pick → designator_refusal d found twice placed pieces_picked ≡ None
 not-refused d slot found twice placed pieces_picked pick on once new some = rw (on, once, new, some)
 
--- No pick exists for a designator whose slot has no piece.
 pub pick-none : (bench : Bench) (before : Before) (d slot : Name) → bench.slot_of d ≡ Some slot
     → find (λ reel. nat_lt (pieces_picked before.picks reel) (bench.pieces reel)) (bench.tape slot) ≡ None → next_pick bench before d ≡ None
 pick-none bench before d slot is none = rw (is, none)
 
--- A designator without a piece is refused as short.
 pub refused-short : (d slot : Name) (found : Option Name) (twice placed : Bool) (pieces_picked : Option Pick) → found ≡ Some slot → twice ≡ false → placed ≡ false
     → pieces_picked ≡ None → designator_refusal d found twice placed pieces_picked ≡ Some (ReelShort d)
 refused-short d slot found twice placed pieces_picked on once new none = rw (on, once, new, none)

@@ -97,7 +97,6 @@ min-none n m none = omega (arith, none)
 less-none : (n m : ℕ) → m ≡ 0 → n - m ≡ n
 less-none n m none = omega (arith, none)
 
--- A scrap picks the same from live reels as from all.
 scrap-kept : (pieces : Name → ℕ) (purpose : Purpose) (reels : List Name) (n : ℕ) → scrap_picks pieces purpose (filter (λ r. nat_lt 0 (pieces r)) reels) n ≡ scrap_picks pieces purpose reels n
 scrap-kept pieces purpose [] n = refl
 scrap-kept pieces purpose (r ∷ rs) n = by (nat_lt 0 (pieces r)) refl (scrap-kept pieces purpose rs)
@@ -112,7 +111,6 @@ scrap-kept pieces purpose (r ∷ rs) n = by (nat_lt 0 (pieces r)) refl (scrap-ke
         ∙ ap (scrap_picks pieces purpose rs) (sym (less-none n (pieces r) none))
         ∙ ap (λ ps. ps ++ scrap_picks pieces purpose rs (n - pieces r)) (sym (off-none r (min n (pieces r)) purpose (min-none n (pieces r) none)))
 
--- A scrap of no pieces has no picks.
 pub scrap-none : (pieces : Name → ℕ) (purpose : Purpose) (reels : List Name) → scrap_picks pieces purpose reels 0 ≡ []
 scrap-none pieces purpose [] = refl
 scrap-none pieces purpose (r ∷ rs) =
@@ -123,7 +121,6 @@ scrap-none pieces purpose (r ∷ rs) =
     none-less : (n : ℕ) → 0 - n ≡ 0
     none-less n = omega arith
 
--- Spent reels add no pieces.
 sum-kept : (pieces : Name → ℕ) (reels : List Name) → sum_by pieces (filter (λ r. nat_lt 0 (pieces r)) reels) ≡ sum_by pieces reels
 sum-kept pieces [] = refl
 sum-kept pieces (r ∷ rs) = by (nat_lt 0 (pieces r)) refl (sum-kept pieces rs)

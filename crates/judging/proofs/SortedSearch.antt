@@ -17,7 +17,6 @@ use Rattle.desk_types.proofs.Keys.{is_at-by_name, same-sym}
 ties : (x y : Name) (order : Ordering) → by_name y x ≡ order → same x y ≡ is_eq order
 ties x y order is = same-sym x y ∙ sym (is_at-by_name y x) ∙ ap is_eq is
 
--- Binary search finds a name exactly if the list has it.
 pub found-or-not : (names : List Name) (x : Name) (r : Result ℕ ℕ) → IsSorted by_name names → IsSearchInRange r (length names)
     → IsBinarySearchResult (λ y. by_name y x) names r → is_ok r ≡ list_any (same x) names
 found-or-not names x (Ok i) sorted inside at = sym (list_any_at (same x) names i [] inside (ties x (get_or names i []) Equal (at [])))

@@ -139,7 +139,6 @@ fn detail<F: Facts>(
     }
 }
 
-/// Returns the takes of a command's picks.
 fn takes_by<F: Facts>(
     alloc: Global,
     facts: &F,

@@ -37,7 +37,6 @@ fn slots_refusal<F: Facts>(
     }
 }
 
-/// Returns whether the board's product differs from the one selected on the machine.
 fn is_other_product<F: Facts>(facts: &F, machine: &Id, board: &Id) -> bool
     ensures { (H : History) → F.Stands facts.now H
         → result ≡ differ (product_of H board.now) (selected_on H machine.now) }
