@@ -8,7 +8,6 @@ use Rattle.desk_types.specs.Pieces.{left_of, live_on}
 use Rattle.entry_search.specs.Floor.{IsFloor, tape_at}
 use Rattle.entry_search.specs.declared.floor.Floor.{Floor}
 
--- A slot's live reels are those on the floor's tape with pieces left.
 pub floor-tells_live : (H : History) (floor : Floor) (machine slot : Name) → IsFloor H floor
     → filter (λ reel. nat_lt 0 (left_of H reel)) (tape_at floor.tapes machine slot) ≡ live_on H machine slot
 unfolding live_on

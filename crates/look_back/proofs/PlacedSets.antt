@@ -15,7 +15,6 @@ put-or true false z = refl
 put-or false true z = refl
 put-or false false z = refl
 
--- Inserting one more name.
 pub is_in-push : (old new : BTreeSet Name) (names : List Name) (x : Name) (was : Name → Bool) → ((q : Name) → is_in old q ≡ (list_any (same q) names || was q))
     → ((q : Name) → is_in new q ≡ cond (is_at (by_name x) q) true (is_in old q)) → (q : Name) → is_in new q ≡ (list_any (same q) (names ++ x ∷ []) || was q)
 is_in-push old new names x was before after q =

@@ -20,7 +20,6 @@ pub fn alternates_of(alloc: Global, entries: &[Entry]) -> Result<Alternates, All
     Ok(alternates)
 }
 
-/// Adds the alternate if the command names one.
 fn note_alternate(alternates: &mut Alternates, command: &Command) -> Result<(), AllocError>
     ensures { OnOk result ((p q : Name)
         → is_pair_among alternates.new p q ≡ (allows p q command.now || is_pair_among alternates.old p q)) }

@@ -44,7 +44,6 @@ fn look_up(alloc: Global, entries: &[Entry], machine: &Id) -> Result<Option<Shee
     }
 }
 
-/// Adds the designators to a set.
 fn add_all(names: &mut BTreeSet<Designator>, designators: &[Designator]) -> Result<(), AllocError>
     ensures { (d : Name) → OnOk result (is_in names.new d ≡ (list_any (same d) designators.now || is_in names.old d)) }
 {

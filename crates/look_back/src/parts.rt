@@ -20,7 +20,6 @@ pub fn parts_of(alloc: Global, entries: &[Entry]) -> Result<Parts, AllocError>
     Ok(parts)
 }
 
-/// Adds the part if the command defines one.
 fn note_part(parts: &mut Parts, command: &Command) -> Result<(), AllocError>
     ensures { OnOk result ((p : Name) → is_among parts.new p ≡ (defines p command.now || is_among parts.old p)) }
 {
