@@ -57,7 +57,6 @@ module _ (slot_of : Name → Option Name) (tape : Name → List Name) (pieces : 
 abbrev is_on : Name → Placement → Bool
 is_on board p = same p.board board
 
--- One more piece for the board.
 more-on : (there : Bool) (k : Key) (p : Placement) (ps : List Placement) (board : Name) (ks : List Key) → same p.board board ≡ there → placed_key p ≡ k
     → map placed_key (filter (is_on board) ps) ≡ (if there then ks else [])
     → map placed_key (filter (is_on board) (p ∷ ps)) ≡ (if there then k ∷ ks else [])
@@ -65,7 +64,6 @@ more-on true k p ps board ks is key rest =
     ap (λ t. map placed_key (if t then p ∷ filter (is_on board) ps else filter (is_on board) ps)) is ∙ ap (λ l. placed_key p ∷ l) rest ∙ ap (λ x. x ∷ ks) key
 more-on false k p ps board ks is key rest = ap (λ t. map placed_key (if t then p ∷ filter (is_on board) ps else filter (is_on board) ps)) is ∙ rest
 
--- The keys of such picks on a board.
 keys-on : (H : History) (minute number place : ℕ) (picks : List Pick) (b board : Name) → ArePlacedOn b picks
     → keys_in (is_on board) number minute place (map (take_of H minute) picks)
     ≡ (if same b board then map (λ k. (number, k)) (range_with_len place (length picks)) else [])
@@ -90,7 +88,6 @@ keys-on H minute number place (p ∷ ps) b board ((d, m, s, is), all) =
 
 -- ---- scraps and counts
 
--- Scrapped picks have no keys.
 keys-scrapped : (test : Placement → Bool) (H : History) (minute number : ℕ) (pieces : Name → ℕ) (machine slot : Name) (reels : List Name) (n place : ℕ)
     → keys_in test number minute place (map (take_of H minute) (scrap_picks pieces (Rejected machine slot) reels n)) ≡ []
 keys-scrapped test H minute number pieces machine slot [] n place = refl
@@ -105,7 +102,6 @@ keys-scrapped test H minute number pieces machine slot (r ∷ rs) n place = by (
     by true rest = rest (place + 1)
     by false rest = rest place
 
--- Picks missing at a count have no keys.
 keys-counted : (test : Placement → Bool) (H : History) (minute number : ℕ) (pieces : Name → ℕ) (rows : List CountRow) (place : ℕ)
     → keys_in test number minute place (map (take_of H minute) (count_picks pieces rows)) ≡ []
 keys-counted test H minute number pieces [] place = refl

@@ -10,7 +10,6 @@ use Rattle.desk_types.proofs.Keys.{same-true}
 use Rattle.trace_lists.specs.declared.lists.TraceLists.{TraceLists}
 use Rattle.trace_lists.specs.Lists.{IsListed, kept_at, key_of, keys_of_installs, minute_in}
 
--- One more element under the name k.
 pub one-more : {X : Type 0} (k n : Name) (old : Name → List X) (now : List X) (thing : X) → now ≡ old k ++ thing ∷ []
     → cond (same k n) now (old n) ≡ old n ++ (if same k n then thing ∷ [] else [])
 one-more k n old now thing is = by (same k n) refl
@@ -19,7 +18,6 @@ one-more k n old now thing is = by (same k n) refl
     by true one = is ∙ ap (λ name. old name ++ thing ∷ []) (same-true k n one)
     by false one = sym (append-nil (old n))
 
--- No more elements.
 pub no-more : {X : Type 0} (k n : Name) (old : Name → List X) (now : List X) → now ≡ old k → cond (same k n) now (old n) ≡ old n
 no-more k n old now is = by (same k n) refl
   where
