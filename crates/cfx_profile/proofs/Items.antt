@@ -9,12 +9,10 @@ use Rattle.cfx_profile.specs.Lists.{items_list, some_items, items_in, each}
 use Rattle.cfx_profile.specs.Member.{member_text}
 use Rattle.cfx_profile.proofs.Readings.{first_of_each, both, both-nothing, both-first}
 
--- An array made from a list has the list's items.
 pub items_list-of : (ds : List Data) → items_list (items_of ds) ≡ ds
 items_list-of [] = refl
 items_list-of (d ∷ ds) = ap (λ r. d ∷ r) (items_list-of ds)
 
--- The length of an array decides.
 pub items_in-of : (m : Member) (body : Data) (ds : List Data)
     → option_and_then as_array (get (member_text m) body) ≡ Some (items_of ds) → items_in m body ≡ some_items m ds
 unfolding items_in
@@ -27,7 +25,6 @@ unfolding first_of_each
 each-append reading [] es = both-nothing (each reading es)
 each-append reading (d ∷ ds) es = ap (first_of_each (reading d)) (each-append reading ds es) ∙ both-first (reading d) (each reading ds) (each reading es)
 
--- One more item.
 pub each-more : {X : Type 0} (reading : Data → Result X MessageFault) (ds : List Data) (d : Data) (xs : List X) (x : X)
     → each reading ds ≡ Ok xs → reading d ≡ Ok x → each reading (ds ++ d ∷ []) ≡ Ok (xs ++ x ∷ [])
 unfolding both

@@ -154,7 +154,6 @@ under_skips name (Some w) a b h = rw (stamped_skips w a b h.0 h.1) refl
 abbrev named : Option (List ℕ) → Result (List ℕ) MessageFault
 named found = ok_or found (EnvelopeMember MessageName)
 
--- The steps after a name.
 named_skips : (found : Option (List ℕ)) (a b : Data) → ((name : List ℕ) → found ≡ Some name → EnvelopesAgree (word_of name) a b)
     → (named found >>= λ name. said_under name (word_of name) a) ≡ (named found >>= λ name. said_under name (word_of name) b)
 named_skips None a b h = refl
