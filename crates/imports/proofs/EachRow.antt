@@ -17,11 +17,9 @@ each-append reading line (r ∷ rs) ss =
     ap (first_of_each (row_at reading line r)) (each-append reading (suc line) rs ss ∙ ap (λ n. both (each reading (suc line) rs) (each reading n ss)) next)
     ∙ both-first (row_at reading line r) (each reading (suc line) rs) _
 
--- The number of records before a place.
 before : {R : Type 0} (view : R → Record) (rs : List R) (i : ℕ) → i < length rs → length (map view (take i rs)) ≡ i
 before view rs i inside = length-map (take i rs) view ∙ length-take-le i rs (omega arith)
 
--- One more row.
 pub each-more : {R X : Type 0} (view : R → Record) (reading : ℕ → Record → Result X ImportFault) (line : ℕ) (rs : List R) (i : ℕ) (r : R) (xs : List X) (x : X)
     → i < length rs → r ≡ get_or rs i r → each reading line (map view (take i rs)) ≡ Ok xs → row_at reading (line + i) (view r) ≡ Ok x
     → each reading line (map view (take (i + 1) rs)) ≡ Ok (xs ++ x ∷ [])
@@ -29,7 +27,6 @@ unfolding both
 each-more view reading line rs i r xs x inside here rows row =
     rw (take_more rs i r inside, sym here, map-append view (take i rs) (r ∷ []), each-append reading line (map view (take i rs)) (view r ∷ []), rows, before view rs i inside, row) refl
 
--- The first faulty row.
 pub each-fault : {R X : Type 0} (view : R → Record) (reading : ℕ → Record → Result X ImportFault) (line : ℕ) (rs : List R) (i : ℕ) (r : R) (xs : List X) (fault : ImportFault)
     → i < length rs → r ≡ get_or rs i r → each reading line (map view (take i rs)) ≡ Ok xs → row_at reading (line + i) (view r) ≡ Err fault
     → each reading line (map view rs) ≡ Err fault

@@ -43,7 +43,6 @@ no_more : next_record default_config st.StartRecord [] [] [] ≡ None
 unfolding next_record
 no_more = refl
 
--- Records are read back from their text.
 read_back : (n : ℕ) (rs : List Record) → All IsLong rs → length rs ≤ n → records_from default_config n st.StartRecord (records_text rs) ≡ rs
 unfolding records_from
 read_back zero [] long fits = refl
@@ -142,7 +141,6 @@ some_read (x ∷ xs) some = refl
 
 -- ---- files
 
--- Rows are read back from their file.
 file_read : {X : Type 0} (is_header : Record → Bool) (reading : ℕ → Record → Result X ImportFault) (header : Record) (fields : X → Record) (Fits : X → Type 0)
     → is_header header ≡ true → IsLong header → ((x : X) → IsLong (fields x))
     → ((rest : List ℕ) → strip_bom (row_text default_writer header ++ rest) ≡ row_text default_writer header ++ rest)

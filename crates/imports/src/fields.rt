@@ -66,7 +66,6 @@ pub fn quantity_of(text: &str) -> Option<CountedQuantity>
     CountedQuantity::new(text.parse::<u64>().ok()?)
 }
 
-/// Returns whether the text is 1 to 8 digits.
 fn is_number(text: &[u8]) -> bool
     ensures { result ≡ is_number text.now }
 {

@@ -42,7 +42,6 @@ pub fn read_counts(alloc: Global, bytes: &[u8]) -> Result<Command, ImportFault>
     })
 }
 
-/// Reads the rows of a file.
 #[tactic(auto, unfolding(crate::specs::File::file_rows))]
 fn file_rows<T: Row>(alloc: Global, bytes: &[u8]) -> Result<Bounded<T>, ImportFault>
     ensures { IsSaid (file_rows T.header T.said bytes.now) result }
