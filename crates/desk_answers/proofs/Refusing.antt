@@ -15,7 +15,6 @@ use Rattle.desk_answers.specs.declared.answer.Answer.TheVariants.{Accepted, Refu
 use Rattle.desk_answers.specs.Commands.{earlier_answer, is_full, judged_answer, command_answer, command_after, is_refused}
 use Rattle.desk_answers.specs.Ledger.{Ledger, IsAnswer, ledger_after}
 
--- Each possible answer: an earlier one, a full desk, or the judgement.
 by_cases : (H grown : History) (s : Stamped) (detail : Detail) (earlier : Option Answer) (full : Bool) (refusal : Option Refusal)
     → is_refused (unwrap_or earlier (cond full DeskFull (judged_answer H s (option_map_or reply.Refused refusal (reply.Accepted detail))))) ≡ true
     → cond (is_some earlier || full) H (option_map_or (λ _. H) refusal grown) ≡ H

@@ -22,7 +22,7 @@ pub enum Answer {
     Refused(Refusal),
     /// Another message has the same UniqueID; its command has this number.
     IdReused(u64),
-    /// All numbers are in use.
+    /// The desk has no number left.
     DeskFull,
     /// Out of memory, or the storage failed. The history is unchanged, and the message can be sent
     /// again.
@@ -168,7 +168,6 @@ fn id_reused_object(alloc: Global, number: u64, uid: &str) -> Result<Value, Allo
     json!(in alloc; {"Answer": "Refused", "Number": number, "Refusal": "IdReused", "UniqueID": uid})
 }
 
-/// Returns the name of a refusal.
 fn word(refusal: &Refusal) -> &'static str
     ensures { result.now ≡ refusal_word refusal.now }
 {
