@@ -12,12 +12,10 @@ use Rattle.report_texts.specs.Kit.{needed_by, pieces_of_reels, reels_for, rows_f
 
 -- ---- one more reel
 
--- The values of the reels so far, with the next one.
 pub read-next : {Y : Type 0} (read : ReelView → Y) (reels : List ReelView) (i : ℕ) (reel : ReelView) → i < length reels → reel ≡ get_or reels i reel
     → map read (take (i + 1) reels) ≡ map read (take i reels) ++ read reel ∷ []
 read-next read reels i reel inside is = ap (map read) (take-next reels i reel inside is) ∙ map-append read (take i reels) (reel ∷ [])
 
--- Their pieces.
 pub pieces-next : (reels : List ReelView) (i : ℕ) (reel : ReelView) → i < length reels → reel ≡ get_or reels i reel
     → pieces_of_reels (take (i + 1) reels) ≡ pieces_of_reels (take i reels) + reel.remaining
 pieces-next reels i reel inside is = ap pieces_of_reels (take-next reels i reel inside is) ∙ sum_by_push (λ (r : ReelView). r.remaining) (take i reels) reel

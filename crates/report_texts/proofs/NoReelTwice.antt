@@ -37,7 +37,6 @@ name_of r = r.reel
 
 -- ---- received reels
 
--- A reel that was not received is not among the received ones.
 not-received : (H : History) (reel : Name) → receipt_of H reel ≡ None → AllByRecursion (λ y. same reel y ≡ false) (reels_received H)
 not-received [] reel none = tt
 not-received (e ∷ H) reel none =
@@ -54,7 +53,6 @@ not-received (e ∷ H) reel none =
         (same-sym reel x ∙ other (same x reel) (record { part = part; lot = lot; moisture = moisture; quantity = quantity; effective = e.effective }) none, rest)
     by _ none rest = rest
 
--- No reel is received twice.
 received-distinct : (H : History) → IsJudged Two H → IsDistinct same (reels_received H)
 unfolding IsDistinct
 received-distinct [] judged = tt
@@ -100,7 +98,6 @@ module _ (order : Name → Name → Ordering) where
 
 -- ---- free reels
 
--- The names of reels with views are those of received reels.
 names-told : (H : History) (xs : List Name) → map name_of (filter_map (reel_view H) xs) ≡ filter (λ x. is_some (receipt_of H x)) xs
 names-told H [] = refl
 names-told H (x ∷ xs) = by (receipt_of H x) (names-told H xs)
@@ -111,7 +108,6 @@ names-told H (x ∷ xs) = by (receipt_of H x) (names-told H xs)
     by None rest = rest
     by (Some receipt) rest = ap (λ l. x ∷ l) rest
 
--- Filtering reels by name filters their names.
 names-pass : (test : Name → Bool) (reels : List ReelView) → map name_of (filter (λ (r : ReelView). test r.reel) reels) ≡ filter test (map name_of reels)
 names-pass test [] = refl
 names-pass test (r ∷ reels) = by (test r.reel) (names-pass test reels)
@@ -189,7 +185,6 @@ short-named false row needed missing = refl
 reels-append : (xs ys : List KitRow) → reels_in (xs ++ ys) ≡ reels_in xs ++ reels_in ys
 reels-append xs ys = filter_map-append (λ (row : KitRow). reel_in row.supply) xs ys
 
--- The rows for a sheet row name exactly its reels.
 row-names : (row : SheetRow) (needed : ℕ) (reels : List ReelView) (others : List KitRow) → reels_in (rows_for row needed reels ++ others) ≡ map name_of reels ++ reels_in others
 row-names row needed reels others =
     let brought : List KitRow = map (reel_row row needed) reels in

@@ -36,7 +36,6 @@ le-less n a b = by (nat_le n (a + b)) (nat_le (n - a) b) refl refl
     by true false whole rest = let high = leb-true n (a + b) whole in let low = leb-false (n - a) b rest in absurd (omega (arith, high, low))
     by false true whole rest = let high = leb-false n (a + b) whole in let low = leb-true (n - a) b rest in absurd (omega (arith, high, low))
 
--- The prefixes that start with a reel.
 find-behind : (needed : ℕ) (r : ReelView) (ps : List (List ReelView))
     → find (λ p. nat_le needed (pieces_of_reels p)) (map (λ p. r ∷ p) ps) ≡ option_map (λ p. r ∷ p) (find (λ p. nat_le (needed - r.remaining) (pieces_of_reels p)) ps)
 find-behind needed r [] = refl

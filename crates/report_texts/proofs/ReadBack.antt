@@ -28,7 +28,6 @@ read-all (suc n) (row ∷ rows) fits some =
     (ap (λ r. r ∷ records_from default_config n st.StartRecord (flat_map record_text rows)) (as_it_was row (All-head (λ (r : List (List ℕ)). r ≢ []) row rows some))
     ∙ ap (λ l. row ∷ l) (read-all n rows (omega arith) (All-tail (λ (r : List (List ℕ)). r ≢ []) row rows some)))
 
--- Each record has at least one byte.
 some-byte : (row : List (List ℕ)) → 1 ≤ length (record_text row)
 some-byte row =
     let blank : List ℕ = if is_blank default_writer row then 34 ∷ 34 ∷ [] else [] in

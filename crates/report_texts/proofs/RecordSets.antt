@@ -39,7 +39,6 @@ has-insert (x ∷ xs) row other = by (by_fields row x) refl (has-insert xs row o
     by Equal o rest = sym (or_self_left (alike other x) (has xs other)) ∙ ap (λ y. alike other y || (alike other x || has xs other)) (sym (tied row x o))
     by Greater o rest = ap (λ b. alike other x || b) rest ∙ swap-or (alike other x) (alike other row) (has xs other)
 
--- A set has the records that it was made from.
 has-set : (rows : List Fields) (other : Fields) → has (set_of rows) other ≡ has rows other
 has-set [] other = refl
 has-set (x ∷ xs) other = has-insert (set_of xs) x other ∙ ap (λ b. alike other x || b) (has-set xs other)
@@ -142,7 +141,6 @@ or-later : (a b : Bool) → b ≡ true → (a || b) ≡ true
 or-later true b is = refl
 or-later false b is = is
 
--- A board in the lot's trace has a part from the lot.
 part-listed : (board lot : Name) (pieces : List Placement)
     → list_any (λ (p : Placement). same p.lot lot && (same board p.board && true)) pieces ≡ true
     → (part : Name) × (list_any (λ (p : Placement). same p.board board && (same part p.part && (same lot p.lot && true))) pieces ≡ true)

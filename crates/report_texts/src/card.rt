@@ -11,7 +11,6 @@ use desk_types::{Desk, Id, ReelView, Text};
 use itoa::Buffer;
 use std::alloc::{AllocError, Global};
 
-/// Returns where the reel is.
 fn state_text(view: &ReelView) -> &str
     ensures { result.now ≡ state_text view.now }
 {
@@ -24,7 +23,6 @@ fn state_text(view: &ReelView) -> &str
     }
 }
 
-/// Returns the reel's level, such as `2a`.
 fn level_text(view: &ReelView) -> &str
     ensures { result.now ≡ text_of view.now.level }
 {

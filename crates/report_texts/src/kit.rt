@@ -155,7 +155,6 @@ fn put_rows(
     Ok(())
 }
 
-/// Returns the pieces that the sheet row needs for the boards.
 fn needed_by(boards: Boards, row: &SheetRow) -> u64
     ensures { result ≡ needed_by boards row.now }
 {

@@ -11,7 +11,6 @@ use std::collections::BTreeSet;
 /// The fields of one record, borrowed from the pieces.
 pub type Record<'a> = Vec<&'a [u8]>;
 
-/// Returns the word for whether the piece is overdue.
 fn overdue_word(piece: &Placement) -> &[u8]
     ensures { result.now ≡ yes_or_no piece.now.overdue }
 {
