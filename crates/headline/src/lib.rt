@@ -19,9 +19,9 @@ ghost use Rattle.headline.specs.Calls.{AnswersByTheList, Call, Calls};
 pub use calls::{ask, command, feed, import, report, serve};
 use http_answers::ReportedOwner;
 
-/// A law: for every stream of requests, in whatever pieces and with repeats and refusals, every
-/// answer is determined by the history of accepted commands. That history is lawful and consistent,
-/// and the called owner represents it; a store represents a history by its tables.
+/// A law: for every stream of requests, in whatever pieces and with repeats and refusals, the
+/// history of accepted commands alone determines every answer. That history is lawful and
+/// consistent, and the called owner represents it; a store represents a history by its tables.
 pub fn headline<L: ReportedOwner>(first: &L, last: &L)
     ensures { (calls : List Call) → Calls L.reports L.Stands L.Trusts first.now calls last.now → (G : Ledger)
         → L.Stands first.now G → L.Trusts last.now
