@@ -50,7 +50,8 @@ exposure_starts H reel = unwrap_or (option_or (last_bake H reel) (option_map (λ
 abbrev pub minutes_between : ℕ → ℕ → List ℕ
 minutes_between from to = range_with_len from (to - from)
 
--- The reel's exposure: how many minutes it was out of its bag since its last bake or its receipt.
+-- The reel's exposure at the minute: how many earlier minutes it was out of its bag since its last
+-- bake, or else its receipt.
 unfoldable pub exposure_of : History → Name → ℕ → ℕ
 exposure_of H reel minute = count_by (is_out_at H reel) (minutes_between (exposure_starts H reel) minute)
 

@@ -160,8 +160,8 @@ abbrev pub differ : Option Name → Option Name → Bool
 differ (Some a) (Some b) = not (same a b)
 differ _ _ = false
 
--- The refusal of a start of work; the test before it leaves only a board in work on another
--- machine.
+-- The refusal of a start of work. An earlier test excludes a board in work on this machine, so a
+-- board in work is on another one.
 unfoldable pub start_refusal : History → ℕ → Name → Name → Option Refusal
 start_refusal H minute machine board = option_or (first_refusal (
     (is_none (selected_on H machine), NoProduct machine)
@@ -200,8 +200,8 @@ install_refusal H machine board designators =
 
 -- ---- counts
 
--- Whether a count is too high. Rules Two allow a count above the remaining pieces, because pieces
--- can be found, but not for a spent reel.
+-- Whether a count is too high. Rules One refuse any count above the remaining pieces. Rules Two
+-- allow it, because pieces can be found, except for a spent reel.
 abbrev pub is_above : Rules → (left counted : ℕ) → Bool
 is_above One left counted = nat_lt left counted
 is_above Two left counted = (left == 0) && nat_lt 0 counted
@@ -222,7 +222,7 @@ counts_refusal rules H seen (row ∷ rows) = option_or (count_refusal rules H se
 
 -- ---- any command
 
--- The refusal of a command at the minute; the rules differ only for counts.
+-- The refusal of a command that takes effect at the minute; the rules differ only for counts.
 unfoldable pub command_refusal : Rules → History → ℕ → Command → Option Refusal
 command_refusal rules H minute (PartDefined part) = part_refusal H part
 command_refusal rules H minute (AlternateAllowed part alternate) = alternate_refusal H part alternate
