@@ -61,7 +61,7 @@ pub trait Facts {
         ensures { (H : History) → Stands self.now H → option_copied result ≡ sheet_of H product.now machine.now };
 
     /// Returns the selected product's sheet with indexes, for callers with many lookups, if the
-    /// facts store it. None implies nothing.
+    /// facts store it. None doesn't mean that there is no sheet.
     fn look_ups_on(&self, machine: &Id) -> Option<&Sheet>
         ensures { (H : History) → Stands self.now H → IsSome result → option_copied result ≡ sheet_on H machine.now }
     {
@@ -111,7 +111,7 @@ pub trait Facts {
         ensures { (H : History) → Stands self.now H → result ≡ product_of H board.now };
 
     /// Returns the designators placed on the board in order, for callers with many lookups, if the
-    /// facts store them. None implies nothing.
+    /// facts store them. None doesn't mean that none is placed.
     fn placed_on(&self, board: &Id) -> Option<&[Designator]>
         ensures { (H : History) → Stands self.now H → IfSome result (λ names. ArePlacedOn H board.now names.now) }
     {
