@@ -47,7 +47,6 @@ impl<'a> Model for Fields<'a> {
 }
 
 impl<'a> Fields<'a> {
-    /// Returns the fields of a text.
     pub fn new(text: &'a [u8]) -> Fields<'a>
         ensures { result ≡ fields_in text.now }
     {

@@ -111,7 +111,6 @@ fn members(alloc: Global, word: Word, fields: &mut Fields) -> Result<Command, Un
     }
 }
 
-/// Reads the members of a receipt.
 fn receipt(alloc: Global, fields: &mut Fields) -> Result<Command, Unread>
     ensures { Reads (IsSaidBy Word.ReelReceived) members_of fields.old fields.new result }
 {
