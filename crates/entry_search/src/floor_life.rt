@@ -60,7 +60,6 @@ fn is_bake(command: &Command) -> bool
     matches!(command, Command::ReelBaked { .. })
 }
 
-/// Returns the reel after an entry.
 pub fn reel_after(reel: Option<Reel>, name: &Id, entry: &Entry) -> Option<Reel>
     requires { ForSome reel (λ r. r.last ≤ entry.now.effective) }
     ensures { (H : History) → IsJudged Two (entry.now ∷ H) → IsReelOf H name.now reel

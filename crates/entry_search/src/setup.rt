@@ -111,7 +111,6 @@ pub fn sheet_on<'a>(entries: &'a [Entry], machine: &Id) -> Option<&'a SheetRows>
     sheet_of(entries, &product, machine)
 }
 
-/// Returns the slot's row in that sheet.
 pub fn row_on<'a>(entries: &'a [Entry], machine: &Id, slot: &Id) -> Option<&'a SheetRow>
     ensures { option_copied result ≡ row_on (reverse entries.now) machine.now slot.now }
 {
@@ -119,7 +118,6 @@ pub fn row_on<'a>(entries: &'a [Entry], machine: &Id, slot: &Id) -> Option<&'a S
     row_of(rows, slot)
 }
 
-/// Returns the reel's receipt, if the command is that.
 pub fn receipt_by(reel: &Id, effective: Minute, command: &Command) -> Option<Receipt>
     ensures { result ≡ receipt_by reel.now effective command.now }
 {
@@ -141,7 +139,6 @@ pub fn receipt_by(reel: &Id, effective: Minute, command: &Command) -> Option<Rec
     }
 }
 
-/// Returns the reel's receipt.
 pub fn receipt(entries: &[Entry], reel: &Id) -> Option<Receipt>
     ensures { result ≡ receipt_of (reverse entries.now) reel.now }
 {
