@@ -10,7 +10,6 @@ use crate::member::Member;
 use desk_types::{CountedQuantity, Designator, GREATEST_LABEL, Id, Level, Quantity};
 use serde_json::Value;
 
-/// Returns the member if it is a text.
 pub fn text_at(object: &Value, member: Member) -> Option<&str>
     ensures { option_map (λ s. s.now) result ≡ text_at member (view object.now) }
 {
@@ -30,7 +29,6 @@ pub fn id_at(object: &Value, member: Member) -> Option<Id>
     text_at(object, member).and_then(id_of)
 }
 
-/// Reads an id.
 #[tactic(auto, unfolding(crate::specs::Forms::id_in))]
 pub fn id_in(body: &Value, member: Member) -> Result<Id, MessageFault>
     ensures { result ≡ id_in member (view body.now) }

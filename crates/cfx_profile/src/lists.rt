@@ -64,7 +64,6 @@ fn each<T: Element>(alloc: Global, items: &[Value]) -> Result<Listing<T>, Messag
     Ok(Listing::new(found))
 }
 
-/// Reads a list in a body.
 #[tactic(auto, unfolding(crate::specs::Lists::list_in))]
 pub fn list_in<T: Element>(
     alloc: Global,
