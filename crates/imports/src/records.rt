@@ -14,7 +14,6 @@ use std::alloc::{AllocError, Global};
 /// The most records of a file that are read: the header, the longest list, and one too many.
 pub const MOST_RECORDS: usize = LONGEST_LIST + 2;
 
-/// Reads the first records of the bytes.
 pub fn first_records(alloc: Global, bytes: &[u8]) -> Result<Vec<ByteRecord>, AllocError>
     ensures { IfOk result (λ records. map fields_of records.items ≡ records_of bytes.now) }
 {
