@@ -161,7 +161,6 @@ fn needed_by(boards: Boards, row: &SheetRow) -> u64
     boards.get() * row.designators.as_slice().len() as u64
 }
 
-/// Returns the kit's rows, sheet row by sheet row.
 fn kit_rows<D: Desk>(
     alloc: Global,
     desk: &D,

@@ -71,7 +71,6 @@ fn of_lot<'a>(
     }
 }
 
-/// Returns the rows of a board's trace.
 pub fn board_rows<'a>(
     alloc: Global,
     detail: TraceDetail,
@@ -86,7 +85,6 @@ pub fn board_rows<'a>(
     Ok(rows)
 }
 
-/// Returns the rows of a lot's trace.
 pub fn lot_rows<'a>(
     alloc: Global,
     detail: TraceDetail,
@@ -101,7 +99,6 @@ pub fn lot_rows<'a>(
     Ok(rows)
 }
 
-/// Returns the columns of a board's trace.
 pub fn board_header(detail: TraceDetail) -> &'static [&'static [u8]]
     ensures { bytes_of result.now ≡ project (board_columns detail) board_header }
 {
@@ -121,7 +118,6 @@ pub fn board_header(detail: TraceDetail) -> &'static [&'static [u8]]
     }
 }
 
-/// Returns the columns of a lot's trace.
 pub fn lot_header(detail: TraceDetail) -> &'static [&'static [u8]]
     ensures { bytes_of result.now ≡ project (lot_columns detail) lot_header }
 {
