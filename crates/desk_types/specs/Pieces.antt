@@ -39,7 +39,7 @@ install_picks slot_of tape pieces machine board before [] = before
 install_picks slot_of tape pieces machine board before (d ∷ ds) =
     install_picks slot_of tape pieces machine board (before ++ option_to_list (pick_for slot_of tape pieces machine board before d)) ds
 
--- n pieces from the tape, starting at its front reel.
+-- The picks of n pieces from the tape, starting at its front reel.
 abbrev pub scrap_picks : (Name → ℕ) → Purpose → List Name → ℕ → List Pick
 scrap_picks pieces purpose [] n = []
 scrap_picks pieces purpose (r ∷ rs) n = pieces_off r (min n (pieces r)) purpose ++ scrap_picks pieces purpose rs (n - pieces r)

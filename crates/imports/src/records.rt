@@ -20,7 +20,7 @@ pub fn first_records(alloc: Global, bytes: &[u8]) -> Result<Vec<ByteRecord>, All
     let rdr = reader(alloc, bytes);
     let mut records = Vec::new(alloc);
     for row in rdr.into_byte_records() {
-        // only running out of memory can fail: records are bytes of any length
+        // Only memory can run out here: records are bytes of any length.
         let Ok(record) = row else {
             return Err(AllocError);
         };
