@@ -77,13 +77,14 @@ abbrev pub AnsweredFront : Rules → ℕ → Option (List ℕ) → History → O
 AnsweredFront rules greatest input H out H' out' served = (lines : List (List ℕ)) × (marks : List Bool)
     × IfSome input (λ bytes. IsFront lines (lines_of bytes)) × Answered rules greatest lines marks H out none_served H' out' served
 
--- The first lines were answered, each whole, then part of one more answer was sent.
+-- The first lines were answered, each whole, then the first bytes of one more answer were sent.
 abbrev pub AnsweredInto : Rules → ℕ → Option (List ℕ) → History → Option (List ℕ) → History → Option (List ℕ) → Served → Type 0
 AnsweredInto rules greatest input H out H' out' served = (lines : List (List ℕ)) × (marks : List Bool) × (line : List ℕ) × (mark : Bool) × (H₁ : History) × (out₁ : Option (List ℕ))
     × IfSome input (λ bytes. IsFront (lines ++ line ∷ []) (lines_of bytes)) × Answered rules greatest lines marks H out none_served H₁ out₁ served
     × (H' ≡ line_after rules greatest mark H₁ line) × SendsFront out₁ out' (sent_line (line_answer rules greatest mark H₁ line))
 
--- The answers before a fault: the first lines, with part of one more answer after a failed write.
+-- The answers before a fault: the first lines and, after a failed write, the first bytes of one
+-- more answer.
 abbrev pub AnsweredUpTo : Rules → ℕ → Option (List ℕ) → History → Option (List ℕ) → History → Option (List ℕ) → ServeFault → Type 0
 AnsweredUpTo rules greatest input H out H' out' (Read served) = AnsweredFront rules greatest input H out H' out' served
 AnsweredUpTo rules greatest input H out H' out' (TooManyReads served) = AnsweredFront rules greatest input H out H' out' served

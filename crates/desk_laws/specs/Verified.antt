@@ -1,4 +1,4 @@
--- The verification of the reel behind each placed piece.
+-- The verification of the reel that each placed piece came from.
 use Rattle.std.specs.Prelude.{◌≡◌, ℕ, ◌-◌, Bool, true, false, ◌&&◌, Option, Some, List, ◌∷◌, ◌++◌, ◌≤◌, take, nat_lt, slice_get}
 use Rattle.std.specs.List.{list_any, find}
 use Rattle.desk_types.specs.declared.command.Command.{Command}
@@ -22,7 +22,7 @@ mounts machine slot reel (MaterialsSpliced m s r) = (same m machine && same s sl
 mounts machine slot reel _ = false
 
 -- After H, at the minute, the reel may feed the slot: the selected product's sheet allows its part,
--- and it is baked and not expired.
+-- and it neither waits for its bake nor is expired.
 pub record IsVerified (H : History) (minute : ℕ) (machine slot reel : Name) : Type 0 where
   pub receipt : Receipt
   pub received : receipt_of H reel ≡ Some receipt
@@ -32,7 +32,7 @@ pub record IsVerified (H : History) (minute : ℕ) (machine slot reel : Name) : 
   pub baked : is_unbaked H reel ≡ false
   pub not_expired : is_expired H reel minute ≡ false
 
--- The reel was verified by the last entry that loaded or spliced it onto the slot.
+-- The reel was verified when it was last loaded or spliced onto the slot.
 pub record WasVerified (H : History) (machine slot reel : Name) : Type 0 where
   pub before : History
   pub entry : Entry

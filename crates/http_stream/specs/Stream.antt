@@ -92,7 +92,7 @@ abbrev pub AnsweredFront : Rule → Option (List ℕ) → Option (List ℕ) → 
 AnsweredFront rule input input' H out H' out' served = (ps : List Portion) × (marks : List Bool)
     × IfSome input (λ bytes. (left : List ℕ) × Leads bytes ps left × ReadsInside (Some left) input') × Answered rule ps marks H out none_served H' out' served
 
--- The first portions were answered, each whole, then part of one more answer was sent.
+-- The first portions were answered, each whole, then the first bytes of one more answer were sent.
 abbrev pub AnsweredInto : Rule → Option (List ℕ) → History → Option (List ℕ) → History → Option (List ℕ) → Served → Type 0
 AnsweredInto rule input H out H' out' served = (ps : List Portion) × (marks : List Bool) × (p : Portion) × (mark : Bool) × (H₁ : History) × (out₁ : Option (List ℕ))
     × IfSome input (λ bytes. (left : List ℕ) × (rest : List ℕ) × Leads bytes ps left × IsPortion left p rest) × Answered rule ps marks H out none_served H₁ out₁ served
