@@ -1,4 +1,4 @@
--- What is kept under names after something is put there, or memory is taken for it.
+-- The index after adding an element or reserving memory.
 use Rattle.std.proofs.Common.{◌≡◌, Bool, true, false, cond, List, [], ◌∷◌, ◌++◌, map, length, refl, sym, ap, ◌∙◌}
 use Rattle.std.specs.Prelude.{All, if◌then◌else◌}
 use Rattle.std.proofs.lemmas.List.{append-nil}
@@ -10,7 +10,6 @@ use Rattle.desk_types.proofs.Keys.{same-true}
 use Rattle.trace_lists.specs.declared.lists.TraceLists.{TraceLists}
 use Rattle.trace_lists.specs.Lists.{IsListed, HasPieces, kept_at, key_of, keys_of_installs, minute_in}
 
--- one thing more under the name k
 pub one-more : {X : Type 0} (k n : Name) (old : Name → List X) (now : List X) (thing : X) → now ≡ old k ++ thing ∷ []
     → cond (same k n) now (old n) ≡ old n ++ (if same k n then thing ∷ [] else [])
 one-more k n old now thing is = by (same k n) refl
@@ -19,7 +18,6 @@ one-more k n old now thing is = by (same k n) refl
     by true one = is ∙ ap (λ name. old name ++ thing ∷ []) (same-true k n one)
     by false one = sym (append-nil (old n))
 
--- nothing more
 pub no-more : {X : Type 0} (k n : Name) (old : Name → List X) (now : List X) → now ≡ old k → cond (same k n) now (old n) ≡ old n
 no-more k n old now is = by (same k n) refl
   where

@@ -1,4 +1,4 @@
-//! What an accepted change puts into the lists.
+//! The additions to the indexes from an accepted change.
 
 ghost use Rattle.std.specs.Prelude.{◌≡◌, ◌++◌, ◌&&◌, ◌∷◌, [], ℕ, if◌then◌else◌, map, length, All, OnOk};
 ghost use Rattle.desk_types.specs.Id.{Name, same};
@@ -12,7 +12,7 @@ use desk_types::{Command, Id, Purpose, Take};
 use std::alloc::{AllocError, Global};
 use std::collections::BTreeMap;
 
-/// Sees to memory for the install of a command.
+/// Reserves memory for a command's install.
 pub fn room_for_install(
     alloc: Global,
     boards: &mut BTreeMap<Id, Kept<Install>>,
@@ -26,8 +26,8 @@ pub fn room_for_install(
     Ok(())
 }
 
-/// Sees to memory for the pieces that are placed: for each lot, as if all of them were of it. Pieces
-/// that follow each other are mostly of one lot, and the look-up is made once for those.
+/// Reserves memory for the placed pieces, for each lot as if all were from it. Consecutive pieces
+/// are mostly from one lot and share one lookup.
 pub fn room_for_pieces(
     alloc: Global,
     lots: &mut BTreeMap<Id, Kept<PieceKey>>,
@@ -44,7 +44,6 @@ pub fn room_for_pieces(
     Ok(())
 }
 
-/// Whether a piece was placed.
 fn is_placed(take: &Take) -> bool
     ensures { result ≡ is_placed take.now.purpose }
 {
@@ -77,7 +76,7 @@ pub fn note_install(
     Ok(())
 }
 
-/// Puts the placed pieces to those of their lots, and the overdue ones to the others of their kind.
+/// Adds the placed pieces to their lots, and the overdue ones to the overdue list.
 pub fn note_pieces(
     alloc: Global,
     lots: &mut BTreeMap<Id, Kept<PieceKey>>,
@@ -105,7 +104,7 @@ pub fn note_pieces(
     Ok(())
 }
 
-/// Puts a placed piece to those of its lot, and to the overdue ones where it is one.
+/// Adds a placed piece to its lot and, if it is overdue, to the overdue list.
 fn note_piece(
     alloc: Global,
     lots: &mut BTreeMap<Id, Kept<PieceKey>>,
