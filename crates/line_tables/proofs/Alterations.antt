@@ -1,4 +1,4 @@
--- What each kind of statement makes of the rows of its table.
+-- The effect of each kind of statement on the rows of its table.
 use Rattle.std.proofs.Common.{◌≡◌, ◌∙◌, ap₂, subst₂, drop, inl, inr, ℕ, List, [], ◌∷◌, map, filter, not, length, ◌&&◌, Bool, true, false, IsTrue, refl, sym, ap, subst, arith}
 use Rattle.std.specs.List.Sorted.{IsPermutation}
 use Rattle.std.proofs.lemmas.Bool.{cases_Bool}
@@ -28,7 +28,7 @@ use Rattle.line_tables.proofs.Inserts.{Inserted}
 use Rattle.line_tables.proofs.Changes.{Changed, passing, shows_of, renewed}
 use Rattle.line_tables.proofs.Puts.{put_permutes, not_taken}
 
--- the rows that are left, told by their columns
+-- The remaining rows, identified by their columns.
 pub left_of : (columns_in : Row → Row) (m k : Row → Bool) → ((r : Row) → m r ≡ k (columns_in r)) → (rows : List Row) → map columns_in (filter (λ r. not (m r)) rows) ≡ filter (λ r. not (k r)) (map columns_in rows)
 left_of columns_in m k is [] = refl
 left_of columns_in m k is (r ∷ rows) = elim (cases_Bool (k (columns_in r))) [
@@ -37,7 +37,7 @@ left_of columns_in m k is (r ∷ rows) = elim (cases_Bool (k (columns_in r))) [
 ]
 
 module _ (table : Table) (has : Row → Bool) (old new : Database) (rows : List Row) (was : IsKept table old rows) (m : Row → Bool) (is : (r : Row) → m r ≡ has (columns table r)) where
-  -- those that pass are out
+  -- Rows that pass the tests are removed.
   pub keeps_left : (left : List Row) → left ≡ filter (λ r. not (m r)) (old.trees table.tree) → IsPermutation (map (columns table) left) (without has rows)
   keeps_left left same =
       subst (λ l. IsPermutation l (without has rows)) (sym (ap (map (columns table)) same ∙ left_of (columns table) m has is (old.trees table.tree))) (IsPermutation-filter _ _ _ was.same)
@@ -45,7 +45,7 @@ module _ (table : Table) (has : Row → Bool) (old new : Database) (rows : List 
   pub kept_without : new.trees table.tree ≡ filter (λ r. not (m r)) (old.trees table.tree) → IsKept table new (without has rows)
   kept_without same = record { same = keeps_left (new.trees table.tree) same; apart = subst AreApart (sym same) (apart_filter _ _ was.apart) }
 
--- a row whose rowid is free is one more
+-- A row with a free rowid is added.
 pub rows_more : (table : Table) (left : List Row) (n values : Row) (rows : List Row) (new : Database) → IsPermutation (map (columns table) left) rows → is_taken left n ≡ false → columns table n ≡ values → new.trees table.tree ≡ put_row n left
     → IsPermutation (rows_at table new) (values ∷ rows)
 rows_more table left n values rows new same free shown is =

@@ -1,4 +1,4 @@
--- What the statements make of the table of placements: rows with rowids of their own are put in, one or eight at once.
+-- The effect of the statements on `placement`: they insert rows with their own rowids, one or eight at once.
 use Rattle.std.proofs.Common.{◌≡◌, ◌∙◌, ◌&&◌, ◌==◌, ◌<◌, ◌≤◌, ◌+◌, ◌++◌, if◌then◌else◌, ℕ, pos, Bool, List, [], ◌∷◌, map, take, get_or, length, not, true, false, IsTrue, Option, Some, refl, ap, ap₂, subst, sym, arith}
 use Rattle.std.specs.List.{flat_map}
 use Rattle.std.specs.List.Sorted.{IsPermutation}
@@ -53,7 +53,7 @@ is_false true h = absurd (cc)
 abbrev HasPieces : List Row → (ℕ → ℕ → Option PlacementRow) → Type 0
 HasPieces db f = AreRows has_piece (λ _ row. placement_columns row) (map (columns placement) db) (λ piece. f piece.0 piece.1)
 
--- rows with new keys come in, one after the other
+-- Rows with new keys are added one after another.
 pieces_in : (rows : List PlacementRow) (db : List Row) (t : Tables) → HasPieces db t.state.placements → are_fresh db (map placement_kept rows) ≡ true → AreNew (map placement_edit rows) t
     → HasPieces (put_all db (map placement_kept rows)) (with_pieces rows t.state.placements)
 pieces_in [] db t was fresh new = was
@@ -63,7 +63,7 @@ pieces_in (row ∷ rows) db t was fresh new =
     pieces_in rows (put_row (placement_kept row) db) (with_edit t (placement_edit row))
     (added has_piece (λ _ row. placement_columns row) one_piece same_piece tells_piece (row.number, row.place) row _ _ (λ piece. t.state.placements piece.0 piece.1) _ new.0 (and_from _ _ (own_int row.number) (own_int row.place)) (λ l. refl) one was) free.1 new.1
 
--- the rows that a statement puts in are those of as many edits
+-- A statement inserts the rows of as many edits.
 puts_pieces : (rows : List PlacementRow) (a c : State) → IsTrue a.is_open → ((indexed : Layout) → a.now.schema ≡ schema_of Two indexed → Inserted (schema_of Two indexed) placement (map placement_kept rows) a c) → Writes (map placement_edit rows) a c
 puts_pieces rows a c was_open did = record {
   was_open = was_open;
@@ -105,7 +105,7 @@ placement_put row a c ran =
     puts_pieces (row ∷ []) a c ran.shown.was_open
     (λ i has. insert_does insert_placement (placement_kept row) a c (schema_of Two i) has 9 placement placement_terms 9 refl refl refl (insert_placement_is i).0 (insert_placement_is i).1 ran.count ran.executed (quiet i 17 refl []))
 
--- the parameters of the text for eight rows are the values of these
+-- The parameters of the text for eight rows are the values of these rows.
 eight_in : (rows : List PlacementRow) (a c : State) → length rows ≡ 8 → Runs insert_placements (flat_map placement_kept rows) a c → (i : Layout) → a.now.schema ≡ schema_of Two i → Inserted (schema_of Two i) placement (map placement_kept rows) a c
 eight_in (p ∷ q ∷ r ∷ s ∷ t ∷ u ∷ v ∷ w ∷ []) a c eight ran i has =
     insert_does insert_placements (flat_map placement_kept (p ∷ q ∷ r ∷ s ∷ t ∷ u ∷ v ∷ w ∷ [])) a c (schema_of Two i) has 9 placement placements_terms 9 refl refl refl (insert_placements_is i).0 (insert_placements_is i).1 ran.count ran.executed (quiet i 17 refl [])
@@ -124,7 +124,7 @@ eight_put rows a c eight ran = puts_pieces rows a c ran.shown.was_open (eight_in
 
 -- ---- the values of edits
 
--- one edit more puts a placement
+-- One more edit puts a placement.
 pub placing_more : (edits : List Edit) (i : ℕ) (edit : Edit) (row : PlacementRow) (values : Row) → i < length edits → edit ≡ get_or edits i edit → edit ≡ placement_edit row → ArePlacing (take i edits) values → ArePlacing (take (i + 1) edits) (values ++ placement_kept row)
 placing_more edits i edit row values inside item is was = (
   was.0 ++ row ∷ [],
@@ -132,7 +132,7 @@ placing_more edits i edit row values inside item is was = (
   ap (λ v. v ++ placement_kept row) was.2 ∙ flat_map_more placement_kept [] was.0 row,
 )
 
--- eight edits that put placements are made as their values are put in
+-- Inserting the values of eight placement edits makes all eight.
 pub eight_first : (edits : List Edit) (values : Row) (a c : State) → 8 ≤ length edits → ArePlacing (take 8 edits) values → ((rows : List PlacementRow) → length rows ≡ 8 → values ≡ flat_map placement_kept rows → Writes (map placement_edit rows) a c) → Writes (take 8 edits) a c
 eight_first edits values a c long are put =
     let eight : length are.0 ≡ 8 = sym (length-map are.0 placement_edit) ∙ ap length (sym are.1) ∙ length-take-le 8 edits long in

@@ -1,4 +1,4 @@
-//! What is written into the tables.
+//! Changes of the tables.
 
 use desk_types::RowEdit;
 
@@ -9,7 +9,7 @@ pub struct Accepted {
     pub number: u32,
     pub uid: String,
     pub source: String,
-    /// The minute that the message gives itself, since 1970-01-01T00:00Z.
+    /// The message's own minute, since 1970-01-01T00:00Z.
     pub own: u32,
     /// The minute at which the command takes effect.
     pub effective: u32,
@@ -22,7 +22,7 @@ pub struct Accepted {
 /// One change of one row.
 #[derive(Debug, Drop)]
 pub enum Edit {
-    /// A new row of `accepted`. It is refused where its number or its UniqueID is there.
+    /// A new row of `accepted`. It is refused if its number or UniqueID is taken.
     PutAccepted(Accepted),
     /// An edit of another table.
     EditRow(RowEdit),

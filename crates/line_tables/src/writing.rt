@@ -18,9 +18,8 @@ use sqlite::types::ValueRef;
 use sqlite::{Alter, Connection, Error, ErrorCode, Transaction, params};
 use std::alloc::Global;
 
-/// Writes all edits in their order and commits them, or none of them. In an open transaction of the
-/// caller's nothing is done. An edit that a rule of its table refuses is told with the rule, as
-/// `ConstraintViolation(Unique)`.
+/// Writes all edits in their order and commits them, or writes none. Inside an open transaction of the caller nothing
+/// is done. If a rule of a table refuses an edit, the error names the rule, as in `ConstraintViolation(Unique)`.
 pub fn append<S: Alter>(
     alloc: Global,
     conn: &mut Connection<S>,
@@ -70,7 +69,7 @@ fn put_all<S: Alter>(
     Ok(())
 }
 
-/// Makes the first edit, or the first eight where each of them puts a placement, and tells how many.
+/// Makes the first edit, or the first eight if they all put placements, and returns how many it made.
 fn put_first<S: Alter>(
     alloc: Global,
     tx: &mut Transaction<'_, S>,
@@ -91,7 +90,7 @@ fn put_first<S: Alter>(
     Ok(1)
 }
 
-/// The values of the first eight edits, where there are so many and each puts a placement.
+/// Returns the values of the first eight edits, if there are eight and all put placements.
 fn first_eight<'a>(alloc: Global, edits: &'a [Edit]) -> Result<Option<Vec<ValueRef<'a>>>, Error>
     ensures { IfOk result
         (λ found. IfSome found (λ values. 8 ≤ length edits.now × ArePlacing (take 8 edits.now) (bound values.items))) }
