@@ -1,4 +1,4 @@
--- Entries whose rows are all in the table, which has no more rows, stand alone.
+-- If the rows of all entries are in the table, and the table has no more rows, each is the only one with its key.
 use Rattle.std.proofs.Common.{◌≡◌, ◌∙◌, ◌⊎◌, inl, inr, ◌≤◌, Bool, true, false, not, List, [], ◌∷◌, length, filter, if◌then◌else◌, refl, sym, ap, arith, true≢false}
 use Rattle.std.specs.List.{AllByRecursion}
 use Rattle.sqlite_rules.specs.Lists.{Has}

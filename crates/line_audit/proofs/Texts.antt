@@ -1,4 +1,4 @@
--- What the texts mean, and what they find.
+-- The meaning and the results of the texts.
 use Rattle.std.proofs.Common.{◌≡◌, ◌&&◌, ◌++◌, ◌<◌, ℕ, Bool, true, false, List, [], ◌∷◌, Result, Ok, Err, IfOk, codes, refl, ap, pos, inl, inr}
 use Rattle.sqlite.specs.Term.{Term, col, op2}
 use Rattle.sqlite.specs.Collation.TheVariants.{Binary}

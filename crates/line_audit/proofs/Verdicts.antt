@@ -11,7 +11,7 @@ use Rattle.desk_types.specs.Tables.{Tables as StateTables}
 use Rattle.line_tables.specs.StateRows.{HoldsStateBy, HoldsFoundBy}
 use Rattle.line_audit.specs.Audit.{state_tables, found_table, HoldsTable}
 
--- what is found is right too: under rules One that is nothing
+-- The rows of `found` are right too: under rules One there is no such table.
 pub found_right : (rules : Rules) (db : Database) (t : StateTables) → (rules ≡ One → (reel : Name) → t.found reel ≡ None) → AllByRecursion (HoldsTable db t) (found_table rules) → HoldsFoundBy rules db t
 found_right One db t none h = none refl
 found_right Two db t none h = h.0
@@ -30,7 +30,7 @@ all_right rules db t none h = record {
   found = found_right rules db t none h.1.1.1.1.1.1.1.1;
 }
 
--- the elements before one, it and those after it
+-- The elements before one, that element, and those after it.
 pub split_at : {X : Type 0} (xs : List X) (i : ℕ) (d : X) → i < length xs → xs ≡ take i xs ++ get_or xs i d ∷ drop (i + 1) xs
 split_at [] i d h = absurd (omega (arith, h))
 split_at (x ∷ xs) zero d h = refl

@@ -1,4 +1,4 @@
--- How placements are looked up.
+-- The look-up of placements.
 use Rattle.std.specs.Prelude.{◌&&◌, Bool, List}
 use Rattle.std.specs.List.{AllByRecursion}
 use Rattle.sqlite_rules.specs.Lists.{Has}

@@ -1,4 +1,4 @@
--- The state tables: their names, and what they are in the schema.
+-- The state tables: their names, and their declarations in the schema.
 use Rattle.std.specs.Prelude.{List, ℕ, codes}
 use Rattle.sqlite_schema.specs.declared.schema.Table.{Table}
 use Rattle.line_tables.specs.Line as line
@@ -17,7 +17,7 @@ name_of Board = codes "board"
 name_of Placement = codes "placement"
 name_of Found = codes "found"
 
--- with its columns, its keys and its tree
+-- The table with its columns, its keys and its tree.
 abbrev pub table_of : StateTable → Table
 table_of Part = line.part
 table_of Alternate = line.alternate

@@ -1,4 +1,4 @@
--- What SQL's tests say of the columns of an entry's row.
+-- SQL's tests of the columns of an entry's row.
 use Rattle.std.proofs.Common.{◌≡◌, ◌∙◌, ◌&&◌, ◌<◌, ℕ, ℤ, pos, Bool, true, false, List, Some, Ordering, Less, Equal, Greater, is_lt, is_gt, is_eq, int_cmp, refl, sym, ap, ap₂, arith}
 use Rattle.std.proofs.lemmas.Bool.Decides.{nat_tests}
 use Rattle.std.proofs.lemmas.Int.{ints}
@@ -43,7 +43,7 @@ uid_test uid G e = text_test e.stamped.uid uid ∙ ap is_eq (value_cmp-Text e.st
 lower_cmp : (m n : ℕ) → m < n → value_cmp (Int (pos m)) (Int (pos n)) ≡ Less
 lower_cmp m n h = value_cmp-Int (pos m) (pos n) ∙ grind (arith, ints, nat_tests)
 
--- a lower number is not this one
+-- A lower number differs from this one.
 pub other_number : (n : ℕ) (G : History) (e : Entry) → e.number < n → has_number n (entry_row G e) ≡ false
 other_number n G e low = number_test e.number n ∙ ap is_eq (lower_cmp e.number n low)
 
@@ -62,7 +62,7 @@ between Less a b = absurd (cc)
 between Equal a b = refl
 between Greater a b = absurd (cc)
 
--- two numbers of which neither is less are one
+-- Two numbers are equal if neither is less.
 pub neither_less : (m n : ℤ) → is_gt (collated Binary (Int m) (Int n)) ≡ false → is_gt (collated Binary (Int n) (Int m)) ≡ false → m ≡ n
 neither_less m n h k =
     let first : is_gt (int_cmp m n) ≡ false = sym (ap is_gt (value_cmp-Int m n)) ∙ h in

@@ -1,4 +1,4 @@
--- The rows of the state tables beside a list that is read again.
+-- The expected rows of the state tables during a replay.
 use Rattle.std.specs.Prelude.{◌≡◌, ◌⊎◌, ◌+◌, Bool, true, false, IsTrue, map, Option, Some, None, List, [], length}
 use Rattle.std.specs.List.{filter_map}
 use Rattle.sqlite.specs.Effect.{Database}
@@ -16,7 +16,7 @@ use Rattle.line_audit.specs.Alone.{Listed}
 use Rattle.line_audit.specs.Audit.{Pieces, AreByPiece, ArePlaced, piece_of}
 use Rattle.line_replay.specs.declared.beside.Beside.{Beside}
 
--- the placement that an edit puts, where it puts one
+-- The placement that an edit puts, if any.
 abbrev pub placement_by : RowEdit → Option PlacementRow
 placement_by (PutPlacement row) = Some row
 placement_by edit = None
@@ -25,7 +25,8 @@ placement_by edit = None
 abbrev pub placements_by : List RowEdit → List PlacementRow
 placements_by edits = filter_map placement_by edits
 
--- The rows are those of the list's state tables but for the placements, which are so many; on a clean disk it was told whether each of these is in the database of our schema.
+-- The rows are those of the history's state tables, except that placements are only counted. On a clean disk `found`
+-- says whether each placement is in the database, if that has our schema.
 pub record IsBeside (Clean : Type 0) (db : Database) (beside : Beside) (H : History) : Type 0 where
   pub rows : tables_in beside.rows ≡ but_placements (state_of H) (state_of [])
   pub pieces : Pieces
@@ -34,18 +35,18 @@ pub record IsBeside (Clean : Type 0) (db : Database) (beside : Beside) (H : Hist
   pub counted : length pieces ≡ beside.placed.count
   pub told : Clean → IsOurs db.schema → ArePlaced db beside.placed.all pieces
 
--- ---- on the way
+-- ---- during the replay
 
--- it holds of any database, or it was read of what is committed
+-- It holds for any database, or it was read from the committed contents.
 abbrev pub HoldsAsRead : State → (Database → Type 0) → Type 0
 HoldsAsRead old Is = ((db : Database) → Is db) ⊎ Reads old Is
 
--- all were found before, and these too; or one before was not, or one of these
+-- All earlier ones and these were found, or one of them was not.
 pub record ArePlacedToo (db : Database) (before after : Bool) (rows : List PlacementRow) : Type 0 where
   pub here : IsTrue after → IsTrue before × ArePlaced db true (map piece_of rows)
   pub missing : after ≡ false → (before ≡ false) ⊎ ArePlaced db false (map piece_of rows)
 
--- the edits were made, and their placements were looked for
+-- The edits were made, and their placements looked up.
 pub record Adds (Clean : Type 0) (old : State) (edits : List RowEdit) (before after : Beside) : Type 0 where
   pub rows : tables_in after.rows ≡ but_placements (with_edits edits (tables_in before.rows)) (tables_in before.rows)
   pub count : after.placed.count ≡ before.placed.count + length (placements_by edits)

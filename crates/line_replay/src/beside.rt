@@ -1,4 +1,4 @@
-//! What is kept beside the desk while a list is read again.
+//! The expected rows during a replay.
 
 ghost use Rattle.std.specs.Prelude.{◌≡◌, ◌≤◌, ◌+◌, ◌^◌, ⊤, [], IfOk, IfErr, OnOk, length};
 ghost use Rattle.sqlite.specs.State.{HasCleanDisk};
@@ -15,8 +15,7 @@ use sqlite::{Alter, Connection};
 use state_rows::RowSet;
 use std::alloc::{AllocError, Global};
 
-/// The rows of the state tables that a list makes. Placements are not kept: each entry's are looked
-/// for in the table at once.
+/// The rows of the state tables of a history. Placements are not kept: each entry's are looked up in the table at once.
 #[derive(Drop)]
 pub struct Beside {
     /// The rows of all tables but `placement`.
@@ -26,7 +25,7 @@ pub struct Beside {
 }
 
 impl Beside {
-    /// That of an empty list.
+    /// Returns the rows of an empty history.
     pub fn new(alloc: Global) -> Beside
         ensures { (db : Database) → IsBeside ⊤ db result [] }
     {
@@ -39,7 +38,7 @@ impl Beside {
         }
     }
 
-    /// Makes the edits of the entry of this number, and looks for its placements.
+    /// Makes the edits of the entry of this number, and looks up its placements.
     pub fn add<S: Alter>(
         &mut self,
         alloc: Global,
@@ -62,7 +61,7 @@ impl Beside {
     }
 }
 
-/// The placements among the edits.
+/// Returns the placements among the edits.
 fn placements_by(alloc: Global, edits: &[RowEdit]) -> Result<Vec<PlacementRow>, AllocError>
     ensures { IfOk result (λ rows. rows.items ≡ placements_by edits.now) }
 {
@@ -96,7 +95,7 @@ fn sum(placed: u64, more: usize) -> Result<u64, ReplayFault>
     }
 }
 
-/// Whether all were found so far, and these rows are in the table too.
+/// Returns whether all were found so far, and these rows too.
 fn are_found<S: Alter>(
     conn: &mut Connection<S>,
     found: bool,

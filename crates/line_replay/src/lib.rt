@@ -1,5 +1,5 @@
-//! The list of accepted commands, read again from its table: each row is judged by a desk, and the
-//! rows that the other tables should have are kept beside it.
+//! Replays the history from its table: a desk judges each row again, and the expected rows of the other tables are
+//! computed.
 #![tactic(auto)]
 
 mod beside;

@@ -1,4 +1,4 @@
-//! The desk of the list that a table keeps.
+//! The desk of the history in a table.
 
 ghost use Rattle.std.specs.Prelude.{◌≡◌, ◌≤◌, IsTrue, IfOk, IfErr, IfSome, length};
 ghost use Rattle.sqlite.specs.State.{HasCleanDisk};
@@ -21,7 +21,7 @@ use sqlite::{Alter, Connection};
 use std::alloc::Global;
 use trace_lists::TraceLists;
 
-/// A desk, the lists beside it, how many entries its list has, and the rows of the other tables.
+/// A desk, its trace indexes, the length of its history, and the expected rows of the other tables.
 pub struct Replayed<D: Desk + Drop> {
     pub desk: D,
     pub lists: TraceLists,
@@ -29,9 +29,8 @@ pub struct Replayed<D: Desk + Drop> {
     pub beside: Beside,
 }
 
-/// Judges each row of `accepted` once more, by number, with a fresh desk of these rules. Numbers go
-/// up to the greatest. One row is in memory at a time. In an open transaction of the caller's
-/// nothing is read, and the fault is Unavailable.
+/// Judges each row of `accepted` again, by number, with a fresh desk of these rules. Numbers go up to the greatest. One
+/// row is in memory at a time. Inside an open transaction of the caller nothing is read, and the fault is Unavailable.
 pub fn replay<S: Alter, D: Desk + Drop>(
     alloc: Global,
     conn: &mut Connection<S>,
@@ -64,9 +63,8 @@ pub fn replay<S: Alter, D: Desk + Drop>(
     })
 }
 
-/// The desk made again from the tables of a list that was judged by these rules, as after a refused
-/// `settle`. None where memory was refused, where the database failed, and where the rows are no
-/// such list.
+/// Rebuilds the desk from the tables of a judged history, as after a refused `settle`. Returns `None` if memory was
+/// refused, if the database failed, or if the rows are no such history.
 pub fn rebuild<S: Alter, D: Desk + Drop>(
     alloc: Global,
     conn: &mut Connection<S>,

@@ -1,4 +1,4 @@
-//! The rows, taken one after the other by their numbers.
+//! Rows taken one after another, by number.
 
 ghost use Rattle.std.specs.Prelude.{◌≡◌, ◌==◌, ◌+◌, ◌≤◌, ◌⊎◌, ⊤, ℕ, true, IfOk, IfErr, OnOk, [], ◌∷◌, length};
 ghost use Rattle.std.specs.List.{list_any};
@@ -28,7 +28,7 @@ use sqlite::{Alter, Connection, Row};
 use std::alloc::Global;
 use trace_lists::TraceLists;
 
-/// Asks that the least number is 1, where there is a row.
+/// Requires that the least number is 1, if there is a row.
 pub fn least_is_one<S: Alter>(conn: &mut Connection<S>) -> Result<(), ReplayFault>
     ensures ok { HasCleanDisk (state S.Store conn.new)
         → OnOk result (Reads (state S.Store conn.old) (λ db. IsNumbered (accepted_in db))) }
@@ -44,7 +44,7 @@ pub fn least_is_one<S: Alter>(conn: &mut Connection<S>) -> Result<(), ReplayFaul
     }
 }
 
-/// Asks that there are this many rows.
+/// Requires this number of rows.
 pub fn are_all<S: Alter>(conn: &mut Connection<S>, taken: u32) -> Result<bool, ReplayFault>
     ensures counted { HasCleanDisk (state S.Store conn.new)
         → IfOk result (λ are. Reads (state S.Store conn.old) (λ db. are ≡ (taken == length (accepted_in db)))) }
@@ -54,8 +54,8 @@ pub fn are_all<S: Alter>(conn: &mut Connection<S>, taken: u32) -> Result<bool, R
     Ok(count(conn)? == u64::from(taken))
 }
 
-/// Takes row after row, up to the greatest number, into a desk and lists of an empty list, with the
-/// rows that the other tables should have. Answers how many.
+/// Takes row after row, up to the greatest number, into a new desk with its trace indexes and the expected rows of the
+/// other tables. Returns the number of rows.
 pub fn take_rows<S: Alter, D: Desk>(
     alloc: Global,
     conn: &mut Connection<S>,
@@ -87,7 +87,7 @@ pub fn take_rows<S: Alter, D: Desk>(
     Ok(greatest)
 }
 
-/// Accepts the command of the row with this number, the next one; or there is no such row.
+/// Accepts the command of the row with this number, the next one, if there is such a row.
 fn take_row<S: Alter, D: Desk>(
     alloc: Global,
     conn: &mut Connection<S>,
@@ -119,7 +119,7 @@ fn take_row<S: Alter, D: Desk>(
     }
 }
 
-/// Accepts the command of the row, where no row of a lower number has its UniqueID. Answers its edits.
+/// Accepts the command of the row if no row of a lower number has its UniqueID. Returns its edits.
 fn accept_first<S: Alter, D: Desk>(
     alloc: Global,
     conn: &mut Connection<S>,

@@ -1,4 +1,4 @@
--- What the edits of a change make of the tables of a list.
+-- The effect of a change's edits on the tables of a history.
 use Rattle.std.proofs.Common.{◌≡◌, ◌∙◌, ◌+◌, ℕ, List, [], ◌∷◌, map, refl, sym, ap, subst, length}
 use Rattle.sqlite_value.specs.Order.{Row}
 use Rattle.desk_types.specs.declared.change.Change.{Change}
@@ -25,7 +25,7 @@ rows_new : (rows : List RowEdit) (t : Tables) → AreNewRows rows t.state → Ar
 rows_new [] t new = tt
 rows_new (x ∷ rows) t new = (new.0, rows_new rows (record t { state = with_edit x t.state }) new.1)
 
--- the row that is put is that of the entry, and the state tables are those of the list with it
+-- The new row is that of the entry, and the state tables are those of the history with it.
 pub put_is : (greatest number : ℕ) (H : History) (change : Change) (text : List ℕ) (row : Accepted) (rows : List RowEdit) (edits : List Edit) → edits ≡ PutAccepted row ∷ map (λ edit. EditRow edit) rows
     → columns_of row ≡ columns number change.stamped change.minute text → IsChange Two H change.stamped change → number ≡ length H + 1 → text ≡ accepted_text number change.stamped.uid change.detail
     → with_edits rows (state_of H) ≡ state_of (accept H change.stamped) → after_edits edits (ledger_tables greatest H) ≡ ledger_tables greatest (accept H change.stamped)
@@ -35,7 +35,7 @@ put_is greatest number H change text row rows edits are kept is numbered told le
     ∙ ap (λ (t : StateTables). record { greatest = greatest; accepted = columns_of row ∷ rows_of H; state = t }) lead
     ∙ ap (λ (r : Row). record { greatest = greatest; accepted = r ∷ rows_of H; state = state_of (accept H change.stamped) }) (kept ∙ row_is Two H change.stamped change number text is numbered told)
 
--- and no edit puts anew what is there
+-- No edit inserts an existing row.
 pub put_new : (greatest : ℕ) (H : History) (row : Accepted) (rows : List RowEdit) (edits : List Edit) → edits ≡ PutAccepted row ∷ map (λ edit. EditRow edit) rows → AreNewRows rows (state_of H) → AreNew edits (ledger_tables greatest H)
 put_new greatest H row rows edits are new =
     subst (λ l. AreNew l (ledger_tables greatest H)) (sym are) (tt, rows_new rows (record { greatest = greatest; accepted = columns_of row ∷ rows_of H; state = state_of H }) new)

@@ -61,7 +61,7 @@ row_values row s number minute text of says = seven row of.seven ∙ rw (says.0,
 value_says : (row : Row) (s : Stamped) (number minute : ℕ) (text : List ℕ) → row ≡ columns number s minute text → Says row number minute text
 value_says row s number minute text is = (ap (λ (r : Row). column r 0) is, ap (λ (r : Row). column r 4) is, ap (λ (r : Row). column r 6) is)
 
--- a row with which the list goes on keeps the message of the entry
+-- A row that continues the history stores the entry's message.
 message_of : (rules : Rules) (H : History) (row : Row) (e : Entry) → GoesOn rules H row e → IsMessageOf row e.stamped
 message_of rules H row e goes = record {
   seven = ap length goes.same;

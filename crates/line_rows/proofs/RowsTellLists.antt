@@ -1,4 +1,4 @@
--- The rows of a list tell which list it is.
+-- The rows of a history determine it.
 use Rattle.std.proofs.Common.{◌≡◌, ◌∙◌, ◌==◌, ◌+◌, ◌<◌, ℕ, pos, not, Bool, true, false, List, [], ◌∷◌, length, filter, refl, sym, ap, ap₂, subst₂, if◌then◌else◌, arith}
 use Rattle.std.proofs.lemmas.Bool.Decides.{nat_tests}
 use Rattle.std.specs.List.{AllByRecursion}
@@ -23,7 +23,7 @@ stamped_same a b u s m c =
     ap (λ x. record a { uid = x }) u ∙ ap (λ x. record a { uid = b.uid; source = x }) s
     ∙ ap (λ x. record a { uid = b.uid; source = b.source; minute = x }) m ∙ ap (λ x. record b { command = x }) c
 
--- two commands in their ranges have two texts
+-- Different commands in their ranges have different texts.
 abbrev pub TextsTell : Type 0
 TextsTell = (a b : Command) → IsCommand a → IsCommand b → stored_text a ≡ stored_text b → a ≡ b
 

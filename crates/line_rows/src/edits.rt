@@ -1,4 +1,4 @@
-//! What is answered and written where a command is accepted.
+//! The answer and the edits of an accepted command.
 
 ghost use Rattle.std.specs.Prelude.{◌≡◌, ◌+◌, ◌<◌, ℕ, IfOk, length, map, ◌∷◌};
 ghost use Rattle.desk_types.specs.declared.rules.Rules.TheVariants.{Two};
@@ -17,14 +17,14 @@ use line_tables::{Accepted, Edit};
 use state_rows::rows_of;
 use std::alloc::{AllocError, Global};
 
-/// The text of an answer, and the edits of the tables that are committed before it goes out.
+/// The text of an answer, and the edits that are committed before it is sent.
 pub struct Acceptance {
     pub text: Text,
     pub edits: Vec<Edit>,
 }
 
-/// What is answered and written where the change, which the desk judged, is accepted under this number.
-/// The edits make of the tables of a list those of the list with it.
+/// Returns the answer and the edits for a change that the desk judged, under this number. The edits turn the tables of
+/// a history into those of the history with it.
 pub fn prepare<D: Desk>(
     alloc: Global,
     number: u32,

@@ -24,9 +24,9 @@ pub struct Taken {
     pub edits: RowEdits,
 }
 
-/// Accepts the command of the row once more, where it has this number and the row is just what
-/// accepting it gives, notes it in the lists, and answers its UniqueID and its edits. UniqueIDs are the caller's
-/// to compare, and so is the greatest number. After an `Err` nothing is known of the desk and the lists: drop them.
+/// Accepts the command of the row again, if the row has this number and is exactly what accepting it gives. Notes it in
+/// the indexes, and returns its UniqueID and its edits. The caller compares UniqueIDs and the greatest number. After an
+/// `Err` drop the desk and the indexes, whose state is unknown.
 pub fn accept_row<D: Desk>(
     alloc: Global,
     desk: &mut D,

@@ -1,4 +1,4 @@
--- Rows that are found by their keys are those of a list of entries.
+-- Rows found by their keys are those of a list of entries.
 use Rattle.std.proofs.Common.{◌≡◌, ◌∙◌, IsTrue, Bool, true, false, not, Some, None, List, [], ◌∷◌, ◌++◌, map, filter, cond, refl, sym, ap, subst, true≢false}
 use Rattle.std.specs.Prelude.{if◌then◌else◌}
 use Rattle.std.specs.Option.{option_map, option_to_list}

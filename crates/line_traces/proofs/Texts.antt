@@ -1,4 +1,4 @@
--- What the texts mean.
+-- The meaning of the texts.
 use Rattle.std.proofs.Common.{List, ℕ, [], ◌∷◌, codes, refl, true, false, None, pos, negsuc, inl}
 use Rattle.sqlite.specs.Term.{Term, lit, col, op2}
 use Rattle.sqlite.specs.Query.{Query, inner, end}
@@ -57,7 +57,7 @@ select_of_lot_is rules indexed = inl (refl, refl, (refl, refl))
 abbrev pub select_overdue : List ℕ
 select_overdue = codes "SELECT p.number, p.place, p.board, p.designator, r.part, r.lot, p.reel, p.machine, p.slot, a.effective, p.overdue FROM reel r JOIN placement p ON r.reel = p.reel JOIN accepted a ON a.number = p.number WHERE p.overdue = 1 ORDER BY p.number, p.place"
 
--- the floor life of its reel was used up
+-- The floor life of its reel was used up.
 abbrev pub is_overdue : Term
 is_overdue = op2 (Compare Eq Binary) (col 2 8) (lit (Int (pos 1)))
 

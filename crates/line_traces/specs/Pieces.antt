@@ -1,4 +1,4 @@
--- The placed pieces of a list as the calls tell them.
+-- The placed pieces of a history, as the calls return them.
 use Rattle.std.specs.Prelude.{◌↔◌, ◌==◌, ◌&&◌, Bool, false, Contains, Option, Some, None, List, [], map, if◌then◌else◌, unwrap_or}
 use Rattle.std.specs.List.{filter, find, list_any}
 use Rattle.desk_types.specs.declared.command.Command.{Command}
@@ -54,7 +54,7 @@ is_lot H lot = list_any (λ (e : Entry). receives lot e.stamped.command) H
 abbrev pub board_trace : History → Name → Option (List Placement)
 board_trace H board = if is_board H board then Some (pieces_on H board) else None
 
--- the pieces of a lot of which a reel was received
+-- The pieces of a lot, if one of its reels was received.
 abbrev pub lot_trace : History → Name → Option (List Placement)
 lot_trace H lot = if is_lot H lot then Some (pieces_of_lot H lot) else None
 
@@ -62,6 +62,7 @@ lot_trace H lot = if is_lot H lot then Some (pieces_of_lot H lot) else None
 abbrev pub lot_board_names : History → Name → Option (List Name)
 lot_board_names H lot = if is_lot H lot then Some (boards_of H lot) else None
 
--- What is told of a board and what is told of a lot agree: the lot is among the lots of the board's pieces exactly where the board is among the lot's boards. A board that was not started has no piece, and a lot that was not received is on no board.
+-- The traces of a board and of a lot agree. The lot is among the lots of the board's pieces exactly when the board is
+-- among the lot's boards. A board that was not started has no piece, and a lot that was not received is on no board.
 abbrev pub AreConverse : Name → Option (List Placement) → Name → Option (List Name) → Type 0
 AreConverse board pieces lot boards = Contains (map (λ (p : Placement). p.lot) (unwrap_or pieces [])) lot ↔ Contains (unwrap_or boards []) board
