@@ -27,7 +27,7 @@ pub lines_of-last : (raw : List ℕ) → HasNoFeed raw → lines_of raw ≡ line
 lines_of-last raw h =
     ap lines_among (slice_split_none is_feed raw h) ∙ kept (is_empty (without_return raw)) (without_return raw) [] ∙ append-nil (lines_in raw)
 
--- one more line is gone
+-- One more line is taken.
 pub lines_go : (a b c : Option (List ℕ)) (lines : List (List ℕ)) (raw : List ℕ) → LinesGone a lines b → TakesLine b raw false c → LinesGone a (lines ++ lines_in raw) c
 lines_go None b c lines raw p q = tt
 lines_go (Some xs) None c lines raw p q = absurd p
@@ -36,7 +36,7 @@ lines_go (Some xs) (Some ys) (Some zs) lines raw p q =
     let e : ys ≡ raw ++ 10 ∷ zs = q.1 ∙ append_assoc raw (10 ∷ []) zs in
     p ∙ ap (λ l. lines ++ l) (ap lines_of e ∙ lines_of-more raw zs q.0) ∙ sym (append_assoc lines (lines_in raw) (lines_of zs))
 
--- the last line is gone
+-- The last line is taken.
 pub last_goes : (a b c : Option (List ℕ)) (lines : List (List ℕ)) (raw : List ℕ) → LinesGone a lines b → TakesLine b raw true c → IfSome a (λ bytes. lines ++ lines_in raw ≡ lines_of bytes)
 last_goes None b c lines raw p q = tt
 last_goes (Some xs) None c lines raw p q = absurd p
@@ -45,7 +45,7 @@ last_goes (Some xs) (Some ys) (Some zs) lines raw p q =
     let e : ys ≡ raw = q.1 ∙ ap (λ l. raw ++ l) q.2 ∙ append-nil raw in
     sym (p ∙ ap (λ l. lines ++ l) (ap lines_of e ∙ lines_of-last raw q.0))
 
--- the lines that are gone come first
+-- The taken lines come first.
 pub gone_first : (a b : Option (List ℕ)) (lines : List (List ℕ)) → LinesGone a lines b → IfSome a (λ bytes. IsFront lines (lines_of bytes))
 gone_first None b lines p = tt
 gone_first (Some xs) None lines p = absurd p
@@ -63,12 +63,12 @@ next_first a b c lines raw line true p q e =
 next_first a b c lines raw line false p q e =
     subst (λ l. IfSome a (λ bytes. IsFront (lines ++ l) (lines_of bytes))) e (gone_first a c (lines ++ lines_in raw) (lines_go a b c lines raw p q))
 
--- at the start none is gone
+-- At the start no line is taken.
 pub start_gone : (a : Option (List ℕ)) → LinesGone a [] a
 start_gone None = tt
 start_gone (Some xs) = refl
 
--- where nothing is left to give, the reader is at its end
+-- If nothing is left to give, the reader is at its end.
 pub end_behind : (xs : List ℕ) (known : Option (List ℕ)) → IsAtEnd (prepend_known xs known) → IsAtEnd known
 end_behind xs None p = tt
 end_behind [] (Some ys) p = p
@@ -89,7 +89,7 @@ ended_lines-none rest h =
     let n : count_by is_feed rest ≡ 0 = omega (arith, ap length (slice_split_none is_feed rest h), length-slice_split is_feed rest) in
     ap (λ k. lines_among (take k (slice_split is_feed rest))) n
 
--- so many lines are gone, each with its line feed
+-- This number of lines is taken, each with its line feed.
 abbrev pub EndsGone : Option (List ℕ) → ℕ → Option (List ℕ) → Type 0
 EndsGone old count new = (gone : List ℕ) × Consumes old new gone × ((more : List ℕ) → length (ended_lines (gone ++ more)) ≡ count + length (ended_lines more))
 

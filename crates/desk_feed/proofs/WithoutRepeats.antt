@@ -1,4 +1,5 @@
--- A law of inputs: where no line is answered Unavailable, the list after an input is the list after that input without its repeats.
+-- A law of inputs: if no line is answered Unavailable, an input leaves the same history as that input without its
+-- repeats.
 use Rattle.std.proofs.Common.{◌≡◌, ◌∙◌, ◌||◌, ℕ, List, [], ◌∷◌, length, Bool, true, false, if◌then◌else◌, nat_lt, Option, Some, None, is_some, Result, Ok, Err, refl, sym, ap}
 use Rattle.cfx_profile.specs.declared.fault.MessageFault.{MessageFault}
 use Rattle.cfx_profile.specs.declared.message.Said.{Said}
@@ -28,7 +29,7 @@ short_leaves : (long again : Bool) (H after : History) → (if long then false e
 short_leaves true again H after is leaves = refl
 short_leaves false again H after is leaves = leaves is
 
--- a repeat leaves the list
+-- A repeat leaves the history unchanged.
 pub repeat_leaves : (rules : Rules) (greatest : ℕ) (H : History) (line : List ℕ) → is_repeat H line ≡ true → line_after rules greatest false H line ≡ H
 repeat_leaves rules greatest H line again =
     short_leaves (nat_lt LONGEST_INPUT (length line)) (repeats H (said_in line)) H (list_after rules greatest H line) again (heard_leaves rules greatest H (said_in line))

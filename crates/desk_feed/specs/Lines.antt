@@ -14,14 +14,14 @@ abbrev pub is_empty : List ℕ → Bool
 is_empty [] = true
 is_empty (x ∷ xs) = false
 
--- the lines of an input: the pieces between line feeds, each without its carriage return, and of these the ones that are not empty
+-- The lines of an input: the pieces between line feeds, each without its carriage return, except the empty ones.
 abbrev pub lines_of : List ℕ → List (List ℕ)
 lines_of input = filter (λ line. not (is_empty line)) (map without_return (slice_split is_feed input))
 
--- the lines that have their line feed: of the pieces between line feeds as many as there are line feeds
+-- The lines that end in a line feed: as many pieces as there are line feeds.
 abbrev pub ended_lines : List ℕ → List (List ℕ)
 ended_lines input = filter (λ line. not (is_empty line)) (map without_return (take (count_by is_feed input) (slice_split is_feed input)))
 
--- the line in one piece between line feeds, where it is not empty
+-- The line in one piece between line feeds, unless it is empty.
 abbrev pub lines_in : List ℕ → List (List ℕ)
 lines_in raw = if is_empty (without_return raw) then [] else without_return raw ∷ []

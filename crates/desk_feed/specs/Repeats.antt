@@ -12,7 +12,7 @@ use Rattle.desk_answers.specs.Commands.{earlier_answer}
 use Rattle.desk_types.specs.declared.limits.TheConstants.{LONGEST_INPUT}
 use Rattle.desk_feed.specs.Stream.{after_lines, line_after}
 
--- the answer by an earlier entry is its first answer once more
+-- The earlier entry's first answer, given again.
 abbrev pub is_again : Option Answer → Bool
 is_again (Some (Accepted n text)) = true
 is_again _ = false
@@ -26,7 +26,7 @@ repeats H _ = false
 abbrev pub is_repeat : History → List ℕ → Bool
 is_repeat H line = if nat_lt LONGEST_INPUT (length line) then false else repeats H (said_in line)
 
--- the lines without those that were accepted before, by a line before them or in the list to begin with
+-- The lines without those that were accepted before, by an earlier line or in the initial history.
 abbrev pub without_repeats : Rules → ℕ → History → List (List ℕ) → List (List ℕ)
 without_repeats rules greatest H [] = []
 without_repeats rules greatest H (line ∷ lines) =
@@ -38,6 +38,6 @@ abbrev pub no_marks : List (List ℕ) → List Bool
 no_marks [] = []
 no_marks (line ∷ lines) = false ∷ no_marks lines
 
--- the list after lines of which none is answered Unavailable
+-- The history after lines, if none is answered Unavailable.
 abbrev pub after_all : Rules → ℕ → History → List (List ℕ) → History
 after_all rules greatest H lines = after_lines rules greatest (no_marks lines) H lines

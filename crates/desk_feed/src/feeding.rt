@@ -22,11 +22,10 @@ use std::io::{Read, Write};
 
 /// Answers the lines of an input, each before the next line is read.
 ///
-/// A line ends at a line feed or at the end of input, and one carriage return before that is
-/// dropped. An empty line is skipped. A line of more than 1,048,576 bytes is answered LineTooLong
-/// and skipped to its end; one in whose reading memory is refused is skipped and answered
-/// Unavailable. Each other line is a message, answered as the list says for which `owner` stands, so
-/// long as what it keeps that list in told the truth.
+/// A line ends at a line feed or at the end of input, and one carriage return before that is dropped. An empty line is
+/// skipped. A line of more than 1,048,576 bytes is answered LineTooLong and skipped to its end. A line that runs out of
+/// memory while being read is skipped and answered Unavailable. Each other line is a message, answered by the history
+/// that `owner` represents, as long as its storage has not lied.
 pub fn feed<R: Read, W: Write, L: Owner>(
     alloc: Global,
     input: &mut Wire<R>,
@@ -86,7 +85,7 @@ pub fn feed<R: Read, W: Write, L: Owner>(
     }
 }
 
-/// Answers what is kept of one line, and writes the answer.
+/// Answers the kept part of one line, and writes the answer.
 fn serve_line<W: Write, L: Owner>(
     alloc: Global,
     output: &mut Wire<W>,

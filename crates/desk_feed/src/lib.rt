@@ -1,8 +1,8 @@
-//! Lines in, answers out: over any reader, any writer and any owner of a list, as a store in memory or
-//! in a file.
+//! Lines in, answers out: over any reader, any writer and any owner of a history, such as a store in memory or in a
+//! file.
 //!
-//! `feed` takes the lines by `take_line`, `answer_message` asks the owner, and `send_line` of `served`
-//! writes the answer. What all of them answer is defined in `specs/`.
+//! `feed` takes the lines by `take_line`, `answer_message` asks the owner, and `send_line` of `served` writes the
+//! answer. The answers are defined in `specs/`.
 #![tactic(auto)]
 
 mod feeding;

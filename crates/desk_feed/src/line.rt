@@ -1,4 +1,4 @@
-//! What one line is answered.
+//! The answer to one line.
 
 ghost use Rattle.std.specs.Prelude.{◌≡◌, ◌∷◌, [], ℕ, List, MatchOption};
 ghost use Rattle.desk_types.specs.History.{History};
@@ -15,7 +15,7 @@ use desk_answers::Owner;
 use desk_types::LONGEST_INPUT;
 use std::alloc::Global;
 
-/// What one line is answered.
+/// The answer to one line.
 #[derive(Drop)]
 pub enum LineAnswer {
     /// The answer to the message in it.
@@ -49,14 +49,14 @@ impl LineAnswer {
     }
 }
 
-/// The text of the answer to a line that is too long. Takes no memory.
+/// Returns the text of the answer to a line that is too long. Takes no memory.
 fn too_long_text() -> &'static str
     ensures { result.now ≡ too_long_text }
 {
     "{\"Answer\":\"Faulty\",\"Fault\":\"LineTooLong\"}"
 }
 
-/// Answers what is kept of a line; an empty line has no answer.
+/// Answers the kept part of a line. An empty line has no answer.
 pub fn answer_line<L: Owner>(alloc: Global, owner: &mut L, raw: RawLine) -> Option<LineAnswer>
     requires ready { L.Ready owner.old }
     ensures ready { L.Ready owner.new }

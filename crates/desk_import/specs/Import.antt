@@ -1,4 +1,4 @@
--- What an import is answered, and the list after it.
+-- The answer to an import, and the history after it.
 use Rattle.std.specs.Prelude.{◌≡◌, ℕ, Bool, true, false, List, Option, IfSome, Result, Ok, Err}
 use Rattle.std.specs.Io.KnownBytes.{Appends}
 use Rattle.cfx_profile.specs.Answer.{unavailable_text}
@@ -19,9 +19,9 @@ use Rattle.desk_import.specs.declared.options.Content.{Content}
 use Rattle.desk_import.specs.declared.options.Content.TheVariants.{Sheet, Counts}
 use Rattle.desk_import.specs.declared.options.Import.{Import}
 
--- ---- what is said
+-- ---- meaning
 
--- what the rows of a file say: the sheet of the product on the machine, or the count
+-- The command in the records of a file: the sheet of the product on the machine, or the count.
 abbrev pub rows_said : Content → List ℕ → Result Command ImportFault
 rows_said (Sheet product machine) bytes = setup_said product machine bytes
 rows_said Counts bytes = counts_said bytes
@@ -30,43 +30,44 @@ rows_said Counts bytes = counts_said bytes
 abbrev pub stamped_by : Import → Command → Stamped
 stamped_by import command = record { uid = import.uid; source = import.source; minute = import.minute; command = command }
 
--- the one command of an import and the bytes of its file, or the first fault of the file
+-- The command of an import and its file's bytes, or the first fault of the file.
 unfoldable pub command_said : Import → List ℕ → Result Stamped ImportFault
 command_said import bytes = do
   command ← rows_said import.content bytes
   Ok (stamped_by import command)
 
--- that is said by the whole file, where it is known
+-- This is the meaning of the whole file, if it is known.
 abbrev pub IsSaidBy : Import → Option (List ℕ) → Result Stamped ImportFault → Type 0
 IsSaidBy import file said = IfSome file (λ all. said ≡ command_said import all)
 
--- ---- what it is answered
+-- ---- answer
 
--- the answer to what is said, by the list of a desk: Faulty, or that of the command
+-- The answer by the history of a desk: Faulty, or that of the command.
 abbrev pub answer_said : Ledger → Result Stamped ImportFault → Told
 answer_said G (Ok s) = answer_asked G.rules G.greatest G.history s
 answer_said G (Err fault) = record { text = fault_text fault; refused = true }
 
--- the list after it: a file with a fault leaves it as it was
+-- The history after it. A file with a fault leaves it unchanged.
 abbrev pub after_said : Ledger → Result Stamped ImportFault → History
 after_said G (Ok s) = command_after G.rules G.greatest G.history s
 after_said G (Err fault) = G.history
 
--- the answer that goes out: Unavailable where it is marked so
+-- The answer that is sent: Unavailable if it is marked so.
 abbrev pub import_answer : Bool → Ledger → Result Stamped ImportFault → Told
 import_answer true G said = record { text = unavailable_text; refused = true }
 import_answer false G said = answer_said G said
 
--- the list after that answer: Unavailable leaves it as it was
+-- The history after that answer. Unavailable leaves it unchanged.
 abbrev pub import_after : Bool → Ledger → Result Stamped ImportFault → History
 import_after true G said = G.history
 import_after false G said = after_said G said
 
--- what is said was answered: the answer's line went out whole, the list went on, and the answer counts as refused or doesn't
+-- The import was answered: the line was sent completely, the history became this one, and the answer counts as refused
+-- or doesn't.
 abbrev pub IsAnswered : Result Stamped ImportFault → Option (List ℕ) → Option (List ℕ) → Bool → Ledger → History → Type 0
 IsAnswered said out out' refused G H = (mark : Bool) × (H ≡ import_after mark G said)
     × Appends out out' (sent_line (import_answer mark G said)) × (refused ≡ (import_answer mark G said).refused)
 
--- it was answered, and only the first bytes of the line went out
+-- It was answered, and only the first bytes of the line were sent.
 abbrev pub IsCutOff : Result Stamped ImportFault → Option (List ℕ) → Option (List ℕ) → Ledger → History → Type 0
 IsCutOff said out out' G H = (mark : Bool) × (H ≡ import_after mark G said) × SendsFront out out' (sent_line (import_answer mark G said))

@@ -1,4 +1,4 @@
--- What the options of an import say, judged in their order: an import, or the first option that can't be read.
+-- The options of an import, read in their order: an import, or the first option that can't be read.
 use Rattle.std.specs.Prelude.{ℕ, List, Result, Ok, ok_or}
 use Rattle.cfx_profile.specs.Fault.{◌>>=◌}
 use Rattle.cfx_profile.specs.Forms.{id_of}
@@ -9,11 +9,11 @@ use Rattle.desk_import.specs.declared.options.BadOption.TheVariants as bad
 use Rattle.desk_import.specs.declared.options.Content.TheVariants.{Sheet, Counts}
 use Rattle.desk_import.specs.declared.options.Import.{Import}
 
--- the id that the text of an option is
+-- The id in the text of an option.
 abbrev pub id_in : List ℕ → BadOption → Result Name BadOption
 id_in text option = ok_or (id_of text) option
 
--- the minute of the option `time`, as of a message's TimeStamp
+-- The minute of the option `time`, read like a message's TimeStamp.
 abbrev pub time_in : List ℕ → Result ℕ BadOption
 time_in text = ok_or (minute_of text) bad.Time
 

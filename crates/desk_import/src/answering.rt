@@ -1,4 +1,4 @@
-//! What an import is answered.
+//! The answer to an import.
 
 ghost use Rattle.std.specs.Prelude.{◌≡◌, ◌+◌, ◌^◌, ◌<◌, IfOk, OnOk, OnErr};
 ghost use Rattle.desk_types.specs.Wire.{inner_of, failures_of};
@@ -14,8 +14,7 @@ use served::{WriteFailed, send_line};
 use std::alloc::{AllocError, Global};
 use std::io::Write;
 
-/// Answers the command of an import and the bytes of its file. Where memory is refused, the list is
-/// as before.
+/// Answers the command of an import and the bytes of its file. If memory is refused, the history is unchanged.
 pub fn answer_import<L: Owner>(
     alloc: Global,
     owner: &mut L,
@@ -41,7 +40,7 @@ pub fn answer_import<L: Owner>(
     }
 }
 
-/// Answers an import, and writes the answer's line: whether it counts as refused.
+/// Answers an import and writes the answer's line. Returns whether it counts as refused.
 pub fn serve_import<W: Write, L: Owner>(
     alloc: Global,
     output: &mut Wire<W>,

@@ -1,8 +1,8 @@
-//! Setup files and count files at a desk: each is one command, of the options and of what its file
-//! says, and has one answer.
+//! Imports of setup files and count files: each is one command, made of the options and the file's records, and has one
+//! answer.
 //!
-//! `setup_import` and `counts_import` read the options, `read_file` the bytes, and `serve_import`
-//! answers. `specs/Import.antt` is the page that says what options and bytes make together.
+//! `setup_import` and `counts_import` read the options, `read_file` the bytes, and `serve_import` answers.
+//! `specs/Import.antt` defines the meaning of options and bytes together.
 #![tactic(auto)]
 
 mod answering;

@@ -1,4 +1,4 @@
-//! What the options of an import say.
+//! The options of an import.
 
 ghost use Rattle.std.specs.Prelude.{◌≡◌, ok_or};
 ghost use Rattle.cfx_profile.specs.Forms.{id_of};
@@ -11,7 +11,7 @@ use desk_types::{Id, Minute, Stamped};
 use imports::{ImportFault, read_counts, read_setup};
 use std::alloc::Global;
 
-/// What the rows of a file are.
+/// The kind of a file's records.
 #[derive(Clone, Copy)]
 pub enum Content {
     /// The sheet of a product on a machine.
@@ -25,7 +25,7 @@ pub enum Content {
     Counts,
 }
 
-/// A command of which a file is still to say the rows.
+/// A command whose records are still to come from a file.
 #[derive(Clone, Copy)]
 pub struct Import {
     pub uid: Id,
@@ -45,7 +45,7 @@ pub enum BadOption {
 }
 
 impl Import {
-    /// The command with the rows that a file of these bytes says.
+    /// Returns the command with the records in these bytes of a file.
     #[tactic(auto, unfolding(crate::specs::Import::command_said))]
     pub fn command(&self, alloc: Global, bytes: &[u8]) -> Result<Stamped, ImportFault>
         ensures { IsSaid (command_said self.now bytes.now) result }
@@ -95,7 +95,7 @@ pub fn counts_import(id: &str, source: &str, time: &str) -> Result<Import, BadOp
     })
 }
 
-/// The id that the text of an option is.
+/// Returns the id in the text of an option.
 fn id_in(text: &str, option: BadOption) -> Result<Id, BadOption>
     ensures { result ≡ id_in text.now option }
 {

@@ -1,4 +1,4 @@
-//! The bytes of the file of an import.
+//! The bytes of an import's file.
 
 ghost use Rattle.std.specs.Prelude.{IfOk};
 ghost use Rattle.desk_import.specs.Folder.{IsRead};
@@ -8,7 +8,7 @@ use std::alloc::Global;
 use std::io;
 use std::io::{ErrorKind, Read};
 
-/// The most bytes that are read of a file: one more than it may have.
+/// The greatest number of bytes read from a file: one more than its limit.
 const MOST_READ: u64 = LONGEST_INPUT as u64 + 1;
 
 /// Where files are read from.
@@ -17,13 +17,13 @@ pub trait Folder {
     ghost use Rattle.desk_import.specs.Folder.{IsRead};
     ghost use Rattle.desk_import.specs.declared.reading.Unread.TheVariants.{Failed};
 
-    /// What the file at a path holds, where that is known.
+    /// The contents of the file at a path, if they are known.
     ghost holds: { Self → List ℕ → Option (List ℕ) };
 
     /// Whether the file at a path may fail to be opened or read.
     ghost may_fail: { Self → List ℕ → Type 0 };
 
-    /// Reads the file at a path, as far as it may be long and one byte further.
+    /// Reads the file at a path, up to one byte beyond its limit.
     fn read(&self, alloc: Global, path: &str) -> Result<Vec<u8>, Unread>
         ensures bytes { IfOk result (λ bytes. IsRead (holds self.now path.now) bytes.items) }
         ensures failed { IfErr result (λ unread. unread ≡ Failed → may_fail self.now path.now) };
@@ -54,7 +54,7 @@ impl From<io::Error> for Unread {
     }
 }
 
-/// Reads an open file, as far as it may be long and one byte further.
+/// Reads an open file, up to one byte beyond its limit.
 pub fn read_file<R: Read + Drop>(alloc: Global, file: R) -> Result<Vec<u8>, Unread>
     ensures { IfOk result (λ bytes. IsRead (R.remaining file) bytes.items) }
 {

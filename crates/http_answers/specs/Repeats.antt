@@ -1,4 +1,4 @@
--- Requests whose command was accepted before, and requests that are questions.
+-- Requests whose command was accepted before, and requests that only ask.
 use Rattle.std.specs.Prelude.{Bool, false, not, ℕ, List, [], Option, Some, None, Result, Ok, Err, codes}
 use Rattle.std.specs.Option.{option_map_or}
 use Rattle.cfx_profile.specs.Message.{said_in}
@@ -33,7 +33,7 @@ abbrev pub file_command : Stamp → Result Command ImportFault → Option Stampe
 file_command stamp (Ok command) = Some (stamped_by stamp command)
 file_command stamp (Err fault) = None
 
--- the command that a request with this body asks, where it asks one
+-- The command of a request with this body, if it has one.
 abbrev pub command_asked : List ℕ → Result Asked AskFault → Option Stamped
 command_asked body (Ok asks.Message) = message_command (said_in body)
 command_asked body (Ok (asks.ImportSetup stamp product machine)) = file_command stamp (setup_said product machine body)
@@ -45,7 +45,7 @@ command_asked body (Err fault) = None
 abbrev pub is_known : History → Stamped → Bool
 is_known H s = option_map_or (λ answer. not (is_refused answer)) (earlier_answer H s) false
 
--- the request is a repeat: it asks a command that was accepted before, in the same message or file
+-- The request is a repeat: its command was accepted before, in the same message or file.
 abbrev pub is_repeat : Repeats
 is_repeat H r = option_map_or (is_known H) (command_asked r.body (asked_of r.method r.target)) false
 

@@ -1,4 +1,4 @@
-//! What each request is answered.
+//! The answer to each request.
 
 ghost use Rattle.std.specs.Prelude.{◌≡◌, IfOk};
 ghost use Rattle.cfx_profile.specs.Message.{said_in};
@@ -142,7 +142,7 @@ fn stamped_by(stamp: Stamp, command: Command) -> Stamped
     }
 }
 
-/// The answer to a command. Of an accepted one it takes no memory beyond that of its judgement.
+/// Answers a command. An accepted one takes no memory beyond that of its judgement.
 #[tactic(auto, using(desk_answers::proofs::Refusing::refused_leaves))]
 fn answer_command<L: Owner>(
     alloc: Global,
@@ -161,7 +161,7 @@ fn answer_command<L: Owner>(
     }
 }
 
-/// A report, or that it is not found.
+/// Returns a report, or the answer that its subject is not found.
 fn answer_report<L: ReportedOwner>(
     alloc: Global,
     owner: &mut L,
@@ -183,7 +183,7 @@ fn answer_report<L: ReportedOwner>(
     }
 }
 
-/// The answer where what a report is about is not found.
+/// Returns the answer for a subject that is not found.
 fn answer_none(alloc: Global, about: Option<report_texts::Kind>) -> Result<Response, Unavailable>
     ensures { IfOk result (λ response. response_told response ≡ none_told about) }
 {
@@ -193,7 +193,7 @@ fn answer_none(alloc: Global, about: Option<report_texts::Kind>) -> Result<Respo
     }
 }
 
-/// What a report is about; none of the overdue list, which each owner has.
+/// Returns the subject of a report. The overdue list has no subject.
 fn kind_of(report: Report) -> Option<report_texts::Kind>
     ensures { result ≡ kind_of report }
 {

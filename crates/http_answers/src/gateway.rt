@@ -37,7 +37,7 @@ impl<L> Gateway<L> {
 }
 
 impl<L: ReportedOwner> Gateway<L> {
-    /// The answer to a GET of this target, or Unavailable. The list stays.
+    /// Returns the answer to a GET of this target, or Unavailable. The history stays.
     pub fn ask(&mut self, alloc: Global, target: &[u8]) -> Response
         requires ready { L.Ready (owner_of self.old) }
         ensures ready { L.Ready (owner_of self.new) }

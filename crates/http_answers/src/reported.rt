@@ -5,8 +5,8 @@ use desk_types::Text;
 use http_routes::Report;
 use std::alloc::{AllocError, Global};
 
-/// Memory was refused, or a database failed that keeps the list. The list is as before, and it may be
-/// asked again.
+/// Memory was refused, or the database of the history failed. The history is unchanged, and the request may be sent
+/// again.
 #[derive(Clone, Copy, Debug, PartialEq, Eq)]
 pub struct Unavailable;
 
@@ -20,16 +20,16 @@ impl From<AllocError> for Unavailable {
     }
 }
 
-/// What answers commands, and returns reports of those that it accepted.
+/// An owner that answers commands, and returns reports on those it accepted.
 pub trait ReportedOwner: Owner {
     ghost use Rattle.std.specs.Prelude.{◌≡◌, IfOk};
     ghost use Rattle.desk_answers.specs.Ledger.{Ledger};
     ghost use Rattle.http_answers.specs.Requests.{Reports};
 
-    /// What its reports tell of a list.
+    /// The texts of its reports for a history.
     ghost reports: { Reports };
 
-    /// Gives a report; none where what it is about is not found. The list stays.
+    /// Returns a report, or `None` if its subject is not found. The history stays.
     fn report(&mut self, alloc: Global, asked: Report) -> Result<Option<Text>, Unavailable>
         requires ready { Self.Ready self.old }
         ensures ready { Self.Ready self.new }

@@ -1,4 +1,4 @@
--- The answers to requests that ask nothing: one compact JSON object each, its members in byte order of their names.
+-- The answers to requests that ask nothing: one compact JSON object each, with members in byte order of their names.
 use Rattle.std.specs.Prelude.{ℕ, List, codes}
 use Rattle.serde_json.specs.Data.{Data}
 use Rattle.serde_json.specs.Written.{compact_text}
@@ -7,7 +7,7 @@ use Rattle.http_routes.specs.declared.fault.AskFault.{AskFault}
 use Rattle.http_routes.specs.declared.fault.AskFault.TheVariants.{NoPath, BadMethod, BadQuery, NoMemory}
 use Rattle.http_routes.specs.Parameter.{parameter_text}
 
--- the answer to a fault of what is asked
+-- The answer to a fault of a request.
 abbrev pub fault_answer : AskFault → Data
 fault_answer NoPath = not_found (codes "Path")
 fault_answer (BadMethod method) = faulty (codes "BadMethod")

@@ -1,4 +1,4 @@
--- What a request asks, by its method and its target.
+-- The meaning of a request, by its method and its target.
 use Rattle.std.specs.Prelude.{ℕ, ◌+◌, ◌==◌, Bool, List, take, drop, Result, Ok, Err, ok_or, if◌then◌else◌}
 use Rattle.std.specs.List.{position_or_len}
 use Rattle.cfx_profile.specs.Fault.{◌>>=◌}
@@ -27,7 +27,7 @@ use Rattle.http_routes.specs.Values.{detail_of, boards_of}
 abbrev pub is_mark : ℕ → Bool
 is_mark byte = byte == 0x3f
 
--- the target up to the first `?`, as it is written
+-- The target up to the first `?`, as written.
 unfoldable pub path_of : List ℕ → List ℕ
 path_of target = take (position_or_len is_mark target) target
 
@@ -37,7 +37,7 @@ query_of target = drop (position_or_len is_mark target + 1) target
 
 -- ---- one parameter
 
--- its value, where it stands just once
+-- Its value, if it occurs exactly once.
 unfoldable pub parameter_value : Parameter → List ℕ → Result (List ℕ) AskFault
 parameter_value p query = ok_or (value_of (parameter_text p) query) (BadQuery p)
 
@@ -67,7 +67,7 @@ boards_in query = do
 
 -- ---- the parameters of each route, in their order
 
--- what stands on the command of a file
+-- The UniqueID, source and minute of a file's command.
 unfoldable pub stamp_in : List ℕ → Result Stamp AskFault
 stamp_in query = do
   uid ← id_in parameter.Id query
@@ -75,7 +75,7 @@ stamp_in query = do
   minute ← minute_in query
   Ok (record { uid = uid; source = source; minute = minute })
 
--- what is asked of a route; the first parameter that is missing, stands twice or is not of its form is the fault
+-- The request for a route. The fault is the first parameter that is missing, occurs twice or is not of its form.
 unfoldable pub asked_at : Route → List ℕ → Result Asked AskFault
 asked_at route.Messages query = Ok asks.Message
 asked_at route.ImportSetup query = do
@@ -109,11 +109,11 @@ asked_at route.Overdue query = Ok (asks.Report report.OverdueList)
 
 -- ---- a request
 
--- the route, where this is its method
+-- The route, if this is its method.
 abbrev pub by_method : List ℕ → Route → Result Route AskFault
 by_method method route = if same method (method_text (route_method route)) then Ok route else Err (BadMethod (route_method route))
 
--- what a request asks, or the first fault: of its path, of its method, of a parameter
+-- The meaning of a request, or its first fault: of its path, of its method, of a parameter.
 unfoldable pub asked_of : List ℕ → List ℕ → Result Asked AskFault
 asked_of method target = do
   found ← ok_or (route_of (path_of target)) NoPath

@@ -1,4 +1,4 @@
--- The parameters of queries that are read, by their names.
+-- The parameters of queries, by their names.
 use Rattle.std.specs.Prelude.{ℕ, List, codes}
 use Rattle.http_routes.specs.declared.parameter.Parameter.{Parameter}
 use Rattle.http_routes.specs.declared.parameter.Parameter.TheVariants.{Id, Source, Time, Product, Machine, Board, Lot, Detail, Reel, Boards}

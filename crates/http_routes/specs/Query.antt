@@ -1,10 +1,10 @@
--- The values in a query: pairs of a name and a value, as a web form is written.
+-- The values in a query, which has pairs of a name and a value, as in a web form.
 use Rattle.std.specs.Prelude.{ℕ, List, [], ◌∷◌, Option, Some, None, if◌then◌else◌}
 use Rattle.std.specs.Str.Lossy.{utf8_lossy}
 use Rattle.form_urlencoded.specs.Form.{raw_pairs, decode}
 use Rattle.desk_types.specs.Id.{same}
 
--- the text that a written name or value stands for; U+FFFD stands for what is no UTF-8
+-- The text of a written name or value. U+FFFD replaces bytes that are not UTF-8.
 abbrev pub text_of : List ℕ → List ℕ
 text_of bytes = utf8_lossy (decode bytes)
 
@@ -13,11 +13,11 @@ abbrev pub values_of : List ℕ → List (List ℕ × List ℕ) → List (List �
 values_of name [] = []
 values_of name ((key, value) ∷ pairs) = if same (text_of key) name then text_of value ∷ values_of name pairs else values_of name pairs
 
--- the element of a list that has just one
+-- The only element of a list.
 abbrev pub only : List (List ℕ) → Option (List ℕ)
 only (value ∷ []) = Some value
 only _ = None
 
--- the value of this name, where the name stands just once in the query
+-- The value of this name, if the name occurs exactly once in the query.
 unfoldable pub value_of : List ℕ → List ℕ → Option (List ℕ)
 value_of name query = only (values_of name (raw_pairs query))

@@ -9,7 +9,7 @@ use Rattle.http_routes.specs.declared.routes.Method.TheVariants.{Get, Post}
 use Rattle.http_routes.specs.declared.routes.Route.{Route}
 use Rattle.http_routes.specs.declared.routes.Route.TheVariants.{Messages, ImportSetup, ImportCounts, TraceBoard, TraceLot, Reel, Slots, Kit, Overdue}
 
--- a method as a request spells it
+-- A method as written in a request.
 abbrev pub method_text : Method → List ℕ
 method_text Get = codes "GET"
 method_text Post = codes "POST"
@@ -26,7 +26,7 @@ route_path Slots = codes "/slots"
 route_path Kit = codes "/kit"
 route_path Overdue = codes "/overdue"
 
--- the one method by which a route is asked
+-- The only method of a route.
 abbrev pub route_method : Route → Method
 route_method Messages = Post
 route_method ImportSetup = Post
@@ -42,11 +42,11 @@ route_method Overdue = Get
 abbrev pub routes : List Route
 routes = ImportCounts ∷ ImportSetup ∷ Kit ∷ Messages ∷ Overdue ∷ Reel ∷ Slots ∷ TraceBoard ∷ TraceLot ∷ []
 
--- the route whose path this is, byte by byte
+-- The route with this path, byte by byte.
 unfoldable pub route_of : List ℕ → Option Route
 route_of path = find (λ route. same (route_path route) path) routes
 
--- ---- as `matchit` has them
+-- ---- for `matchit`
 
 -- a route: a path with no parameter in it
 abbrev pub row : Route → List ℕ × RouteOf Route

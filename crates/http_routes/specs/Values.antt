@@ -1,4 +1,4 @@
--- The numbers that are asked with.
+-- The numbers in requests.
 use Rattle.std.specs.Prelude.{ℕ, nat_le, Bool, ◌&&◌, List, length, Option, Some, None, if◌then◌else◌}
 use Rattle.std.specs.Char.{is_ascii_digit}
 use Rattle.std.specs.List.{list_all}
@@ -8,11 +8,11 @@ use Rattle.desk_types.specs.declared.limits.TheConstants.{MOST_BOARDS}
 use Rattle.desk_types.specs.declared.trace_detail.TraceDetail.{TraceDetail}
 use Rattle.desk_types.specs.TraceDetail.{trace_detail_of}
 
--- 1 to so many digits
+-- From 1 to this number of digits.
 abbrev pub is_numeral : ℕ → List ℕ → Bool
 is_numeral most_digits text = nat_le 1 (length text) && nat_le (length text) most_digits && list_all is_ascii_digit text
 
--- the number that a text of 1 to so many digits is
+-- The number denoted by a text of 1 to this number of digits.
 unfoldable pub number_of : ℕ → List ℕ → Option ℕ
 number_of most_digits text = if is_numeral most_digits text then Some (digits_value 10 text) else None
 

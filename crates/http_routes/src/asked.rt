@@ -1,4 +1,4 @@
-//! What a request asks.
+//! The meaning of a request.
 
 ghost use Rattle.std.specs.Prelude.{◌≡◌, ◌≢◌, Ok, Err, IfOk, IfErr};
 ghost use Rattle.std.specs.Cow.{cow_str_bytes};
@@ -17,7 +17,7 @@ use desk_types::{Boards, Id, Minute, TraceDetail};
 use std::alloc::Global;
 use std::borrow::CowStr;
 
-/// What stands on the command of a file, as the envelope's members on that of a message.
+/// The stamp of a file's command, which the envelope gives for a message.
 #[derive(Clone, Copy, Debug, PartialEq, Eq)]
 pub struct Stamp {
     /// The UniqueID.
@@ -27,7 +27,7 @@ pub struct Stamp {
     pub minute: Minute,
 }
 
-/// What a request asks, with its parameters.
+/// The meaning of a request, with its parameters.
 #[derive(Clone, Copy, Debug, PartialEq, Eq)]
 pub enum Asked {
     /// `POST /messages`: the body is a message.
@@ -46,15 +46,15 @@ pub enum Asked {
     Report(Report),
 }
 
-/// What a report is asked about: one variant a route, with its parameters.
+/// The subject of a report: one variant for each route, with its parameters.
 #[derive(Clone, Copy, Debug, PartialEq, Eq)]
 pub enum Report {
-    /// `GET /trace/board`: what is on a board.
+    /// `GET /trace/board`: the pieces on a board.
     BoardTrace {
         board: Id,
         detail: TraceDetail,
     },
-    /// `GET /trace/lot`: which boards hold a piece of a lot.
+    /// `GET /trace/lot`: the boards that hold a piece of a lot.
     LotTrace {
         lot: Id,
         detail: TraceDetail,
@@ -63,25 +63,25 @@ pub enum Report {
     ReelCard {
         reel: Id,
     },
-    /// `GET /slots`: what is mounted on a machine.
+    /// `GET /slots`: the reels on a machine.
     SlotList {
         machine: Id,
     },
-    /// `GET /kit`: the reels for so many boards of a product.
+    /// `GET /kit`: the reels for this number of boards of a product.
     KitList {
         product: Id,
         machine: Id,
         boards: Boards,
     },
-    /// `GET /overdue`: the pieces that were placed past their floor life.
+    /// `GET /overdue`: the pieces placed past their floor life.
     OverdueList,
 }
 
 impl RouteTable {
-    /// What a request of this method asks with its target.
+    /// Returns the meaning of a request with this method and target.
     ///
-    /// The path is looked at before the method, and the method before the parameters; they are read
-    /// in the order of the route, and others are skipped.
+    /// The path is checked before the method, and the method before the parameters. Parameters are read in the route's
+    /// order; others are skipped.
     #[tactic(auto, unfolding(crate::specs::Asked::asked_of))]
     pub fn read_request(
         &self,
@@ -109,14 +109,14 @@ fn cut_target(target: &[u8]) -> (&[u8], &[u8])
     }
 }
 
-/// Where the first `?` is.
+/// Returns the place of the first `?`.
 fn first_mark(target: &[u8]) -> Option<usize>
     ensures { result ≡ position is_mark target.now }
 {
     target.iter().position(|byte| *byte == b'?')
 }
 
-/// The route, where this is its method.
+/// Returns the route, if this is its method.
 fn by_method(route: Route, method: &[u8]) -> Result<Route, AskFault>
     ensures { result ≡ by_method method.now route }
 {
@@ -233,7 +233,7 @@ fn boards_in(alloc: Global, query: &[u8]) -> Result<Boards, AskFault>
     boards_of(text.as_str()).ok_or(AskFault::BadQuery(Parameter::Boards))
 }
 
-/// The value of a parameter, where it stands just once.
+/// Returns the value of a parameter, if it occurs exactly once.
 #[tactic(auto, unfolding(crate::specs::Asked::parameter_value))]
 fn parameter_value<'a>(
     alloc: Global,

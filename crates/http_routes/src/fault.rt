@@ -1,4 +1,4 @@
-//! Why a request asks nothing.
+//! Faults of requests.
 
 use crate::parameter::Parameter;
 use crate::routes::Method;
@@ -9,16 +9,15 @@ use std::alloc::AllocError;
 pub enum AskFault {
     /// No route has the path.
     NoPath,
-    /// The path is asked by this method alone.
+    /// The path has only this method.
     BadMethod(Method),
-    /// The parameter is missing, stands twice, or is not of its form: the first such in the order of
-    /// the route's parameters.
+    /// The parameter is missing, occurs twice, or is not of its form: the first such one in the route's order.
     BadQuery(Parameter),
-    /// Memory was refused. This may come in the place of any other answer.
+    /// Memory was refused. This may replace any other answer.
     NoMemory,
 }
 
-/// Where memory is refused while a request is read, it asks nothing.
+/// A request asks nothing if memory is refused while it is read.
 impl From<AllocError> for AskFault {
     ghost use Rattle.std.specs.Prelude.{◌≡◌};
     ghost use Rattle.http_routes.specs.declared.fault.AskFault.TheVariants.{NoMemory};

@@ -1,7 +1,7 @@
-//! What a request asks: its route, by its path and its method, and the route's parameters.
+//! The meaning of a request: its route, by its path and its method, and the route's parameters.
 //!
-//! `specs/Routes.antt` and `specs/Asked.antt` say on two pages what a method and a target ask;
-//! `specs/Answer.antt` says the texts of the answers to requests that ask nothing.
+//! `specs/Routes.antt` and `specs/Asked.antt` define it on two pages. `specs/Answer.antt` has the texts of the answers
+//! to requests that ask nothing.
 #![tactic(auto)]
 
 mod answer;

@@ -3,14 +3,14 @@
 ghost use Rattle.std.specs.Prelude.{◌≡◌};
 ghost use Rattle.http_routes.specs.Parameter.{parameter_text};
 
-/// A parameter of a query that some route reads.
+/// A query parameter of some route.
 #[derive(Clone, Copy, Debug, PartialEq, Eq)]
 pub enum Parameter {
-    /// The UniqueID of the command that a file makes.
+    /// The UniqueID of the file's command.
     Id,
-    /// Who sends the file.
+    /// The sender of the file.
     Source,
-    /// When the file is sent, by the sender's clock.
+    /// The time of sending, by the sender's clock.
     Time,
     Product,
     Machine,

@@ -7,10 +7,10 @@ ghost use Rattle.http_routes.specs.Query.{value_of};
 use std::alloc::{AllocError, Global};
 use std::borrow::CowStr;
 
-/// The value of this name, where the name stands just once in the query.
+/// Returns the value of this name, if the name occurs exactly once in the query.
 ///
-/// The query is pairs between `&`, as a web form is written (URL Standard, section 5): in names and
-/// values `+` is a space, and `%` with two digits a byte. For bytes that are no UTF-8 stands U+FFFD.
+/// The query has pairs between `&`, as in a web form (URL Standard, section 5). In names and values `+` is a space, and
+/// `%` with two digits is a byte. U+FFFD replaces bytes that are not UTF-8.
 #[tactic(auto, unfolding(crate::specs::Query::value_of))]
 pub fn value_of<'a>(
     alloc: Global,

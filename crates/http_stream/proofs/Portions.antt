@@ -1,4 +1,4 @@
--- What stands at the front of a stream, from what was seen of it.
+-- The portion at the front of a stream, as far as it was seen.
 use Rattle.std.proofs.Common.{◌≡◌, ◌∙◌, ◌<◌, ◌≤◌, ℕ, true, false, List, [], ◌∷◌, ◌++◌, min, sym, ap, refl, subst, take, drop, length, length-append, Option, Some, None, IfSome, Ok, Err, arith, inl, inr, append_assoc, append-nil}
 use Rattle.std.proofs.lemmas.List.{length-take, take-append-drop, take-append-le, take-take, take_min, drop-append-le}
 use Rattle.std.specs.Io.KnownBytes.{prepend_known, Consumes, Keeps, IsAtEnd}
@@ -13,11 +13,11 @@ use Rattle.http_stream.specs.Bodies.{ReadsFewer}
 use Rattle.http_stream.specs.Cut.{Portion, whole, bad_head, head_too_large, unread, starved, IsPortion, EndsInside, ReadsInside, TakesPortion, PortionsGone, Leads, IsCut, is_last}
 use Rattle.httparse.specs.Spans.{span_bytes}
 
--- what is looked at is the window of what is pending
+-- The examined bytes are the window of the pending bytes.
 pub window_is : (bytes pend : List ℕ) (n : ℕ) → bytes ≡ pend → n ≡ min HEAD_LIMIT (length bytes) → take n bytes ≡ window pend
 window_is bytes pend n same least = ap (λ k. take k bytes) least ∙ take_min HEAD_LIMIT bytes ∙ ap (take HEAD_LIMIT) same
 
--- ---- what is known of the bytes at hand stays known of more bytes
+-- ---- facts about the available bytes also hold with more bytes
 
 never-more : (p q : List ℕ) → NeverHasRequest p → NeverHasRequest (p ++ q)
 never-more p q never more = subst HasNoRequest (sym (append_assoc p q more)) (never (q ++ more))
@@ -33,7 +33,7 @@ bad-more : (p q : List ℕ) → IsBadHead p → IsBadHead (p ++ q)
 bad-more p q (inl never) = inl (never-more p q never)
 bad-more p q (inr e) = inr (exceeds-more MOST_HEADERS p q e.0, overflows-more MOST_HEADERS p q e.1)
 
--- the window of more bytes is the window, and maybe more
+-- With more bytes the window begins with the old window.
 window-more : (n : ℕ) (p q : List ℕ) → take n (p ++ q) ≡ take n p ++ drop (length (take n p)) (take n (p ++ q))
 window-more n p q =
     let m = length (take n p) in
@@ -67,7 +67,7 @@ takes_large a pend (Some us) k long un =
     keeps_takes a (Some (pend ++ us)) (Some (pend ++ us)) head_too_large k
     (omega (arith, long, length-append pend us), subst IsUnfinished (sym (take-append-le HEAD_LIMIT pend us long)) un)
 
--- ---- behind a head
+-- ---- after a head
 
 -- the stream begins with the head that was seen
 takes_head : (bytes more us : List ℕ) (head : Head) (h : RequestHead) → IsHeadOf bytes head h → length bytes ≤ HEAD_LIMIT
@@ -77,7 +77,7 @@ takes_head bytes more us head h is few =
     ap (λ l. (l ++ more) ++ us) is.reads.1 ∙ simp append_assoc in
     ((is.reads.0, e), omega (arith, is.len, is.in_bytes, few), is.few)
 
--- what was seen of the bytes at hand: the window, which begins with this head; and what is left of them behind it
+-- The examined bytes: the window, which begins with this head, and the bytes after the head.
 pub record Sees (pend bytes behind : List ℕ) (head : Head) (h : RequestHead) : Type 0 where
   pub is : IsHeadOf bytes head h
   pub all : bytes ≡ window pend
@@ -124,7 +124,7 @@ ends_in_body pend bytes behind head h (Some us) (Some zs) n gone s e few p end =
     let all : behind ++ us ≡ gone = p ∙ ap (λ l. gone ++ l) end ∙ append-nil gone in
     inr (h, behind ++ us, n, (head_of pend bytes behind us head h s, sym s.is.body ∙ e), omega (arith, few, ap length all))
 
--- ---- what was read of a portion that is not all read
+-- ---- a portion that was read in part
 
 keeps_consumes : (a b c : Option (List ℕ)) (bytes : List ℕ) → Keeps a b → Consumes b c bytes → Consumes a c bytes
 keeps_consumes None b c bytes k p = tt
@@ -145,7 +145,7 @@ stops_in_head a pend known new k l short un = (pend, keeps_consumes a (prepend_k
     pending_goes pend (Some us) None l = absurd l
     pending_goes pend (Some us) (Some vs) l = ap (λ l. pend ++ l) (sym l)
 
--- behind the head is no whole body
+-- The body after the head is incomplete.
 pub stops_in_body : (pend bytes behind : List ℕ) (head : Head) (h : RequestHead) (known new : Option (List ℕ)) (n : ℕ) → Sees pend bytes behind head h
     → head.body ≡ Ok n → ReadsFewer (prepend_known behind known) new n → ReadsInside (prepend_known pend known) new
 stops_in_body pend bytes behind head h known new n s e (gone, few, p) =
@@ -172,14 +172,14 @@ cut_end : (a b : List ℕ) (ps : List Portion) → Leads a ps b → EndsInside b
 cut_end a b [] e end = subst EndsInside e end
 cut_end a b (q ∷ qs) w end = (w.0, w.1, inr (w.2, cut_end w.0 b qs w.3 end))
 
--- one portion more is gone
+-- One more portion is taken.
 pub portions_go : (a b c : Option (List ℕ)) (ps : List Portion) (p : Portion) → PortionsGone a ps b → TakesPortion b p c → is_last p ≡ false → PortionsGone a (ps ++ p ∷ []) c
 portions_go None b c ps p g t going = tt
 portions_go (Some xs) None c ps p g t going = absurd g
 portions_go (Some xs) (Some ys) None ps p g t going = absurd t
 portions_go (Some xs) (Some ys) (Some zs) ps p g t going = leads_more xs ys zs ps p g t going
 
--- the last portion is gone
+-- The last portion is taken.
 pub last_goes : (a b c : Option (List ℕ)) (ps : List Portion) (p : Portion) → PortionsGone a ps b → TakesPortion b p c → is_last p ≡ true → IfSome a (λ bytes. IsCut bytes (ps ++ p ∷ []))
 last_goes None b c ps p g t ends = tt
 last_goes (Some xs) None c ps p g t ends = absurd g
@@ -204,7 +204,7 @@ next_first (Some xs) None c ps p g t = absurd g
 next_first (Some xs) (Some ys) None ps p g t = absurd t
 next_first (Some xs) (Some ys) (Some zs) ps p g t = (ys, zs, g, t)
 
--- at the start none is gone
+-- At the start no portion is taken.
 pub start_gone : (a : Option (List ℕ)) → PortionsGone a [] a
 start_gone None = tt
 start_gone (Some xs) = refl

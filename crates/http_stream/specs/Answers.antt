@@ -14,9 +14,9 @@ use Rattle.http_stream.specs.declared.response.Response.{Response}
 use Rattle.http_stream.specs.declared.response.Status.{Status}
 use Rattle.http_stream.specs.declared.response.Status.TheVariants as status
 
--- ---- what is told
+-- ---- contents
 
--- what a request is answered
+-- The answer to a request.
 pub record Told : Type 0 where
   pub status : Status
   pub kind : Kind
@@ -30,11 +30,11 @@ faulty s name = record { status = s; kind = Json; body = codes "{\"Answer\":\"Fa
 abbrev pub unavailable : Told
 unavailable = record { status = status.ServiceUnavailable; kind = Json; body = codes "{\"Answer\":\"Unavailable\"}" }
 
--- bytes with which no head can begin
+-- No head can begin with these bytes.
 abbrev pub told_bad_head : Told
 told_bad_head = faulty status.BadRequest (codes "BadHead")
 
--- as many bytes as a head may have, and no whole head
+-- The bytes have the greatest length of a head, and no complete head.
 abbrev pub told_head_too_large : Told
 told_head_too_large = faulty status.HeaderFieldsTooLarge (codes "HeadTooLarge")
 
@@ -49,18 +49,18 @@ abbrev pub body_of : Body → List ℕ
 body_of (Made text) = text
 body_of Fixed = unavailable.body
 
--- what a response tells
+-- The contents of a response.
 abbrev pub response_told : Response → Told
 response_told response = record { status = response.status; kind = response.kind; body = body_of response.body }
 
--- what the answer to a portion tells
+-- The contents of the answer to a portion.
 abbrev pub reply_told : Reply → Told
 reply_told (reply.Response response) = response_told response
 reply_told reply.BadHead = told_bad_head
 reply_told reply.HeadTooLarge = told_head_too_large
 reply_told (reply.Length fault) = told_length fault
 
--- ---- its status
+-- ---- status
 
 -- the number of a status
 abbrev pub code_of : Status → ℕ
@@ -76,11 +76,11 @@ code_of status.UnprocessableEntity = 422
 code_of status.HeaderFieldsTooLarge = 431
 code_of status.ServiceUnavailable = 503
 
--- whether an answer counts as refused: all do but those with 200 and 202
+-- Whether an answer counts as refused: every status except 200 and 202 does.
 abbrev pub is_refused : Status → Bool
 is_refused s = not (code_of s == 200) && not (code_of s == 202)
 
--- ---- how it is written
+-- ---- layout
 
 abbrev pub line_end : List ℕ
 line_end = codes "\r\n"
@@ -99,7 +99,7 @@ type_line Csv = line (codes "Content-Type: text/csv")
 unfoldable pub length_line : List ℕ → List ℕ
 length_line body = line (codes "Content-Length: " ++ decimal (length body))
 
--- the one method that the path has, where another was asked
+-- The only method of the path, if another was asked.
 unfoldable pub allow_line : Status → List ℕ
 allow_line (status.MethodNotAllowed Get) = line (codes "Allow: GET")
 allow_line (status.MethodNotAllowed Post) = line (codes "Allow: POST")
@@ -110,10 +110,10 @@ unfoldable pub close_line : Bool → List ℕ
 close_line true = line (codes "Connection: close")
 close_line false = []
 
--- all before the body
+-- Everything before the body.
 unfoldable pub head_bytes : Bool → Told → List ℕ
 head_bytes closes told = status_line told.status ++ type_line told.kind ++ length_line told.body ++ allow_line told.status ++ close_line closes ++ line_end
 
--- the answer, with its body where one is sent
+-- The answer, with its body if one is sent.
 unfoldable pub answer_bytes : Bool → Bool → Told → List ℕ
 answer_bytes closes has_body told = head_bytes closes told ++ (if has_body then told.body else [])

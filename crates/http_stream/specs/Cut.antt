@@ -9,26 +9,26 @@ use Rattle.http_stream.specs.Heads.{window, TakesHead, IsBadHead, IsUnfinished, 
 
 -- ---- one portion
 
--- what is read of a request
+-- The parts of a request that are read.
 pub record Request : Type 0 where
   pub method : List ℕ
   pub target : List ℕ
   pub body : List ℕ
 
--- What stands at the front of a stream and is answered: a whole request, and whether the connection ends after it; or, as the last of a connection,
--- bytes that begin no head, a head that is too large, a head whose body isn't read (with its method),
--- or a request for whose body memory was refused.
+-- A portion of a stream that gets an answer: a whole request, and whether the connection ends after it. The last
+-- portion of a connection may also be bytes that begin no head, a head that is too large, a head whose body isn't read
+-- (with its method), or a request for whose body memory was refused.
 pub data Portion : Type 0 where
   whole : Request → Bool → Portion
   bad_head head_too_large : Portion
   unread : List ℕ → LengthFault → Portion
   starved : Portion
 
--- the stream begins with a head that names so long a body
+-- The stream begins with a head that announces a body of this length.
 abbrev pub TakesLength : List ℕ → RequestHead → List ℕ → ℕ → Type 0
 TakesLength input h rest n = TakesHead input h rest × (body_length h.method (headers_of h) ≡ Ok n)
 
--- the stream begins with this portion, and this is left of it after a whole request
+-- The stream begins with this portion, and this remains after a whole request.
 abbrev pub IsPortion : List ℕ → Portion → List ℕ → Type 0
 IsPortion input (whole r ends) left = (h : RequestHead) × TakesLength input h (r.body ++ left) (length r.body)
     × (r.method ≡ h.method) × (r.target ≡ h.target) × (ends ≡ closes h.minor (headers_of h))
@@ -37,7 +37,7 @@ IsPortion input head_too_large left = (HEAD_LIMIT ≤ length input) × IsUnfinis
 IsPortion input (unread method fault) left = (h : RequestHead) × (rest : List ℕ) × TakesHead input h rest × (body_length h.method (headers_of h) ≡ Err fault) × (method ≡ h.method)
 IsPortion input starved left = (h : RequestHead) × (rest : List ℕ) × (n : ℕ) × TakesLength input h rest n × (0 < n)
 
--- the stream ends before a head is whole, or before its body is; a stream without a byte does too
+-- The stream ends before a head is complete, or before its body is. An empty stream does too.
 abbrev pub EndsInside : List ℕ → Type 0
 EndsInside input = ((length input < HEAD_LIMIT) × IsUnfinished input)
     ⊎ ((h : RequestHead) × (rest : List ℕ) × (n : ℕ) × TakesLength input h rest n × (length rest < n))
@@ -54,9 +54,9 @@ is_last starved = true
 abbrev pub is_head : List ℕ → Bool
 is_head method = bytes_eq method (codes "HEAD")
 
--- ---- portions one after the other
+-- ---- portions one after another
 
--- the stream begins with these portions, none of which is the last, and goes on with what is left
+-- The stream begins with these portions, none of them the last, and continues with the rest.
 abbrev pub Leads : List ℕ → List Portion → List ℕ → Type 0
 Leads input [] left = left ≡ input
 Leads input (p ∷ ps) left = (rest : List ℕ) × IsPortion input p rest × (is_last p ≡ false) × Leads rest ps left
@@ -66,19 +66,19 @@ abbrev pub IsCut : List ℕ → List Portion → Type 0
 IsCut input [] = EndsInside input
 IsCut input (p ∷ ps) = (rest : List ℕ) × IsPortion input p rest × (((is_last p ≡ true) × (ps ≡ [])) ⊎ ((is_last p ≡ false) × IsCut rest ps))
 
--- ---- a reader's bytes, where they are known
+-- ---- a reader's bytes, if they are known
 
--- what was read of them is no whole portion
+-- The bytes that were read are not a whole portion.
 abbrev pub ReadsInside : Option (List ℕ) → Option (List ℕ) → Type 0
 ReadsInside old new = (bytes : List ℕ) × Consumes old new bytes × EndsInside bytes
 
--- this portion is gone
+-- This portion was taken.
 abbrev pub TakesPortion : Option (List ℕ) → Portion → Option (List ℕ) → Type 0
 TakesPortion None p new = Unit {0}
 TakesPortion (Some input) p None = ⊥
 TakesPortion (Some input) p (Some left) = IsPortion input p left
 
--- these portions are gone
+-- These portions were taken.
 abbrev pub PortionsGone : Option (List ℕ) → List Portion → Option (List ℕ) → Type 0
 PortionsGone None ps new = Unit {0}
 PortionsGone (Some input) ps None = ⊥

@@ -1,4 +1,4 @@
--- What the code keeps of a portion.
+-- The code's representation of a portion.
 use Rattle.std.specs.Prelude.{◌≤◌, List, ℕ, length}
 use Rattle.httparse.specs.Spans.{span_bytes, IsWithin}
 use Rattle.http_stream.specs.declared.front.Seen.{Seen}
@@ -27,12 +27,12 @@ portion_of block taken.HeadTooLarge = head_too_large
 portion_of block (taken.Unread seen fault) = unread (method_of block seen) fault
 portion_of block taken.Starved = starved
 
--- the places that were seen lie in the block
+-- The places lie in the block.
 abbrev pub IsSeen : List ℕ → Seen → Type 0
 IsSeen block seen = (seen.from ≤ seen.to) × (seen.to ≤ length block)
     × IsWithin (length (seen_bytes block seen)) seen.head.method × IsWithin (length (seen_bytes block seen)) seen.head.target
 
--- so do those of a portion
+-- The places of a portion lie in the block.
 abbrev pub IsTaken : List ℕ → Taken → Type 0
 IsTaken block (taken.Whole seen bytes) = IsSeen block seen
 IsTaken block taken.BadHead = Unit {0}

@@ -1,4 +1,4 @@
-//! The head of a request, and what it says of its body and its connection.
+//! The head of a request, with the length of its body and the fate of its connection.
 
 ghost use Rattle.std.specs.Prelude.{true, ◌≡◌, ◌<◌, ◌≤◌, ◌==◌, ℕ, List, All, map, take, length, drop, min, slice_range, codes, ◌+◌};
 ghost use Rattle.std.specs.Str.{str_eq_ignore_ascii_case};
@@ -25,29 +25,29 @@ pub enum LengthFault {
     BodyTooLarge,
 }
 
-/// What is kept of a head. Its places are counted from its first byte.
+/// The kept parts of a head. Places are counted from its first byte.
 #[derive(Clone, Copy, Drop)]
 pub struct Head {
     pub len: usize,
     pub method: Span,
     pub target: Span,
-    /// How many bytes of a body follow it, or why they aren't read.
+    /// The number of bytes of the body, or why they aren't read.
     pub body: Result<usize, LengthFault>,
     /// Whether the connection ends after its answer.
     pub closes: bool,
 }
 
-/// What one look at the bytes at hand shows.
+/// The result of one look at the available bytes.
 #[derive(Drop)]
 pub enum Glance {
     Head(Head),
-    /// No whole head, and one may still come.
+    /// The head is incomplete, and its rest may still come.
     Unfinished,
-    /// No head can begin so, or it has too many header lines.
+    /// No head can begin like this, or it has too many header lines.
     Bad,
 }
 
-/// Which values stand under a name.
+/// The values found under a name.
 #[derive(Clone, Copy, Drop)]
 pub enum Values {
     None,
@@ -55,7 +55,7 @@ pub enum Values {
     More,
 }
 
-/// Looks for a head at the front of the bytes. It copies none of them and takes no memory.
+/// Looks for a head at the front of the bytes. Copies none of them and takes no memory.
 pub fn look(bytes: &[u8]) -> Glance
     ensures head { (head : _) → result ≡ Glance.Head head → (h : RequestHead) × IsHeadOf bytes.now head h }
     ensures unfinished { result ≡ Glance.Unfinished → IsUnfinished bytes.now }
@@ -80,7 +80,7 @@ pub fn look(bytes: &[u8]) -> Glance
     }
 }
 
-/// How many bytes the body has, or why it isn't read.
+/// Returns the number of bytes of the body, or why it isn't read.
 fn body_length(bytes: &[u8], method: &[u8], headers: &[HeaderSpan]) -> Result<usize, LengthFault>
     requires within { All (IsHeaderWithin (length bytes.now)) headers.now }
     ensures { result ≡ body_length method.now (map (header_bytes bytes.now) headers.now) }
@@ -96,7 +96,7 @@ fn body_length(bytes: &[u8], method: &[u8], headers: &[HeaderSpan]) -> Result<us
     }
 }
 
-/// The values under a name, in any case.
+/// Returns the values under a name, ignoring case.
 fn values_of(bytes: &[u8], headers: &[HeaderSpan], name: &[u8]) -> Values
     requires within { All (IsHeaderWithin (length bytes.now)) headers.now }
     ensures { HasValues bytes.now result (values_of name.now (map (header_bytes bytes.now) headers.now)) }
@@ -108,7 +108,7 @@ fn values_of(bytes: &[u8], headers: &[HeaderSpan], name: &[u8]) -> Values
     found
 }
 
-/// The values with those of one line more.
+/// Returns the values with those of one more line.
 fn next_values(bytes: &[u8], found: Values, header: &HeaderSpan, name: &[u8]) -> Values
     requires within { IsHeaderWithin (length bytes.now) header.now }
     ensures { (vs : List (List ℕ)) → HasValues bytes.now found vs
@@ -125,14 +125,14 @@ fn next_values(bytes: &[u8], found: Values, header: &HeaderSpan, name: &[u8]) ->
     }
 }
 
-/// The same letters, in any case.
+/// Compares letters, ignoring case.
 fn is_name(a: &[u8], b: &[u8]) -> bool
     ensures { result ≡ str_eq_ignore_ascii_case a.now b.now }
 {
     a.eq_ignore_ascii_case(b)
 }
 
-/// The length that a value of Content-Length gives.
+/// Returns the length in a value of Content-Length.
 fn length_in(value: &[u8]) -> Result<usize, LengthFault>
     ensures { result ≡ length_in value.now }
 {
@@ -163,8 +163,8 @@ fn all_digits(value: &[u8]) -> bool
     value.iter().all(|b| b.is_ascii_digit())
 }
 
-/// The number that digits write, but never more than one above the longest body: so it can't
-/// overflow, whatever their number.
+/// Returns the number that the digits denote, at most one above the longest body. So any number of digits can't
+/// overflow.
 fn capped_value(digits: &[u8]) -> usize
     requires digits { All (λ b. (48 ≤ b) × (b ≤ 57)) digits.now }
     ensures { result ≡ min (digits_value 10 digits.now) (LONGEST_INPUT + 1) }
@@ -176,7 +176,7 @@ fn capped_value(digits: &[u8]) -> usize
     value
 }
 
-/// Some header line of Connection has the element `close`.
+/// Returns whether some header line of Connection has the element `close`.
 fn any_close(bytes: &[u8], headers: &[HeaderSpan]) -> bool
     requires within { All (IsHeaderWithin (length bytes.now)) headers.now }
     ensures { result ≡ list_any has_close (values_of (codes "Connection") (map (header_bytes bytes.now) headers.now)) }
@@ -188,7 +188,7 @@ fn any_close(bytes: &[u8], headers: &[HeaderSpan]) -> bool
     any
 }
 
-/// The line is one of Connection with the element `close`.
+/// Returns whether the line is one of Connection with the element `close`.
 fn closes_by(bytes: &[u8], header: &HeaderSpan) -> bool
     requires within { IsHeaderWithin (length bytes.now) header.now }
     ensures { result ≡ closes_by (header_bytes bytes.now header.now) }
@@ -205,14 +205,14 @@ fn has_close(value: &[u8]) -> bool
         .any(|part| is_name(trim_ows(part), b"close"))
 }
 
-/// Without the spaces and tabs at both ends.
+/// Returns the bytes without the spaces and tabs at both ends.
 fn trim_ows(part: &[u8]) -> &[u8]
     ensures { result.now ≡ trim_ows part.now }
 {
     trim(part, 0, part.len()).of(part)
 }
 
-/// The place of what is left of a range without the spaces and tabs at both ends.
+/// Returns a range without the spaces and tabs at both ends.
 fn trim(buf: &[u8], mut start: usize, mut end: usize) -> Span
     requires ordered { start ≤ end }
     requires in_range { end ≤ length buf.now }

@@ -1,4 +1,4 @@
-//! One portion of a stream at a time.
+//! One portion of a stream.
 
 ghost use Rattle.std.specs.Prelude.{◌≡◌, ◌<◌, false, IfOk, IfSome, OnErr, MatchOption};
 ghost use Rattle.desk_types.specs.Wire.{inner_of, reads_of};
@@ -16,7 +16,7 @@ use served::{Block, ReadFault};
 use std::alloc::Global;
 use std::io::Read;
 
-/// What stood at the front and is answered.
+/// A portion at the front, which gets an answer.
 #[derive(Drop)]
 pub enum Taken {
     /// A whole request: its head, and the bytes of its body.
@@ -29,7 +29,7 @@ pub enum Taken {
     Starved,
 }
 
-/// Takes the next portion; none where the input ends inside a request or before one.
+/// Takes the next portion. Returns `None` if the input ends inside a request or before one.
 pub fn take_portion<R: Read>(
     alloc: Global,
     block: &mut Block,
@@ -94,7 +94,7 @@ fn take_request<R: Read>(
     }
 }
 
-/// The method of a head that was seen in the block.
+/// Returns the method of a head in the block.
 pub fn method_of(block: &[u8], seen: Seen) -> &[u8]
     requires seen { IsSeen block.now seen }
     ensures { result.now ≡ method_of block.now seen }
@@ -102,7 +102,7 @@ pub fn method_of(block: &[u8], seen: Seen) -> &[u8]
     seen.head.method.of(&block[seen.from..seen.to])
 }
 
-/// The target of a head that was seen in the block.
+/// Returns the target of a head in the block.
 pub fn target_of(block: &[u8], seen: Seen) -> &[u8]
     requires seen { IsSeen block.now seen }
     ensures { result.now ≡ target_of block.now seen }

@@ -1,4 +1,4 @@
-//! What a portion of a stream is answered: the handler's response, or a fault of the stream's own.
+//! The answer to a portion: the handler's response, or a fault of the stream itself.
 
 ghost use Rattle.std.specs.Prelude.{◌≡◌, [], if◌then◌else◌};
 ghost use Rattle.http_stream.specs.Answers.{Told, reply_told};
@@ -6,7 +6,7 @@ ghost use Rattle.http_stream.specs.Answers.{Told, reply_told};
 use crate::head::LengthFault;
 use crate::response::{Kind, Response, Status};
 
-/// What a portion is answered. The faults take no memory.
+/// The answer to a portion. Faults take no memory.
 #[derive(Drop)]
 pub enum Reply {
     Response(Response),
@@ -29,7 +29,7 @@ impl Reply {
         }
     }
 
-    /// What the body is.
+    /// The kind of the body.
     pub fn kind(&self) -> Kind
         ensures { result ≡ (reply_told self.now).kind }
     {
@@ -59,7 +59,7 @@ impl Reply {
         }
     }
 
-    /// The body where one is sent.
+    /// The body, if one is sent.
     pub fn sent_body(&self, has_body: bool) -> &[u8]
         ensures { result.now ≡ (if has_body then (reply_told self.now).body else []) }
     {

@@ -1,4 +1,4 @@
-//! What a request is answered.
+//! The answer to a request.
 
 ghost use Rattle.std.specs.Prelude.{◌≡◌, ◌≤◌, length};
 ghost use Rattle.http_stream.specs.Answers.{code_of, is_refused, status_line, body_of, response_told, unavailable};
@@ -12,7 +12,7 @@ pub enum Status {
     Accepted,
     BadRequest,
     NotFound,
-    /// The path has another method: this one alone.
+    /// The path has only this method.
     MethodNotAllowed(Allow),
     Conflict,
     LengthRequired,
@@ -22,14 +22,14 @@ pub enum Status {
     ServiceUnavailable,
 }
 
-/// The one method that a path has.
+/// The only method of a path.
 #[derive(Clone, Copy, Debug, PartialEq, Eq, Drop)]
 pub enum Allow {
     Get,
     Post,
 }
 
-/// What the bytes of a body are.
+/// The kind of a body.
 #[derive(Clone, Copy, Debug, PartialEq, Eq, Drop)]
 pub enum Kind {
     Json,
@@ -39,13 +39,13 @@ pub enum Kind {
 /// The body of an answer.
 #[derive(Drop)]
 pub enum Body {
-    /// A text that took memory.
+    /// A text in allocated memory.
     Made(Text),
-    /// The text of an answer where memory was refused. It takes none.
+    /// The fixed text for refused memory.
     Fixed,
 }
 
-/// What a request is answered: the status, and the body with its kind.
+/// The answer to a request: the status, and the body with its kind.
 #[derive(Drop)]
 pub struct Response {
     pub status: Status,
@@ -54,7 +54,7 @@ pub struct Response {
 }
 
 impl Response {
-    /// The answer when out of memory, or where a store failed. Takes no memory.
+    /// Returns the answer for refused memory or a failed store. Takes no memory.
     pub fn unavailable() -> Response
         ensures { response_told result ≡ unavailable }
     {
@@ -98,7 +98,7 @@ impl Status {
         }
     }
 
-    /// Whether an answer with it counts as refused: every one does but 200 and 202.
+    /// Returns whether an answer with it counts as refused. Every status except 200 and 202 does.
     pub fn is_refused(self) -> bool
         ensures { result ≡ is_refused self }
     {
