@@ -1,4 +1,4 @@
--- The lines of connections, of which one more ends.
+-- The lines of connections, with one more connection.
 use Rattle.std.proofs.Common.{◌≡◌, ◌∙◌, ◌+◌, ◌++◌, ◌∷◌, [], ℕ, List, Option, length, ap, sym, subst, append_assoc, append-nil, length-append, arith}
 use Rattle.std.proofs.lemmas.List.{take-append-le}
 use Rattle.served.proofs.SentFronts.{front_after}
@@ -22,7 +22,7 @@ pub front_of_more : (a b : Option (List ℕ)) (text more : List ℕ) → SendsFr
 front_of_more a b text more front =
     (front.0, omega (arith, front.1, length-append text more), subst (Appends a b) (sym (take-append-le front.0 text more front.1)) front.2)
 
--- of four pieces one after the other: the first bytes of the second, of the third and of the fourth
+-- The first bytes of the second, the third or the fourth of four consecutive pieces.
 module _ (out₀ out₁ out₂ out₃ out₄ : Option (List ℕ)) (a b k d : List ℕ) where
   pub second : Appends out₀ out₁ a → SendsFront out₁ out₂ b → SendsFront out₀ out₂ (a ++ b ++ k ++ d)
   second p q = front_of_more out₀ out₂ (a ++ b ++ k) d (front_of_more out₀ out₂ (a ++ b) k (front_after out₀ out₁ out₂ a b p q))

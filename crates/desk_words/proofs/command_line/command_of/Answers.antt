@@ -28,7 +28,7 @@ is_wanted : (rows : List Row) (has : Bool) → check_fault (built commands).top 
 is_wanted rows true none = refl
 is_wanted rows false none = cc
 
--- where a command is wanted, it is there
+-- If a command is required, it is present.
 level_wants : (names : Names) (h : Held) (words : List (List ℕ)) (has : Bool) (below : Kinds) → level_fault (built commands).top names h words has below ≡ []
     → has ≡ true
 level_wants names h words has below none =
