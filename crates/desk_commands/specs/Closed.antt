@@ -64,7 +64,7 @@ abbrev pub HoldsTables : {D : Type 0} → Close → disk.Ghosts D → Files D �
 HoldsTables whole g files tables = (image : Image) → MayRead g files image → IsWhole tables image
 HoldsTables failed g files tables = ⊤
 
--- they hold the database that an open of the first files finds
+-- They hold the database that an open of the first files finds.
 abbrev pub HoldsFound : {D : Type 0} → Close → disk.Ghosts D → Files D → Image → Type 0
 HoldsFound whole g files first = (db : Database) × IsFoundIn first db × ((image : Image) → MayRead g files image → HoldsAlone image db.trees)
 HoldsFound failed g files first = ⊤

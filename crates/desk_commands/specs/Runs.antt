@@ -65,7 +65,7 @@ abbrev pub LeavesDesk : {D : Type 0} {g : disk.Ghosts D} → Left D g → Type 0
 LeavesDesk (Migrated conn) = ⊥
 LeavesDesk _ = ⊤
 
--- a migration leaves the file, migrated or refused
+-- A migration leaves the file, migrated or refused.
 abbrev pub LeavesFile : {D : Type 0} {g : disk.Ghosts D} → Left D g → Type 0
 LeavesFile (Desk d) = ⊥
 LeavesFile _ = ⊤

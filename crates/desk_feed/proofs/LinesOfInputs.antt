@@ -14,11 +14,11 @@ kept : (b : Bool) (x : List ℕ) (xs : List (List ℕ)) → cond (not b) (x ∷ 
 kept true x xs = refl
 kept false x xs = refl
 
--- of the pieces between line feeds
+-- Of the pieces between line feeds.
 abbrev pub lines_among : List (List ℕ) → List (List ℕ)
 lines_among pieces = filter (λ line. not (is_empty line)) (map without_return pieces)
 
--- the first line, and then the others
+-- The first line, and then the others.
 pub lines_of-more : (raw rest : List ℕ) → HasNoFeed raw → lines_of (raw ++ 10 ∷ rest) ≡ lines_in raw ++ lines_of rest
 lines_of-more raw rest h =
     ap lines_among (slice_split_at is_feed raw 10 rest h refl) ∙ kept (is_empty (without_return raw)) (without_return raw) (lines_of rest)
@@ -55,7 +55,7 @@ whole_first : (a : Option (List ℕ)) (lines : List (List ℕ)) → IfSome a (λ
 whole_first None lines p = tt
 whole_first (Some xs) lines p = ([], sym p ∙ sym (append-nil lines))
 
--- so does the next one
+-- So does the next one.
 pub next_first : (a b c : Option (List ℕ)) (lines : List (List ℕ)) (raw line : List ℕ) (last : Bool) → LinesGone a lines b → TakesLine b raw last c → lines_in raw ≡ line ∷ []
     → IfSome a (λ bytes. IsFront (lines ++ line ∷ []) (lines_of bytes))
 next_first a b c lines raw line true p q e =

@@ -9,7 +9,7 @@ use Rattle.served.specs.Counts.{none_served}
 use Rattle.desk_feed.specs.Stream.{IsFront, AnsweredInto}
 use Rattle.desk_feed.proofs.AnsweredLines.{none_answered, answered_more}
 
--- the lines were answered
+-- The lines were answered.
 abbrev pub Goes : {S : Type 0} → (S → Ledger → Type 0) → (S → Type 0) → List (List ℕ) → S → Option (List ℕ) → Served → S → Option (List ℕ) → Served → Type 0
 Goes Stands Trusts lines old out s new out' s' = ForLists Stands Trusts old new (λ G H. Serves G.rules G.greatest lines G.history out s H out' s')
 

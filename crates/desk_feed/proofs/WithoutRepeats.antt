@@ -40,7 +40,7 @@ line_more : (rules : Rules) (greatest : ℕ) (H after : History) (line : List �
 line_more rules greatest H after line lines fewer more true is leaves same rest = ap (λ (G : History). after_all rules greatest G lines) (leaves refl) ∙ same
 line_more rules greatest H after line lines fewer more false is leaves same rest = rest ∙ ap (λ (G : History). after_all rules greatest G more) (sym is)
 
--- the law
+-- The law.
 pub repeats_leave_the_list : (rules : Rules) (greatest : ℕ) (H : History) (lines : List (List ℕ)) → after_all rules greatest H lines ≡ after_all rules greatest H (without_repeats rules greatest H lines)
 repeats_leave_the_list rules greatest H [] = refl
 repeats_leave_the_list rules greatest H (line ∷ lines) =

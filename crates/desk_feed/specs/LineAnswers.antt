@@ -23,7 +23,7 @@ AnswersRaw rules greatest H raw None H' = (lines_in raw ≡ []) × (H' ≡ H)
 AnswersRaw rules greatest H raw (Some answer) H' = (mark : Bool) × (lines_in raw ≡ without_return raw ∷ [])
     × (line_told answer ≡ line_answer rules greatest mark H (without_return raw)) × (H' ≡ line_after rules greatest mark H (without_return raw))
 
--- the lines of a piece, at most one, were answered
+-- The lines of a piece, at most one, were answered.
 abbrev pub Serves : Rules → ℕ → List (List ℕ) → History → Option (List ℕ) → Served → History → Option (List ℕ) → Served → Type 0
 Serves rules greatest lines H out s H' out' s' = (marks : List Bool) × Answered rules greatest lines marks H out s H' out' s'
 

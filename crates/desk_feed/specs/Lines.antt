@@ -2,11 +2,11 @@
 use Rattle.std.specs.Prelude.{true, false, ℕ, ◌-◌, ◌==◌, Bool, not, map, List, [], ◌∷◌, length, take, get_or, count_by, if◌then◌else◌}
 use Rattle.std.specs.List.{slice_split, filter}
 
--- a line feed ends a line
+-- A line feed ends a line.
 abbrev pub is_feed : ℕ → Bool
 is_feed b = b == 10
 
--- one carriage return at the end is dropped
+-- One carriage return at the end is dropped.
 abbrev pub without_return : List ℕ → List ℕ
 without_return raw = if get_or raw (length raw - 1) 0 == 13 then take (length raw - 1) raw else raw
 

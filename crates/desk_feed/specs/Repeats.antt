@@ -17,12 +17,12 @@ abbrev pub is_again : Option Answer → Bool
 is_again (Some (Accepted n text)) = true
 is_again _ = false
 
--- the message was accepted before
+-- The message was accepted before.
 abbrev pub repeats : History → Result Said MessageFault → Bool
 repeats H (Ok (Asked s)) = is_again (earlier_answer H s)
 repeats H _ = false
 
--- the line is such a message
+-- The line is such a message.
 abbrev pub is_repeat : History → List ℕ → Bool
 is_repeat H line = if nat_lt LONGEST_INPUT (length line) then false else repeats H (said_in line)
 
@@ -33,7 +33,7 @@ without_repeats rules greatest H (line ∷ lines) =
     if is_repeat H line then without_repeats rules greatest H lines
     else line ∷ without_repeats rules greatest (line_after rules greatest false H line) lines
 
--- no line is answered Unavailable
+-- No line is answered Unavailable.
 abbrev pub no_marks : List (List ℕ) → List Bool
 no_marks [] = []
 no_marks (line ∷ lines) = false ∷ no_marks lines

@@ -18,7 +18,7 @@ use Rattle.served.specs.Sent.{SendsFront}
 
 -- ---- one line
 
--- the text of the answer to a line that is too long
+-- The text of the answer to a line that is too long.
 abbrev pub too_long_text : List ℕ
 too_long_text = compact_text (faulty (codes "LineTooLong"))
 
@@ -64,7 +64,7 @@ pub record Answered (rules : Rules) (greatest : ℕ) (lines : List (List ℕ)) (
   pub answered : after.answered ≡ before.answered + length lines
   pub refused : after.refused ≡ before.refused + count_by (λ (told : Told). told.refused) (answers_to rules greatest marks H lines)
 
--- the first lines of a list
+-- The first lines of a list.
 abbrev pub IsFront : List (List ℕ) → List (List ℕ) → Type 0
 IsFront lines all = (rest : List (List ℕ)) × (all ≡ lines ++ rest)
 

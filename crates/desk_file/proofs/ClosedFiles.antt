@@ -27,7 +27,7 @@ alone_in : {D : Type 0} {g : disk.Ghosts D} (conn : Held (FileStore D g)) (files
 alone_in conn files image copied (inl seen) = subst (λ (i : Image). HoldsAlone i (file_state conn).committed.trees) (sym seen) copied.seen
 alone_in conn files image copied (inr left) = copied.left image left
 
--- the files of a connection
+-- The files of a connection.
 pub keeps : {D : Type 0} {g : disk.Ghosts D} (conn : Held (FileStore D g)) (files : Files D) → IsLive (file_state conn) → (AreClean g files.log files.db → IsCopied conn files) → KeepsTables conn files
 keeps conn files live copied tables holds clean image left =
     let c = copied clean in

@@ -28,7 +28,7 @@ use Rattle.line_schema.specs.Versions.{IsMigrated}
 use Rattle.small_pages.specs.Found.{FindsAs}
 use Rattle.desk_file.specs.Files.{IsFoundIn, IsOfOne, HasLineAlone, FindsNoTable, Begins}
 
--- the tables of each version have our names
+-- The tables of each version have our names.
 named_by : (rules : Rules) (indexed : Layout) → list_any has_name (schema_of rules indexed).tables ≡ true
 unfolding same_name
 named_by rules indexed = refl
@@ -38,11 +38,11 @@ module _ (image : Image) (s : State) (finds : FindsAs image s) (opens : Opens s)
   pub found : IsFoundIn image s.committed
   found = record { sound = (live opens.is_open).1; reads = finds.reads; same = finds.holds }
 
-  -- files with the tables of a line have some table
+  -- Files with the tables of a line have some table.
   not_bare : (rules : Rules) → IsNamedBy rules s → s.committed.schema ≡ no_schema → ⊥
   not_bare rules named none = true≢false (sym named.0 ∙ ap (λ (x : Schema). list_any is_version x.tables) (ap (λ (db : Database). db.schema) opens.clean ∙ none))
 
-  -- a new desk, in files with none of its tables
+  -- A new desk, in files with none of its tables.
   pub made_begins : (greatest : ℕ) → list_any has_name s.now.schema.tables ≡ false → HasLineAlone image → Begins image (Some greatest) greatest [] × (is_blank s.now.schema ≡ true)
   made_begins greatest nameless alone =
       let seen : s.now.schema ≡ s.committed.schema = ap (λ (db : Database). db.schema) opens.clean in
@@ -55,7 +55,7 @@ module _ (image : Image) (s : State) (finds : FindsAs image s) (opens : Opens s)
   pub no_table : FindsNoTable image → is_blank s.now.schema ≡ true
   no_table none = is_blank_of s.now.schema (ap (λ (db : Database). db.schema) opens.clean ∙ none s.committed found)
 
-  -- the desk that was read
+  -- The desk that was read.
   pub opened_begins : (make : Option ℕ) (greatest : ℕ) (H : History) → IsNamed s → Reads s (λ db. Holds db (ledger_tables greatest H)) → HasLineAlone image
       → Begins image make greatest H × (is_ours s.committed.schema ≡ true)
   opened_begins make greatest H named reads alone =
@@ -64,7 +64,7 @@ module _ (image : Image) (s : State) (finds : FindsAs image s) (opens : Opens s)
         | inr none ↦ absurd (not_bare Two named none)
       ]
 
-  -- the desk of version 1 that was migrated
+  -- The desk of version 1 that was migrated.
   pub migrates : (new : State) (greatest : ℕ) (H : History) (n : ℕ) → IsNamedBy One s → IsMigrated s new greatest H n → HasLineAlone image
       → IsOfOne image greatest H × Holds new.committed (ledger_tables greatest H) × ((trees : Trees) → new.may_leave trees → HoldsAt (ledger_tables greatest H) trees)
   migrates new greatest H n named m alone =

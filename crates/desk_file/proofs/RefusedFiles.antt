@@ -78,7 +78,7 @@ module _ {D : Type 0} {g : disk.Ghosts D} (image : Image) (first last : Held (Fi
       let at = opened before in
       found image (file_state first) (finds before) at.0 at.1
 
-  -- the connection was refused
+  -- The connection was refused.
   pub refused : (StandsIn : OpenFault → Type 0) (MakesNone : Type 0) (fault : OpenFault) → (HasCleanDisk (file_state last) → StandsIn fault) → (MakesNone → fault ≢ NotBlank)
       → IsRefused image StandsIn Leaves MakesNone (record { fault = fault; file = Some last })
   refused StandsIn MakesNone fault stands never = record {

@@ -35,11 +35,11 @@ pub record IsFoundIn (image : Image) (db : Database) : Type 0 where
 abbrev pub HasLineAlone : Image → Type 0
 HasLineAlone image = (db : Database) → IsFoundIn image db → IsOurs db.schema ⊎ (db.schema ≡ no_schema)
 
--- the files hold these tables, by version 2
+-- The files hold these tables, by version 2.
 abbrev pub HasTables : Image → Tables → Type 0
 HasTables image tables = (db : Database) × IsFoundIn image db × Holds db tables
 
--- the files hold no table
+-- The files hold no table.
 abbrev pub HasNoTable : Image → Type 0
 HasNoTable image = (db : Database) × IsFoundIn image db × (db.schema ≡ no_schema)
 

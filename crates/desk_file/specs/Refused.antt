@@ -22,7 +22,7 @@ use Rattle.desk_file.specs.Files.{IsFoundIn}
 
 -- ---- the fault
 
--- an open connection over this database, outside of a transaction
+-- An open connection over this database, outside of a transaction.
 abbrev pub idle_state : Database → State
 idle_state db = record {
   now = db;

@@ -26,7 +26,7 @@ abbrev pub rows_said : Content → List ℕ → Result Command ImportFault
 rows_said (Sheet product machine) bytes = setup_said product machine bytes
 rows_said Counts bytes = counts_said bytes
 
--- the command under the UniqueID, the source and the minute of the import
+-- The command under the UniqueID, the source and the minute of the import.
 abbrev pub stamped_by : Import → Command → Stamped
 stamped_by import command = record { uid = import.uid; source = import.source; minute = import.minute; command = command }
 

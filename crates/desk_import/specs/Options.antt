@@ -17,7 +17,7 @@ id_in text option = ok_or (id_of text) option
 abbrev pub time_in : List ℕ → Result ℕ BadOption
 time_in text = ok_or (minute_of text) bad.Time
 
--- the import of a count file
+-- The import of a count file.
 unfoldable pub counts_import : List ℕ → List ℕ → List ℕ → Result Import BadOption
 counts_import id source time = do
   uid ← id_in id bad.Id
@@ -25,7 +25,7 @@ counts_import id source time = do
   minute ← time_in time
   Ok (record { uid = uid; source = sender; minute = minute; content = Counts })
 
--- the import of a setup file: the sheet of this product on this machine
+-- The import of a setup file: the sheet of this product on this machine.
 unfoldable pub setup_import : List ℕ → List ℕ → List ℕ → List ℕ → List ℕ → Result Import BadOption
 setup_import id source time product machine = do
   stamp ← counts_import id source time

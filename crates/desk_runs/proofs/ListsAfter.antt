@@ -28,11 +28,11 @@ faulty_more before last ends ended told one =
     ap (λ b. b || last) told ∙ ap (λ b. list_any is_faulty ends || b) (one ∙ sym (or_false (is_faulty ended))) ∙ sym (list_any-append is_faulty ends (ended ∷ []))
 
 module _ {S : Type 0} (rule : RuleBy) (Stands : S → Ledger → Type 0) (Trusts : S → Type 0) where
-  -- the connections were served
+  -- The connections were served.
   abbrev pub Serves : S → List Exchange → S → Type 0
   Serves old es new = ForLists Stands Trusts old new (λ G H. ConnectedEach (rule G.rules G.greatest) G.history es H)
 
-  -- the connection was served
+  -- The connection was served.
   abbrev pub ServesOne : S → Exchange → S → Type 0
   ServesOne old e new = ForLists Stands Trusts old new (λ G H. Connected (rule G.rules G.greatest) G.history e H)
 

@@ -17,19 +17,19 @@ use Rattle.desk_words.specs.declared.command_line.Asked.TheVariants.{Feed, Serve
 
 -- ---- the grammar
 
--- the option `--db FILE`
+-- The option `--db FILE`.
 abbrev pub file_rule : Rule
 file_rule = record (new_rule (codes "db")) { long = Some (codes "db"); value_names = 1 }
 
--- the option `--greatest N`
+-- The option `--greatest N`.
 abbrev pub greatest_rule : Rule
 greatest_rule = record (new_rule (codes "greatest")) { long = Some (codes "greatest"); value_names = 1 }
 
--- `feed` may have both options, and neither twice
+-- `feed` may have both options, and neither twice.
 abbrev pub feed_shape : Shape
 feed_shape = record (new_shape (codes "feed")) { rules = file_rule ∷ greatest_rule ∷ [] }
 
--- an option of this name with a value, which has to be there
+-- An option of this name with a value, which has to be there.
 abbrev pub required_option : List ℕ → Rule
 required_option name = record (new_rule name) { long = Some name; value_names = 1; required = true }
 
@@ -37,11 +37,11 @@ required_option name = record (new_rule name) { long = Some name; value_names = 
 abbrev pub serve_shape : Shape
 serve_shape = record (new_shape (codes "serve")) { rules = required_option (codes "db") ∷ required_option (codes "port") ∷ required_option (codes "connections") ∷ greatest_rule ∷ [] }
 
--- `report` has a file, and the target of a request
+-- `report` has a file, and the target of a request.
 abbrev pub report_shape : Shape
 report_shape = record (new_shape (codes "report")) { rules = required_option (codes "db") ∷ required_option (codes "get") ∷ [] }
 
--- `audit` has a file
+-- `audit` has a file.
 abbrev pub audit_shape : Shape
 audit_shape = record (new_shape (codes "audit")) { rules = record file_rule { required = true } ∷ [] }
 

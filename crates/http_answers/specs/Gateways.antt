@@ -14,7 +14,7 @@ abbrev pub Meets : {S E : Type 0} → (S → Ledger → Type 0) → (S → Type 
 Meets Stands Trusts old new result outcome = (G : Ledger) → Stands old G → Trusts new →
     IfOk result (λ response. (response_told response ≡ (outcome G).told) × Stands new (record G { history = (outcome G).after })) × OnErr result (Stands new G)
 
--- the owner behind a gateway
+-- The owner behind a gateway.
 abbrev pub owner_of : {L : Type 0} → Gateway L → L
 owner_of gateway = gateway.owner
 

@@ -22,13 +22,13 @@ use Rattle.http_answers.specs.Requests.{stamped_by}
 
 -- ---- repeats
 
--- the command of a message
+-- The command of a message.
 abbrev pub message_command : Result Said MessageFault → Option Stamped
 message_command (Ok (says.Ignored name)) = None
 message_command (Ok (says.Asked s)) = Some s
 message_command (Err fault) = None
 
--- the command of a file
+-- The command of a file.
 abbrev pub file_command : Stamp → Result Command ImportFault → Option Stamped
 file_command stamp (Ok command) = Some (stamped_by stamp command)
 file_command stamp (Err fault) = None
@@ -41,7 +41,7 @@ command_asked body (Ok (asks.ImportCounts stamp)) = file_command stamp (counts_s
 command_asked body (Ok (asks.Report report)) = None
 command_asked body (Err fault) = None
 
--- the command was accepted before, in the same message
+-- The command was accepted before, in the same message.
 abbrev pub is_known : History → Stamped → Bool
 is_known H s = option_map_or (λ answer. not (is_refused answer)) (earlier_answer H s) false
 
@@ -51,6 +51,6 @@ is_repeat H r = option_map_or (is_known H) (command_asked r.body (asked_of r.met
 
 -- ---- questions
 
--- a GET of a target, which has no body
+-- A GET of a target, which has no body.
 abbrev pub get_of : List ℕ → Request
 get_of target = record { method = codes "GET"; target = target; body = [] }

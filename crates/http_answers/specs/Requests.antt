@@ -51,7 +51,7 @@ kind_of report.OverdueList = None
 
 -- ---- answers
 
--- an answer that is one JSON object
+-- An answer that is one JSON object.
 abbrev pub json : Status → List ℕ → Told
 json s text = record { status = s; kind = Json; body = text }
 
@@ -69,7 +69,7 @@ report_told asked_of None = none_told (kind_of asked_of)
 abbrev pub outcome_leaving : Ledger → Told → Outcome
 outcome_leaving L told = record { told = told; after = L.history }
 
--- a command
+-- A command.
 abbrev pub command_outcome : Ledger → Stamped → Outcome
 command_outcome L s = record {
   told = json (command_status (command_answer L.rules L.greatest L.history s)) (answer_text s.uid (command_answer L.rules L.greatest L.history s));
@@ -99,7 +99,7 @@ asked_outcome reports L body (Ok (asks.ImportCounts stamp)) = file_outcome L sta
 asked_outcome reports L body (Ok (asks.Report asked_of)) = outcome_leaving L (report_told asked_of (reports asked_of L.history))
 asked_outcome reports L body (Err fault) = outcome_leaving L (json (request_fault_status fault) (request.fault_text fault))
 
--- a request
+-- A request.
 abbrev pub outcome_of : Reports → Ledger → Request → Outcome
 outcome_of reports L r = asked_outcome reports L r.body (asked_of r.method r.target)
 

@@ -40,7 +40,7 @@ import_fault_status (file.BadField line column) = UnprocessableEntity
 import_fault_status file.OverLimit = UnprocessableEntity
 import_fault_status file.NoMemory = ServiceUnavailable
 
--- the method that is allowed
+-- The method that is allowed.
 abbrev pub allow_of : Method → Allow
 allow_of method.Get = allow.Get
 allow_of method.Post = allow.Post

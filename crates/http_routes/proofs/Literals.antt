@@ -15,7 +15,7 @@ module _ {K : Type 0} where
   AreLiteral [] = Unit {0}
   AreLiteral ((t, k) ∷ rest) = IsText t × AreLiteral rest
 
-  -- the row whose text is the path
+  -- The row whose text is the path.
   abbrev row_at : List ℕ → RowsOf K → Option K
   row_at path [] = None
   row_at path ((t, k) ∷ rest) = cond (same_text t path) (Some k) (row_at path rest)

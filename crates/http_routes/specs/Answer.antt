@@ -14,6 +14,6 @@ fault_answer (BadMethod method) = faulty (codes "BadMethod")
 fault_answer (BadQuery p) = faulty_at (codes "BadQuery") (parameter_text p)
 fault_answer NoMemory = unavailable
 
--- its text
+-- Its text.
 unfoldable pub fault_text : AskFault → List ℕ
 fault_text fault = compact_text (fault_answer fault)

@@ -23,7 +23,7 @@ use Rattle.http_routes.specs.Values.{detail_of, boards_of}
 
 -- ---- the target
 
--- whether a byte is `?`
+-- Whether a byte is `?`.
 abbrev pub is_mark : ℕ → Bool
 is_mark byte = byte == 0x3f
 
@@ -31,7 +31,7 @@ is_mark byte = byte == 0x3f
 unfoldable pub path_of : List ℕ → List ℕ
 path_of target = take (position_or_len is_mark target) target
 
--- the rest after it
+-- The rest after it.
 unfoldable pub query_of : List ℕ → List ℕ
 query_of target = drop (position_or_len is_mark target + 1) target
 
@@ -41,25 +41,25 @@ query_of target = drop (position_or_len is_mark target + 1) target
 unfoldable pub parameter_value : Parameter → List ℕ → Result (List ℕ) AskFault
 parameter_value p query = ok_or (value_of (parameter_text p) query) (BadQuery p)
 
--- an id
+-- An id.
 unfoldable pub id_in : Parameter → List ℕ → Result Name AskFault
 id_in p query = do
   text ← parameter_value p query
   ok_or (id_of text) (BadQuery p)
 
--- the minute of a time text
+-- The minute of a time text.
 unfoldable pub minute_in : List ℕ → Result ℕ AskFault
 minute_in query = do
   text ← parameter_value parameter.Time query
   ok_or (minute_of text) (BadQuery parameter.Time)
 
--- one digit, 1 to 4
+-- One digit, 1 to 4.
 unfoldable pub detail_in : List ℕ → Result TraceDetail AskFault
 detail_in query = do
   text ← parameter_value parameter.Detail query
   ok_or (detail_of text) (BadQuery parameter.Detail)
 
--- 1 to 6 digits, 1 to 100,000
+-- 1 to 6 digits, 1 to 100,000.
 unfoldable pub boards_in : List ℕ → Result ℕ AskFault
 boards_in query = do
   text ← parameter_value parameter.Boards query

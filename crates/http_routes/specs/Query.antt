@@ -8,7 +8,7 @@ use Rattle.desk_types.specs.Id.{same}
 abbrev pub text_of : List ℕ → List ℕ
 text_of bytes = utf8_lossy (decode bytes)
 
--- the values of the pairs with this name
+-- The values of the pairs with this name.
 abbrev pub values_of : List ℕ → List (List ℕ × List ℕ) → List (List ℕ)
 values_of name [] = []
 values_of name ((key, value) ∷ pairs) = if same (text_of key) name then text_of value ∷ values_of name pairs else values_of name pairs

@@ -14,7 +14,7 @@ abbrev pub method_text : Method → List ℕ
 method_text Get = codes "GET"
 method_text Post = codes "POST"
 
--- the path of a route
+-- The path of a route.
 abbrev pub route_path : Route → List ℕ
 route_path Messages = codes "/messages"
 route_path ImportSetup = codes "/imports/setup"
@@ -38,7 +38,7 @@ route_method Slots = Get
 route_method Kit = Get
 route_method Overdue = Get
 
--- all routes, by their paths in byte order
+-- All routes, by their paths in byte order.
 abbrev pub routes : List Route
 routes = ImportCounts ∷ ImportSetup ∷ Kit ∷ Messages ∷ Overdue ∷ Reel ∷ Slots ∷ TraceBoard ∷ TraceLot ∷ []
 
@@ -48,10 +48,10 @@ route_of path = find (λ route. same (route_path route) path) routes
 
 -- ---- for `matchit`
 
--- a route: a path with no parameter in it
+-- A route: a path with no parameter in it.
 abbrev pub row : Route → List ℕ × RouteOf Route
 row route = (route_path route, record { pattern = route_path route; text = route_path route; names = []; value = route })
 
--- a router of all routes
+-- A router of all routes.
 abbrev pub table : RowsOf (RouteOf Route)
 table = map row routes

@@ -16,14 +16,14 @@ is_numeral most_digits text = nat_le 1 (length text) && nat_le (length text) mos
 unfoldable pub number_of : ℕ → List ℕ → Option ℕ
 number_of most_digits text = if is_numeral most_digits text then Some (digits_value 10 text) else None
 
--- one digit, 1 to 4
+-- One digit, 1 to 4.
 abbrev pub detail_of : List ℕ → Option TraceDetail
 detail_of text = option_and_then trace_detail_of (number_of 1 text)
 
--- a kit is for 1 to 100,000 boards
+-- A kit is for 1 to 100,000 boards.
 abbrev pub kit_boards : ℕ → Option ℕ
 kit_boards n = if nat_le 1 n && nat_le n MOST_BOARDS then Some n else None
 
--- 1 to 6 digits, 1 to 100,000
+-- 1 to 6 digits, 1 to 100,000.
 abbrev pub boards_of : List ℕ → Option ℕ
 boards_of text = option_and_then kit_boards (number_of 6 text)

@@ -69,7 +69,7 @@ takes_large a pend (Some us) k long un =
 
 -- ---- after a head
 
--- the stream begins with the head that was seen
+-- The stream begins with the head that was seen.
 takes_head : (bytes more us : List ℕ) (head : Head) (h : RequestHead) → IsHeadOf bytes head h → length bytes ≤ HEAD_LIMIT
     → TakesHead ((bytes ++ more) ++ us) h ((drop head.len bytes ++ more) ++ us)
 takes_head bytes more us head h is few =
@@ -135,7 +135,7 @@ keeps_consumes (Some xs) (Some ys) (Some zs) bytes k p = sym k ∙ p
 pub keeps_inside : (a b c : Option (List ℕ)) → Keeps a b → ReadsInside b c → ReadsInside a c
 keeps_inside a b c k (bytes, gone, inside) = (bytes, keeps_consumes a b c bytes k gone, inside)
 
--- the pending bytes are no whole head
+-- The pending bytes are no whole head.
 pub stops_in_head : (a : Option (List ℕ)) (pend : List ℕ) (known new : Option (List ℕ)) → Keeps a (prepend_known pend known) → Keeps known new → length pend < HEAD_LIMIT → IsUnfinished pend
     → ReadsInside a new
 stops_in_head a pend known new k l short un = (pend, keeps_consumes a (prepend_known pend known) new pend k (pending_goes pend known new l), inl (short, un))
@@ -186,7 +186,7 @@ last_goes (Some xs) None c ps p g t ends = absurd g
 last_goes (Some xs) (Some ys) None ps p g t ends = absurd t
 last_goes (Some xs) (Some ys) (Some zs) ps p g t ends = cut_last xs ys zs ps p g t ends
 
--- the stream ends
+-- The stream ends.
 pub end_comes : (a b : Option (List ℕ)) (ps : List Portion) → PortionsGone a ps b → IfSome b EndsInside → IfSome a (λ bytes. IsCut bytes ps)
 end_comes None b ps g end = tt
 end_comes (Some xs) None ps g end = absurd g

@@ -22,11 +22,11 @@ pub record Told : Type 0 where
   pub kind : Kind
   pub body : List ℕ
 
--- a fault by its name
+-- A fault by its name.
 abbrev pub faulty : Status → List ℕ → Told
 faulty s name = record { status = s; kind = Json; body = codes "{\"Answer\":\"Faulty\",\"Fault\":\"" ++ name ++ codes "\"}" }
 
--- memory was refused, or a store failed
+-- Memory was refused, or a store failed.
 abbrev pub unavailable : Told
 unavailable = record { status = status.ServiceUnavailable; kind = Json; body = codes "{\"Answer\":\"Unavailable\"}" }
 
@@ -38,13 +38,13 @@ told_bad_head = faulty status.BadRequest (codes "BadHead")
 abbrev pub told_head_too_large : Told
 told_head_too_large = faulty status.HeaderFieldsTooLarge (codes "HeadTooLarge")
 
--- a head whose body isn't read
+-- A head whose body isn't read.
 abbrev pub told_length : LengthFault → Told
 told_length length_fault.LengthRequired = faulty status.LengthRequired (codes "LengthRequired")
 told_length length_fault.BadLength = faulty status.BadRequest (codes "BadLength")
 told_length length_fault.BodyTooLarge = faulty status.PayloadTooLarge (codes "BodyTooLarge")
 
--- the bytes of a body
+-- The bytes of a body.
 abbrev pub body_of : Body → List ℕ
 body_of (Made text) = text
 body_of Fixed = unavailable.body
@@ -62,7 +62,7 @@ reply_told (reply.Length fault) = told_length fault
 
 -- ---- status
 
--- the number of a status
+-- The number of a status.
 abbrev pub code_of : Status → ℕ
 code_of status.Ok = 200
 code_of status.Accepted = 202
@@ -88,7 +88,7 @@ line_end = codes "\r\n"
 abbrev pub line : List ℕ → List ℕ
 line bytes = bytes ++ line_end
 
--- the version, the number of the status and its phrase
+-- The version, the number of the status and its phrase.
 unfoldable pub status_line : Status → List ℕ
 status_line s = line (codes "HTTP/1.1 " ++ decimal (code_of s) ++ codes " " ++ unwrap_or (reason_phrase (code_of s)) [])
 
@@ -105,7 +105,7 @@ allow_line (status.MethodNotAllowed Get) = line (codes "Allow: GET")
 allow_line (status.MethodNotAllowed Post) = line (codes "Allow: POST")
 allow_line other = []
 
--- the connection ends after this answer
+-- The connection ends after this answer.
 unfoldable pub close_line : Bool → List ℕ
 close_line true = line (codes "Connection: close")
 close_line false = []

@@ -42,7 +42,7 @@ abbrev pub EndsInside : List ℕ → Type 0
 EndsInside input = ((length input < HEAD_LIMIT) × IsUnfinished input)
     ⊎ ((h : RequestHead) × (rest : List ℕ) × (n : ℕ) × TakesLength input h rest n × (length rest < n))
 
--- the connection ends after the answer
+-- The connection ends after the answer.
 abbrev pub is_last : Portion → Bool
 is_last (whole r ends) = ends
 is_last bad_head = true
@@ -50,7 +50,7 @@ is_last head_too_large = true
 is_last (unread method fault) = true
 is_last starved = true
 
--- the method is HEAD, whose answers have no body
+-- The method is HEAD, whose answers have no body.
 abbrev pub is_head : List ℕ → Bool
 is_head method = bytes_eq method (codes "HEAD")
 
@@ -61,7 +61,7 @@ abbrev pub Leads : List ℕ → List Portion → List ℕ → Type 0
 Leads input [] left = left ≡ input
 Leads input (p ∷ ps) left = (rest : List ℕ) × IsPortion input p rest × (is_last p ≡ false) × Leads rest ps left
 
--- the stream is cut into these portions, up to the last one or to its end
+-- The stream is cut into these portions, up to the last one or to its end.
 abbrev pub IsCut : List ℕ → List Portion → Type 0
 IsCut input [] = EndsInside input
 IsCut input (p ∷ ps) = (rest : List ℕ) × IsPortion input p rest × (((is_last p ≡ true) × (ps ≡ [])) ⊎ ((is_last p ≡ false) × IsCut rest ps))

@@ -31,7 +31,7 @@ IsUnfinished bytes = HasNoRequest bytes × MayBecomeRequest bytes
 
 -- ---- meaning
 
--- the names of the header lines, and their values without the spaces and tabs around them
+-- The names of the header lines, and their values without the spaces and tabs around them.
 abbrev pub headers_of : RequestHead → List (List ℕ × List ℕ)
 headers_of h = map name_and_value h.fields
 
@@ -40,7 +40,7 @@ abbrev pub values_of : List ℕ → List (List ℕ × List ℕ) → List (List �
 values_of name [] = []
 values_of name (f ∷ headers) = if str_eq_ignore_ascii_case f.0 name then f.1 ∷ values_of name headers else values_of name headers
 
--- 1 to 19 digits
+-- 1 to 19 digits.
 abbrev pub is_length : List ℕ → Bool
 is_length value = nat_lt 0 (length value) && nat_le (length value) 19 && list_all is_ascii_digit value
 

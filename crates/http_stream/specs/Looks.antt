@@ -33,6 +33,6 @@ HasValues bytes values.More vs = 1 < length vs
 abbrev pub after_header : List ℕ → List (List ℕ) → List ℕ × List ℕ → List (List ℕ)
 after_header name vs f = if str_eq_ignore_ascii_case f.0 name then vs ++ f.1 ∷ [] else vs
 
--- the line is one of Connection with the element `close`
+-- The line is one of Connection with the element `close`.
 abbrev pub closes_by : List ℕ × List ℕ → Bool
 closes_by f = str_eq_ignore_ascii_case f.0 (codes "Connection") && has_close f.1

@@ -7,19 +7,19 @@ use Rattle.http_stream.specs.declared.portion.Taken.TheVariants as taken
 use Rattle.http_stream.specs.Cut.{Request, Portion, whole, bad_head, head_too_large, unread, starved}
 use Rattle.http_stream.specs.Fronts.{seen_bytes}
 
--- the method of a head that was seen in the block
+-- The method of a head that was seen in the block.
 abbrev pub method_of : List ℕ → Seen → List ℕ
 method_of block seen = span_bytes (seen_bytes block seen) seen.head.method
 
--- its target
+-- Its target.
 abbrev pub target_of : List ℕ → Seen → List ℕ
 target_of block seen = span_bytes (seen_bytes block seen) seen.head.target
 
--- a request with this body
+-- A request with this body.
 abbrev pub request_of : List ℕ → Seen → List ℕ → Request
 request_of block seen body = record { method = method_of block seen; target = target_of block seen; body = body }
 
--- the portion
+-- The portion.
 abbrev pub portion_of : List ℕ → Taken → Portion
 portion_of block (taken.Whole seen bytes) = whole (request_of block seen bytes.items) seen.head.closes
 portion_of block taken.BadHead = bad_head

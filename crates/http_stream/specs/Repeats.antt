@@ -12,7 +12,7 @@ Repeats = History → Request → Bool
 abbrev pub LeavesTheList : Rule → Repeats → Type 0
 LeavesTheList rule again = (H : History) (r : Request) → again H r ≡ true → (rule H r).after ≡ H
 
--- the portion is a repeat
+-- The portion is a repeat.
 abbrev pub is_repeat : Repeats → History → Portion → Bool
 is_repeat again H (whole r ends) = again H r
 is_repeat again H bad_head = false
@@ -31,7 +31,7 @@ without_repeats rule again H (p ∷ ps) =
     if is_repeat again H p then without_repeats rule again (after_portion rule H p) ps
     else p ∷ without_repeats rule again (after_portion rule H p) ps
 
--- no portion is marked
+-- No portion is marked.
 abbrev pub no_marks : List Portion → List Bool
 no_marks [] = []
 no_marks (p ∷ ps) = false ∷ no_marks ps
@@ -40,7 +40,7 @@ no_marks (p ∷ ps) = false ∷ no_marks ps
 abbrev pub after_all : Rule → History → List Portion → History
 after_all rule H ps = list_after rule (no_marks ps) H ps
 
--- no repeat ends its connection
+-- No repeat ends its connection.
 abbrev pub NoRepeatEnds : Rule → Repeats → History → List Portion → Type 0
 NoRepeatEnds rule again H [] = Unit {0}
 NoRepeatEnds rule again H (p ∷ ps) = (is_repeat again H p ≡ true → is_last p ≡ false) × NoRepeatEnds rule again (after_portion rule H p) ps

@@ -115,7 +115,7 @@ AnswersRequest rule r H told H' = (mark : Bool) × (told ≡ (request_outcome ru
 abbrev pub AnswersPortion : Rule → Portion → History → Told → History → Type 0
 AnswersPortion rule p H told H' = (mark : Bool) × (told ≡ (outcome rule mark H p).told) × (H' ≡ (outcome rule mark H p).after)
 
--- the portions were answered
+-- The portions were answered.
 abbrev pub Serves : Rule → List Portion → History → Option (List ℕ) → Served → History → Option (List ℕ) → Served → Type 0
 Serves rule ps H out s H' out' s' = (marks : List Bool) × Answered rule ps marks H out s H' out' s'
 

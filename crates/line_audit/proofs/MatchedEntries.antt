@@ -62,7 +62,7 @@ module _ {S A E : Type 0} (steps : S → Option A → S → Type 0) (entry : A �
       (rest.0, ap₂ (λ (y : E) (ys : List E). y ∷ ys) (sym one.0) rest.1, rest.2)
 
   module _ (es : List E) (xs : List A) (from s t u : S) (r : Option A) (start : s ≡ from) (yields : AlwaysYields steps entry from es) (so_far : Yields steps s xs t) (step : steps t r u) where
-    -- the entries are those so far, the next one and others
+    -- The entries are those so far, the next one and others.
     next_entry : (x : A) → r ≡ Some x → (others : List E) × (es ≡ map entry xs ++ entry x ∷ others)
     next_entry x is = let left = left_of es xs s t (subst (λ at. AlwaysYields steps entry at es) (sym start) yields) so_far in by left.0 left.1 left.2
       where
@@ -113,7 +113,7 @@ module _ {A K R : Type 0} (entry : A → K × R) (table : Table) (has : K → Ro
         );
       }
 
-      -- the entry's row is not the one with its key
+      -- The entry's row is not the one with its key.
       pub not_alone : (x : A) → r ≡ Some x → (mid : State) → KeepsCommit old mid → (b : Bool) → FindsAlone table (has (entry x).0) (columns (entry x).0 (entry x).1) mid b → b ≡ false → Decides Are old false
       not_alone x is mid kept b found other =
           let one = reads_before old mid kept _ found in
@@ -129,7 +129,7 @@ module _ {A K R : Type 0} (entry : A → K × R) (table : Table) (has : K → Ro
             );
           }
 
-      -- each entry's row is the one with its key
+      -- Each entry's row is the one with its key.
       pub all_alone : r ≡ None → (left : ℕ) → AreMatched table has columns old left (map entry xs) → Decides Are old (left == 0)
       all_alone is left m =
           let whole = all_entries steps entry es xs from s t u r start yields so_far step is in

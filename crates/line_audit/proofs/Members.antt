@@ -27,7 +27,7 @@ only_one (r ∷ []) x (inr h) n = absurd h
 only_one (r ∷ s ∷ rs) x h n = absurd (omega (arith, n))
 
 module _ {K R : Type 0} (has : K → Row → Bool) (columns : K → R → Row) (one_key : (k l : K) (row : Row) → has k row ≡ true → has l row ≡ true → k ≡ l) where
-  -- the rows of the entries have their keys, and are in the table
+  -- The rows of the entries have their keys, and are in the table.
   abbrev pub AreTrue : List (K × R) → Type 0
   AreTrue es = AllByRecursion (λ e. has e.0 (columns e.0 e.1) ≡ true) es
 

@@ -14,7 +14,7 @@ use Rattle.line_audit.specs.Audit.{Pieces, AreByPiece, ArePlaced, HasPlacements,
 use Rattle.line_audit.proofs.SameRows.{same_rows}
 use Rattle.line_audit.proofs.Members.{AreTrue, alone_by_count}
 
--- a row has its own number and place
+-- A row has its own number and place.
 pub piece_true : (p : PlacementRow) → has_piece (p.number, p.place) (placement_columns p) ≡ true
 piece_true p = ap₂ (λ a b. a && b) (own_int p.number) (own_int p.place)
 

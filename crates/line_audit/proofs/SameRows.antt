@@ -15,7 +15,7 @@ module _ {K R : Type 0} (has : K → Row → Bool) (columns : K → R → Row) (
   abbrev pub without : K → List Row → List Row
   without k rows = filter (λ row. not (has k row)) rows
 
-  -- the row has the key of some entry
+  -- The row has the key of some entry.
   abbrev IsCovered : List (K × R) → Row → Type 0
   IsCovered es row = (k : K) × IsNamed k es × (has k row ≡ true)
 

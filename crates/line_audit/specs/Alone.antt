@@ -11,7 +11,7 @@ use Rattle.sqlite.specs.Effect.{Database}
 use Rattle.line_tables.specs.Calls.{Selects, Reads}
 use Rattle.line_tables.specs.StateRows.{AreRows, rows_in}
 
--- the query shows this row and no other
+-- The query shows this row and no other.
 abbrev pub ShowsOnly : {S : Type 0} → Ghosts S → List ℕ → Row → Held S → Row → Bool → Type 0
 ShowsOnly g sql params old row b = (rows : List Row) × Selects g sql params old rows × (IsTrue b ↔ (rows ≡ row ∷ []))
 
@@ -27,7 +27,7 @@ FindsEntry table has columns e = FindsAlone table (has e.0) (columns e.0 e.1)
 abbrev pub Counts : Table → State → ℕ → Type 0
 Counts table old n = Reads old (λ db. n ≡ length (rows_in table db))
 
--- the row of each entry is the one with its key
+-- The row of each entry is the one with its key.
 abbrev pub AreAlone : {K R : Type 0} → (K → Row → Bool) → (K → R → Row) → List Row → List (K × R) → Type 0
 AreAlone has columns rows es = AllByRecursion (λ e. filter (has e.0) rows ≡ columns e.0 e.1 ∷ []) es
 
@@ -39,7 +39,7 @@ AreMatched table has columns old left es = Reads old (λ db. (left + length es �
 abbrev pub Decides : (Database → Type 0) → State → Bool → Type 0
 Decides Is old b = Reads old (λ db. IsTrue b ↔ Is db)
 
--- the key differs from those of the entries
+-- The key differs from those of the entries.
 abbrev pub IsNew : {K R : Type 0} → K → List (K × R) → Type 0
 IsNew k es = AllByRecursion (λ e. k ≡ e.0 → ⊥) es
 
@@ -48,18 +48,18 @@ abbrev pub AreApart : {K R : Type 0} → List (K × R) → Type 0
 AreApart [] = ⊤
 AreApart (e ∷ es) = IsNew e.0 es × AreApart es
 
--- some entry has the key
+-- Some entry has the key.
 abbrev pub IsNamed : {K R : Type 0} → K → List (K × R) → Type 0
 IsNamed k [] = ⊥
 IsNamed k (e ∷ es) = (k ≡ e.0) ⊎ IsNamed k es
 
--- the entries are those of the map
+-- The entries are those of the map.
 pub record Listed {K R : Type 0} (es : List (K × R)) (f : K → Option R) : Type 0 where
   pub each : AllByRecursion (λ e. f e.0 ≡ Some e.1) es
   pub all : (k : K) (r : R) → f k ≡ Some r → IsNamed k es
   pub distinct : AreApart es
 
--- a row has at most one key
+-- A row has at most one key.
 abbrev pub HasOneKey : {K : Type 0} → (K → Row → Bool) → Type 0
 HasOneKey has = (k l : _) (row : Row) → has k row ≡ true → has l row ≡ true → k ≡ l
 

@@ -24,7 +24,7 @@ found_table Two = Found ∷ []
 abbrev pub state_tables : Rules → List StateTable
 state_tables rules = Part ∷ Alternate ∷ SheetRow ∷ Selected ∷ Reel ∷ Mount ∷ Board ∷ Placement ∷ found_table rules
 
--- the rows of one table are those of its map
+-- The rows of one table are those of its map.
 abbrev pub HoldsTable : Database → StateTables → StateTable → Type 0
 HoldsTable db t Part = HoldsParts db t
 HoldsTable db t Alternate = HoldsAlternates db t
@@ -49,7 +49,7 @@ abbrev pub IsVerdict : List StateTable → Database → StateTables → Option S
 IsVerdict tables db t None = AllByRecursion (HoldsTable db t) tables
 IsVerdict tables db t (Some table) = IsFirstWrong tables db t table
 
--- placements, each with its number and its place
+-- Placements, each with its number and its place.
 abbrev pub Pieces : Type 0
 Pieces = List ((ℕ × ℕ) × PlacementRow)
 
@@ -62,11 +62,11 @@ pub record ArePlaced (db : Database) (all : Bool) (es : Pieces) : Type 0 where
   pub here : IsTrue all → AllByRecursion (λ e. Has (rows_in line.placement db) (placement_columns e.1)) es
   pub missing : all ≡ false → AreAlone has_piece (λ _ row. placement_columns row) (rows_in line.placement db) es → ⊥
 
--- the tables with these placements
+-- The tables with these placements.
 abbrev pub with_placements : (ℕ × ℕ → Option PlacementRow) → StateTables → StateTables
 with_placements f t = record t { placements = λ number place. f (number, place) }
 
--- the rows of `placement` are those of the map
+-- The rows of `placement` are those of the map.
 abbrev pub HasPlacements : Database → (ℕ × ℕ → Option PlacementRow) → Type 0
 HasPlacements db f = AreRows has_piece (λ _ row. placement_columns row) (rows_in line.placement db) f
 
@@ -78,6 +78,6 @@ pub record IsExpected (old : State) (all : Bool) (count : ℕ) (es : Pieces) (f 
   pub counted : length es ≡ count
   pub placed : IsTrue old.is_open → IsOurs old.committed.schema → ArePlaced old.committed all es
 
--- an entry for a row, by its number and its place
+-- An entry for a row, by its number and its place.
 abbrev pub piece_of : PlacementRow → (ℕ × ℕ) × PlacementRow
 piece_of p = ((p.number, p.place), p)

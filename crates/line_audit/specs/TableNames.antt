@@ -5,7 +5,7 @@ use Rattle.line_tables.specs.Line as line
 use Rattle.line_audit.specs.declared.table.StateTable.{StateTable}
 use Rattle.line_audit.specs.declared.table.StateTable.TheVariants.{Part, Alternate, SheetRow, Selected, Reel, Mount, Board, Placement, Found}
 
--- the name in SQL
+-- The name in SQL.
 abbrev pub name_of : StateTable → List ℕ
 name_of Part = codes "part"
 name_of Alternate = codes "alternate"

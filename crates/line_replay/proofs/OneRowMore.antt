@@ -37,7 +37,7 @@ module _ {D : Type 0} (F : D → History → Type 0) (rules : Rules) (old mid : 
     },
   )
 
--- a row of the next number is that of an entry
+-- A row of the next number is that of an entry.
 pub row_taken : (old first : State) (o : Option Row) (row : Row) (H : History) (e : Entry) (number : ℕ) → KeepsCommit old first → o ≡ Some row → length H + 1 ≡ number → row ≡ entry_row H e
     → Reads old (λ db. filter (has_number number) (accepted_in db) ≡ only o) → Reads first (λ db. list_any (is_before e.stamped.uid number) (accepted_in db) ≡ false) → Reads old (λ db. IsAt (accepted_in db) H e)
 row_taken old first o row H e number kept is numbered same found none =

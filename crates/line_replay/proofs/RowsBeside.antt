@@ -42,7 +42,7 @@ one_edit (PutBoard row) t n = refl
 one_edit (PutPlacement row) t n = refl
 one_edit (PutFound reel pieces) t n = refl
 
--- edits of tables with other placements
+-- Edits of tables with other placements.
 but-edits : (xs : List RowEdit) (t n m : Tables) → but_placements (with_edits xs (but_placements t m)) n ≡ but_placements (with_edits xs t) n
 but-edits [] t n m = refl
 but-edits (x ∷ xs) t n m =

@@ -35,7 +35,7 @@ least_below numbers others m n more same low other =
     let moved = All-permutation P (Int m ∷ others) (Int n ∷ more) (IsPermutation-trans _ _ _ (IsPermutation-sym _ _ same) other) all in
     (recursion_from_All P (Int n ∷ more) moved).0
 
--- there is one least number
+-- There is one least number.
 pub one_least : (rows : List Row) (m n : ℤ) → IsLeast rows (Some m) → IsLeast rows (Some n) → m ≡ n
 one_least rows m n h k = neither_less m n (least_below _ h.0 m n k.0 h.1 h.2 k.1) (least_below _ k.0 n m h.0 k.1 k.2 h.1)
 
@@ -67,7 +67,7 @@ others_of rules rows (e ∷ H) judged at =
 others_length : (rules : Rules) (rows : List Row) (H : History) (rest : List Row) → IsPermutation rows (rows_of H ++ rest) → length rows ≡ length H + length rest
 others_length rules rows H rest same = sym (length_permutation _ _ same) ∙ length-append (rows_of H) rest ∙ ap (λ n. n + length rest) (rows-length H)
 
--- there are at least as many rows as entries
+-- There are at least as many rows as entries.
 pub no_fewer : (rules : Rules) (rows : List Row) (H : History) → IsJudged rules H → AreAt rows H → length H ≤ length rows
 no_fewer rules rows H judged at = let o = others_of rules rows H judged at in omega (arith, others_length rules rows H o.0 o.1)
 

@@ -21,7 +21,7 @@ abbrev pub placement_by : RowEdit → Option PlacementRow
 placement_by (PutPlacement row) = Some row
 placement_by edit = None
 
--- the placements among the edits
+-- The placements among the edits.
 abbrev pub placements_by : List RowEdit → List PlacementRow
 placements_by edits = filter_map placement_by edits
 

@@ -17,7 +17,7 @@ pub record IsAt (rows : List Row) (H : History) (e : Entry) : Type 0 where
   pub row : filter (has_number (length H + 1)) rows ≡ entry_row H e ∷ []
   pub first : list_any (is_before e.stamped.uid (length H + 1)) rows ≡ false
 
--- each entry has its row among the rows
+-- Each entry has its row among the rows.
 abbrev pub AreAt : List Row → History → Type 0
 AreAt rows [] = ⊤
 AreAt rows (e ∷ H) = IsAt rows H e × AreAt rows H

@@ -16,7 +16,7 @@ use Rattle.desk_types.specs.Edits.{with_edit, with_edits, AreNew as AreNewRows}
 use Rattle.line_rows.specs.Rows.{columns, rows_of, ledger_tables}
 use Rattle.line_rows.proofs.Judgements.{row_is}
 
--- edits of the state tables, among those of all tables
+-- Edits of the state tables, among those of all tables.
 rows_edited : (rows : List RowEdit) (t : Tables) → after_edits (map (λ edit. EditRow edit) rows) t ≡ record t { state = with_edits rows t.state }
 rows_edited [] t = refl
 rows_edited (x ∷ rows) t = rows_edited rows (record t { state = with_edit x t.state })

@@ -21,7 +21,7 @@ pub record IsMessageOf (row : Row) (s : Stamped) : Type 0 where
   pub minute : column row 3 ≡ Int (pos s.minute)
   pub command : column row 5 ≡ Text (stored_text s.command)
 
--- the entry may come after H by the rules, and the row is its row
+-- The entry may come after H by the rules, and the row is its row.
 pub record GoesOn (rules : Rules) (H : History) (row : Row) (e : Entry) : Type 0 where
   pub next : IsNext rules H e
   pub same : row ≡ entry_row H e

@@ -19,7 +19,7 @@ columns number s effective answer = Int (pos number) ∷ Text s.uid ∷ Text s.s
 abbrev pub entry_row : History → Entry → Row
 entry_row G e = columns e.number e.stamped e.effective (first_text G e)
 
--- the rows of all entries, the newest first
+-- The rows of all entries, the newest first.
 abbrev pub rows_of : History → List Row
 rows_of [] = []
 rows_of (e ∷ G) = entry_row G e ∷ rows_of G

@@ -92,7 +92,7 @@ module _ (indexed : Layout) (table : Table) (has : Row → Bool) (tests project 
   updates : Steps indexed table old new
   updates = record { was_open = was_open; same = λ ours. (did ours).0.same; sound = λ ours. (did ours).0.sound; others = λ ours. (did ours).0.others }
 
-  -- no row was changed
+  -- No row was changed.
   pub updates_none : count ≡ 0 → Alters indexed table (without has) old new
   updates_none none = record {
     steps = updates;
@@ -105,7 +105,7 @@ module _ (indexed : Layout) (table : Table) (has : Row → Bool) (tests project 
         kept_without table has old.now new.now rows was m is (h.rows ∙ ap (λ f. put_all (without_all (old.now.trees table.tree) (ids_of h.found)) (renewed table f)) empty ∙ left);
   }
 
-  -- one row was changed
+  -- One row was changed.
   pub updates_one : ((r : Row) → passing tests params r ≡ true → IsTrue (is_int (rowid r)) → IsTrue (is_int (rowid (cast_row table (drop 1 (show r))))) × (columns table (cast_row table (drop 1 (show r))) ≡ values))
       → count ≡ 1 → Alters indexed table (put_in has values) old new
   updates_one renews one = record {
@@ -151,7 +151,7 @@ module _ (indexed : Layout) (table : Table) (r values : Row) (n : List Row → R
 pub inserted_steps : (indexed : Layout) (table : Table) (rows : List Row) (old new : State) → IsTrue old.is_open → (old.now.schema ≡ schema_of Two indexed → Inserted (schema_of Two indexed) table rows old new) → Steps indexed table old new
 inserted_steps indexed table rows old new was_open did = record { was_open = was_open; same = λ ours. (did ours).same; sound = λ ours. (did ours).sound; others = λ ours. (did ours).step.tables }
 
--- a row is one more
+-- A row is one more.
 pub inserts : (indexed : Layout) (table : Table) (r values : Row) (n : List Row → Row) (old new : State) → ((rows : List Row) → with_rowid Chosen rows (cast_row table r) ≡ n rows) → ((rows : List Row) → IsTrue (is_int (rowid (n rows))))
     → ((rows : List Row) → columns table (n rows) ≡ values) → IsTrue old.is_open → (old.now.schema ≡ schema_of Two indexed → Inserted (schema_of Two indexed) table (r ∷ []) old new) → Alters indexed table (λ rows. values ∷ rows) old new
 inserts indexed table r values n old new cast keyed shown was_open did = record {

@@ -31,7 +31,7 @@ state_tables indexed = part ∷ alternate ∷ sheet_row ∷ selected ∷ reel �
 
 -- ---- the rows of one table
 
--- the rows in the table's own tree, by their columns
+-- The rows in the table's own tree, by their columns.
 abbrev pub rows_at : Table → Database → List Row
 rows_at table db = map (columns table) (db.trees table.tree)
 
@@ -39,7 +39,7 @@ rows_at table db = map (columns table) (db.trees table.tree)
 pub found_kept : (indexed : Layout) (db : Database) → db.schema ≡ schema_of Two indexed → kept_in found db ≡ db.trees (found_tree indexed)
 found_kept indexed db has = ap (λ n. db.trees n) (ap (tree_in found) has)
 
--- the rows without those that have a key
+-- The rows without those that have a key.
 abbrev pub without : (Row → Bool) → List Row → List Row
 without has rows = filter (λ row. not (has row)) rows
 
@@ -70,7 +70,7 @@ others_then : (tree : ℕ) (tables : List Table) (a b c : Trees) → AllByRecurs
 others_then tree [] a b c p q = tt
 others_then tree (t ∷ ts) a b c p q = (λ other. q.0 other ∙ p.0 other, others_then tree ts a b c p.1 q.1)
 
--- one change and then another of one table
+-- One change and then another of one table.
 pub alters_then : (indexed : Layout) (table : Table) (f g : List Row → List Row) (a b c : State) → Alters indexed table f a b → Alters indexed table g b c → Alters indexed table (λ rows. g (f rows)) a c
 alters_then indexed table f g a b c p q = record {
   steps = record {
@@ -187,7 +187,7 @@ list_grows row old new t was e list =
       apart = all_apart_but was.indexed 1 old new e refl was.apart;
     }
 
--- every table is empty but `version`
+-- Every table is empty but `version`.
 pub holds_blank : (indexed : Layout) (greatest : ℕ) (db : Database) → db.schema ≡ schema_of Two indexed → rows_in version db ≡ version_row Two greatest ∷ [] → AllByRecursion (λ u. db.trees u.tree ≡ []) (accepted ∷ state_tables indexed) → Holds db (blank greatest)
 unfolding takes_of found_of
 holds_blank indexed greatest db has one empty =

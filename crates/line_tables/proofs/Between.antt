@@ -40,7 +40,7 @@ select_between = codes "SELECT number, place, board, designator, machine, slot, 
 abbrev between_test : List Term
 between_test = op2 (Compare Ge Binary) (col 1 0) (col 0 0) ∷ op2 (Compare Le Binary) (col 1 0) (col 0 1) ∷ []
 
--- the columns of a placement
+-- The columns of a placement.
 abbrev pub placement_places : List Term
 placement_places = col 1 1 ∷ col 1 2 ∷ col 1 3 ∷ col 1 4 ∷ col 1 5 ∷ col 1 6 ∷ col 1 7 ∷ col 1 8 ∷ []
 

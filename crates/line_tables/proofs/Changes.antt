@@ -32,7 +32,7 @@ use Rattle.line_tables.proofs.Inserts.{went, same_value, concludes_as}
 use Rattle.line_tables.proofs.FindTexts.{rows_from}
 use Rattle.line_tables.proofs.Finds.{rows_answer, shown_is, whole}
 
--- the row passes the tests
+-- The row passes the tests.
 abbrev pub passing : List Term → Row → Row → Bool
 passing tests params r = list_all (holds (params ∷ r ∷ [])) tests
 

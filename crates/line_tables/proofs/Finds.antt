@@ -65,7 +65,7 @@ rows_answer tree test project db params rows a =
     let same : IsPermutation (map (λ (o : Output). o.1) a.kept) (map (λ (o : Output). o.1) a.ordered) = IsPermutation-map (λ (o : Output). o.1) a.kept a.ordered a.same in
     subst₂ (λ k r. IsPermutation k r) (ap (map (λ (o : Output). o.1)) kept) (sym a.shown) same
 
--- a test of the columns that are shown
+-- A test of the columns that are shown.
 pub shown_is : (q : Query) (params : Row) (columns : Row → Row) (show : Row → Row) (has : Row → Bool) → ((r : Row) → list_all (holds (params ∷ r ∷ [])) q.filter ≡ has (columns r)) → ((r : Row) → (output q (params ∷ r ∷ [])).1 ≡ show (columns r))
     → (rows : List Row) → shown_of q params rows ≡ map show (filter has (map columns rows))
 shown_is q params columns show has test out [] = refl
@@ -90,7 +90,7 @@ whole (r ∷ rows) = ap (λ rest. r ∷ rest) (whole rows)
 pub overlay_none : (db : Trees) (tree : ℕ) → overlay db [] tree ≡ db tree
 overlay_none db tree = elim (nat_le (2 ^ 31) tree) as (λ b. unwrap_or (if b then None else None) (db tree) ≡ db tree) [ true ↦ refl | false ↦ refl ]
 
--- the rows that pass a test of their columns are found
+-- The rows that pass a test of their columns are found.
 pub finds_rows : {S : Type 0} (g : Ghosts S) (sql : List ℕ) (tree : Schema → ℕ) (test project : List Term) (names : List (List ℕ)) → IsSelectBy sql (λ schema. rows_from (tree schema) test project) names → (params : Row) (columns : Row → Row) (has : Row → Bool)
     → ((r : Row) → list_all (holds (params ∷ r ∷ [])) test ≡ has (columns r)) → ((r : Row) → (output (rows_from 0 test project) (params ∷ r ∷ [])).1 ≡ columns r)
     → (old : Held S) (rows : List Row) → Selects g sql params old rows → Reads (state g old) (λ db. IsPermutation (filter has (map columns (db.trees (tree db.schema)))) rows)
@@ -161,7 +161,7 @@ finds_version g old rows o h is = record {
 }
 
 module _ {S : Type 0} (g : Ghosts S) (old : Held S) where
-  -- a query in a transaction that has just begun
+  -- A query in a transaction that has just begun.
   pub selects : (after : Held S) (sql : List ℕ) (params : Row) (r : Result (Vec Row Global) Error) → (IsTrue (state g old).is_open → (state g old).now ≡ (state g old).committed)
       → IfOk r (λ rows. Shown sql params (state g (record old { in_transaction = true })) (state g after) rows.items) → IfOk r (λ rows. Selects g sql params old rows.items)
   selects after sql params (Err e) settled h = tt
@@ -180,7 +180,7 @@ module _ {S : Type 0} (g : Ghosts S) (old : Held S) where
   pub finds_no_uid : (uid : List ℕ) (rows : List Row) → rows ≡ [] → Selects g select_uid (Text uid ∷ []) old rows → Reads (state g old) (λ db. filter (has_uid uid) (accepted_in db) ≡ [])
   finds_no_uid uid rows is h = finds_only (has_uid uid) (state g old) rows None is (finds_uid g uid old rows h)
 
--- the bytes of a text are UTF-8
+-- The bytes of a text are UTF-8.
 pub is_text : (s : String Global) → IsUtf8 (string_bytes s)
 is_text s = IsUtf8-string_bytes s
 

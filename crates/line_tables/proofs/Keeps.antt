@@ -55,7 +55,7 @@ query_keeps sql params old new (Ok rows) within ok err = shown_keeps sql params 
 query_keeps sql params old new (Err e) within ok (inl err) = fails_keeps sql params old new e err
 query_keeps sql params old new (Err e) within ok (inr late) = unchanged_keeps old new late.5
 
--- the connection was open
+-- The connection was open.
 pub shown_open : (sql : List ℕ) (params : Row) (old new : State) (rows : List Row) → Shown sql params old new rows → IsTrue old.is_open
 unfolding Shown
 shown_open sql params old new rows h = by h.0.returning h.2

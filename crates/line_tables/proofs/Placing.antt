@@ -30,14 +30,14 @@ use Rattle.line_tables.proofs.Beside.{quiet, others_behind}
 placement_cast : (row : PlacementRow) → cast_row placement (placement_kept row) ≡ placement_kept row
 placement_cast row = rw (cast_int (pos (placement_id row.number row.place)), cast_int (pos row.number), cast_int (pos row.place), cast_int (flag row.overdue)) refl
 
--- the rows keep their rowids
+-- The rows keep their rowids.
 all_kept : (rows : List PlacementRow) (db : List Row) → numbered Chosen db (map (λ s. cast_row placement s) (map placement_kept rows)) ≡ map placement_kept rows
 all_kept [] db = refl
 all_kept (row ∷ rows) db =
     ap (λ r. with_rowid Chosen db r ∷ numbered Chosen (put_row (with_rowid Chosen db r) db) (map (λ s. cast_row placement s) (map placement_kept rows))) (placement_cast row)
     ∙ ap (λ l. placement_kept row ∷ l) (all_kept rows (put_row (placement_kept row) db))
 
--- the map with the rows at their keys
+-- The map with the rows at their keys.
 abbrev with_pieces : List PlacementRow → (ℕ → ℕ → Option PlacementRow) → ℕ → ℕ → Option PlacementRow
 with_pieces [] f = f
 with_pieces (row ∷ rows) f = with_pieces rows (λ n k. if row.number == n && (row.place == k) then Some row else f n k)

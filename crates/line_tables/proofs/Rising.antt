@@ -154,7 +154,7 @@ module _ (show : Row → Row) (p : Row → Bool) where
       go false e few (inr i) (inl other) more = absurd (true≢false (sym pb ∙ ap (λ r. p (show r)) other ∙ e))
       go false e few (inr i) (inr j) more = more few i j
 
--- the row begins with an integer
+-- The row begins with an integer.
 abbrev IsWhole : Row → Type 0
 IsWhole r = IsTrue (is_int (column r 0))
 

@@ -247,7 +247,7 @@ board_put g row a c did =
     alters_writes (PutBoard row) (λ _. board) (put_in (has_text 0 row.board) (board_columns row)) a c (λ _. refl) (λ _ _ all. all.1.1.1.1.1.1.0) (λ _ t _ was k new perm. record { parts = k.parts refl; alternates = k.alternates refl; sheets = k.sheets refl; selected = k.selected refl; reels = k.reels refl; mounts = k.mounts refl; boards = changed (has_text 0) (λ _ row. board_columns row) (one_text 0) same tells_text row.board (Some row) _ _ t.boards _ (own_text row.board, tt) (λ l. refl) perm was.boards; placements = k.placements refl; found = k.found refl })
     (λ i. in_place i board 8 row.board (drop 1 (board_columns row)) board_renewed update_board insert_board refl (quiet i 15 refl) (update_board_is i) (λ r. and_true _) (λ r. refl) (λ id. rw (cast_int id) refl) (λ id. refl) (λ b c. puts_board i b c row) g a c did)
 
--- the rows of `found` in its tree
+-- The rows of `found` in its tree.
 abbrev AreFound : Layout → Database → (Name → Option ℕ) → Type 0
 AreFound i db f = AreRows (has_text 0) found_columns (rows_at (found_by i) db) f
 

@@ -169,7 +169,7 @@ pub insert_placements_is : IsInsert insert_placements 9 placements_terms 9
 unfolding understood everything
 insert_placements_is indexed = (refl, (refl, refl))
 
--- the first value of the row is the first parameter
+-- The first value of the row is the first parameter.
 abbrev pub key_tests : List Term
 key_tests = is_param 1 0 ∷ []
 

@@ -79,7 +79,7 @@ pub record Migrated (before after : Database) : Type 0 where
   pub layout : (indexed : Layout) → before.schema ≡ schema_of One indexed → after.schema ≡ schema_of Two (alone indexed)
   pub same : (indexed : Layout) → before.schema ≡ schema_of One indexed → KeepsRows (drop 1 (schema_tables One indexed)) before.trees after.trees
 
--- the connection was open, and a database of version 1 became one of version 2 inside its transaction, whose trees list its schema
+-- The connection was open, and a database of version 1 became one of version 2 inside its transaction, whose trees list its schema.
 pub record Migrates (old new : State) : Type 0 where
   pub was_open : IsTrue old.is_open
   pub done : Migrated old.now new.now
@@ -139,15 +139,15 @@ pub record Reads (old : State) (Is : Database → Type 0) : Type 0 where
   pub was_open : IsTrue old.is_open
   pub are : IsOurs old.committed.schema → Is old.committed
 
--- the row has this UniqueID
+-- The row has this UniqueID.
 abbrev pub has_uid : List ℕ → Row → Bool
 has_uid uid row = equal Binary (column row 1) (Text uid)
 
--- the row has this number
+-- The row has this number.
 abbrev pub has_number : ℕ → Row → Bool
 has_number number row = equal Binary (column row 0) (Int (pos number))
 
--- the row has this UniqueID, and a number below this one
+-- The row has this UniqueID, and a number below this one.
 abbrev pub is_before : List ℕ → ℕ → Row → Bool
 is_before uid number row = has_uid uid row && is_true (binary (Compare Lt Binary) (column row 0) (Int (pos number)))
 

@@ -6,7 +6,7 @@ use Rattle.sqlite_schema.specs.declared.schema.Table.{Table}
 use Rattle.desk_types.specs.declared.rules.Rules.{Rules}
 use Rattle.desk_types.specs.declared.rules.Rules.TheVariants.{One, Two}
 
--- the table has a column of this name
+-- The table has a column of this name.
 abbrev pub has_column : Table → List ℕ → Bool
 has_column t name = list_any (λ column. same_name column.name name) t.columns
 
@@ -16,17 +16,17 @@ has_name t =
     same_name t.name (codes "version") || same_name t.name (codes "accepted") || same_name t.name (codes "part") || same_name t.name (codes "alternate") || same_name t.name (codes "sheet_row") || same_name t.name (codes "selected")
     || same_name t.name (codes "reel") || same_name t.name (codes "mount") || same_name t.name (codes "board") || same_name t.name (codes "placement") || same_name t.name (codes "found")
 
--- the table is named `version` and has its columns
+-- The table is named `version` and has its columns.
 abbrev pub is_version : Table → Bool
 is_version t = same_name t.name (codes "version") && has_column t (codes "one") && has_column t (codes "number") && has_column t (codes "greatest")
 
--- the table is named `accepted` and has its columns
+-- The table is named `accepted` and has its columns.
 abbrev pub is_accepted : Table → Bool
 is_accepted t =
     same_name t.name (codes "accepted") && has_column t (codes "number") && has_column t (codes "uid") && has_column t (codes "source") && has_column t (codes "own")
     && has_column t (codes "effective") && has_column t (codes "command") && has_column t (codes "detail")
 
--- some table has this name and these columns
+-- Some table has this name and these columns.
 abbrev pub has_table : List Table → List ℕ → List (List ℕ) → Bool
 has_table tables name columns = list_any (λ t. same_name t.name name && list_all (has_column t) columns) tables
 

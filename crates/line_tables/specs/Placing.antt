@@ -10,7 +10,7 @@ use Rattle.line_tables.specs.declared.edit.Edit.TheVariants.{EditRow}
 use Rattle.line_tables.specs.Rowids.{placement_id}
 use Rattle.line_tables.specs.StateRows.{placement_columns}
 
--- the edit that puts the row
+-- The edit that puts the row.
 abbrev pub placement_edit : PlacementRow → Edit
 placement_edit row = EditRow (PutPlacement row)
 

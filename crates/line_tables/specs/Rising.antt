@@ -25,15 +25,15 @@ abbrev pub IsPast : Option ℤ → ℤ → Type 0
 IsPast None n = ⊤
 IsPast (Some last) n = int_cmp last n ≡ Less
 
--- the row's first value is below this one
+-- The row's first value is below this one.
 abbrev pub IsBefore : Value → Row → Type 0
 IsBefore v row = value_cmp (column row 0) v ≡ Less
 
--- each row is an integer, above those before
+-- Each row is an integer, above those before.
 abbrev pub AreRising : List Row → Type 0
 AreRising rows = IsAscending (λ a b. value_cmp (column a 0) (column b 0) ≡ Less) rows × AllByRecursion (λ row. IsTrue (is_int (column row 0))) rows
 
--- the row is one integer
+-- The row is one integer.
 abbrev pub IsNumber : Row → Type 0
 IsNumber row = (n : ℤ) × (row ≡ Int n ∷ [])
 

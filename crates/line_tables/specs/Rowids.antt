@@ -14,7 +14,7 @@ use Rattle.line_tables.specs.Line.{part, alternate, sheet_row, selected, reel, m
 use Rattle.line_tables.specs.Line.Layout.{Indexed}
 use Rattle.line_tables.specs.StateRows.{kept_in}
 
--- each row has an integer as its rowid, and no other row has it
+-- Each row has an integer as its rowid, and no other row has it.
 pub record AreApart (rows : List Row) : Type 0 where
   pub keyed : (a : Row) → Has rows a → IsTrue (is_int (rowid a))
   pub apart : (a b : Row) → Has rows a → Has rows b → value_cmp (rowid a) (rowid b) ≡ Equal → a ≡ b

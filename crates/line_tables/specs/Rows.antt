@@ -16,7 +16,7 @@ use Rattle.line_tables.specs.StateRows.{HoldsStateBy}
 use Rattle.line_tables.specs.Rowids.{AreAllApartBy}
 use Rattle.line_tables.specs.Line.{schema_of, Layout}
 
--- the columns of a row of `accepted`, in their order
+-- The columns of a row of `accepted`, in their order.
 abbrev pub columns_of : Accepted → Row
 columns_of a = Int (pos a.number) ∷ Text (string_bytes a.uid) ∷ Text (string_bytes a.source) ∷ Int (pos a.own) ∷ Int (pos a.effective) ∷ Text (string_bytes a.command) ∷ Text (string_bytes a.detail) ∷ []
 
@@ -24,12 +24,12 @@ columns_of a = Int (pos a.number) ∷ Text (string_bytes a.uid) ∷ Text (string
 abbrev pub HasNumbers : Accepted → Type 0
 HasNumbers a = (a.number < 2 ^ 32) × (a.own < 2 ^ 32) × (a.effective < 2 ^ 32)
 
--- the version of the tables
+-- The version of the tables.
 abbrev pub version_of : Rules → ℕ
 version_of One = 1
 version_of Two = 2
 
--- the row of `version`: 1, the version of the tables, and the greatest number
+-- The row of `version`: 1, the version of the tables, and the greatest number.
 abbrev pub version_row : Rules → ℕ → Row
 version_row rules greatest = Int (pos 1) ∷ Int (pos (version_of rules)) ∷ Int (pos greatest) ∷ []
 
@@ -41,7 +41,7 @@ accepted_columns r = column r 0 ∷ column r 2 ∷ column r 3 ∷ column r 4 ∷
 abbrev pub version_columns : Row → Row
 version_columns r = column r 0 ∷ column r 2 ∷ column r 3 ∷ []
 
--- the rows of each table in a database of our schema
+-- The rows of each table in a database of our schema.
 abbrev pub version_in : Database → List Row
 version_in db = map version_columns (db.trees 0)
 

@@ -85,7 +85,7 @@ rows_in table db = map (columns table) (kept_in table db)
 
 -- ---- keys
 
--- the row has this text, or this number, in the column
+-- The row has this text, or this number, in the column.
 abbrev pub has_text : ℕ → Name → Row → Bool
 has_text at text row = equal Binary (column row at) (Text text)
 
@@ -110,7 +110,7 @@ pub record AreRows {K R : Type 0} (has : K → Row → Bool) (columns : K → R 
   pub found : (key : K) → filter (has key) rows ≡ option_to_list (option_map (columns key) (f key))
   pub keyed : AllByRecursion (λ row. (key : K) × IsTrue (has key row)) rows
 
--- each table of a database has the rows of its map
+-- Each table of a database has the rows of its map.
 
 abbrev pub HoldsParts : Database → StateTables → Type 0
 HoldsParts db t = AreRows (has_text 0) (λ part _. part_columns part) (rows_in line.part db) (λ part. unit_if (t.parts part))
@@ -127,7 +127,7 @@ HoldsSelected db t = AreRows (has_text 0) selected_columns (rows_in line.selecte
 abbrev pub HoldsReels : Database → StateTables → Type 0
 HoldsReels db t = AreRows (has_text 0) (λ _ row. reel_columns row) (rows_in line.reel db) t.reels
 
--- a row of `mount` is found by its reel
+-- A row of `mount` is found by its reel.
 abbrev pub HoldsMounts : Database → StateTables → Type 0
 HoldsMounts db t = AreRows (has_text 3) (λ _ row. mount_columns row) (rows_in line.mount db) t.mounts
 

@@ -39,7 +39,7 @@ in-order [] sorted = tt
 in-order (n ∷ names) (above, sorted) = (above, in-order names sorted)
 
 module _ (lot : Name) where
-  -- the reel is of the lot
+  -- The reel is of the lot.
   abbrev is_its : Row → Row → Bool
   is_its reel piece = has_text 2 lot reel
 
@@ -47,7 +47,7 @@ module _ (lot : Name) where
   abbrev shown_board : Row → Row → Output
   shown_board reel piece = (column piece 2 ∷ [], column piece 2 ∷ [])
 
-  -- the boards of the pieces of the lot
+  -- The boards of the pieces of the lot.
   abbrev names_of : History → List Name
   names_of H = map (λ (p : Placement). p.board) (filter (λ p. same p.lot lot) (placements_of H))
 

@@ -46,7 +46,7 @@ pub equal-text : (a b : Name) → equal Binary (Text a) (Text b) ≡ same a b
 unfolding binary
 equal-text a b = told _ ∙ ap is_eq (value_cmp-Text a b) ∙ is_at-by_name a b
 
--- a flag is 1 where it is set
+-- A flag is 1 where it is set.
 pub equal-flag : (b : Bool) → equal Binary (Int (flag b)) (Int (pos 1)) ≡ b
 unfolding binary
 equal-flag true = told _ ∙ ap is_eq (value_cmp-Int (pos 1) (pos 1))
@@ -82,7 +82,7 @@ one-int v m n first second = one-pos m n (sym (value_cmp-Int (pos m) (pos n)) �
 pub one-text : (v : Value) (m n : Name) → equal Binary v (Text m) ≡ true → equal Binary v (Text n) ≡ true → m ≡ n
 one-text v m n first second = same-true m n (sym (is_at-by_name m n) ∙ ap is_eq (sym (value_cmp-Text m n) ∙ both-tied v (Text m) (Text n) first second))
 
--- a number equals itself
+-- A number equals itself.
 pub equal-itself : (n : ℕ) → equal Binary (Int (pos n)) (Int (pos n)) ≡ true
 unfolding binary
 equal-itself n = told _ ∙ ap is_eq (tied_itself value_cmp_total (Int (pos n)))

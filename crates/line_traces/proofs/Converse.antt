@@ -67,7 +67,7 @@ has-held : {R : Type 0} (b : Bool) (rest : Option R) (refusal : R) → (if b the
 has-held true rest refusal none = refl
 has-held false rest refusal none = cc
 
--- an accepted install is for the board in work on its machine
+-- An accepted install is for the board in work on its machine.
 installed-on : (H : History) (machine board : Name) (ds : List Name) → install_refusal H machine board ds ≡ None → in_work_on H machine ≡ Some board
 unfolding install_refusal
 installed-on H machine board ds none = at (in_work_on H machine) (has-held (is_in_work_on H machine board) _ _ none)
@@ -80,7 +80,7 @@ installed-on H machine board ds none = at (in_work_on H machine) (has-held (is_i
 later-any : (test : Entry → Bool) (G H : History) → IsPrefix G H → list_any test G ≡ true → list_any test H ≡ true
 later-any test G H before is = ap (list_any test) before.1 ∙ list_any-append test before.0 G ∙ or_right (list_any test before.0) _ is
 
--- the board of a piece was started, and its lot was received
+-- The board of a piece was started, and its lot was received.
 known : (H : History) → IsJudged Two H → (p : Placement) → IsRightlyPlaced H p → (is_board H p.board ≡ true) × (is_lot H p.lot ≡ true)
 unfolding command_refusal
 known H judged p right =

@@ -113,11 +113,11 @@ module _ {X : Type 0} (cmp : X → X → Ordering) (P : X → Type 0) (test : X 
 
 -- ---- names
 
--- a name as it is shown
+-- A name as it is shown.
 abbrev pub shown_name : Name → Output
 shown_name name = (Text name ∷ [], Text name ∷ [])
 
--- the order of DISTINCT
+-- The order of DISTINCT.
 abbrev pub by_shown : Output → Output → Ordering
 by_shown = on (λ o. o.1) (collated_cmp (Binary ∷ []))
 
@@ -151,7 +151,7 @@ any-shown : (names : List Name) (name : Name) → list_any (shows name) (map sho
 any-shown [] name = refl
 any-shown (n ∷ names) name = ap₂ (λ a b. a || b) (equal-text n name ∙ same-sym n name) (any-shown names name)
 
--- the entries of a set
+-- The entries of a set.
 abbrev entries_of : List Name → List (Name × Unit {0})
 entries_of names = map (λ n. (n, tt)) names
 

@@ -104,7 +104,7 @@ module _ {A B C X : Type 0} (h : B → A → Bool) (k : B → C → Bool) (t : A
       first true away = rw away refl
       first false away = refl
 
-  -- the join by the elements of the second list
+  -- The join by the elements of the second list.
   pub join-by : (xs : List A) (ys : List B) (zs : List C) → IsPermutation (join xs ys zs) (flat_map (λ b. flat_map (λ a. flat_map (joined a b) zs) xs) ys)
   join-by xs ys zs = swapped (λ a b. flat_map (joined a b) zs) xs ys
 

@@ -17,7 +17,7 @@ use Rattle.line_traces.proofs.ByKey.{listed-pieces}
 
 -- ---- one run after another
 
--- the pieces of a run are added to those before it
+-- The pieces of a run are added to those before it.
 pub run-added : (P : Key → Option Placement) (before after all : List (Option Placement)) (left run rest : List PieceKey) → left ≡ run ++ rest → after ≡ before ++ map P (map key_of run) → before ++ map P (map key_of left) ≡ all
     → after ++ map P (map key_of rest) ≡ all
 run-added P before after all left run rest is added told =

@@ -103,7 +103,7 @@ minute-there H judged p right =
 
 -- ---- the piece
 
--- a row of the table, with its reel's part and lot and its entry's minute
+-- A row of the table, with its reel's part and lot and its entry's minute.
 abbrev pub piece_with : PlacementRow → ReelView → ℕ → Placement
 piece_with row reel effective = record {
   number = row.number;

@@ -23,7 +23,7 @@ use Rattle.line_tables.specs.StateRows.{HoldsState}
 use Rattle.line_traces.specs.Committed.{TellsMinute, HoldsList}
 use Rattle.line_traces.proofs.Columns.{one-int, equal-itself}
 
--- the row has the entry's number and its effective minute
+-- The row has the entry's number and its effective minute.
 abbrev pub IsRowOf : Entry → Row → Type 0
 IsRowOf e row = (column row 0 ≡ Int (pos e.number)) × (column row 4 ≡ Int (pos e.effective))
 
@@ -31,7 +31,7 @@ IsRowOf e row = (column row 0 ≡ Int (pos e.number)) × (column row 4 ≡ Int (
 abbrev IsAmong : List Row → Entry → Type 0
 IsAmong rows e = (row : Row) × (filter (has_number e.number) rows ≡ row ∷ []) × (column row 4 ≡ Int (pos e.effective))
 
--- another number
+-- Another number.
 other-number : (row : Row) (e : Entry) (n : ℕ) → IsRowOf e row → (e.number ≡ n → ⊥) → has_number n row ≡ false
 other-number row e n is other = by (has_number n row) refl
   where
@@ -48,7 +48,7 @@ none-above (e ∷ H) (r ∷ rows) (next, judged) (is, are) n above =
     let at = next.number in
     rw (other-number r e n is (λ same. omega (arith, same, at, above))) (none-above H rows judged are n (omega (arith, above)))
 
--- the numbers of the entries are among those up to the length
+-- The numbers of the entries are among those up to the length.
 numbers-within : (H : History) → IsJudged Two H → AllByRecursion (λ (e : Entry). e.number ≤ length H) H
 numbers-within [] judged = tt
 numbers-within (e ∷ H) (next, judged) =

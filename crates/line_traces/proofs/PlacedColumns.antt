@@ -40,7 +40,7 @@ use Rattle.line_traces.proofs.RowsByKey.{rows-listed}
 
 -- ---- the rows of all pieces
 
--- a placement as a row of its table
+-- A placement as a row of its table.
 abbrev pub piece_row : Placement → Row
 piece_row p = placement_columns (columns_of_piece p)
 

@@ -111,7 +111,7 @@ board-named db H held board = ap is_any (held.state.boards.found board) ∙ by (
 
 -- ---- lots
 
--- the lot of a receipt was received
+-- The lot of a receipt was received.
 pub receipt-lot : (H : History) (reel lot : Name) (receipt : Receipt) → receipt_of H reel ≡ Some receipt → same receipt.lot lot ≡ true → is_lot H lot ≡ true
 receipt-lot [] reel lot receipt is here = cc
 receipt-lot (e ∷ H) reel lot receipt is here = by e.stamped.command is (λ before. receipt-lot H reel lot receipt before here)
@@ -129,7 +129,7 @@ receipt-lot (e ∷ H) reel lot receipt is here = by e.stamped.command is (λ bef
         one false is = later (same l lot) (before is)
     by _ is before = before is
 
--- a reel of the lot, with its receipt
+-- A reel of the lot, with its receipt.
 pub record HasReel (H : History) (lot : Name) : Type 0 where
   pub reel : Name
   pub receipt : Receipt

@@ -34,7 +34,7 @@ pub record HoldsList (db : Database) (H : History) : Type 0 where
 abbrev pub FindsOfList : {X : Type 0} → (History → X) → State → X → Type 0
 FindsOfList of old found = Reads old (λ db. (H : History) → HoldsList db H → found ≡ of H)
 
--- the columns that a query shows of a placed piece
+-- The columns that a query shows of a placed piece.
 abbrev pub placed_columns : Placement → Row
 placed_columns p =
     Int (pos p.number) ∷ Int (pos p.place) ∷ Text p.board ∷ Text p.designator ∷ Text p.part ∷ Text p.lot ∷ Text p.reel ∷ Text p.machine ∷ Text p.slot ∷ Int (pos p.effective)
@@ -59,6 +59,6 @@ pub record IsPieceRow (p : PlacementRow) : Type 0 where
   pub slot : IsId p.slot
   pub reel : IsId p.reel
 
--- a name that a query shows
+-- A name that a query shows.
 abbrev pub name_row : Name → Row
 name_row name = Text name ∷ []

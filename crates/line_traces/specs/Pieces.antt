@@ -12,45 +12,45 @@ use Rattle.trace_lists.specs.Lists.{Key}
 
 -- ---- pieces
 
--- the pieces that pass a test, by number and then by place
+-- The pieces that pass a test, by number and then by place.
 abbrev pub pieces_where : (Placement → Bool) → History → List Placement
 pieces_where test H = filter test (placements_of H)
 
--- the pieces on the board
+-- The pieces on the board.
 abbrev pub pieces_on : History → Name → List Placement
 pieces_on H board = pieces_where (λ p. same p.board board) H
 
--- the pieces of the lot
+-- The pieces of the lot.
 abbrev pub pieces_of_lot : History → Name → List Placement
 pieces_of_lot H lot = pieces_where (λ p. same p.lot lot) H
 
--- the piece with this key: the number of its entry, and its place in the message
+-- The piece with this key: the number of its entry, and its place in the message.
 abbrev pub piece_at : History → Key → Option Placement
 piece_at H key = find (λ (p : Placement). p.number == key.0 && p.place == key.1) (placements_of H)
 
 -- ---- names
 
--- whether the command starts work on the board
+-- Whether the command starts work on the board.
 abbrev pub starts : Name → Command → Bool
 starts board (WorkStarted machine b) = same b board
 starts board _ = false
 
--- whether some entry starts work on the board
+-- Whether some entry starts work on the board.
 abbrev pub is_board : History → Name → Bool
 is_board H board = list_any (λ (e : Entry). starts board e.stamped.command) H
 
--- whether the command receives a reel of the lot
+-- Whether the command receives a reel of the lot.
 abbrev pub receives : Name → Command → Bool
 receives lot (ReelReceived reel part l moisture quantity) = same l lot
 receives lot _ = false
 
--- whether some entry receives a reel of the lot
+-- Whether some entry receives a reel of the lot.
 abbrev pub is_lot : History → Name → Bool
 is_lot H lot = list_any (λ (e : Entry). receives lot e.stamped.command) H
 
 -- ---- traces
 
--- the pieces on a board that was started
+-- The pieces on a board that was started.
 abbrev pub board_trace : History → Name → Option (List Placement)
 board_trace H board = if is_board H board then Some (pieces_on H board) else None
 
@@ -58,7 +58,7 @@ board_trace H board = if is_board H board then Some (pieces_on H board) else Non
 abbrev pub lot_trace : History → Name → Option (List Placement)
 lot_trace H lot = if is_lot H lot then Some (pieces_of_lot H lot) else None
 
--- the boards that hold a piece of such a lot
+-- The boards that hold a piece of such a lot.
 abbrev pub lot_board_names : History → Name → Option (List Name)
 lot_board_names H lot = if is_lot H lot then Some (boards_of H lot) else None
 
