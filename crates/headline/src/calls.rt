@@ -1,4 +1,4 @@
-//! The calls that the program makes, each with what it says of the list of its owner.
+//! The calls that the program makes, each with its effect on the history of its owner.
 //!
 //! The body of each function here is that very call, so its clause follows from the call's contract alone.
 

@@ -1,4 +1,4 @@
-//! Each call once, on an owner that stands for no list.
+//! Each call once, on an owner that represents no history.
 
 use crate::{ask, command, feed, headline, import, report, serve};
 use desk_answers::{Answer, Owner};
@@ -12,7 +12,7 @@ use std::test::Fail;
 const PART: &str =
     "{\"MessageName\":\"TraceDesk.PartDefined\",\"UniqueID\":\"u1\",\"Source\":\"S\",\"TimeStamp\":\"1970-01-01T00:00:00Z\",\"MessageBody\":{\"PartNumber\":\"P\"}}\n";
 
-/// It answers each command that the desk is full, and finds no report.
+/// It answers each command with DeskFull, and finds no report.
 #[derive(Drop)]
 struct Full;
 
