@@ -1,4 +1,4 @@
-//! The file of a desk: it is made, opened, migrated and closed.
+//! A desk's file: making, opening, migrating and closing it.
 
 ghost use Rattle.std.specs.Prelude.{◌≡◌, ◌≢◌, ◌≤◌, ◌==◌, [], true, false, Some, None, IfOk, IfErr, IfNone, IfSome};
 ghost use Rattle.std.specs.Fs.{IsFile, file_type, metadata_len};
@@ -24,7 +24,7 @@ use std::fs;
 use std::fs::Metadata;
 use std::io::ErrorKind;
 
-/// The store of a desk in a file, of which `T` says what it held as it was opened.
+/// The store of a desk in a file. `T` is the contents of the file when it was opened.
 pub type FileDesk<T, D> = LineStore<FileStore<FileFrom<T>>, D>;
 
 /// The connection to the file of a desk.
@@ -104,7 +104,7 @@ pub fn close_desk<T: Start, D: KeepsRows + Drop>(
     close_file(conn)
 }
 
-/// Closes the file of a desk by its connection, as `close_desk` does.
+/// Closes a desk's file by its connection, like `close_desk`.
 pub fn close_file<T: Start>(
     conn: DeskFile<T>,
 ) -> Result<Files<FileFrom<T>>, (OpenFault, Files<FileFrom<T>>)>
@@ -120,7 +120,7 @@ pub fn close_file<T: Start>(
     }
 }
 
-/// Whether there is no file at the path, or one of no bytes.
+/// Returns whether the path has no file, or an empty one.
 fn is_blank<T: Start>(rt: &HostRuntime, path: &str) -> Result<bool, Refusal<FileFrom<T>>>
     ensures { IfErr result (λ r. r ≡ record { fault = Fault.Unavailable; file = None }) }
 {
@@ -134,7 +134,7 @@ fn is_blank<T: Start>(rt: &HostRuntime, path: &str) -> Result<bool, Refusal<File
     }
 }
 
-/// Whether a file has no byte, and nothing of what is no regular file.
+/// Returns whether a file is empty. A path that is no regular file is not.
 fn has_no_byte(found: &Metadata) -> Option<bool>
     ensures none { IfNone result (¬ IsFile (file_type found.now)) }
     ensures some { IfSome result (λ blank. IsFile (file_type found.now) × (blank ≡ (metadata_len found.now == 0))) }
@@ -146,7 +146,7 @@ fn has_no_byte(found: &Metadata) -> Option<bool>
     }
 }
 
-/// A file to which no connection could be made.
+/// Returns a file without a connection.
 fn no_connection<T: Start>() -> Refusal<FileFrom<T>>
     ensures { result ≡ record { fault = Fault.Unavailable; file = None } }
 {
@@ -206,7 +206,7 @@ fn kept_desk<T: Start, D: KeepsRows + Drop>(
     }
 }
 
-/// A connection to the file, which is made where it is missing.
+/// Connects to the file, which is made if missing.
 fn connect<T: Start>(
     rt: &HostRuntime,
     path: &str,

@@ -15,62 +15,62 @@ use desk_import::{BadOption, Import, counts_import, setup_import};
 use desk_types::{MOST_CONNECTIONS, MOST_ENTRIES, MOST_PORT};
 use std::alloc::{AllocError, Global};
 
-/// What the words of a command line ask for.
+/// The meaning of a command line.
 #[derive(Drop)]
 pub enum Asked {
-    /// To answer the lines of standard input.
+    /// Answer the lines of standard input.
     Feed {
-        /// The file that keeps the desk. Without one it is in memory.
+        /// The desk's file. Without one it is in memory.
         file: Option<String>,
-        /// The greatest number that a desk made by this run gives.
+        /// The greatest number of a desk that this run makes.
         greatest: u32,
     },
-    /// To serve connections, one after the other.
+    /// Serve connections, one after another.
     Serve {
-        /// The file that keeps the desk.
+        /// The desk's file.
         file: String,
         /// The port on which it listens.
         port: u16,
-        /// How many connections are served.
+        /// The number of connections.
         connections: u32,
-        /// The greatest number that a desk made by this run gives.
+        /// The greatest number of a desk that this run makes.
         greatest: u32,
     },
-    /// To tell a report.
+    /// Print a report.
     Report {
-        /// The file that keeps the desk.
+        /// The desk's file.
         file: String,
-        /// The target of the request that it answers, as `/slots?machine=M`.
+        /// The target of the request, such as `/slots?machine=M`.
         target: String,
     },
-    /// To audit the desk that a file keeps.
+    /// Audit the desk in a file.
     Audit {
         /// The file.
         file: String,
     },
-    /// To make version 2 of the file of version 1 that keeps a desk.
+    /// Migrate a desk's file from version 1 to version 2.
     Migrate {
         /// The file.
         file: String,
     },
-    /// To answer an import.
+    /// Answer an import.
     Import {
-        /// The file that keeps the desk.
+        /// The desk's file.
         file: String,
         /// The import.
         import: Import,
-        /// The file that has its rows.
+        /// The file with its records.
         from: String,
     },
-    /// To answer an import of which this option can't be read.
+    /// Answer an import with this unreadable option.
     BadOption(BadOption),
-    /// This text, help or the version, for standard output.
+    /// Print this text, help or the version, on standard output.
     Text(String),
-    /// Nothing that the program does: this text says why, for standard error.
+    /// No meaning. This text, for standard error, says why.
     Bad(String),
 }
 
-/// How a run ends, for the help.
+/// The exit statuses, for the help.
 const STATUSES: &str = "\
 Exit status:
   0  Each line was Accepted or Ignored, each request answered 200 or 202, the import was Accepted, the report given, the audit found nothing wrong, the file was migrated, or help or the version was asked for
@@ -79,7 +79,7 @@ Exit status:
   3  The desk's file was refused, or memory was, outside of a line
   4  Input or output failed, the import's file can't be read, or the port can't be had";
 
-/// Reads the words after the program's name.
+/// Reads the arguments.
 pub fn read_words(alloc: Global, words: &[String]) -> Result<Asked, AllocError>
     ensures asks { IfOk result (Asks (map string_bytes words.now)) }
     ensures range { IfOk result IsInRange }
@@ -91,7 +91,7 @@ pub fn read_words(alloc: Global, words: &[String]) -> Result<Asked, AllocError>
     }
 }
 
-/// What is told where no command is to be run.
+/// Returns the text to print if no command is run.
 fn help_or_mistake(alloc: Global, error: &clap::Error) -> Result<Asked, AllocError>
     ensures asks { (words : List (List ℕ)) → HasKind (told_of words) error.now → IfOk result (Asks words) }
     ensures range { IfOk result IsInRange }
@@ -107,7 +107,7 @@ fn help_or_mistake(alloc: Global, error: &clap::Error) -> Result<Asked, AllocErr
     }
 }
 
-/// The command to be run.
+/// Returns the command to run.
 fn command_of(alloc: Global, matches: &ArgMatches<'_>) -> Result<Asked, AllocError>
     requires named { (words : List (List ℕ)) × (told_of words ≡ [])
         × (subcommand_rows_of matches.now ≡ named_by words) }
@@ -133,7 +133,7 @@ fn command_of(alloc: Global, matches: &ArgMatches<'_>) -> Result<Asked, AllocErr
     }
 }
 
-/// What `feed` asks for, with the options that were found.
+/// Returns the meaning of `feed` with these options.
 fn feed_of(alloc: Global, found: &ArgMatches<'_>) -> Result<Asked, AllocError>
     ensures asks { (words : List (List ℕ)) → Names words (codes "feed") (rows_of (found_of found.now))
         → IfOk result (Asks words) }
@@ -149,7 +149,7 @@ fn feed_of(alloc: Global, found: &ArgMatches<'_>) -> Result<Asked, AllocError>
     Ok(Asked::Feed { file, greatest })
 }
 
-/// What `serve` asks for, with the options that were found.
+/// Returns the meaning of `serve` with these options.
 fn serve_of(alloc: Global, found: &ArgMatches<'_>) -> Result<Asked, AllocError>
     ensures asks { (words : List (List ℕ)) → Names words (codes "serve") (rows_of (found_of found.now))
         → IfOk result (Asks words) }
@@ -175,7 +175,7 @@ fn serve_of(alloc: Global, found: &ArgMatches<'_>) -> Result<Asked, AllocError>
     }
 }
 
-/// What `report` asks for, with the options that were found.
+/// Returns the meaning of `report` with these options.
 fn report_of(alloc: Global, found: &ArgMatches<'_>) -> Result<Asked, AllocError>
     ensures asks { (words : List (List ℕ)) → Names words (codes "report") (rows_of (found_of found.now))
         → IfOk result (Asks words) }
@@ -190,7 +190,7 @@ fn report_of(alloc: Global, found: &ArgMatches<'_>) -> Result<Asked, AllocError>
     }
 }
 
-/// What `audit` asks for, with the options that were found.
+/// Returns the meaning of `audit` with these options.
 fn audit_of(alloc: Global, found: &ArgMatches<'_>) -> Result<Asked, AllocError>
     ensures asks { (words : List (List ℕ)) → Names words (codes "audit") (rows_of (found_of found.now))
         → IfOk result (Asks words) }
@@ -204,7 +204,7 @@ fn audit_of(alloc: Global, found: &ArgMatches<'_>) -> Result<Asked, AllocError>
     }
 }
 
-/// What `migrate` asks for, with the options that were found.
+/// Returns the meaning of `migrate` with these options.
 fn migrate_of(alloc: Global, found: &ArgMatches<'_>) -> Result<Asked, AllocError>
     ensures asks { (words : List (List ℕ)) → Names words (codes "migrate") (rows_of (found_of found.now))
         → IfOk result (Asks words) }
@@ -218,7 +218,7 @@ fn migrate_of(alloc: Global, found: &ArgMatches<'_>) -> Result<Asked, AllocError
     }
 }
 
-/// What an import asks for, whose options say this.
+/// Returns the meaning of an import with these options.
 fn import_of(
     alloc: Global,
     found: &ArgMatches<'_>,
@@ -242,7 +242,7 @@ fn import_of(
     }
 }
 
-/// What the options of `import-setup` say.
+/// Returns the import in the options of `import-setup`.
 fn setup_in(found: &ArgMatches<'_>) -> Result<Import, BadOption>
     ensures { result ≡ setup_in (rows_of (found_of found.now)) }
 {
@@ -254,7 +254,7 @@ fn setup_in(found: &ArgMatches<'_>) -> Result<Import, BadOption>
     setup_import(id, source, time, product, machine)
 }
 
-/// What the options of `import-counts` say.
+/// Returns the import in the options of `import-counts`.
 fn counts_in(found: &ArgMatches<'_>) -> Result<Import, BadOption>
     ensures { result ≡ counts_in (rows_of (found_of found.now)) }
 {
@@ -264,7 +264,7 @@ fn counts_in(found: &ArgMatches<'_>) -> Result<Import, BadOption>
     counts_import(id, source, time)
 }
 
-/// The text of an option, which the grammar wants to be there.
+/// Returns the text of an option that the grammar requires.
 fn text_of<'m>(found: &'m ArgMatches<'_>, name: &str) -> &'m str
     ensures { result.now ≡ text_of (rows_of (found_of found.now)) name.now }
 {
@@ -274,12 +274,12 @@ fn text_of<'m>(found: &'m ArgMatches<'_>, name: &str) -> &'m str
     }
 }
 
-/// Tells that there is no file, where a command is to have one.
+/// Reports a missing file.
 fn no_file(alloc: Global) -> Result<String, AllocError> {
     String::from_str(alloc, "error: a value is required for '--db <FILE>'\n")
 }
 
-/// The greatest number of a desk, from 1 to 1,000,000,000, which is its default.
+/// Returns the greatest number of a desk, from 1 to its default, 1,000,000,000.
 fn greatest_in(found: &ArgMatches<'_>) -> Option<u32>
     ensures some { IfSome result (GoesUpTo (first_of (codes "greatest") (rows_of (found_of found.now)))) }
     ensures none { IsNone result → HasNoGreatest (rows_of (found_of found.now)) }
@@ -290,7 +290,7 @@ fn greatest_in(found: &ArgMatches<'_>) -> Option<u32>
     }
 }
 
-/// The number that the text of an option shows, from 1 to the most.
+/// Returns the number in the text of an option, from 1 to the greatest.
 fn number_in(found: &ArgMatches<'_>, name: &str, most: u32) -> Option<u32>
     ensures some { IfSome result (Shows most (first_of name.now (rows_of (found_of found.now)))) }
     ensures none { IsNone result → ShowsNone most (first_of name.now (rows_of (found_of found.now))) }
@@ -301,7 +301,7 @@ fn number_in(found: &ArgMatches<'_>, name: &str, most: u32) -> Option<u32>
     }
 }
 
-/// The number that a text shows, from 1 to the most.
+/// Returns the number in a text, from 1 to the greatest.
 fn numeral(text: &str, most: u32) -> Option<u32>
     ensures some { IfSome result (λ n. IsUnsignedIn 1 most text.now × (n ≡ number_of text.now)) }
     ensures none { IsNone result → IsUnsignedIn 1 most text.now → ⊥ }
@@ -313,12 +313,12 @@ fn numeral(text: &str, most: u32) -> Option<u32>
     Some(number)
 }
 
-/// Tells that there is no greatest number.
+/// Reports an invalid greatest number.
 fn no_greatest(alloc: Global, found: &ArgMatches<'_>) -> Result<String, AllocError> {
     no_number(alloc, found, "greatest", MOST_ENTRIES as u32)
 }
 
-/// Tells that the text of an option is no number from 1 to the most.
+/// Reports an option whose text is no number from 1 to the greatest.
 fn no_number(
     alloc: Global,
     found: &ArgMatches<'_>,
@@ -482,7 +482,7 @@ fn import_counts<'a>(alloc: Global) -> Result<clap::Command<'a>, AllocError>
     )
 }
 
-/// The command with the options of both imports: the desk's file, and whose command it is.
+/// The command with the options of both imports: the desk's file, and the stamp of its command.
 fn with_stamp<'a>(
     alloc: Global,
     command: clap::Command<'a>,
@@ -509,7 +509,7 @@ fn with_stamp<'a>(
     )
 }
 
-/// The command with one more option, which has to be there.
+/// The command with one more option, which is required.
 fn with_wanted<'a>(
     alloc: Global,
     command: clap::Command<'a>,

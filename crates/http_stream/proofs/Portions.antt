@@ -67,7 +67,7 @@ takes_large a pend (Some us) k long un =
     keeps_takes a (Some (pend ++ us)) (Some (pend ++ us)) head_too_large k
     (omega (arith, long, length-append pend us), subst IsUnfinished (sym (take-append-le HEAD_LIMIT pend us long)) un)
 
--- ---- behind a head
+-- ---- after a head
 
 -- The stream starts with this head.
 takes_head : (bytes more us : List ℕ) (head : Head) (h : RequestHead) → IsHeadOf bytes head h → length bytes ≤ HEAD_LIMIT

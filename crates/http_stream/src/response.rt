@@ -39,7 +39,7 @@ pub enum Kind {
 /// The body of an answer.
 #[derive(Drop)]
 pub enum Body {
-    /// A text that took memory.
+    /// A text in allocated memory.
     Made(Text),
     /// The fixed text of the answer when out of memory.
     Fixed,

@@ -1,4 +1,4 @@
--- What was taken of the rows, told of the rows that were committed at first.
+-- The result of a replay, in terms of the committed rows.
 use Rattle.std.proofs.Common.{◌≡◌, ◌∙◌, ◌==◌, ◌+◌, ◌≤◌, ◌⊎◌, inl, inr, IsTrue, ℕ, Bool, true, false, [], length, filter, sym, subst, arith}
 use Rattle.std.proofs.lemmas.Bool.{eqb-true, eq-eqb, true≢false}
 use Rattle.std.specs.List.Sorted.{IsPermutation}
@@ -24,7 +24,7 @@ use Rattle.line_replay.proofs.RowsOfLists.{are_rows}
 use Rattle.line_replay.proofs.StopsOfRows.{stops_stuck, stops_short}
 use Rattle.desk_types.specs.declared.rules.Rules.TheVariants.{Two}
 
--- a place where the rows stop, told of the rows at first
+-- A place where the rows stop being a history, in terms of the original rows.
 pub stops_before : (rules : Rules) (greatest : ℕ) (old mid : State) (n : ℕ) → KeepsCommit old mid → Reads old (λ db. IsNumbered (accepted_in db)) → IsStop rules greatest mid n → IsFaultOf rules greatest old (NotLawful n)
 stops_before rules greatest old mid n kept numbered stop =
     let H = stop.0 in
@@ -33,7 +33,7 @@ stops_before rules greatest old mid n kept numbered stop =
     (reads_two old (λ db. IsNumbered (accepted_in db)) (λ db. AreAt (accepted_in db) H × IsStuck rules H (accepted_in db)) (λ db. StopsAt rules greatest (accepted_in db) (length H + 1))
     (λ db first at. stops_stuck rules greatest (accepted_in db) H first stop.1 at.0 low at.1) numbered (reads_back old mid _ kept stop.4))
 
--- what the loop tells of a fault
+-- The meaning of a fault of the loop.
 pub fault_before : (rules : Rules) (greatest : ℕ) (old mid : State) (f : ReplayFault) → KeepsCommit old mid → Reads old (λ db. IsNumbered (accepted_in db))
     → (f ≡ Unavailable) ⊎ ((n : ℕ) × (f ≡ NotLawful n) × IsStop rules greatest mid n) → IsFaultOf rules greatest old f
 fault_before rules greatest old mid f kept numbered (inl is) = subst (IsFaultOf rules greatest old) (sym is) tt
@@ -76,7 +76,7 @@ module _ {D : Type 0} (F : D → History → Type 0) (rules : Rules) (greatest :
     };
   }
 
-  -- the rows are more than were taken
+  -- There are more rows than were taken.
   apart : (long : ℕ) → are ≡ (n == long) → are ≡ false → length H ≡ long → ⊥
   apart long told not is = true≢false (sym (eq-eqb n long (sym taken.counted ∙ is)) ∙ sym told ∙ not)
 

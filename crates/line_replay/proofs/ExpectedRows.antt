@@ -44,7 +44,7 @@ one_edit (PutBoard row) t n = refl
 one_edit (PutPlacement row) t n = refl
 one_edit (PutFound reel pieces) t n = refl
 
--- edits of tables with other placements
+-- Edits of tables with other placements.
 but-edits : (xs : List RowEdit) (t n m : Tables) → but_placements (with_edits xs (but_placements t m)) n ≡ but_placements (with_edits xs t) n
 but-edits [] t n m = refl
 but-edits (x ∷ xs) t n m =
@@ -52,7 +52,7 @@ but-edits (x ∷ xs) t n m =
 
 -- ---- the placements
 
--- the placements of edits, put before others in the order in which they are made
+-- The placements of edits, in the order of the edits and before others.
 abbrev placed_onto : List RowEdit → Pieces → Pieces
 placed_onto [] es = es
 placed_onto (x ∷ xs) es = placed_onto xs (map piece_of (option_to_list (placement_by x)) ++ es)
@@ -67,7 +67,7 @@ named_or row n k is = let p = two _ _ is in ap₂ (λ (a b : ℕ). (a, b)) (sym 
     two true b h = (refl, h)
     two false b h = absurd cc
 
--- a placement more, where there was none
+-- A new placement.
 module _ (row : PlacementRow) (t : Tables) (new : t.placements row.number row.place ≡ None) where
   other : (key : ℕ × ℕ) (r : PlacementRow) → pieces_in t key ≡ Some r → (row.number, row.place) ≡ key → ⊥
   other key r is same = let both = sym new ∙ ap (pieces_in t) same ∙ is in cc
@@ -126,7 +126,7 @@ onto_length (x ∷ xs) es = onto_length xs (map piece_of (option_to_list (placem
     by None = refl
     by (Some row) = omega arith
 
--- what holds of all is what holds of the others and of those that are put
+-- A fact about all placements is one about the old and the new ones.
 onto_all : (P : (ℕ × ℕ) × PlacementRow → Type 0) (xs : List RowEdit) (es : Pieces) → AllByRecursion P (placed_onto xs es) ↔ (AllByRecursion P es × AllByRecursion P (map piece_of (placements_by xs)))
 onto_all P [] es = (λ h. (h, tt), λ h. h.0)
 onto_all P (x ∷ xs) es = by (placement_by x) (onto_all P xs (map piece_of (option_to_list (placement_by x)) ++ es))
@@ -151,13 +151,13 @@ placed_onto_all db before after xs es too was = record {
     by not both (inl b) = was.missing b both.0
     by not both (inr p) = p.missing refl both.1
 
--- ---- what is told
+-- ---- the result
 
--- where one was missing before, nothing is looked for
+-- If one was missing before, nothing is looked up.
 pub too_false : (db : Database) (found : Bool) (rows : List PlacementRow) → found ≡ false → ArePlacedToo db found false rows
 too_false db found rows not = record { here = λ is. absurd cc; missing = λ _. inl not }
 
--- nor where there is nothing
+-- With no placement, nothing is looked up.
 pub too_none : (db : Database) (found : Bool) (rows : List PlacementRow) → found ≡ true → length rows ≡ 0 → ArePlacedToo db found true rows
 too_none db found [] was none = record { here = λ is. (was, record { here = λ _. tt; missing = λ h. absurd cc }); missing = λ h. absurd cc }
 too_none db found (row ∷ rows) was none = absurd (omega (arith, none))
@@ -179,7 +179,7 @@ tells_back old mid P kept (inr r) = inr (reads_back old mid P kept r)
 pub looks_back : (Clean : Type 0) (old mid : State) (edits : List RowEdit) (before after : Placed) → (Clean → KeepsCommit old mid) → LooksUp Clean mid edits before after → LooksUp Clean old edits before after
 looks_back Clean old mid edits before after kept a = record { count = a.count; told = λ clean. tells_back old mid _ (kept clean) (a.told clean) }
 
--- nothing is placed on an empty list
+-- An empty history has no placements.
 pub none_placed : (number place : ℕ) → placement_row [] number place ≡ None
 unfolding takes_of
 none_placed number place = refl
@@ -206,7 +206,7 @@ none_expected Clean db rows is = record {
   told = λ clean schema. record { here = λ is. tt; missing = λ is. absurd cc };
 }
 
--- the placements of one edit more
+-- The placements with one more edit.
 pub placements-next : (xs : List RowEdit) (i : ℕ) (x : RowEdit) (rows : List PlacementRow) (o : Option PlacementRow) → i < length xs → x ≡ get_or xs i x → rows ≡ placements_by (take i xs) → placement_by x ≡ o
     → rows ++ option_to_list o ≡ placements_by (take (i + 1) xs)
 placements-next xs i x rows o inside is so_far by =

@@ -1,4 +1,4 @@
--- One row more is taken.
+-- One more row is taken.
 use Rattle.std.proofs.Common.{◌≡◌, ◌∙◌, ◌⊎◌, ◌+◌, ◌≤◌, inl, inr, ℕ, true, false, true≢false, Option, Some, [], ◌∷◌, length, filter, sym, ap, arith}
 use Rattle.std.specs.List.{list_any}
 use Rattle.sqlite_value.specs.Order.{Row}
@@ -37,7 +37,7 @@ module _ {D : Type 0} (F : D → History → Type 0) (rules : Rules) (old mid : 
     },
   )
 
--- a row of the next number is that of an entry
+-- A row of the next number is that of an entry.
 pub row_taken : (old first : State) (o : Option Row) (row : Row) (H : History) (e : Entry) (number : ℕ) → KeepsCommit old first → o ≡ Some row → length H + 1 ≡ number → row ≡ entry_row H e
     → Reads old (λ db. filter (has_number number) (accepted_in db) ≡ only o) → Reads first (λ db. list_any (is_before e.stamped.uid number) (accepted_in db) ≡ false) → Reads old (λ db. IsAt (accepted_in db) H e)
 row_taken old first o row H e number kept is numbered same found none =
@@ -48,7 +48,7 @@ row_taken old first o row H e number kept is numbered same found none =
     })
     found (reads_back old first _ kept none)
 
--- the row of the next number is that of no entry that goes on, but of one whose UniqueID came before
+-- The row of the next number is that of no valid next entry, or of one whose UniqueID came before.
 row_stuck : (rules : Rules) (old first : State) (o : Option Row) (row : Row) (H : History) (number : ℕ) → KeepsCommit old first → o ≡ Some row → length H + 1 ≡ number
     → Reads old (λ db. filter (has_number number) (accepted_in db) ≡ only o) → ((e : Entry) → GoesOn rules H row e → Reads first (λ db. list_any (is_before e.stamped.uid number) (accepted_in db) ≡ true))
     → Reads old (λ db. IsStuck rules H (accepted_in db))

@@ -1,4 +1,4 @@
--- What comes of reading a list again.
+-- The results of a replay.
 use Rattle.std.specs.Prelude.{◌≡◌, ◌⊎◌, ℕ, ◌+◌, ◌≤◌, ⊤, pos, Bool, true, false, List, [], ◌∷◌, length, filter, Some}
 use Rattle.std.specs.List.{list_any}
 use Rattle.sqlite_value.specs.Order.{Row}
@@ -31,22 +31,22 @@ pub record IsReplayed {D : Type 0} (StandsFor : D → History → Type 0) (rules
   pub rows : Clean → Reads old (λ db. AreRowsOf rules greatest (accepted_in db) H)
   pub others : AreExpected Clean old.committed expected H
 
--- what a fault says of the rows that are committed
+-- The meaning of a fault for the committed rows.
 abbrev pub IsFaultOf : Rules → ℕ → State → ReplayFault → Type 0
 IsFaultOf rules greatest old (NotLawful n) = Reads old (λ db. StopsAt rules greatest (accepted_in db) n)
 IsFaultOf rules greatest old Unavailable = ⊤
 
--- ---- on the way
+-- ---- during the replay
 
--- A desk with the lists beside it stands for a list: so does the desk, and the lists list it.
+-- A desk with its trace indexes represents a history if the desk does, and the indexes list it.
 abbrev pub StandsListed : {D : Type 0} → (D → History → Type 0) → D × TraceLists → History → Type 0
 StandsListed StandsFor it H = StandsFor it.0 H × IsListed it.1 H
 
--- there is no row, or the least number is 1
+-- There is no row, or the least number is 1.
 abbrev pub IsNumbered : List Row → Type 0
 IsNumbered rows = (rows ≡ []) ⊎ IsLeast rows (Some (pos 1))
 
--- one row has the number that comes next after H, and it is that of no entry that may come next
+-- Exactly one row has the number that follows H, and it is that of no valid next entry.
 pub record IsStuck (rules : Rules) (H : History) (rows : List Row) : Type 0 where
   pub row : Row
   pub there : filter (has_number (length H + 1)) rows ≡ row ∷ []
@@ -84,10 +84,10 @@ pub record IsTaken {D : Type 0} (StandsFor : D → History → Type 0) (rules : 
   pub rows : Clean → IsOurs db.schema → AreAt (accepted_in db) H
   pub others : AreExpected Clean db expected H
 
--- all numbers are taken, or there is no row of the next one
+-- All numbers are taken, or there is no row of the next one.
 abbrev pub IsEnd : ℕ → State → ℕ → Type 0
 IsEnd greatest old count = (count ≡ greatest) ⊎ Reads old (λ db. filter (has_number (count + 1)) (accepted_in db) ≡ [])
 
--- the place where no entry goes on with a judged list whose entries have their rows
+-- The place where no entry continues a judged history whose entries have their rows.
 abbrev pub IsStop : Rules → ℕ → State → ℕ → Type 0
 IsStop rules greatest old n = (H : History) × IsJudged rules H × (length H + 1 ≡ n) × (n ≤ greatest) × Reads old (λ db. AreAt (accepted_in db) H × IsStuck rules H (accepted_in db))

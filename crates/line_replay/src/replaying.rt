@@ -1,4 +1,4 @@
-//! The desk of the list that a table keeps.
+//! The desk of the history in a table.
 
 ghost use Rattle.std.specs.Prelude.{◌≡◌, ◌≤◌, IsTrue, IfOk, IfErr, IfSome, length};
 ghost use Rattle.sqlite.specs.State.{HasCleanDisk};

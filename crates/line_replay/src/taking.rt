@@ -1,4 +1,4 @@
-//! The rows, taken one after the other by their numbers.
+//! Rows taken one after another, by number.
 
 ghost use Rattle.std.specs.Prelude.{◌≡◌, ◌==◌, ◌+◌, ◌≤◌, ◌⊎◌, ⊤, ℕ, true, IfOk, IfErr, OnOk, [], ◌∷◌, length};
 ghost use Rattle.std.specs.List.{list_any};
@@ -31,7 +31,7 @@ use state_rows::KeepsRows;
 use std::alloc::Global;
 use trace_lists::TraceLists;
 
-/// Asks that the least number is 1, where there is a row.
+/// Requires that the least number is 1, if there is a row.
 pub fn least_is_one<S: Alter>(conn: &mut Connection<S>) -> Result<(), ReplayFault>
     ensures ok { HasCleanDisk (state S.Store conn.new)
         → OnOk result (Reads (state S.Store conn.old) (λ db. IsNumbered (accepted_in db))) }
@@ -47,7 +47,7 @@ pub fn least_is_one<S: Alter>(conn: &mut Connection<S>) -> Result<(), ReplayFaul
     }
 }
 
-/// Asks that there are this many rows.
+/// Requires this number of rows.
 pub fn are_all<S: Alter>(conn: &mut Connection<S>, taken: u32) -> Result<bool, ReplayFault>
     ensures counted { HasCleanDisk (state S.Store conn.new)
         → IfOk result (λ are. Reads (state S.Store conn.old) (λ db. are ≡ (taken == length (accepted_in db)))) }

@@ -1,4 +1,4 @@
--- What the statements make of the table of placements: rows with rowids of their own are put in, one or eight at once.
+-- The effect of the statements on `placement`: they insert rows with their own rowids, one or eight at once.
 use Rattle.std.proofs.Common.{◌≡◌, ◌∙◌, ◌&&◌, ◌==◌, ◌<◌, ◌≤◌, ◌+◌, ◌++◌, if◌then◌else◌, ℕ, pos, Bool, List, [], ◌∷◌, map, take, get_or, length, not, true, false, IsTrue, Option, Some, refl, ap, ap₂, subst, sym, arith}
 use Rattle.std.specs.List.{flat_map}
 use Rattle.std.specs.List.Sorted.{IsPermutation}
@@ -32,14 +32,14 @@ use Rattle.line_tables.proofs.Beside.{quiet, others_behind}
 placement_cast : (row : PlacementRow) → cast_row placement (placement_kept row) ≡ placement_kept row
 placement_cast row = rw (cast_int (pos (placement_id row.number row.place)), cast_int (pos row.number), cast_int (pos row.place), cast_int (flag row.overdue)) refl
 
--- the rows keep their rowids
+-- The rows keep their rowids.
 all_kept : (rows : List PlacementRow) (db : List Row) → numbered Chosen db (map (λ s. cast_row placement s) (map placement_kept rows)) ≡ map placement_kept rows
 all_kept [] db = refl
 all_kept (row ∷ rows) db =
     ap (λ r. with_rowid Chosen db r ∷ numbered Chosen (put_row (with_rowid Chosen db r) db) (map (λ s. cast_row placement s) (map placement_kept rows))) (placement_cast row)
     ∙ ap (λ l. placement_kept row ∷ l) (all_kept rows (put_row (placement_kept row) db))
 
--- the map with the rows at their keys
+-- The map with the rows at their keys.
 abbrev with_pieces : List PlacementRow → (ℕ → ℕ → Option PlacementRow) → ℕ → ℕ → Option PlacementRow
 with_pieces [] f = f
 with_pieces (row ∷ rows) f = with_pieces rows (λ n k. if row.number == n && (row.place == k) then Some row else f n k)
@@ -55,7 +55,7 @@ is_false true h = absurd (cc)
 abbrev HasPieces : List Row → (ℕ → ℕ → Option PlacementRow) → Type 0
 HasPieces db f = AreRows has_piece (λ _ row. placement_columns row) (map (columns placement) db) (λ piece. f piece.0 piece.1)
 
--- rows with new keys come in, one after the other
+-- Rows with new keys are added one after another.
 pieces_in : (rows : List PlacementRow) (db : List Row) (t : Tables) → HasPieces db t.state.placements → are_fresh db (map placement_kept rows) ≡ true → AreNew (map placement_edit rows) t
     → HasPieces (put_all db (map placement_kept rows)) (with_pieces rows t.state.placements)
 pieces_in [] db t was fresh new = was
@@ -65,7 +65,7 @@ pieces_in (row ∷ rows) db t was fresh new =
     pieces_in rows (put_row (placement_kept row) db) (with_edit t (placement_edit row))
     (added has_piece (λ _ row. placement_columns row) one_piece same_piece tells_piece (row.number, row.place) row _ _ (λ piece. t.state.placements piece.0 piece.1) _ new.0 (and_from _ _ (own_int row.number) (own_int row.place)) (λ l. refl) one was) free.1 new.1
 
--- the rows that a statement puts in are those of as many edits
+-- A statement inserts the rows of as many edits.
 puts_pieces : (rows : List PlacementRow) (a c : State) → IsTrue a.is_open → ((indexed : Layout) → a.now.schema ≡ schema_of Two indexed → Inserted (schema_of Two indexed) placement (map placement_kept rows) a c) → Writes (map placement_edit rows) a c
 puts_pieces rows a c was_open did = record {
   was_open = was_open;
@@ -107,7 +107,7 @@ placement_put row a c ran =
     puts_pieces (row ∷ []) a c ran.shown.was_open
     (λ i has. insert_does insert_placement (placement_kept row) a c (schema_of Two i) has 9 placement placement_terms 9 refl refl refl (insert_placement_is i).0 (insert_placement_is i).1 ran.count ran.executed (quiet i 17 refl []))
 
--- the parameters of the text for eight rows are the values of these
+-- The parameters of the text for eight rows are the values of these rows.
 eight_in : (rows : List PlacementRow) (a c : State) → length rows ≡ 8 → Runs insert_placements (flat_map placement_kept rows) a c → (i : Layout) → a.now.schema ≡ schema_of Two i → Inserted (schema_of Two i) placement (map placement_kept rows) a c
 eight_in (p ∷ q ∷ r ∷ s ∷ t ∷ u ∷ v ∷ w ∷ []) a c eight ran i has =
     insert_does insert_placements (flat_map placement_kept (p ∷ q ∷ r ∷ s ∷ t ∷ u ∷ v ∷ w ∷ [])) a c (schema_of Two i) has 9 placement placements_terms 9 refl refl refl (insert_placements_is i).0 (insert_placements_is i).1 ran.count ran.executed (quiet i 17 refl [])

@@ -7,7 +7,7 @@ pub struct Accepted {
     pub number: u32,
     pub uid: String,
     pub source: String,
-    /// The minute that the message gives itself, since 1970-01-01T00:00Z.
+    /// The message's own minute, since 1970-01-01T00:00Z.
     pub own: u32,
     /// The minute at which the command takes effect.
     pub effective: u32,

@@ -76,7 +76,7 @@ fn put_all<S: Alter>(
     Ok(())
 }
 
-/// Makes the first edit, or the first eight where each of them puts a placement, and tells how many.
+/// Makes the first edit, or the first eight if they all put placements, and returns how many it made.
 fn put_first<S: Alter>(
     alloc: Global,
     tx: &mut Transaction<'_, S>,

@@ -23,7 +23,7 @@ use Rattle.line_traces.proofs.TwoCalls.{all-placed_columns}
 abbrev its_key : Placement → Key
 its_key p = (p.number, p.place)
 
--- it has the key
+-- The piece has this key.
 abbrev pub has_key : Key → Placement → Bool
 has_key key p = p.number == key.0 && p.place == key.1
 
@@ -40,7 +40,7 @@ other-key p q less = by (has_key (its_key q) p) refl
         absurd (true≢false (sym (itself (its_key q)) ∙ ap is_eq (ap (λ k. by_piece k (its_key q)) (sym one) ∙ less)))
     by false is = is
 
--- where keys rise, each piece is found by its own
+-- If keys increase, each piece is found by its own key.
 each-found : (ps : List Placement) → IsStrictlySortedBy by_piece (keys_of (map entry_of ps)) → AllByRecursion (λ p. find (has_key (its_key p)) ps ≡ Some p) ps
 unfolding IsStrictlySortedBy
 each-found [] sorted = tt

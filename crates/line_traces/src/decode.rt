@@ -93,8 +93,8 @@ fn piece(row: &Row) -> Result<Placement, Error>
     })
 }
 
-/// The pieces of these rows, in their order. A value that is no name, number, minute or flag is an
-/// error, and so is a row of another length.
+/// Returns the pieces of these rows, in their order. A value that is no name, number, minute or flag is an error, and
+/// so is a row of another length.
 pub fn pieces(alloc: Global, rows: &[Row]) -> Result<PlacedRows, Error>
     ensures { IfOk result (λ pieces. rows.now ≡ map placed_columns pieces) }
 {
@@ -105,7 +105,7 @@ pub fn pieces(alloc: Global, rows: &[Row]) -> Result<PlacedRows, Error>
     Ok(Listing::new(pieces))
 }
 
-/// The row of `placement`. A value that is no name, number or flag is an error, and so is a row of another
+/// Returns the row of `placement`. A value that is no name, number or flag is an error, and so is a row of another
 /// length.
 #[tactic(auto, using(crate::proofs::Columns::no_flag_in_row))]
 pub fn placement(row: &Row) -> Result<PlacementRow, Error>
@@ -138,8 +138,8 @@ fn only_name(row: &Row) -> Result<Id, Error>
     name(row, 0)
 }
 
-/// The names of these rows, in their order. A value that is no name is an error, and so is a row of
-/// another length.
+/// Returns the names of these rows, in their order. A value that is no name is an error, and so is a row of another
+/// length.
 pub fn names(alloc: Global, rows: &[Row]) -> Result<IdList, Error>
     ensures { IfOk result (λ names. rows.now ≡ map name_row names) }
 {

@@ -1,4 +1,4 @@
--- A run and the next one are as one.
+-- A run and the next one are equivalent to one run.
 use Rattle.std.proofs.Common.{◌≡◌, ◌⊎◌, ℕ, List, [], ◌∷◌, ◌++◌, Option, inl, inr, refl, sym, subst}
 use Rattle.sqlite_wal.specs.Recovery.{Image}
 use Rattle.sqlite_trees.specs.Tree.{Trees}
@@ -14,13 +14,13 @@ use Rattle.desk_file.specs.Files.{Begins, HasOursFirst}
 use Rattle.headline.specs.Calls.{AnswersByTheList, Call}
 use Rattle.many_runs.specs.Runs.{Ending, closed, crashed, Run, EndsWith, by_two, IsRunFrom, IsRun, KeepsList, AreRuns, run_then, as_one}
 
--- calls that were answered one after the other, and then others
+-- Calls that were answered one after another, followed by others.
 pub appended : (reports : Reports) (calls later : List Call) (G : Ledger) (H H' : History) → AnswersByTheList reports G calls H
     → AnswersByTheList reports (record G { history = H }) later H' → AnswersByTheList reports G (calls ++ later) H'
 appended reports [] later G H H' same answers = subst (λ (it : History). AnswersByTheList reports (record G { history = it }) later H') same answers
 appended reports (call ∷ calls) later G H H' (H₁, one, rest) answers = (H₁, one, appended reports calls later (record G { history = H₁ }) H H' rest answers)
 
--- the tables are in the trees of the files, however the run ended
+-- The tables are in the trees of the files, for any end of the run.
 pub held : (ending : Ending) (tables : Tables) (image : Image) → EndsWith ending tables image → (trees : Trees) × HoldsAt tables trees × ∥ HoldsDatabase image trees ∥₁
 held closed tables image (trees, holds, alone) = (trees, holds, alone.both)
 held crashed tables image left = left
@@ -56,7 +56,7 @@ module _ (reports : Reports) (ours_first : OursFirst) (same_list : Same) where
       let told = same_list run.last trees greatest H₁ database holds before.lawful.judged next.make number G begins after.lawful_first.judged in
       (greatest, H, H', goes_on run next greatest number H H₁ G H' before after told.0 told.1)
 
-  -- a run that kept the list adds no answer
+  -- A run that kept the history adds no answer.
   pub stays : (run next : Run) → next.first ≡ run.last → IsRun reports run → KeepsList next → IsRun reports (run_then run next)
   stays run next same is (none, keeps) alone =
       let (greatest, H, H₁, before) = is alone in

@@ -1,4 +1,4 @@
-//! A connection to two files, whatever they are on.
+//! A connection to two files of any store.
 
 ghost use Rattle.std.specs.Prelude.{◌≡◌, [], false, IsTrue, IfOk, IfSome};
 ghost use Rattle.sqlite_pool.specs.Opening.{IsBlankFile};
@@ -18,8 +18,7 @@ use sqlite_store::Unopened;
 use sqlite_wal::PageSize;
 use std::alloc::{AllocFailed, Global};
 
-/// Opens the database that the files hold, or makes one where there is none yet, also where an
-/// earlier call was stopped in its making.
+/// Opens the database in the files, or makes one if there is none yet, even if its creation was interrupted earlier.
 pub fn open_files<D: Disk + Drop>(
     alloc: Global,
     mut files: Files<D>,
@@ -71,7 +70,7 @@ fn new_store<D: Disk + Drop>(
     }
 }
 
-/// The files, of which nothing is read yet.
+/// The files, before anything is read.
 fn unopened_files<D: Disk + Drop>(
     alloc: Global,
     files: Files<D>,
