@@ -17,7 +17,7 @@ use trace_reports::{
     ReportFault, board_trace, kit_list, lot_trace, overdue_list, reel_card, slot_list,
 };
 
-/// A line's store, with the reports of its list.
+/// A line's store, with the reports on its history.
 pub struct ReportedStore<S: Alter, D: KeepsRows + Drop> {
     store: LineStore<S, D>,
 }
@@ -30,7 +30,7 @@ impl<S: Alter, D: KeepsRows + Drop> ReportedStore<S, D> {
         ReportedStore { store }
     }
 
-    /// Gives the store back.
+    /// Returns the store.
     pub fn into_store(self) -> LineStore<S, D>
         ensures { result ≡ store_of self }
     {
@@ -61,7 +61,7 @@ impl<S: Alter, D: KeepsRows + Drop> Owner for ReportedStore<S, D> {
     }
 }
 
-/// The reports of the list for which the store stands.
+/// The reports on the history that the store represents.
 impl<S: Alter, D: KeepsRows + Drop> ReportedOwner for ReportedStore<S, D> {
     ghost use Rattle.gateway_http.specs.Reports.{report_of};
 
@@ -89,7 +89,7 @@ impl<S: Alter, D: KeepsRows + Drop> ReportedOwner for ReportedStore<S, D> {
     }
 }
 
-/// The report, or none where it is not found.
+/// Returns the report, or `None` if it is not found.
 fn if_found(told: Result<Text, ReportFault>) -> Result<Option<Text>, Unavailable>
     ensures { (kind : Kind) (text : Option (List ℕ)) → Answers kind text told → IfOk result (λ found. found ≡ text) }
 {

@@ -92,7 +92,7 @@ module _ {D : Type 0} (F : D → History → Type 0) (rules : Rules) (greatest :
             (stops_short rules greatest (accepted_in first.committed) H (numbered.are schema) taken.judged (here clean schema) within (end_of clean end schema) (apart _ (r.are schema) not));
       }
 
--- the list that was read again is the one whose tables these are
+-- The replayed history is the one that has these tables.
 pub same_list : {D : Type 0} (F : D → History → Type 0) (rules : Rules) (greatest : ℕ) (Clean : Type 0) (old : State) (desk : D) (expected : Expected) (count : ℕ) (H G : History)
     → ((A B : History) → IsJudged rules A → IsJudged rules B → IsPermutation (rows_of A) (rows_of B) → A ≡ B) → IsReplayed F rules greatest Clean old desk expected count H → IsJudged rules G
     → (IsTrue old.is_open → Holds old.committed (ledger_tables greatest G)) → Clean → H ≡ G

@@ -1,4 +1,4 @@
--- The rows expected a list with one entry more.
+-- The expected rows of a history with one more entry.
 use Rattle.std.proofs.Common.{◌≡◌, ◌∙◌, ◌⊎◌, ◌↔◌, ◌+◌, inl, inr, ℕ, ◌<◌, take, get_or, sym, Bool, true, false, Option, Some, None, List, [], ◌∷◌, ◌++◌, length, map, refl, ap, ap₂, subst, if◌then◌else◌, ◌==◌, ◌&&◌, arith}
 use Rattle.std.specs.Bool.{⊤}
 use Rattle.std.specs.Option.{option_to_list, option_map}
@@ -216,7 +216,7 @@ placements-next xs i x rows o inside is so_far by =
     one None = refl
     one (Some row) = refl
 
--- the rows expected the list with the entry
+-- The expected rows of the history with the entry.
 pub expected_more : (Before After : Type 0) (old mid : State) (edits : List RowEdit) (b0 b1 : Expected) (H : History) (e : Entry) → (After → Before) → (After → KeepsCommit old mid) → AreExpected Before old.committed b0 H
     → Lead edits H e → Adds After mid edits b0 b1 → AreExpected After old.committed b1 (e ∷ H)
 expected_more Before After old mid edits b0 b1 H e early kept was lead adds =

@@ -74,7 +74,7 @@ pub fault_stuck : (rules : Rules) (old first : State) (o : Option Row) (row : Ro
 fault_stuck rules old first o row H number kept is numbered found f (inl none) = inl none
 fault_stuck rules old first o row H number kept is numbered found f (inr stop) = inr (stop.0, row_stuck rules old first o row H number kept is numbered found stop.1)
 
--- no entry goes on with the rows that were taken
+-- No entry continues the rows that were taken.
 pub fault_taken : {D : Type 0} (F : D → History → Type 0) (rules : Rules) (greatest : ℕ) (old mid : State) (Clean : Type 0) (desk : D) (expected : Expected) (count : ℕ) (H : History) → Clean → KeepsCommit old mid
     → IsTaken F rules Clean old.committed desk expected count H → count + 1 ≤ greatest → (f : ReplayFault) → (f ≡ Unavailable) ⊎ ((f ≡ NotLawful (count + 1)) × Reads mid (λ db. IsStuck rules H (accepted_in db)))
     → (f ≡ Unavailable) ⊎ ((n : ℕ) × (f ≡ NotLawful n) × IsStop rules greatest old n)
@@ -83,7 +83,7 @@ fault_taken F rules greatest old mid Clean desk expected count H clean kept take
     let stuck = reads_back old mid _ kept stop.1 in
     inr (count + 1, stop.0, (H, taken.judged, omega (arith, taken.counted), low, record { was_open = stuck.was_open; are = λ schema. (taken.rows clean schema, stuck.are schema) }))
 
--- what is taken into a desk with lists is taken into the desk
+-- A row taken into a desk with indexes is taken into the desk.
 pub desk-taken : {D : Type 0} {F : D → History → Type 0} {rules : Rules} {Clean : Type 0} {db : Database} {desk : D} {lists : TraceLists} {expected : Expected} {count : ℕ} {H : History}
     → IsTaken (StandsListed F) rules Clean db (desk, lists) expected count H → IsTaken F rules Clean db desk expected count H
 desk-taken taken = record { stands = taken.stands.0; judged = taken.judged; counted = taken.counted; rows = taken.rows; others = taken.others }

@@ -1,4 +1,4 @@
--- What a command's answer says of the list after it, and of what a crash may leave.
+-- The history after an answer to a command, and the tables that a crash may leave.
 use Rattle.std.proofs.Common.{◌≡◌, ◌∙◌, ◌⊎◌, ◌<◌, length, inl, inr, Bool, true, false, Option, Some, None, is_some, MatchBool, Result, Ok, Err, IfOk, OnOk, refl, sym, ap, subst, [], ◌∷◌, if◌then◌else◌, unwrap_or}
 use Rattle.sqlite_trees.specs.Tree.{Trees}
 use Rattle.desk_types.specs.declared.answer.Reply.{Reply}

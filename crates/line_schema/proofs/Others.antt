@@ -1,4 +1,4 @@
--- What others have in the file, over each step of a command.
+-- Other people's tables in the file, over each step of a command.
 use Rattle.std.proofs.Common.{◌≡◌, ◌⊎◌, List, inl, inr, IsTrue, Result, Ok, Err, OnOk, OnErr, refl, sym, subst}
 use Rattle.std.specs.Prelude.{⊤}
 use Rattle.sqlite_trees.specs.Tree.{Trees}
@@ -16,7 +16,7 @@ use Rattle.line_schema.specs.Frames.{LeavesOthers, LetsOthersBe}
 pub let_be : (s : State) → LetsOthersBe s s
 let_be s = record { was_open = λ clean is. is; rows = λ clean is. others_stay s.committed; crash = λ clean trees may. inl may }
 
--- what was committed stays
+-- The committed contents stay.
 kept_rows : (old new : Database) → new ≡ old → KeepsOthers old new
 kept_rows old new same = subst (KeepsOthers old) (sym same) (others_stay old)
 
@@ -48,7 +48,7 @@ let_be_then old mid new early one two = record {
     left_at : (trees : Trees) → LeavesOthers mid trees → KeepsOthers mid.committed (at trees)
     left_at trees left = record { schema = λ layout has. refl; rows = left.rows }
 
--- edits were committed, or not
+-- Edits were committed, or not.
 pub let_be_edited : {E : Type 0} (old new : State) (edits : List Edit) (r : Result ⊤ E) → Survives old new (LeavesEdited edits old) → (HasCleanDisk new → OnOk r (KeepsOthers old.committed new.committed)) → (HasCleanDisk new → OnOk r (IsTrue old.is_open × IsTrue new.is_open))
     → (HasCleanDisk new → OnErr r (KeepsCommit old new)) → LetsOthersBe old new
 let_be_edited {E} old new edits r survives done is_open neither = record {

@@ -1,4 +1,4 @@
--- What was read of the version and of the list, told of what was committed before.
+-- Reads of the version and of the history, in terms of what was committed before.
 use Rattle.std.proofs.Common.{◌≡◌, ◌≢◌, ◌≤◌, ◌∙◌, ◌⊎◌, inl, inr, ℕ, ℤ, pos, true, IsTrue, IfErr, Result, Ok, Err, Option, Some, None, refl, sym, ap, subst}
 use Rattle.std.specs.Prelude.{if◌then◌else◌, ◌==◌}
 use Rattle.sqlite.specs.Effect.{Database}
@@ -59,7 +59,7 @@ module _ (rules : Rules) (old : State) where
   pub other_version : (v : Version) (greatest : ℕ) → v.number ≢ pos (version_of rules) → IsGreatest v.greatest greatest → Reads old (λ db. IsVersionOf (version_in db) (Some v)) → IsFaultBy rules old (OtherVersion v.number)
   other_version v greatest other great r = let is = version_read old v v.number greatest refl great r in (other, record { was_open = is.was_open; are = λ schema. (greatest, is.are schema) })
 
-  -- a row of `version` that tells no greatest number of this version
+  -- A row of `version` without a greatest number of this version.
   pub version_fault : (v : Version) (o : Option Version) (r : Result ℕ OpenFault) → o ≡ Some v
       → IfErr r (λ f. ((f ≡ NotADesk) × ((greatest : ℕ) → IsGreatest v.greatest greatest → ⊥)) ⊎ ((f ≡ OtherVersion v.number) × (v.number ≢ pos (version_of rules)) × (greatest : ℕ) × IsGreatest v.greatest greatest))
       → Reads old (λ db. IsVersionOf (version_in db) o) → IfErr r (IsFaultBy rules old)
@@ -67,7 +67,7 @@ module _ (rules : Rules) (old : State) where
   version_fault v o (Err f) some (inl (is, none)) read = subst (IsFaultBy rules old) (sym is) (no_greatest v none (subst (λ (x : Option Version). Reads old (λ db. IsVersionOf (version_in db) x)) some read))
   version_fault v o (Err f) some (inr (is, other, greatest, great)) read = subst (IsFaultBy rules old) (sym is) (other_version v greatest other great (subst (λ (x : Option Version). Reads old (λ db. IsVersionOf (version_in db) x)) some read))
 
--- ---- the list after it
+-- ---- the history after it
 
 module _ (rules : Rules) (old mid : State) (greatest : ℕ) (kept : KeepsCommit old mid) (version : Reads old (λ db. IsVersion db (pos (version_of rules)) greatest)) where
   pub list_fault : (f : ReplayFault) → IsReplayFault rules greatest mid f → IsFaultBy rules old (opening_fault f)
@@ -85,7 +85,7 @@ audited rules Before After old mid last expected H verdict early kept kept_on is
     let same : with_placements f (tables_in expected.rows) ≡ state_of H = ap (with_placements f) is.rows in
     reads_back old mid _ (kept clean) (reads_back mid last _ (kept_on clean) (subst (λ (t : StateTables). Reads last (λ db. IsVerdict (state_tables rules) db t verdict)) same here))
 
--- by rules One there is no row of found pieces
+-- Under rules One there is no row of found pieces.
 none_found : (rules : Rules) (H : History) → IsJudged rules H → rules ≡ One → (reel : Name) → found_row H reel ≡ None
 none_found rules H judged is reel =
     ap (λ (n : ℕ). if n == 0 then None else Some n) (nothing-found H reel (subst (λ (r : Rules). IsJudged r H) is judged))
@@ -113,7 +113,8 @@ pub table_fault : {D : Type 0} (F : D → History → Type 0) (rules : Rules) (B
 table_fault F rules Before old mid desk expected count greatest H table clean r kept version first =
     record { greatest = greatest; list = H; version = version; rows = reads_back old mid _ kept (r.rows clean); first = first }
 
--- The tables that were read are those of the list, where what is seen is what is committed: the names tell the version.
+-- The tables that were read are those of the history, if reads see the committed contents: their names show the
+-- version.
 pub opened_holds : {D : Type 0} (F : D → History → Type 0) (K : D → Rules) (Clean : Type 0) (old : State) (rules : Rules) (opened : Opened D) (H : History) → IsOpened F K Clean old rules opened H → IsNamedBy rules old
     → (IsTrue old.is_open → old.now ≡ old.committed) → Clean → Reads old (λ db. HoldsBy rules db (ledger_tables opened.greatest H))
 opened_holds F K Clean old rules opened H o named settled clean =
@@ -131,13 +132,13 @@ opened_holds F K Clean old rules opened H o named settled clean =
           };
     }
 
--- and it is lawful
+-- The history is lawful.
 pub opened_lawful : {D : Type 0} (F : D → History → Type 0) (K : D → Rules) (Clean : Type 0) (old : State) (opened : Opened D) (H : History) → IsOpened F K Clean old Two opened H → Clean → IsTrue (is_ours old.committed.schema)
     → IsLawful Two opened.greatest H
 opened_lawful F K Clean old opened H o clean own = let ours = ours_is old.committed.schema own in ((o.rows clean).are (record { rules = Two; layout = ours.0; same = ours.1 })).lawful
 
--- ---- the calls that read, one after the other
+-- ---- calls that only read, one after another
 
--- four of them
+-- Four such calls.
 pub reads_all : {S : Type 0} (g : Ghosts S) (a b c d e : Held S) → ReadsOnly g a b → ReadsOnly g b c → ReadsOnly g c d → ReadsOnly g d e → ReadsOnly g a e
 reads_all g a b c d e one two three four = reads_then g a b e one (reads_then g b c e two (reads_then g c d e three four))

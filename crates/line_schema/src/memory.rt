@@ -12,7 +12,7 @@ use sqlite::FileStore;
 use state_rows::KeepsRows;
 use std::alloc::Global;
 
-/// The store of an empty list in memory, which tells the truth as long as it is there.
+/// Makes the store of an empty history in memory, which never lies.
 pub fn in_memory<D: KeepsRows + Drop>(
     alloc: Global,
     greatest: u32,

@@ -1,4 +1,4 @@
-//! What a store is made of, as its tables say.
+//! The parts of a store, read from its tables.
 
 ghost use Rattle.std.specs.Prelude.{◌≡◌, ◌≢◌, ◌≤◌, ◌⊎◌, ℕ, pos, IfOk, IfErr};
 ghost use Rattle.sqlite.specs.State.{HasCleanDisk};
@@ -21,7 +21,7 @@ use state_rows::KeepsRows;
 use std::alloc::Global;
 use trace_lists::TraceLists;
 
-/// The desk of a list, the lists beside it, how many entries it has, and how many it may have.
+/// The desk of a history, its trace indexes, the history's length, and the greatest number.
 pub struct Opened<D: KeepsRows + Drop> {
     pub desk: D,
     pub lists: TraceLists,
@@ -29,8 +29,8 @@ pub struct Opened<D: KeepsRows + Drop> {
     pub greatest: u32,
 }
 
-/// Reads the version, which is to be that of the rules, and then the list, each of whose entries is
-/// judged again by them, and compares the other tables with the list's.
+/// Reads the version, which must be that of the rules, replays the history by them, and compares the other tables with
+/// the history's.
 pub fn read_tables<S: Alter, D: KeepsRows + Drop>(
     alloc: Global,
     conn: &mut Connection<S>,
@@ -74,7 +74,7 @@ pub fn read_tables<S: Alter, D: KeepsRows + Drop>(
     }
 }
 
-/// The greatest number, where the tables are of the version of the rules.
+/// Returns the greatest number, if the tables are of the version of the rules.
 fn read_greatest<S: Alter>(conn: &mut Connection<S>, rules: Rules) -> Result<u32, OpenFault>
     ensures ok { HasCleanDisk (state S.Store conn.new)
         → IfOk result
@@ -112,7 +112,7 @@ fn greatest_of(version: &Version, rules: Rules) -> Result<u32, OpenFault>
     Ok(greatest as u32)
 }
 
-/// The version of the tables that goes with the rules.
+/// Returns the version of the tables for these rules.
 fn number_of(rules: Rules) -> i64
     ensures { result ≡ pos (version_of rules) }
 {

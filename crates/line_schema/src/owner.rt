@@ -6,8 +6,7 @@ use desk_types::Stamped;
 use sqlite::Alter;
 use state_rows::KeepsRows;
 
-/// The list by rules Two for which the store stands, whose tables are its own; it is trusted as long as
-/// the disk told the truth.
+/// The store represents a history by rules Two, with its own tables. It is trusted as long as the disk has not lied.
 impl<S: Alter, D: KeepsRows + Drop> Owner for LineStore<S, D> {
     ghost use Rattle.std.specs.Prelude.{◌≡◌, true};
     ghost use Rattle.sqlite.specs.State.{HasCleanDisk};

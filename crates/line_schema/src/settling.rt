@@ -1,4 +1,4 @@
-//! A desk with its lists, where they are there, after what was judged is accepted.
+//! A desk and its trace indexes, after a judged change is accepted.
 
 ghost use Rattle.std.specs.Prelude.{◌≡◌, ◌+◌, IfSome, is_some, length};
 ghost use Rattle.desk_types.specs.declared.rules.Rules.{Rules};
