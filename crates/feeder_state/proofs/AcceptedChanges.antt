@@ -27,7 +27,7 @@ use Rattle.feeder_state.specs.declared.desk.StateDesk.{StateDesk}
 use Rattle.feeder_state.proofs.RowReels.{mounts-row, row-left}
 use Rattle.feeder_state.proofs.TapeSteps.{all-kept}
 
--- its minute is that at which its command takes effect
+-- Its minute is that at which its command takes effect.
 change-minute : (rules : Rules) (H : History) (s : Stamped) (change : Change) → IsChange rules H s change → change.minute ≡ effective_minute H s.minute
 change-minute rules H s change is = ap (λ (x : Change). x.minute) is.value
 
@@ -57,25 +57,25 @@ accepted-minute rules H s change is =
     let greatest : change.minute ≡ max (effective_minute H s.minute) (now_of H) = omega (arith, at) in
     ap Some greatest
 
--- where there is no desk minute, nothing is accepted
+-- Where there is no desk minute, nothing is accepted.
 pub none-accepted : (H : History) → desk_minute H ≡ None → [] ≡ H
 none-accepted [] none = refl
 none-accepted (e ∷ H) none = cc
 
--- ---- what a state tells
+-- ---- the facts of a state
 
--- the list is one that a desk of rules Two can come to have
+-- The list is one that a desk of rules Two can come to have.
 pub state-two : (H : History) (desk : StateDesk) → IsState H desk → IsJudged Two H
 state-two H desk state = judged-by-two desk.rules H state.judged
 
--- the reels of its slots are the live ones
+-- The reels of its slots are the live ones.
 pub state-live : (H : History) (desk : StateDesk) (machine slot : Name) → IsState H desk
     → filter (λ reel. nat_lt 0 (left_of H reel)) (tape_at desk.floor.tapes machine slot) ≡ live_on H machine slot
 state-live H desk machine slot state =
     ap (filter (λ reel. nat_lt 0 (left_of H reel))) (state.floor.tapes machine slot)
     ∙ all-kept (λ reel. nat_lt 0 (left_of H reel)) (live_on H machine slot) (live-pieces H machine slot)
 
--- its rows are those of the list
+-- Its rows are those of the history.
 pub state-rows : (H : History) (desk : StateDesk) → IsState H desk → AreRows H desk.rows
 state-rows H desk state = record { judged = state-two H desk state; same = state.rows }
 

@@ -28,14 +28,14 @@ use Rattle.desk_types.specs.Refusals.{first_refusal, part_refusal, alternate_ref
 use Rattle.desk_types.specs.Outcome.{reels_of, pieces_of, detail_of}
 use Rattle.desk_laws.proofs.Lives.{picks-live, designators-live, scrap-live}
 
--- what replies tell of a receipt: the part, the level and its label
+-- The parts of a receipt that replies depend on: the part, the level and its label.
 abbrev pub mark : Receipt → Name × (Level × ℕ)
 mark r = (r.part, (r.moisture.level, r.moisture.label))
 
 abbrev pub marks_of : History → Name → Option (Name × (Level × ℕ))
 marks_of H reel = option_map mark (receipt_of H reel)
 
--- Two lists leave the same, as far as replies tell of it.
+-- Two histories agree on everything that replies depend on.
 pub record AreAlike (G H : History) : Type 0 where
   pub minute : desk_minute G ≡ desk_minute H
   pub parts : is_part G ≡ is_part H
@@ -53,7 +53,7 @@ pub record AreAlike (G H : History) : Type 0 where
   pub live : live_on G ≡ live_on H
   pub mounted : is_mounted G ≡ is_mounted H
 
--- ---- what is told of a receipt by its mark
+-- ---- receipts by their marks
 
 marked : {X : Type 0} (f : Name × (Level × ℕ) → X) (d : X) (o : Option Receipt) → option_map_or (λ r. f (mark r)) o d ≡ option_map_or f (option_map mark o) d
 marked f d None = refl
@@ -221,7 +221,7 @@ refusal-alike rules G H s a le =
     ∙ ap (λ m. command_refusal rules H m s.command) (effective-alike G H s a) in
     λ j. if option_map_or (λ desk. nat_lt (desk + FURTHEST_AHEAD) s.minute) (a.minute j) false && not (is_clock s.command) then Some TooFarAhead else own j
 
--- ---- what is taken and told
+-- ---- takes and replies
 
 pub picks-alike : (G H : History) (command : Command) → AreAlike G H → picks_of G command ≡ picks_of H command
 picks-alike G H (MaterialsInstalled machine board ds) a =

@@ -61,13 +61,13 @@ opens : {P : Type 0} (b : Bool) → (if b then Some true else None) ≡ Some fal
 opens true is = cc
 opens false is = cc
 
--- whether exposure begins anew with the command, where it puts a reel into its bag
+-- Whether exposure restarts with the command, if it puts a reel into its bag.
 abbrev is_anew : Command → Bool
 is_anew (ReelReceived reel part lot moisture quantity) = true
 is_anew (ReelBaked reel) = true
 is_anew _ = false
 
--- the exposure at a minute after a command that took effect at another, from the exposures before it
+-- The exposure at a minute after a command that took effect at another, from the exposures before it.
 abbrev exposed : Option Bool → Bool → ℕ → (ℕ → ℕ) → ℕ → ℕ
 exposed None anew at before minute = before minute
 exposed (Some true) anew at before minute = before at + (minute - at)
@@ -81,7 +81,7 @@ exposed-alike (Some true) anew at before other minute le alike = ap (λ n. n + (
 exposed-alike (Some false) true at before other minute le alike = refl
 exposed-alike (Some false) false at before other minute le alike = ap (λ n. n + 0) (alike at (omega arith))
 
--- a command that puts a reel into its bag
+-- A command that puts a reel into its bag.
 into-bag : (H : History) (e : Entry) (reel : Name) (minute : ℕ) (command : Command) → IsJudged Two (e ∷ H) → exposure_starts H reel ≤ e.effective → e.effective ≤ minute
     → e.stamped.command ≡ command → open_by reel command ≡ Some false → exposure_of (e ∷ H) reel minute ≡ exposed (Some false) (is_anew command) e.effective (exposure_of H reel) minute
 into-bag H e reel minute (ReelReceived r part lot moisture quantity) (next, judged) start le is says = exposure-anew H e reel (ap (open_by reel) is ∙ says) starts minute
@@ -183,7 +183,7 @@ alike-next G H s a of_G of_H = record {
 
 -- ---- whole runs
 
--- the desk minute is a minute
+-- The desk minute is a minute.
 now-range : (rules : Rules) (H : History) → IsJudged rules H → now_of H ≤ GREATEST_MINUTE
 now-range rules [] judged = omega arith
 now-range rules (e ∷ H) (next, judged) = let before = now-range rules H judged in omega (arith, before, next.in_range.effective)
@@ -199,7 +199,7 @@ judged-accept rules H s judged range none = (
   judged,
 )
 
--- the replies to a command and those after it, by its refusal
+-- The replies to a command and those after it, by its refusal.
 abbrev answered : Rules → List Stamped → Stamped → History → Option Refusal → List Reply
 answered rules ss s H refusal = option_map_or Refused refusal (Accepted (change_of H s).detail) ∷ replies_to rules (option_map_or (λ _. H) refusal (accept H s)) ss
 
@@ -235,7 +235,7 @@ baked-untouched : (H : History) (reel : Name) → IsUntouched H reel → is_bake
 baked-untouched [] reel all = refl
 baked-untouched (e ∷ H) reel (none, all) = is_baked-quiet H e reel (IsQuiet-untouched reel e.effective e.stamped.command none) ∙ baked-untouched H reel all
 
--- what a state tells of a reel
+-- The facts of a state about a reel.
 record IsSame (G H : History) (reel : Name) : Type 0 where
   marks : marks_of G reel ≡ marks_of H reel
   baked : is_baked G reel ≡ is_baked H reel

@@ -1,4 +1,4 @@
--- What rows tell of a floor.
+-- The facts of a floor, from rows.
 use Rattle.std.proofs.Common.{◌≡◌, ℕ, nat_lt, Bool, true, false, Some, None, List, [], ◌∷◌, All, is_some, unwrap_or, refl, sym, ap, subst, ◌∙◌}
 use Rattle.std.specs.Prelude.{◌&&◌}
 use Rattle.std.specs.Option.{option_map}
@@ -21,19 +21,19 @@ use Rattle.feeder_state.specs.Rows.{AreRowsAt}
 
 -- ---- reels
 
--- the desk minute of a list of which it is told
+-- The desk minute of the history.
 pub told-now : (H : History) (minute : ℕ) (rows : KeptRows) → AreRowsAt H (Some minute) rows → now_of H ≡ minute
 told-now H minute rows told = ap (λ o. unwrap_or o 0) (sym told.minute_is)
 
--- nothing is told of a reel that was not received
+-- A reel that was not received has no view.
 pub absent-view : (H : History) (name : Name) → receipt_of H name ≡ None → reel_view H name ≡ None
 absent-view H name none = ap (option_map (view_of H name)) none
 
--- nothing is left of it
+-- Nothing is left of it.
 pub absent-left : (H : History) (name : Name) → IsJudged Two H → receipt_of H name ≡ None → 0 ≡ left_of H name
 absent-left H name judged none = sym (unreceived-empty H name judged none)
 
--- and it is on no slot
+-- And it is on no slot.
 pub absent-mounted : (H : History) (name : Name) → IsJudged Two H → receipt_of H name ≡ None → false ≡ is_mounted H name
 absent-mounted H name judged none =
     by (is_some (place_of H name)) ∙ ap (λ n. is_some (place_of H name) && nat_lt 0 n) (absent-left H name judged none) ∙ sym (mounted-is H name judged)
@@ -52,7 +52,7 @@ all-received H tape machine slot judged is =
 
 -- ---- free reels
 
--- where nothing is accepted, no reel is free
+-- Where nothing is accepted, no reel is free.
 pub none-free : (H : History) (part : Name) → desk_minute H ≡ None → [] ≡ free_reels H part
 none-free [] part none = refl
 none-free (e ∷ H) part none = cc

@@ -5,27 +5,27 @@ use Rattle.std.specs.BTreeMap.{is_at}
 use Rattle.desk_types.specs.Id.{Name, same, by_name}
 use Rattle.desk_types.proofs.Keys.{is_at-by_name, same-true}
 
--- what is in with one more is that one or was in before
+-- A member after an insertion is the new name or an earlier member.
 cond-or : (b z : Bool) → cond b true z ≡ (b || z)
 cond-or true z = refl
 cond-or false z = refl
 
--- a set after one name more
+-- A set after one name more.
 pub put : (x q : Name) (new old : Bool) → new ≡ cond (is_at (by_name x) q) true old → new ≡ (same x q || old)
 put x q new old after = after ∙ cond-or (is_at (by_name x) q) old ∙ ap (λ b. b || old) (is_at-by_name x q)
 
--- what is known of a name after one name is put in or taken out
+-- Membership of a name after one name is inserted or removed.
 pub changed : {X : Type 0} (x q : Name) (new old value : X) → new ≡ cond (is_at (by_name x) q) value old → new ≡ cond (same x q) value old
 changed x q new old value after = after ∙ ap (λ b. cond b value old) (is_at-by_name x q)
 
--- ---- what is written, as a command says it
+-- ---- values written by a command
 
--- what a command says over what was, where it says one thing of one name
+-- The value after a command that writes one value under one name.
 pub says-over : {X : Type 0} (b : Bool) (value old : X) → cond b value old ≡ unwrap_or (cond b (Some value) None) old
 says-over true value old = refl
 says-over false value old = refl
 
--- whether a thing is in a part of a map, where things are put into the part of the key k: of each other key it is as before
+-- Membership in a part of a map after items are inserted under the key k. Other keys are unchanged.
 pub placed-put : (k q : Name) (put now : Bool) (old : Name → Bool) → now ≡ (put || old k) → cond (same k q) now (old q) ≡ (same k q && put || old q)
 placed-put k q put now old is = by (same k q) refl
   where

@@ -35,11 +35,11 @@ use Rattle.feeder_state.proofs.FilledMaps.{AreOf, each-of}
 
 -- ---- the rows of one sheet
 
--- the rows of a sheet among rows with their keys
+-- The rows of a sheet among rows with their keys.
 abbrev pub rows_in : Name → Name → List ((Name × Name × ℕ) × SheetRow) → List SheetRow
 rows_in product machine entries = filter_map (λ (e : (Name × Name × ℕ) × SheetRow). if same e.0.0 product && same e.0.1 machine then Some e.1 else None) entries
 
--- the same with their places
+-- The same with their places.
 abbrev placed_in : Name → Name → List ((Name × Name × ℕ) × SheetRow) → List (ℕ × SheetRow)
 placed_in product machine entries =
     filter_map (λ (e : (Name × Name × ℕ) × SheetRow). if◌then◌else◌ {A = Option (ℕ × SheetRow)} (same e.0.0 product && same e.0.1 machine) (Some (e.0.2, e.1)) None) entries
@@ -54,7 +54,7 @@ placed-rows product machine (e ∷ es) = by (same e.0.0 product && same e.0.1 ma
     by true rest = ap (λ rows. e.1 ∷ rows) rest
     by false rest = rest
 
--- Where the keys are in order, so are the places of a sheet.
+-- If the keys are in order, so are the places of a sheet.
 placed-ordered : (product machine : Name) (es : List ((Name × Name × ℕ) × SheetRow)) → IsStrictlySortedBy by_sheet_place (keys_of es)
     → IsStrictlySortedBy nat_cmp (keys_of (placed_in product machine es))
 unfolding IsStrictlySortedBy
@@ -101,7 +101,7 @@ same-place a b = by (nat_lt a b) refl (a == b) refl
     by false is true at = refl
     by false is false at = refl
 
--- A place of the sheet is found where its key is.
+-- A place of the sheet is found under its key.
 placed-found : (product machine : Name) (es : List ((Name × Name × ℕ) × SheetRow)) (k : ℕ)
     → row_at nat_cmp (placed_in product machine es) k ≡ row_at by_sheet_place es (product, machine, k)
 placed-found product machine [] k = refl
@@ -124,7 +124,7 @@ placed-found product machine (e ∷ es) k =
 
 -- ---- rows at places from n on
 
--- no place is found before those that are there
+-- No place is found before the first one.
 none-before : (n k : ℕ) (xs : List (ℕ × SheetRow)) → k ≤ n → AllByRecursion (λ q. nat_cmp n q ≡ Less) (keys_of xs) → row_at nat_cmp xs k ≡ None
 none-before n k [] le all = refl
 none-before n k (x ∷ xs) le (first, all) = ap (λ b. cond b (Some x.1) (row_at nat_cmp xs k)) away ∙ none-before n k xs le all
@@ -238,7 +238,7 @@ sheet-has (e ∷ H) product machine rows is = by e.stamped.command is (sheet-has
     by (SheetDefined p m rs) is before = here (same p product) (same m machine) rs is before
     by _ is before = before is
 
--- the machine has a sheet of some product
+-- The machine has a sheet of some product.
 record HasSheet (H : History) (machine : Name) : Type 0 where
   product : Name
   rows : List SheetRow
@@ -270,7 +270,7 @@ has-sheet (e ∷ H) machine has = by e.stamped.command refl has (has-sheet H mac
     by (SheetDefined p m rs) command has rest = here p m rs command (same m machine) refl has rest
     by _ command has rest = before (rest has)
 
--- whether a row is of the machine
+-- Whether a row is of the machine.
 abbrev pub is_for : Name → List ((Name × Name × ℕ) × SheetRow) → Bool
 is_for machine entries = list_any (λ (e : (Name × Name × ℕ) × SheetRow). same e.0.1 machine) entries
 
@@ -299,7 +299,7 @@ found-for product machine place row (e ∷ es) is =
     by true false c on is rest = or_right (same e.0.1 machine) (is_for machine es) (rest is)
     by false false c on is rest = or_right (same e.0.1 machine) (is_for machine es) (rest is)
 
--- A machine has a sheet exactly where a row is of it.
+-- A machine has a sheet exactly when it has a row.
 pub rows-for : (H : History) (machine : Name) (es : List ((Name × Name × ℕ) × SheetRow)) → IsJudged Two H → Lists by_sheet_place es (λ k. sheet_row H k.0 k.1 k.2)
     → is_for machine es ≡ has_sheet H machine
 rows-for H machine es judged lists = iff _ _ (row-has H machine es (each-of by_sheet_place by_sheet_place-total es (λ k. sheet_row H k.0 k.1 k.2) lists)) (λ has. back (has-sheet H machine has))
@@ -313,7 +313,7 @@ rows-for H machine es judged lists = iff _ _ (row-has H machine es (each-of by_s
 
 -- ---- groups
 
--- what a group gives is what its rows give
+-- A group gives the results of its rows.
 pub group-sheet : (found : Option (List SheetRow)) → option_and_then sheet_in found ≡ sheet_in (unwrap_or found [])
 group-sheet None = refl
 group-sheet (Some rows) = refl

@@ -6,7 +6,7 @@ use Rattle.desk_types.specs.declared.limits.TheConstants.{GREATEST_LABEL}
 use Rattle.desk_types.specs.declared.row.ReelRow.{ReelRow}
 use Rattle.feeder_state.specs.Held.{balances, times_fit, is_reel}
 
--- What a row says fits a reel at the desk minute.
+-- The row's values fit a reel at the desk minute.
 pub record IsFitting (row : ReelRow) (minute : ℕ) : Type 0 where
   pub label : row.label ≤ GREATEST_LABEL
   pub balance : row.received ≡ row.placed + row.scrapped + row.remaining
@@ -50,7 +50,7 @@ pub fits-reel : (row : ReelRow) (found minute : ℕ) → IsFitting row minute �
 fits-reel row found minute fits few =
     and_from _ _ (and_from _ _ (and_from _ _ (le-leb row.label GREATEST_LABEL fits.label) (le-leb found row.received few)) (fits-balances row minute fits)) (fits-times row minute fits)
 
--- and a row that passes them fits.
+-- And a row that passes them fits.
 pub reel-fits : (row : ReelRow) (found minute : ℕ) → is_reel found minute row ≡ true → IsFitting row minute × (found ≤ row.received)
 reel-fits row found minute is =
     let all = and_parts _ _ is in

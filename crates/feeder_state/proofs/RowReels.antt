@@ -1,4 +1,4 @@
--- Reels as their rows tell them.
+-- Reels made from their rows.
 use Rattle.std.proofs.Common.{◌≡◌, ℕ, ◌+◌, ◌-◌, ◌≤◌, nat_lt, Bool, true, false, Option, Some, None, ◌∷◌, [], refl, sym, ap, subst, ◌∙◌, unwrap_or, arith, is_some}
 use Rattle.std.specs.Prelude.{◌&&◌, if◌then◌else◌}
 use Rattle.std.specs.Option.{option_map, option_map_or, option_or}
@@ -41,9 +41,9 @@ use Rattle.feeder_state.specs.Held.{IsHeld, IsHeldOf, with_mount}
 use Rattle.feeder_state.specs.Rows.{AreRows, left_at}
 use Rattle.feeder_state.proofs.RowFits.{IsFitting}
 
--- ---- what a row says
+-- ---- the values of a row
 
--- the reel was received, and the row has its columns
+-- The reel was received, and the row has its columns.
 record IsRowOf (H : History) (name : Name) (row : ReelRow) : Type 0 where
   receipt : Receipt
   received : receipt_of H name ≡ Some receipt
@@ -96,7 +96,7 @@ row-fits H name row minute judged is now =
           omega (arith, few, used, now);
     })
 
--- the found pieces of a row are among its received ones
+-- The found pieces of a row are among its received ones.
 pub found-fits : (H : History) (name : Name) (row : ReelRow) → reel_row H name ≡ Some row → found_of H name ≤ row.received
 found-fits H name row is =
     let of = row-of H name row is in
@@ -106,7 +106,7 @@ found-fits H name row is =
 
 -- ---- the reel
 
--- the reel has what the row says, so many found pieces, and the minute as its last
+-- The reel has the values of the row, this number of found pieces, and the minute as its last.
 pub record IsMadeOf (row : ReelRow) (found : ℕ) (on_slot : Bool) (minute : ℕ) (held : Held) : Type 0 where
   pub part : held.reel.part ≡ row.part
   pub lot : held.reel.lot ≡ row.lot
@@ -123,7 +123,7 @@ pub record IsMadeOf (row : ReelRow) (found : ℕ) (on_slot : Bool) (minute : ℕ
   pub last : held.reel.last ≡ minute
   pub mounted : held.on_slot ≡ on_slot
 
--- A reel that is made of its row at the desk minute is as the list left it.
+-- A reel made from its row at the desk minute is that of the history.
 pub row-held : (H : History) (name : Name) (row : ReelRow) (minute : ℕ) (held : Held) → IsJudged Two H → reel_row H name ≡ Some row → now_of H ≡ minute
     → IsMadeOf row (found_of H name) (is_mounted H name) minute held → IsHeld H name held
 row-held H name row minute held judged is now made_of =
@@ -170,7 +170,7 @@ row-held H name row minute held judged is now made_of =
 
 -- ---- all reels
 
--- a reel without a row was not received
+-- A reel without a row was not received.
 pub row-none : (H : History) (name : Name) → reel_row H name ≡ None → receipt_of H name ≡ None
 row-none H name none = by (receipt_of H name) none
   where
@@ -178,7 +178,7 @@ row-none H name none = by (receipt_of H name) none
     by None none = refl
     by (Some receipt) none = cc
 
--- a reel has a row of `mount` where it is mounted
+-- A mounted reel has a row of `mount`.
 pub mounted-row : (H : History) (name : Name) → IsJudged Two H → is_some (mount_row H name) ≡ is_mounted H name
 mounted-row H name judged = by (is_mounted H name) refl
   where
@@ -205,7 +205,7 @@ module _ (H : History) (rows : KeptRows) (are : AreRows H rows) (name : Name) wh
       numbered None = refl
       numbered (Some row) = refl
 
-  -- the pieces left of a reel are those of its row
+  -- The pieces left of a reel are those of its row.
   pub row-left : left_at rows name ≡ left_of H name
   row-left = ap (λ o. option_map_or (λ (r : ReelRow). r.remaining) o 0) reels-row ∙ by (receipt_of H name) refl
     where
@@ -213,12 +213,12 @@ module _ (H : History) (rows : KeptRows) (are : AreRows H rows) (name : Name) wh
       by None none = sym (unreceived-empty H name are.judged none)
       by (Some receipt) says = refl
 
--- what is so of a reel with its mount is so of the reel
+-- A fact about a reel with its mount holds for the reel.
 pub held-reel : (H : History) (name : Name) (said : Option Reel) → IsHeldOf H name (with_mount H name said) → IsReelOf H name said
 held-reel H name None is_held = is_held
 held-reel H name (Some reel) is_held = (is_held.stands, is_held.by_now)
 
--- One reel stands for what two lists with these rows say of its name.
+-- One reel represents its name in both of two histories with these rows.
 pub both-held : (G H : History) (rows : KeptRows) (name : Name) (minute : ℕ) → AreRows G rows → AreRows H rows → now_of G ≡ minute → now_of H ≡ minute
     → (held : Option Held) × IsHeldOf G name held × IsHeldOf H name held
 both-held G H rows name minute of_G of_H now_G now_H = by ((tables_in rows).reels name) (reels-row G rows of_G name) (reels-row H rows of_H name)

@@ -1,4 +1,4 @@
--- The shop floor beside the rows, as the list left it.
+-- The shop floor of a history, in addition to the rows.
 use Rattle.std.specs.Prelude.{◌≡◌, true}
 use Rattle.desk_types.specs.Id.{Name}
 use Rattle.desk_types.specs.History.{History}

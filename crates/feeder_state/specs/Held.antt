@@ -11,15 +11,15 @@ use Rattle.reels.specs.Reel.{StandsFor}
 use Rattle.desk_types.specs.declared.row.ReelRow.{ReelRow}
 use Rattle.feeder_state.specs.declared.held.Held.{Held}
 
--- whether the reel is on a slot and has pieces left
+-- Whether the reel is on a slot and has pieces left.
 abbrev pub is_live : Held → Bool
 is_live held = held.on_slot && nat_lt 0 held.reel.remaining
 
--- whether each received piece was placed or scrapped, or remains
+-- Whether each received piece was placed or scrapped, or remains.
 abbrev pub balances : ReelRow → Bool
 balances row = nat_le row.placed row.received && (nat_le row.scrapped (row.received - row.placed) && (row.remaining == row.received - row.placed - row.scrapped))
 
--- whether the reel was out no longer than since the first minute
+-- Whether the reel was out no longer than since the first minute.
 abbrev pub times_fit : ℕ → ReelRow → Bool
 times_fit minute row = by row.open_since
   where
@@ -27,11 +27,11 @@ times_fit minute row = by row.open_since
     by (Some since) = nat_le row.used since && nat_le since minute
     by None = nat_le row.used minute
 
--- whether a reel with these found pieces can be made of the row at the minute
+-- Whether a reel with these found pieces can be made of the row at the minute.
 abbrev pub is_reel : ℕ → ℕ → ReelRow → Bool
 is_reel found minute row = ((nat_le row.label GREATEST_LABEL && nat_le found row.received) && balances row) && times_fit minute row
 
--- The reel is as the list left the reel of this name: its receipt and its floor life, its pieces, and whether it is mounted.
+-- The reel is that of the history under this name: its receipt, its floor life, its pieces, and whether it is mounted.
 pub record IsHeld (H : History) (name : Name) (held : Held) : Type 0 where
   pub stands : StandsFor H name held.reel
   pub by_now : held.reel.last ≤ now_of H
@@ -41,11 +41,11 @@ pub record IsHeld (H : History) (name : Name) (held : Held) : Type 0 where
   pub found : held.reel.found ≡ found_of H name
   pub mounted : is_live held ≡ is_mounted H name
 
--- the reel of this name, or none where it was not received
+-- The reel of this name, if it was received.
 abbrev pub IsHeldOf : History → Name → Option Held → Type 0
 IsHeldOf H name None = receipt_of H name ≡ None
 IsHeldOf H name (Some held) = IsHeld H name held
 
--- the reel, with whether it is mounted
+-- The reel, with whether it is mounted.
 abbrev pub with_mount : History → Name → Option Reel → Option Held
 with_mount H name reel = option_map (λ (r : Reel). record { reel = r; on_slot = is_mounted H name }) reel

@@ -9,7 +9,7 @@ use Rattle.desk_types.specs.declared.row.ReelRow.{ReelRow}
 use Rattle.desk_types.specs.Tables.{tables_of}
 use Rattle.state_rows.specs.Kept.{KeptRows, tables_in, unnumbered}
 
--- The list is a judged one, and the rows are the tables of it, but for what is by the numbers of commands.
+-- The history is judged, and the rows are its tables, except for values that depend on the numbers of commands.
 pub record AreRows (H : History) (rows : KeptRows) : Type 0 where
   pub judged : IsJudged Two H
   pub same : unnumbered (tables_in rows) ≡ unnumbered (tables_of H)
@@ -19,6 +19,6 @@ pub record AreRowsAt (H : History) (minute : Option ℕ) (rows : KeptRows) : Typ
   pub are : AreRows H rows
   pub minute_is : minute ≡ desk_minute H
 
--- the pieces left of a reel, by its row
+-- The pieces left of a reel, by its row.
 abbrev pub left_at : KeptRows → Name → ℕ
 left_at rows reel = option_map_or (λ (row : ReelRow). row.remaining) ((tables_in rows).reels reel) 0

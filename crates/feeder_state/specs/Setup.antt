@@ -11,15 +11,15 @@ use Rattle.desk_types.specs.Setup.{sheet_of}
 use Rattle.desk_types.specs.View.{has_sheet}
 use Rattle.feeder_state.specs.declared.setup.Setup.{Setup}
 
--- the rows that the map has for the product on the machine
+-- The rows that the map has for the product on the machine.
 abbrev pub sheet_at : BTreeMap (Name × Name) (List SheetRow) → Name → Name → Option (List SheetRow)
 sheet_at sheets product machine = tree.get by_pair sheets (product, machine)
 
--- whether the machine is among those that some sheet names
+-- Whether the machine is among those that some sheet names.
 abbrev pub is_sheeted : BTreeSet Name → Name → Bool
 is_sheeted sheeted machine = contains by_name sheeted machine
 
--- The sheets are as the list left them.
+-- The sheets are those of the history.
 pub record IsSetup (H : History) (setup : Setup) : Type 0 where
   pub sheets : (product machine : Name) → sheet_at setup.sheets product machine ≡ sheet_of H product machine
   pub sheeted : (machine : Name) → is_sheeted setup.sheeted machine ≡ has_sheet H machine

@@ -1,4 +1,4 @@
--- The lists for which a state stands.
+-- The histories that a state represents.
 use Rattle.std.specs.Prelude.{◌≡◌}
 use Rattle.desk_types.specs.History.{History, desk_minute}
 use Rattle.desk_types.specs.Judged.{IsJudged}
@@ -19,6 +19,6 @@ pub record IsState (H : History) (desk : StateDesk) : Type 0 where
   pub floor : IsFloor H desk.floor
   pub work : IsWork H desk.work
 
--- the rules that the desk keeps
+-- The rules that the desk keeps.
 abbrev pub rules_of : StateDesk → Rules
 rules_of desk = desk.rules

@@ -29,9 +29,8 @@ use setup_sheets::{Alternates, Parts, Sheet};
 use state_rows::{KeepsRows, RowEdit, RowSet, Views, edits_for};
 use std::alloc::{AllocError, Global};
 
-/// A desk that keeps what is so now, in maps, and no list of commands: it looks names up, and searches
-/// through no commands. It stands for each list, judged by its rules, that leaves things as it keeps
-/// them.
+/// A desk that keeps the current state, in rows and indexes, and no list of commands. It looks names up and searches no
+/// commands. It represents every history, judged by its rules, that leads to this state.
 #[derive(Drop)]
 pub struct StateDesk {
     alloc: Global,
@@ -106,7 +105,7 @@ impl StateDesk {
         self.setup.sheet(&product, machine)
     }
 
-    /// Accepts what was judged. After an `Err` nothing is known of the desk: drop it.
+    /// Accepts a judged change. After an `Err` drop the desk, whose state is unknown.
     fn accept(&mut self, change: Change) -> Result<(), AllocError>
         requires room { HasRoom (λ desk H. IsState H desk) self.old 1 }
         requires judged { (H : History) → IsState H self.old → IsChange self.old.rules H change.stamped change }
@@ -117,7 +116,7 @@ impl StateDesk {
         self.apply(change, edits.as_slice())
     }
 
-    /// Accepts what was judged, by its edits. After an `Err` nothing is known of the desk: drop it.
+    /// Accepts a judged change by its edits. After an `Err` drop the desk, whose state is unknown.
     fn apply(&mut self, change: Change, edits: &[RowEdit]) -> Result<(), AllocError>
         requires room { HasRoom (λ desk H. IsState H desk) self.old 1 }
         requires judged { (H : History) → IsState H self.old → IsChange self.old.rules H change.stamped change }

@@ -18,8 +18,8 @@ use state_rows::RowSet;
 use std::alloc::{AllocError, Global};
 use std::collections::{BTreeMap, BTreeSet};
 
-/// The shop floor beside the rows: the live reels of each machine's slot in their order, and the reels
-/// that may be at rest, with pieces left and on no slot. All that are at rest are among them.
+/// The shop floor, in addition to the rows: the live reels of each slot in their order, and a superset of the reels at
+/// rest, which have pieces left and are on no slot.
 #[derive(Drop)]
 pub struct Floor {
     pub tapes: BTreeMap<(Id, Id), Tape>,
@@ -27,7 +27,7 @@ pub struct Floor {
 }
 
 impl Floor {
-    /// The floor where nothing is accepted. Takes no memory.
+    /// The floor of an empty history. Takes no memory.
     pub fn new(alloc: Global) -> Floor
         ensures { IsFloor [] result }
     {
@@ -37,8 +37,8 @@ impl Floor {
         }
     }
 
-    /// Takes in what an accepted command does, with the pieces that it takes; the rows are those after
-    /// it. After an `Err` nothing is known of the floor.
+    /// Notes an accepted command with the pieces that it takes. The rows are those after it. After an `Err` the floor's
+    /// state is unknown.
     pub fn note(
         &mut self,
         alloc: Global,

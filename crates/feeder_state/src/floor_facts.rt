@@ -17,7 +17,7 @@ impl Floor {
         }
     }
 
-    /// The live reel of the slot before which so many stand, the front at index 0.
+    /// Returns the live reel of the slot at this index. The front has index 0.
     pub fn reel_at(&self, machine: &Id, slot: &Id, index: usize) -> Option<Id>
         ensures { result ≡ slice_get (tape_at self.now.tapes machine.now slot.now) index }
     {

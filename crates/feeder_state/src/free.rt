@@ -26,7 +26,7 @@ use state_rows::RowSet;
 use std::alloc::{AllocError, Global};
 use std::collections::BTreeSet;
 
-/// Whether a reel to which this is left could be loaded where a sheet says the part.
+/// Returns whether a reel with this left could be loaded where a sheet requires the part.
 fn is_free(alternates: &Alternates, part: &Id, held: &Held, left: Left) -> bool
     ensures { (H : History) (name : Name) → AreAlternates H alternates.now → IsHeld H name held.now
         → left ≡ life_left H name → result ≡ is_free H part.now name }
@@ -37,7 +37,7 @@ fn is_free(alternates: &Alternates, part: &Id, held: &Held, left: Left) -> bool
         && is_usable(left)
 }
 
-/// The turn of a received reel, where it is free for the part.
+/// Returns the turn of a received reel, if it is free for the part.
 fn turn_of(
     held: &Held,
     minute: Minute,
@@ -58,7 +58,7 @@ fn turn_of(
     Some((left, *name))
 }
 
-/// The turn of the reel of this name, where it is free for the part.
+/// Returns the turn of the reel of this name, if it is free for the part.
 fn turn_at(
     rows: &RowSet,
     minute: Minute,
@@ -114,8 +114,7 @@ fn views_of(
     Ok(views)
 }
 
-/// The reels that could be loaded for the part at the desk minute, in the order in which they are
-/// used.
+/// Returns the reels that could be loaded for the part at the desk minute, in the order of use.
 pub fn free_reels(
     alloc: Global,
     rows: &RowSet,

@@ -40,15 +40,15 @@ fn times_fit(row: &ReelRow, minute: Minute) -> bool
     }
 }
 
-/// Whether a reel can be made of the row: so it is of each row of a list.
+/// Returns whether a reel can be made from the row, as from each row of a history.
 fn is_reel(row: &ReelRow, found: u64, minute: Minute) -> bool
     ensures { result ≡ is_reel found minute row.now }
 {
     row.label <= GREATEST_LABEL && found <= row.received && balances(row) && times_fit(row, minute)
 }
 
-/// The reel of a row at the desk minute, which stands for the minute of its last command; or none where
-/// the row is of no list.
+/// Returns the reel of a row at the desk minute, which replaces the minute of its last command. Returns `None` if the
+/// row belongs to no history.
 fn reel_of(row: &ReelRow, found: u64, minute: Minute) -> Option<Reel>
     ensures { (H : History) (name : Name) → IsJudged Two H → reel_row H name ≡ Some row.now → now_of H ≡ minute
         → found ≡ found_of H name → IsHeldOf H name (with_mount H name result) }
@@ -73,7 +73,7 @@ fn reel_of(row: &ReelRow, found: u64, minute: Minute) -> Option<Reel>
     None
 }
 
-/// The reel of this name at the desk minute, or none where it was not received.
+/// Returns the reel of this name at the desk minute, if it was received.
 pub fn reel_now(rows: &RowSet, minute: Minute, name: &Id) -> Option<Reel>
     ensures { (H : History) → AreRowsAt H (Some minute) rows.now
         → IsHeldOf H name.now (with_mount H name.now result) }

@@ -83,7 +83,7 @@ pub fn note_resting(
     Ok(())
 }
 
-/// Takes the reel out, where it has no pieces left.
+/// Removes the reel if it has no pieces left.
 fn end_rest(rows: &RowSet, resting: &mut BTreeSet<Id>, reel: &Id)
     ensures { (r : Name) → (left_at rows.now r == 0) ≡ false → is_resting resting.new r ≡ is_resting resting.old r }
 {
@@ -92,7 +92,7 @@ fn end_rest(rows: &RowSet, resting: &mut BTreeSet<Id>, reel: &Id)
     }
 }
 
-/// Takes out the reels of takes that have no pieces left. The others stay as they were.
+/// Removes the reels of takes that have no pieces left. The others are unchanged.
 fn end_each(rows: &RowSet, resting: &mut BTreeSet<Id>, takes: &[Take])
     ensures { (r : Name) → (left_at rows.now r == 0) ≡ false → is_resting resting.new r ≡ is_resting resting.old r }
 {

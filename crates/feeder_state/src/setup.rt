@@ -1,4 +1,4 @@
-//! The setup: parts, alternates, sheets, and what each machine makes.
+//! The setup: parts, alternates, sheets, and the product on each machine.
 
 mod rows;
 
@@ -35,8 +35,7 @@ impl Setup {
         }
     }
 
-    /// The setup after an accepted command, whose rows are moved in. Fails only where memory is
-    /// refused; the setup is of no use then.
+    /// Notes an accepted command, whose rows are moved in. Fails only if memory is refused; then drop the setup.
     pub fn note(&mut self, alloc: Global, command: Command) -> Result<(), AllocError>
         ensures { (H : History) (e : Accepted) → e.stamped.command ≡ command → IsSetup H self.old
             → OnOk result (IsSetup (e ∷ H) self.new) }
@@ -69,7 +68,7 @@ impl Setup {
     }
 }
 
-/// Puts the machine in, where the command gives it a sheet.
+/// Inserts the machine if the command gives it a sheet.
 fn note_machine(sheeted: &mut BTreeSet<Id>, command: &Command) -> Result<(), AllocError>
     ensures { (m : Name)
         → OnOk result (is_sheeted sheeted.new m ≡ (defines_on m command.now || is_sheeted sheeted.old m)) }

@@ -12,7 +12,7 @@ use entry_search::floor::Tape;
 use state_rows::RowSet;
 use std::collections::{BTreeMap, VecDeque};
 
-/// Takes a reel off the reels of a slot, among which it stands once at most. Mostly it is the first.
+/// Removes a reel from the reels of a slot, where it occurs at most once. It is usually the first.
 fn remove(tape: &mut VecDeque<Id>, reel: &Id)
     requires { IsDistinct same tape.old.items }
     ensures { tape.new.items ≡ filter (λ r. not (same reel.now r)) tape.old.items }
@@ -47,7 +47,7 @@ pub fn is_spent(rows: &RowSet, reel: &Id) -> bool
     }
 }
 
-/// Takes the reel of a take off its slot, where that spent it.
+/// Removes the reel of a take from its slot, if the take spent it.
 fn drop_spent(rows: &RowSet, tapes: &mut BTreeMap<(Id, Id), Tape>, take: &Take)
     requires { (m s : Name) → IsDistinct same (tape_at tapes.old m s) }
     ensures { (m s : Name)

@@ -1,4 +1,4 @@
-//! What the desk tells of reels and of the slots of machines.
+//! The desk's views of reels and of the slots of machines.
 
 ghost use Rattle.std.specs.Prelude.{◌≡◌, ◌++◌, true, is_some, Some, map, All, IfOk, OnOk};
 ghost use Rattle.std.specs.List.{flat_map, enumerate_from};
@@ -49,7 +49,7 @@ fn view_of(held: &Held, minute: Minute, name: &Id) -> ReelView
     }
 }
 
-/// The reel at this desk minute, or none where it was not received.
+/// Returns the reel at this desk minute, if it was received.
 pub fn reel_view_at(rows: &RowSet, minute: Minute, name: &Id) -> Option<ReelView>
     ensures { (H : History) → AreRowsAt H (Some minute) rows.now → result ≡ reel_view H name.now }
 {
@@ -59,7 +59,7 @@ pub fn reel_view_at(rows: &RowSet, minute: Minute, name: &Id) -> Option<ReelView
     }
 }
 
-/// The reel at the desk minute, or none where it was not received. Takes no memory.
+/// Returns the reel at the desk minute, if it was received. Takes no memory.
 pub fn reel_view(rows: &RowSet, minute: Option<Minute>, name: &Id) -> Option<ReelView>
     ensures { (H : History) → AreRowsAt H minute rows.now → result ≡ reel_view H name.now }
 {
@@ -85,7 +85,7 @@ fn mount_of(held: &Held, minute: Minute, slot: &Id, position: u64, name: &Id) ->
     }
 }
 
-/// Tells the reels of a tape, the front first, each of which was received.
+/// Returns the reels of a tape, the front first. Each of them was received.
 fn put_tape(
     mounts: &mut Vec<Mount>,
     rows: &RowSet,
@@ -127,8 +127,8 @@ fn put_slots(
     Ok(())
 }
 
-/// The live reels of the machine's slots, by slot and then by position, or none where no sheet names
-/// the machine. The given `has_sheet` tells whether one does.
+/// Returns the live reels of the machine's slots, by slot and then by position, or `None` if no sheet names the
+/// machine, as `has_sheet` says.
 pub fn slots_of(
     alloc: Global,
     rows: &RowSet,

@@ -1,4 +1,4 @@
-//! Boards in work, what they are, and what is placed on them.
+//! Boards in work, their products, and their placed designators.
 
 mod rows;
 
@@ -18,7 +18,7 @@ use desk_types::{Command, Designator, Id};
 use std::alloc::{AllocError, Global};
 use std::collections::BTreeMap;
 
-/// The board in work on each machine, and what is placed on each board.
+/// The board in work on each machine, and the designators placed on each board.
 #[derive(Drop)]
 pub struct Work {
     running: BTreeMap<Id, Id>,
@@ -36,7 +36,7 @@ impl Work {
         }
     }
 
-    /// The work after an accepted command. Fails only where memory is refused; the work is of no use then.
+    /// Notes an accepted command. Fails only if memory is refused; then drop the work.
     pub fn note(&mut self, alloc: Global, command: &Command) -> Result<(), AllocError>
         ensures { (H : History) (e : Accepted) → e.stamped.command ≡ command.now → IsWork H self.old
             → OnOk result (IsWork (e ∷ H) self.new) }
@@ -117,7 +117,7 @@ fn place(
     Ok(())
 }
 
-/// What is placed after a command.
+/// Returns the placed designators after a command.
 fn note_placed(
     alloc: Global,
     placed: &mut BTreeMap<Id, Placed>,

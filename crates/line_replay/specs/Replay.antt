@@ -61,7 +61,7 @@ pub record Accepts {D : Type 0} (StandsFor : D → History → Type 0) (rules : 
   pub rows : tables_in after ≡ but_placements (with_edits edits (tables_in before)) (tables_in before)
   pub first : Clean → Reads old (λ db. list_any (is_before entry.stamped.uid number) (accepted_in db) ≡ false)
 
--- one entry more is taken
+-- One entry more is taken.
 pub record Takes {D : Type 0} (StandsFor : D → History → Type 0) (rules : Rules) (Clean : Type 0) (old : State) (H : History) (desk : D) (before after : Expected) : Type 0 where
   pub entry : Entry
   pub stands : StandsFor desk (entry ∷ H)
@@ -76,7 +76,7 @@ abbrev pub Goes : {D : Type 0} → (D → History → Type 0) → Rules → Type
 Goes StandsFor rules Clean old H before desk after true = Takes StandsFor rules Clean old H desk before after
 Goes StandsFor rules Clean old H before desk after false = StandsFor desk H × (Clean → Reads old (λ db. filter (has_number (length H + 1)) (accepted_in db) ≡ [])) × (after ≡ before)
 
--- the desk stands for a judged list of so many entries, and the rows beside it are the list's; on a clean disk each entry has its row in our schema's table
+-- The desk stands for a judged list of so many entries, and the rows beside it are the list's; on a clean disk each entry has its row in our schema's table.
 pub record IsTaken {D : Type 0} (StandsFor : D → History → Type 0) (rules : Rules) (Clean : Type 0) (db : Database) (desk : D) (expected : Expected) (count : ℕ) (H : History) : Type 0 where
   pub stands : StandsFor desk H
   pub judged : IsJudged rules H

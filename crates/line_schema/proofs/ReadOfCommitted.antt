@@ -107,7 +107,7 @@ opened_on F K Before After old mid rules desk expected count opened H early r li
   apart = apart;
 }
 
--- a table that differs
+-- A table that differs.
 pub table_fault : {D : Type 0} (F : D → History → Type 0) (rules : Rules) (Before : Type 0) (old mid : State) (desk : D) (expected : Expected) (count greatest : ℕ) (H : History) (table : StateTable) → Before → IsReplayed F rules greatest Before mid desk expected count H → KeepsCommit old mid
     → Reads old (λ db. IsVersion db (pos (version_of rules)) greatest) → Reads old (λ db. IsVerdict (state_tables rules) db (state_of H) (Some table)) → IsFaultBy rules old (TableDiffers table)
 table_fault F rules Before old mid desk expected count greatest H table clean r kept version first =

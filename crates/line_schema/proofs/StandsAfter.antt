@@ -70,7 +70,7 @@ accepted_list rules H s change is = ap (accept H) (stamped_is rules H s change i
 pub first_as : (L : Kept) (s : Stamped) (change : Change) → IsChange Two L.history s change → earlier_answer L.history s ≡ None → earlier_answer L.history change.stamped ≡ None
 first_as L s change is none = subst (λ t. earlier_answer L.history t ≡ None) (sym (stamped_is Two L.history s change is)) none
 
--- the answer to a command that makes a change
+-- The answer to a command that makes a change.
 pub answered_as : (H : History) (s : Stamped) (change : Change) (r : Result Answer Fault) → IsChange Two H s change → IfOk r (λ a. a ≡ judged_answer H change.stamped (Accepted change.detail)) → IfOk r (λ a. a ≡ judged_answer H s (reply_to Two H s))
 answered_as H s change (Ok a) is told = told ∙ ap (λ (c : Change). judged_answer H c.stamped (Accepted c.detail)) is.value ∙ sym (ap (λ o. judged_answer H s (option_map_or Refused o (Accepted (change_of H s).detail))) is.accepted)
 answered_as H s change (Err e) is told = tt
@@ -173,7 +173,7 @@ module _ {S D : Type 0} (g : Ghosts S) (F : D → History → Type 0) (K : D →
     tables = λ clean own is_open. subst (λ (db : Database). Holds db (ledger_tables L.greatest L.history)) (sym ((kept clean).committed is_open)) (s.tables (clean_before P survives clean) own ((kept clean).was_open is_open));
   }
 
-  -- a change was committed
+  -- A change was committed.
   pub stands_on : {P : Trees → Type 0} (old new : LineStore S D) (L : Kept) (change : Change) (edits : List Edit) → Stands g F K old L → old.count < old.greatest
       → IsChange Two L.history change.stamped change → IsStamped change.stamped → IsMinute change.minute
       → new.count ≡ old.count + 1 → new.greatest ≡ old.greatest → new.conn.in_transaction ≡ false → IfSome new.desk (λ d. F d (accept L.history change.stamped) × (K d ≡ Two))
@@ -202,7 +202,7 @@ module _ {S D : Type 0} (g : Ghosts S) (F : D → History → Type 0) (K : D →
       judged : IsJudged Two (accept L.history change.stamped)
       judged = (next_is Two L.history change.stamped change stamped minute is, s.judged)
 
-  -- a call only read
+  -- A call only read.
   pub read_on : {P : Trees → Type 0} (old new : LineStore S D) → new.greatest ≡ old.greatest → new.count ≡ old.count → new.desk ≡ old.desk → new.lists ≡ old.lists → (old.conn.in_transaction ≡ false → new.conn.in_transaction ≡ false)
       → Survives (state g old.conn) (state g new.conn) P → (HasCleanDisk (state g new.conn) → KeepsCommit (state g old.conn) (state g new.conn)) → (L : Kept) → Stands g F K old L → Stands g F K new L
   read_on {P} old new greatest count desk lists mode survives kept L s = record {
@@ -232,7 +232,7 @@ module _ {S D : Type 0} (g : Ghosts S) (F : D → History → Type 0) (K : D →
   pub tables_there : (store : LineStore S D) (L : Kept) → Stands g F K store L → ShowsTables g store L
   tables_there store L s clean own = elim (s.stays_open clean) [ inl is_open ↦ inl (s.tables clean own is_open) | inr failed ↦ inr failed ]
 
-  -- a call that may have accepted it
+  -- A call that may have accepted it.
   pub stands_either : (r : Result Answer Fault) (new : LineStore S D) (L M : Kept) → OnOk r (Stands g F K new M) → OnErr r (Stands g F K new L) → (N : Kept) × Stands g F K new N
   stands_either (Ok a) new L M ok err = (M, ok)
   stands_either (Err e) new L M ok err = (L, err)

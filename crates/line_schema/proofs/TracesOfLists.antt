@@ -15,7 +15,7 @@ use Rattle.line_traces.proofs.Minutes.{IsRowOf, list-held}
 use Rattle.line_schema.specs.declared.store.LineStore.{LineStore}
 use Rattle.line_schema.specs.Stands.{Kept, Stands}
 
--- the rows of `accepted` are those of the entries
+-- The rows of `accepted` are those of the entries.
 rows-are : (H : History) → AllZip IsRowOf H (rows_of H)
 rows-are [] = tt
 rows-are (e ∷ H) = ((refl, refl), rows-are H)

@@ -32,7 +32,7 @@ use Rattle.state_rows.proofs.TablesLess.{unpicked, unpicked-some}
 
 -- ---- one pick
 
--- how many pieces one pick is, of those that pass a test
+-- How many pieces one pick is, of those that pass a test.
 one : (test : Pick → Bool) (p : Pick) (reel : Name) → pieces_picked (filter test (p ∷ [])) reel ≡ (if test p then (if same p.reel reel then p.quantity else 0) else 0)
 one test p reel = by (test p)
   where
@@ -40,17 +40,17 @@ one test p reel = by (test p)
     by true = zero-add _
     by false = refl
 
--- a choice turned round
+-- A choice turned round.
 flip-not : (b : Bool) (n : ℕ) → (if not b then n else 0) ≡ (if b then 0 else n)
 flip-not true n = refl
 flip-not false n = refl
 
--- nothing either way
+-- Nothing either way.
 zeros : (b : Bool) → (if◌then◌else◌ {A = ℕ} b 0 0) ≡ 0
 zeros true = refl
 zeros false = refl
 
--- the pieces with one pick more
+-- The pieces with one pick more.
 more-placed : (ps : List Pick) (p : Pick) (reel : Name) (here : Bool) → same p.reel reel ≡ here
     → placed_in (ps ++ p ∷ []) reel ≡ placed_in ps reel + (if is_placed p.purpose then (if here then p.quantity else 0) else 0)
 more-placed ps p reel here is =
@@ -71,7 +71,7 @@ more-pieces_picked ps p reel here is = pieces_picked-append ps (p ∷ []) reel �
 
 -- ---- rows
 
--- one pick more of the row's reel
+-- One pick more of the row's reel.
 less-more : (ps : List Pick) (p : Pick) (row : ReelRow) → same p.reel row.reel ≡ true → less_by p (less_row ps row) ≡ less_row (ps ++ p ∷ []) row
 less-more ps p row here =
     same-rows _ _ refl refl refl refl refl refl
@@ -79,7 +79,7 @@ less-more ps p row here =
     (let m = more-scrapped ps p row.reel true here in omega (arith, m))
     (let m = more-pieces_picked ps p row.reel true here in omega (arith, m)) refl refl refl
 
--- one pick more of another reel
+-- One pick more of another reel.
 less-other : (ps : List Pick) (p : Pick) (row : ReelRow) → same p.reel row.reel ≡ false → less_row (ps ++ p ∷ []) row ≡ less_row ps row
 less-other ps p row away =
     same-rows _ _ refl refl refl refl refl refl
@@ -87,7 +87,7 @@ less-other ps p row away =
     (let m = more-scrapped ps p row.reel false away in let z = zeros (is_placed p.purpose) in omega (arith, m, z))
     (let m = more-pieces_picked ps p row.reel false away in omega (arith, m)) refl refl refl
 
--- off a row whose reel is not picked nothing comes
+-- Off a row whose reel is not picked nothing comes.
 less-none : (ps : List Pick) (row : ReelRow) → is_picked ps row.reel ≡ false → less_row ps row ≡ row
 less-none ps row none =
     same-rows _ _ refl refl refl refl refl refl
@@ -95,7 +95,7 @@ less-none ps row none =
     (let z = unpicked _ row.reel (unpicked-some (λ (p : Pick). not (is_placed p.purpose)) ps row.reel none) in omega (arith, z))
     (let z = unpicked ps row.reel none in omega (arith, z)) refl refl refl
 
--- whether a reel is picked, with one pick more
+-- Whether a reel is picked, with one pick more.
 pieces_picked-more : (ps : List Pick) (p : Pick) (reel : Name) (here : Bool) → same p.reel reel ≡ here → is_picked (ps ++ p ∷ []) reel ≡ (is_picked ps reel || here)
 pieces_picked-more ps p reel here is =
     list_any-append (λ (x : Pick). same x.reel reel) ps (p ∷ []) ∙ ap (λ b. is_picked ps reel || b) (or-false (same p.reel reel) ∙ is)
@@ -134,7 +134,7 @@ picked_rows-next rows ps p r named = by (same p.reel r) refl (is_picked ps r) re
     by false here false before (Some row) of =
         ap (λ c. if c then Some (less_row (ps ++ p ∷ []) row) else None) (pieces_picked-more ps p r false here ∙ ap (λ c. c || false) before)
 
--- The sums with one pick more fit, where those of all picks do.
+-- The sums with one more pick fit if those of all picks do.
 pub picked_rows-fits : (H : History) (ps : List Pick) (p : Pick) (rest : List Pick) (row : ReelRow) → ArePiecesFitting H (ps ++ p ∷ rest)
     → option_or (picked_rows (reel_row H) ps p.reel) (reel_row H p.reel) ≡ Some row → LessFits p row
 picked_rows-fits H ps p rest row fits is = by (is_picked ps p.reel) refl (receipt_of H p.reel) is
@@ -203,7 +203,7 @@ places-put number (take ∷ takes) n t =
     past : (k : ℕ) → (n == k) ≡ true → rest k ≡ None
     past k here = at_place-before takes (n + 1) k (let is = eqb-true n k here in omega (arith, is))
 
-    -- a take that is not placed
+    -- A take that is not placed.
     skip : (m k : ℕ) (a b : Bool) (x : Take) (o : Option PlacementRow) → placed_row m k x ≡ None → (b ≡ true → rest k ≡ None)
         → option_or (if a then option_and_then (placed_row m k) (rest k) else None) o
         ≡ option_or (if a then option_and_then (placed_row m k) (if b then Some x else rest k) else None) o

@@ -1,4 +1,4 @@
--- Mount rows by numbers and by reels.
+-- Mount rows by number and by reel.
 use Rattle.std.proofs.Common.{◌≡◌, ℕ, Bool, true, false, cond, Option, Some, None, List, [], ◌∷◌, refl, sym, ap, ◌∙◌, subst, arith}
 use Rattle.std.specs.Prelude.{◌==◌, ◌&&◌, if◌then◌else◌}
 use Rattle.std.specs.BTreeMap.{is_at}
@@ -40,7 +40,7 @@ both-written numbered numbered' named named' since reel w put put' step alike k 
         ∙ step k.0
     by false here = ap (λ c. cond c w (since_is k.0 (row_at by_name named k.1))) (and-false (since == k.0))
 
--- a row is taken out of both
+-- A row is taken out of both.
 pub step-taken : (since : ℕ) (row : MountRow) (o : Option MountRow) → o ≡ Some row → row.since ≡ since → (s : ℕ) → cond (since == s) None (since_is s o) ≡ since_is s None
 step-taken since row o is number s = ap (λ x. cond (since == s) None (since_is s x)) is ∙ ap (λ n. cond (since == s) None (if n == s then Some row else None)) number ∙ by (since == s)
   where
@@ -48,7 +48,7 @@ step-taken since row o is number s = ap (λ x. cond (since == s) None (since_is 
     by true = refl
     by false = refl
 
--- a row is put into both
+-- A row is put into both.
 pub step-put : (row : MountRow) (o : Option MountRow) → o ≡ None → (s : ℕ) → cond (row.since == s) (Some row) (since_is s o) ≡ since_is s (Some row)
 step-put row o none s = ap (λ x. cond (row.since == s) (Some row) (since_is s x)) none
 
@@ -66,7 +66,7 @@ undone numbered numbered' named between named' reel w rests put taken none alike
     by true here = sym (ap (row_at by_name named) (sym (same-true reel k.1 here)) ∙ none)
     by false here = refl
 
--- a row is put over one that was taken out
+-- A row is put over one that was taken out.
 pub put-over : (reel r : Name) (w between before : Option MountRow) → between ≡ cond (same reel r) None before → cond (same reel r) w between ≡ cond (same reel r) w before
 put-over reel r w between before is = ap (cond (same reel r) w) is ∙ by (same reel r)
   where
@@ -77,9 +77,9 @@ put-over reel r w between before is = ap (cond (same reel r) w) is ∙ by (same 
 pub none-left : (reel : Name) (taken before : Name → Option MountRow) → ((r : Name) → taken r ≡ cond (same reel r) None (before r)) → taken reel ≡ None
 none-left reel taken before is = is reel ∙ ap (λ b. cond b None (before reel)) (same-refl reel)
 
--- ---- the list by numbers
+-- ---- the rows by number
 
--- what is found of a reel among entries that are rows of the table
+-- The row found for a reel among entries that are rows of the table.
 found-none : (reel : Name) (table : Name → Option MountRow) (es : List ((ℕ × Name) × MountRow)) → All (λ e. since_is e.0.0 (table e.0.1) ≡ Some e.1) es
     → table reel ≡ None → lookup (λ k. same reel k.1) es ≡ None
 found-none reel table [] each none = refl

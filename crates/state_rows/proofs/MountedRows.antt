@@ -1,4 +1,4 @@
--- What the rows of mounted reels mean: a row says exactly that its reel is live on its slot.
+-- The meaning of the rows of mounted reels: a reel has a row exactly if it is live on the row's slot.
 use Rattle.std.proofs.Common.{◌≡◌, ℕ, Bool, true, false, Option, Some, None, [], ◌∷◌, refl, sym, ap, ◌∙◌}
 use Rattle.std.specs.Prelude.{if◌then◌else◌, ◌&&◌, is_some}
 use Rattle.std.specs.Option.{option_or, option_map_or}
@@ -21,7 +21,7 @@ use Rattle.state_rows.proofs.MountRows.{some_left}
 
 -- ---- mounts
 
--- the last load or splice of the reel put it onto this slot
+-- The last load or splice of the reel put it onto this slot.
 record IsPutAt (last : Option MountRow) (reel : Name) (slot : Name × Name) : Type 0 where
   row : MountRow
   is : last ≡ Some row
@@ -95,7 +95,7 @@ mount-live H reel row judged is = by (is_mounted H reel) refl is
     by true mounted is = at (place_of H reel) refl (sym (mounted-is H reel judged) ∙ mounted) is
     by false off is = cc
 
--- a row of this reel on this slot
+-- A row of this reel on this slot.
 pub record IsMountOf (row : Option MountRow) (machine slot reel : Name) : Type 0 where
   pub mount : MountRow
   pub is : row ≡ Some mount

@@ -26,11 +26,11 @@ use Rattle.desk_types.specs.declared.row.PlacementRow.{PlacementRow}
 use Rattle.desk_types.specs.Tables.{placement_columns, placement_row}
 use Rattle.state_rows.specs.Kept.{by_piece, row_at, Lists}
 
--- a placement as a row with its key
+-- A placement as a row with its key.
 abbrev pub entry_of : Placement → (ℕ × ℕ) × PlacementRow
 entry_of p = ((p.number, p.place), placement_columns p)
 
--- the rows of the placements, in their order
+-- The rows of the placements, in their order.
 abbrev pub piece_entries : History → List ((ℕ × ℕ) × PlacementRow)
 piece_entries H = map entry_of (placements_of H)
 
@@ -88,7 +88,7 @@ all-weaker : {X : Type 0} (P Q : X → Type 0) → ((x : X) → P x → Q x) →
 all-weaker P Q weaker [] all = tt
 all-weaker P Q weaker (x ∷ xs) (first, all) = (weaker x first, all-weaker P Q weaker xs all)
 
--- the keys of an entry's placements, the first of whose takes is in this place
+-- The keys of an entry's placements, the first of whose takes is in this place.
 module _ (number effective : ℕ) where
   abbrev as_take : ℕ × Take → EntryTake
   as_take (place, take) = record { number = number; place = place; effective = effective; take = take }
@@ -96,7 +96,7 @@ module _ (number effective : ℕ) where
   abbrev keys_from : ℕ → List Take → List (ℕ × ℕ)
   keys_from i takes = keys_of (map entry_of (filter_map placement_of (map as_take (enumerate_from i takes))))
 
-  -- they have its number, and places from this one on
+  -- They have its number, and places from this one on.
   abbrev IsFrom : ℕ → ℕ × ℕ → Type 0
   IsFrom i key = (key.0 ≡ number) × (i ≤ key.1)
 
@@ -122,7 +122,7 @@ module _ (number effective : ℕ) where
       by (Rejected machine slot) above rest = rest
       by Counted above rest = rest
 
--- the keys of one list after the other
+-- The keys of one list after the other.
 keys-append : (ps qs : List Placement) → keys_of (map entry_of (ps ++ qs)) ≡ keys_of (map entry_of ps) ++ keys_of (map entry_of qs)
 keys-append [] qs = refl
 keys-append (p ∷ ps) qs = ap (λ l. (p.number, p.place) ∷ l) (keys-append ps qs)
@@ -131,7 +131,7 @@ keys-next : (H : History) (e : Entry) → keys_of (piece_entries (e ∷ H)) ≡ 
 unfolding takes_of
 keys-next H e = ap (λ ps. keys_of (map entry_of ps)) (filter_map-append placement_of (takes_of H) (entry_takes H e)) ∙ keys-append (placements_of H) (filter_map placement_of (entry_takes H e))
 
--- no number is above that of the last entry
+-- No number is above that of the last entry.
 keys-within : (H : History) → IsJudged Two H → AllByRecursion (λ key. key.0 ≤ length H) (keys_of (piece_entries H))
 unfolding takes_of
 keys-within [] judged = tt

@@ -63,7 +63,7 @@ module _ {K : Type 0} (cmp : K → K → Ordering) (is : K → K → Bool) (agre
       → ((q : K) → row_at cmp new q ≡ cond (is_at (cmp k) q) w (row_at cmp old q)) → (q : K) → row_at cmp new q ≡ cond (is k q) w (row_at cmp old q)
   row-written old new k w after q = after q ∙ ap (λ b. cond b w (row_at cmp old q)) (agree k q)
 
--- keys of sets are found as their elements
+-- Keys of sets are found as their elements.
 pub key-among : (ks : List Name) (p : Name) → has_key by_name ks p ≡ is_among ks p
 key-among ks p = list_any-same (is_at (by_name p)) (same p) (is_at-by_name p) ks
 
@@ -80,10 +80,10 @@ pub lists-keys : {K : Type 0} (cmp : K → K → Ordering) (given kept : List K)
     → ((k : K) → has_key cmp kept k ≡ table k) → ListsKeys cmp given table
 lists-keys cmp given kept table is up found = subst (λ ks. ListsKeys cmp ks table) (sym is) (record { ascending = up; rows = found })
 
--- ---- edits, where s is what was kept and the list is new
+-- ---- edits, from the old entries s to the new list
 
 module _ (s now : KeptRows) (is : s ≡ now) where
-  -- what a map by keys becomes
+  -- The map by keys after an edit.
   abbrev Writes : {K X : Type 0} → (K → K → Ordering) → List (K × X) → List (K × X) → K → Option X → Type 0
   Writes {K} cmp old new k w = (q : K) → row_at cmp new q ≡ cond (is_at (cmp k) q) w (row_at cmp old q)
 
@@ -158,9 +158,9 @@ module _ (s now : KeptRows) (is : s ≡ now) where
       ap (λ (f : Name → Option ℕ). record (tables_in s) { found = f }) (λ j r. row-written by_name same is_at-by_name s.found new reel (Some pieces) writes r j)
       ∙ ap (λ t. with_edit (PutFound reel pieces) (tables_in t)) is
 
--- ---- edits but those of placements
+-- ---- edits except those of placements
 
--- an edit of tables whose placements are kept
+-- An edit of tables whose placements are kept.
 but-step : (e : RowEdit) (t kept : Tables) → but_placements (with_edit e (but_placements t kept)) kept ≡ but_placements (with_edit e t) kept
 but-step (PutPlacement row) t kept = refl
 but-step (TakeSheetRow product machine place) t kept = refl

@@ -44,7 +44,7 @@ use Rattle.state_rows.proofs.NewRows.{edits-fit}
 use Rattle.state_rows.proofs.PlacementRows.{unplaced-later}
 use Rattle.state_rows.proofs.TablesLess.{picks-again}
 
--- the row that is written over what was found
+-- The row written over the found one.
 pub noted : (old rows : Name → Option ReelRow) (k : Name) (p : Pick) (row less : ReelRow) → option_or (old k) (rows k) ≡ Some row → less ≡ less_by p row → (r : Name)
     → cond (same k r) (Some less) (old r) ≡ (if same k r then option_map (less_by p) (option_or (old r) (rows r)) else old r)
 noted old rows k p row less is lesser r = by (same k r) refl
@@ -53,7 +53,7 @@ noted old rows k p row less is lesser r = by (same k r) refl
     by true here = ap Some lesser ∙ sym (ap (λ x. option_map (less_by p) (option_or (old x) (rows x))) (sym (same-true k r here)) ∙ ap (option_map (less_by p)) is)
     by false here = refl
 
--- the picks so far and one more
+-- The picks so far and one more.
 picks-next : (takes : List Take) (i : ℕ) (item : Take) → i < length takes → item ≡ get_or takes i item
     → map pick_of (take (i + 1) takes) ≡ map pick_of (take i takes) ++ pick_of item ∷ []
 picks-next takes i item inside is = ap (map pick_of) (take-next takes i item inside is) ∙ map-append pick_of (take i takes) (item ∷ [])
@@ -63,7 +63,7 @@ picks-all : (takes : List Take) (i : ℕ) (item : Take) → i < length takes →
 picks-all takes i item inside is =
     ap (map pick_of) (sym (take-append-drop i takes) ∙ ap (λ l. take i takes ++ l) (drop-next takes i item inside is)) ∙ map-append pick_of (take i takes) (item ∷ drop (i + 1) takes)
 
--- the sums with one more take fit
+-- The sums with one more take fit.
 pub next-fits : (H : History) (takes : List Take) (i : ℕ) (item : Take) (so_far : Name → Option ReelRow) → i < length takes → item ≡ get_or takes i item
     → ArePiecesFitting H (map pick_of takes) → ((r : Name) → so_far r ≡ picked_rows (reel_row H) (map pick_of (take i takes)) r)
     → (row : ReelRow) → option_or (so_far item.reel) (reel_row H item.reel) ≡ Some row → LessFits (pick_of item) row
@@ -72,7 +72,7 @@ next-fits H takes i item so_far inside is fits gathers row found =
     (subst (ArePiecesFitting H) (picks-all takes i item inside is) fits)
     (sym (ap (λ o. option_or o (reel_row H item.reel)) (gathers item.reel)) ∙ found)
 
--- one more take is gathered
+-- One more take is gathered.
 pub gather-next : (H : History) (takes : List Take) (i : ℕ) (item : Take) (so_far now : Name → Option ReelRow) → i < length takes → item ≡ get_or takes i item
     → ((r : Name) → so_far r ≡ picked_rows (reel_row H) (map pick_of (take i takes)) r)
     → ((r : Name) → now r ≡ (if same item.reel r then option_map (less_by (pick_of item)) (option_or (so_far r) (reel_row H r)) else so_far r))
@@ -106,7 +106,7 @@ place-next number takes i item before edits inside is so_far =
 
 -- ---- rows in a map
 
--- the key of the first entry is not among the others
+-- The key of the first entry is not among the others.
 alone : (e : Name × ReelRow) (es : List (Name × ReelRow)) → IsStrictlySortedBy by_name (keys_of (e ∷ es)) → row_at by_name es e.0 ≡ None
 unfolding IsStrictlySortedBy
 alone e es (above, up) = among es above
@@ -119,7 +119,7 @@ up-tail : (e : Name × ReelRow) (es : List (Name × ReelRow)) → IsStrictlySort
 unfolding IsStrictlySortedBy
 up-tail e es (above, up) = up
 
--- what the first entry is at a name
+-- The first entry of a name.
 first-at : (e : Name × ReelRow) (es : List (Name × ReelRow)) (r : Name) → row_at by_name (e ∷ es) r ≡ cond (same e.0 r) (Some e.1) (row_at by_name es r)
 first-at e es r = ap (λ b. cond b (Some e.1) (row_at by_name es r)) (is_at-by_name r e.0 ∙ same-sym r e.0)
 
@@ -129,7 +129,7 @@ first-own e es = first-at e es e.0 ∙ ap (λ b. cond b (Some e.1) (row_at by_na
 first-named : (e : Name × ReelRow) (es : List (Name × ReelRow)) → AreNamed (row_at by_name (e ∷ es)) → e.1.reel ≡ e.0
 first-named e es named = named e.0 e.1 (first-own e es)
 
--- a row of the others is found among all
+-- A row of the others is found among all.
 rest-at : (e : Name × ReelRow) (es : List (Name × ReelRow)) (r : Name) (row : ReelRow) → IsStrictlySortedBy by_name (keys_of (e ∷ es)) → row_at by_name es r ≡ Some row
     → row_at by_name (e ∷ es) r ≡ Some row
 rest-at e es r row up is = by (same e.0 r) refl
@@ -141,7 +141,7 @@ rest-at e es r row up is = by (same e.0 r) refl
 rest-named : (e : Name × ReelRow) (es : List (Name × ReelRow)) → IsStrictlySortedBy by_name (keys_of (e ∷ es)) → AreNamed (row_at by_name (e ∷ es)) → AreNamed (row_at by_name es)
 rest-named e es up named r row is = named r row (rest-at e es r row up is)
 
--- what holds of each row that is found holds of each row
+-- What holds of each row that is found holds of each row.
 each-row : (P : ReelRow → Type 0) (es : List (Name × ReelRow)) → IsStrictlySortedBy by_name (keys_of es) → ((r : Name) (row : ReelRow) → row_at by_name es r ≡ Some row → P row)
     → AllByRecursion P (values_of es)
 each-row P [] up holds = tt
@@ -194,7 +194,7 @@ spent-taken (e ∷ es) t up named =
 
 -- ---- a command that takes
 
--- gathered rows are of the reels by whose names they are found
+-- Gathered rows are of the reels by whose names they are found.
 picked_rows-named : (rows : Name → Option ReelRow) (picks : List Pick) → AreNamed rows → AreNamed (picked_rows rows picks)
 picked_rows-named rows picks named r row is = by (is_picked picks r) (rows r) (named r) is
   where
@@ -275,6 +275,6 @@ module _ (rules : Rules) (H : History) (s : Stamped) (change : Change) (is : IsC
       rows-new next =
           (edits-fit H (entry_of H s) number (placement_row H) edits next-judged (λ k. unplaced-later H number k (judged-by-two rules H judged) (omega (arith, next))) are-edits).new
 
-      -- whatever the number, its pieces are new in tables without placements
+      -- Whatever the number, its pieces are new in tables without placements.
       pub rows-fit : AreTakesFirst edits × AreBalanced edits
       rows-fit = let is_fit = edits-fit H (entry_of H s) number (λ n k. None) edits next-judged (λ k. refl) are-edits in (is_fit.takes_first, is_fit.balanced)

@@ -30,7 +30,7 @@ use Rattle.state_rows.proofs.ReelRows.{used-then}
 
 -- ---- exposure
 
--- What is kept of the exposure at a seal is no more than the minute.
+-- The exposure stored at a seal is at most the minute.
 pub kept-fits : (H : History) (reel : Name) (minute : ℕ) (row : ReelRow) → IsJudged Two H → now_of H ≤ minute → reel_row H reel ≡ Some row
     → row.used + option_map_or (λ from. minute - from) row.open_since 0 ≤ minute
 kept-fits H reel minute row judged le is = by (receipt_of H reel) is
@@ -44,7 +44,7 @@ kept-fits H reel minute row judged le is = by (receipt_of H reel) is
 
 -- ---- pieces
 
--- all pieces of a reel, and as many more as a count may tell, fit
+-- All pieces of a reel, plus the most that a count may give, fit.
 received-fits : (H : History) (reel : Name) → IsJudged Two H → length H ≤ MOST_ENTRIES → received_of H reel + GREATEST_QUANTITY < 2 ^ 64
 received-fits H reel judged few = let range = received-range H reel judged in omega (arith, range, few)
 

@@ -14,7 +14,7 @@ use crate::views::Views;
 use desk_types::{CountRow, ReelRow, ReelView, RowEdit};
 use std::alloc::{AllocError, Global};
 
-/// The reel's row with so many pieces counted.
+/// Returns the reel's row with this number of pieces counted.
 fn counted_row(view: &ReelView, pieces: u64) -> ReelRow
     requires { CountFits pieces view.now }
     ensures { result ≡ counted_row pieces (columns_of view.now) }
@@ -34,7 +34,7 @@ fn counted_row(view: &ReelView, pieces: u64) -> ReelRow
     }
 }
 
-/// The edits of a reel on which so many pieces were counted.
+/// Returns the edits of a reel with this number of pieces counted.
 fn note(edits: &mut Vec<RowEdit>, view: &ReelView, pieces: u64) -> Result<(), AllocError>
     requires { CountFits pieces view.now }
     ensures { OnOk result (edits.new.items ≡ edits.old.items ++ counted_edits pieces (Some view.now)) }

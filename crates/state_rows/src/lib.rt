@@ -1,4 +1,4 @@
-//! What each accepted command edits in the state tables, and sets of their rows.
+//! The edits that each accepted command makes in the state tables, and sets of their rows.
 #![tactic(auto)]
 
 mod counted;

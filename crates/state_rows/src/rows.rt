@@ -146,10 +146,9 @@ pub fn edits_for<D: Views>(
     Ok(Listing::new(edits))
 }
 
-/// The edits that lead the state tables to those with the change, which is accepted with this number.
-/// Made one after the other, they keep each table's keys and checks: rows are taken out before others
-/// are put in, a placement, a mount or a row of a sheet is only put where there is none, and each row
-/// that is put adds up.
+/// Returns the edits that turn the state tables into those with the change, accepted under this number. Made one after
+/// another, they keep each table's keys and checks: rows are removed before others are inserted; a placement, a mount
+/// or a row of a sheet is inserted only if there is none; and the pieces in each new row add up.
 pub fn rows_of<D: Desk>(
     alloc: Global,
     desk: &D,

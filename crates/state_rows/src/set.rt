@@ -81,8 +81,7 @@ impl RowSet {
         Ok(())
     }
 
-    /// Makes the edits of all tables but `placement`, whose rows are as before. After an `Err`
-    /// nothing is known of the set.
+    /// Makes the edits of all tables except `placement`, whose rows are unchanged. After an `Err` drop the set.
     pub fn apply_but_placements(&mut self, edits: &[RowEdit]) -> Result<(), AllocError>
         ensures { OnOk result
             (tables_in self.new ≡ but_placements (with_edits edits.now (tables_in self.old)) (tables_in self.old)) }
@@ -93,7 +92,7 @@ impl RowSet {
         Ok(())
     }
 
-    /// Makes one edit, where it is not of `placement`.
+    /// Makes one edit, unless it is of `placement`.
     fn make_but_placement(&mut self, edit: &RowEdit) -> Result<(), AllocError>
         ensures { OnOk result
             (tables_in self.new ≡ but_placements (with_edit edit.now (tables_in self.old)) (tables_in self.old)) }
@@ -230,7 +229,7 @@ impl RowSet {
         self.parts.iter()
     }
 
-    /// Parts, each with one that may stand in its place.
+    /// The parts, each with one of its alternates.
     pub fn alternates(&self) -> btree_set::Iter<'_, (Id, Id)>
         ensures { ListsKeys by_pair result (λ k. (tables_in self.now).alternates k.0 k.1) }
     {

@@ -13,14 +13,14 @@ use crate::views::Views;
 use desk_types::{BoardRow, Id, Mount, RowEdit};
 use std::alloc::{AllocError, Global};
 
-/// The reel of a live reel's row, where it is on the slot.
+/// Returns the reel of a live reel's row, if it is on the slot.
 fn on_slot(slot: &Id, mount: &Mount) -> Option<Id>
     ensures { result ≡ reel_on_slot slot.now mount.now }
 {
     (mount.slot == *slot).then_some(mount.reel)
 }
 
-/// The reel, where there is one, is taken off its slot.
+/// Takes the reel, if any, off its slot.
 fn take_if(edits: &mut Vec<RowEdit>, reel: Option<Id>) -> Result<(), AllocError>
     ensures { OnOk result (edits.new.items ≡ edits.old.items ++ map (λ r. TakeMount r) (option_to_list reel)) }
 {

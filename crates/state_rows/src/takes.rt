@@ -135,7 +135,7 @@ fn placed_row(number: u64, place: u64, take: &Take) -> Option<PlacementRow>
     }
 }
 
-/// The row, where there is one, is put in.
+/// Puts the row, if any.
 fn place_if(edits: &mut Vec<RowEdit>, row: Option<PlacementRow>) -> Result<(), AllocError>
     ensures { OnOk result
         (edits.new.items ≡ edits.old.items ++ option_to_list (option_map (λ (r : PlacementRow). PutPlacement r) row)) }

@@ -1,56 +1,27 @@
 //! A store in memory: each allocation refused in turn by `dev/faults/refuse-memory`, and the boards of a lot.
 
-mod line;
-mod rows;
 mod sending;
 mod stopping;
 
-use desk_answers::Owner;
+use desk_types::Id;
 use feeder_state::StateDesk;
-use line::{
-    Line, has_boards, has_none, make_old, migrated, others_come_behind, renumber, reopened, viewed,
-};
 use line_schema::{LineStore, in_memory};
-use rows::{BOARDS, FIRST_RUN};
-use sending::{Sent, Told, send, send_over};
-use sqlite::{Alter, Connection, Error};
+use sending::{BOARDS, FIRST_RUN, Sent, send, send_over, viewed};
+use sqlite::{Alter, Connection};
 use std::alloc::{AllocError, Global};
-use std::process::Abort;
 use std::test::Fail;
 
-// What a test does with a store stands in a function of any disk: the proof of a test at a disk of its own is
-// long.
+/// Makes tables of version 2 those of version 1.
+const VERSION_ONE: &str = "BEGIN; DROP TABLE found; UPDATE version SET number = 1; COMMIT";
 
-/// What a row was answered, once and again, and on tables that were made those of version 1 and migrated
-/// twice.
-struct Refused<S: Alter> {
-    first: Told,
-    again: Told,
-    made: Result<(), Error>,
-    moved: Sent<S>,
-}
-
-fn send_thrice<S: Alter>(
-    rt: &impl Abort,
-    alloc: Global,
-    store: LineStore<S, StateDesk>,
-    row: &str,
-) -> Refused<S>
-    requires { ⟦<LineStore<S, StateDesk> as Owner>⟧.Ready store }
-{
-    let mut store = store;
-    let first = send(rt, alloc, &mut store, row);
-    let again = send(rt, alloc, &mut store, row);
-    let mut conn = store.into_connection();
-    let made = make_old(&mut conn);
-    let _ = migrated(alloc, &mut conn);
-    let _ = migrated(alloc, &mut conn);
-    Refused {
-        first,
-        again,
-        made,
-        moved: send_over(rt, alloc, conn, row),
+/// The version of the tables, which are migrated where it is 1. None where that fails.
+fn migrated<S: Alter>(alloc: Global, conn: &mut Connection<S>) -> Option<i64> {
+    let version = conn.query_row("SELECT number FROM version", &[]);
+    let version: i64 = version.ok()?.get(0).ok()?;
+    if version == 1 {
+        LineStore::<S, StateDesk>::migrate(alloc, conn).ok()?;
     }
+    Some(version)
 }
 
 /// Whichever allocation is refused, that of the fifth command's settling or a later one among them: the
@@ -61,122 +32,60 @@ fn send_thrice<S: Alter>(
 #[test]
 fn refused_memory_is_made_good(rt: HostRuntime) -> Result<(), Fail> {
     let alloc = rt.alloc();
-    let Ok(store) = in_memory::<StateDesk>(alloc, 6) else {
+    let Ok(mut store) = in_memory::<StateDesk>(alloc, 6) else {
         return Err(Fail::from(AllocError));
     };
-    let Refused {
-        first,
-        again,
-        made,
-        moved: Sent { began, told, conn },
-    } = send_thrice(&rt, alloc, store, FIRST_RUN);
+    let first = send(&rt, alloc, &mut store, FIRST_RUN);
+    let again = send(&rt, alloc, &mut store, FIRST_RUN);
+    let mut conn = store.into_connection();
+    let made = conn.execute_batch(VERSION_ONE);
+    let _ = migrated(alloc, &mut conn);
+    let _ = migrated(alloc, &mut conn);
+    let Sent { began, told, conn } = send_over(&rt, alloc, conn, FIRST_RUN);
     let _ = conn.close();
     made?;
-    if first.is_cut || again.is_cut || told.is_cut || began.is_none() {
-        return Err(Fail::from(AllocError));
-    }
+    let (first, again, told) = (first?, again?, told?);
     if first.made_again > 0 {
         eprintln!(rt; "the desk was made again")?;
     }
     assert!(rt; first.unavailable.saturating_add(again.unavailable) <= 1);
-    assert_eq!(rt; (first.count, began), (6, Some(6)));
+    assert_eq!(rt; (first.count, began.ok_or(AllocError)?), (6, 6));
     assert!(rt; first.text == again.text && first.text == told.text);
     Ok(())
 }
 
-/// What the desk and the boards of a lot were: by the trace indexes, and by a query once the pieces have other
-/// rowids; and of a lot that there isn't.
-struct Asked<S: Alter> {
-    count: u32,
-    is_viewed: bool,
-    by_lists: bool,
-    is_renumbered: bool,
-    by_query: bool,
-    of_none: bool,
-    conn: Connection<S>,
-}
-
-fn ask_boards<S: Alter>(rt: &impl Abort, alloc: Global, store: LineStore<S, StateDesk>) -> Asked<S>
-    requires { ⟦<LineStore<S, StateDesk> as Owner>⟧.Ready store }
-{
-    let mut store = store;
-    let told = send(rt, alloc, &mut store, BOARDS);
-    let shown = store.shown().1;
-    let is_viewed = shown.is_some() && viewed(&mut store) == shown;
-    let by_lists = has_boards(&mut store, "L1", "B10", "B9");
-    let mut conn = store.into_connection();
-    let is_renumbered = renumber(&mut conn).is_ok();
-    let (by_query, of_none, conn) = ask_again(alloc, conn);
-    Asked {
-        count: told.count,
-        is_viewed,
-        by_lists,
-        is_renumbered,
-        by_query,
-        of_none,
-        conn,
-    }
-}
-
-/// Opens the store again, and asks it for the boards of both lots.
-fn ask_again<S: Alter>(alloc: Global, conn: Connection<S>) -> (bool, bool, Connection<S>) {
-    match reopened(alloc, conn) {
-        Ok(store) => {
-            let mut store = store;
-            let by_query = has_boards(&mut store, "L1", "B10", "B9");
-            let of_none = has_none(&mut store, "L2");
-            (by_query, of_none, store.into_connection())
-        }
-        Err(conn) => (false, false, conn),
-    }
-}
-
-/// The boards of a lot are returned each once and in byte order, and none of a lot that there isn't. No report
-/// asks the store for them: it is for a caller that needs the names alone. They come from a query if rows
-/// aren't where the trace indexes say.
+/// The boards of a lot are told each once and in byte order, and none of a lot that there isn't. No report
+/// asks the store for them: it is for a caller that wants the names alone, and needs no rows. They are told
+/// by a query where rows don't stand where the lists have them.
 #[test]
 fn boards_of_a_lot(rt: HostRuntime) -> Result<(), Fail> {
-    let alloc = rt.alloc();
-    let Ok(store) = in_memory::<StateDesk>(alloc, 11) else {
+    let lot = Id::read(b"L1").ok_or("no lot")?;
+    let other = Id::read(b"L2").ok_or("no lot")?;
+    let first = Id::read(b"B10").ok_or("no board")?;
+    let second = Id::read(b"B9").ok_or("no board")?;
+    let Ok(mut store) = in_memory::<StateDesk>(rt.alloc(), 11) else {
         return Err(Fail::from(AllocError));
     };
-    let Asked {
-        count,
-        is_viewed,
-        by_lists,
-        is_renumbered,
-        by_query,
-        of_none,
-        conn,
-    } = ask_boards(&rt, alloc, store);
-    conn.close()?;
-    assert_eq!(rt; (count, is_viewed, by_lists), (11, true, true));
-    assert_eq!(rt; (is_renumbered, by_query, of_none), (true, true, true));
-    Ok(())
-}
-
-/// Adds others' things to a store's database, and opens it again: whether they come behind ours, whether it
-/// is opened, and the connection.
-fn add_others<S: Alter>(
-    alloc: Global,
-    store: LineStore<S, StateDesk>,
-) -> (bool, bool, Connection<S>) {
+    let told = send(&rt, rt.alloc(), &mut store, BOARDS);
+    let is_viewed = viewed(&mut store).is_some();
+    let by_lists = store.lot_boards(&lot);
     let mut conn = store.into_connection();
-    let come_behind = others_come_behind(&mut conn);
-    match reopened(alloc, conn) {
-        Ok(store) => (come_behind, true, store.into_connection()),
-        Err(conn) => (come_behind, false, conn),
-    }
-}
-
-/// What others add to a new file comes behind our tables and indexes, and the file is opened.
-#[test]
-fn others_may_be_beside(rt: HostRuntime) -> Result<(), Fail> {
-    let Ok(store) = in_memory::<StateDesk>(rt.alloc(), 1) else {
+    let moved = conn.execute_batch("UPDATE placement SET rowid = -rowid");
+    let Ok(mut store) = LineStore::<_, StateDesk>::open(rt.alloc(), conn) else {
         return Err(Fail::from(AllocError));
     };
-    let (come_behind, is_opened, conn) = add_others(rt.alloc(), store);
-    conn.close()?;
-    assert!(rt; come_behind && is_opened);
+    let by_query = store.lot_boards(&lot);
+    let of_none = store.lot_boards(&other);
+    store.into_connection().close()?;
+    moved?;
+    assert_eq!(rt; told?.count, 11);
+    assert!(rt; is_viewed);
+    assert!(rt; matches!(of_none, Ok(None)));
+    for boards in [by_lists, by_query] {
+        let Ok(Some(boards)) = boards else {
+            return Err(Fail::from("no boards"));
+        };
+        assert!(rt; boards.as_slice() == [first, second].as_slice());
+    }
     Ok(())
 }

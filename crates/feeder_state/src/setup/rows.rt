@@ -34,7 +34,7 @@ fn sheet_rows(
     Ok(groups)
 }
 
-/// Puts the sheet of these rows, where they are as many as a sheet may have.
+/// Inserts the sheet of these rows, if they are within the limit of a sheet.
 fn put_group(
     alloc: Global,
     sheets: &mut BTreeMap<(Id, Id), Sheet>,
@@ -65,7 +65,7 @@ pub fn sheets_of(alloc: Global, rows: &RowSet) -> Result<BTreeMap<(Id, Id), Shee
     Ok(sheets)
 }
 
-/// The machines of which the rows have a sheet.
+/// Returns the machines with a sheet in the rows.
 pub fn sheeted_of(alloc: Global, rows: &RowSet) -> Result<BTreeSet<Id>, AllocError>
     ensures { (H : History) → AreRowsOf H rows.now → (m : Name)
         → IfOk result (λ sheeted. is_sheeted sheeted m ≡ has_sheet H m) }

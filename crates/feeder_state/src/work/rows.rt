@@ -46,7 +46,7 @@ fn designators_of(
     Ok(groups)
 }
 
-/// What is placed on each board, by the rows.
+/// Returns the designators placed on each board, from the rows.
 pub fn placed_of(alloc: Global, rows: &RowSet) -> Result<BTreeMap<Id, Placed>, AllocError>
     ensures { (H : History) → AreRowsOf H rows.now → (b d : Name)
         → IfOk result (λ placed. is_placed_at placed b d ≡ is_placed_on H b d) }

@@ -4,7 +4,7 @@ use Rattle.desk_types.specs.View.{reel_view}
 use Rattle.feeder_state.specs.Rows.{AreRowsAt}
 use Rattle.feeder_state.proofs.free.views_of.Given as goal
 
--- what is told so far, and what is left to tell
+-- The results so far, and the remaining reels.
 abbrev pub invariant-loop-turn : goal.invariant-loop-turn
 invariant-loop-turn l = (H : History) → AreRowsAt H (Some l.minute) l.rows
     → l.views.items ++ filter_map (λ turn. reel_view H turn.1) l.turn-iterator ≡ filter_map (λ turn. reel_view H turn.1) l.turns.keys

@@ -5,6 +5,6 @@ use Rattle.feeder_state.specs.Rows.{left_at}
 use Rattle.feeder_state.specs.Resting.{is_resting}
 use Rattle.feeder_state.proofs.resting.end_each.Given as goal
 
--- reels with pieces left stay as they were
+-- Reels with pieces left are unchanged.
 abbrev pub invariant-loop-take : goal.invariant-loop-take
 invariant-loop-take l = (r : Name) → (left_at l.rows r == 0) ≡ false → is_resting l.resting r ≡ is_resting l.initial.resting r
