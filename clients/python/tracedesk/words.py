@@ -7,7 +7,7 @@ from typing import ClassVar, Dict, NamedTuple, Optional, Sequence, Tuple, Type, 
 from . import forms
 
 PREFIX = 'TraceDesk.'
-NAME = forms.Text(64, r'^[!-~]([ -~]*[!-~])?$', 'a text of 1 to 64 bytes of printable ASCII and spaces, with no space at its ends. Case matters')
+NAME = forms.Text(64, r'^[!-~]([ -~]*[!-~])?$', 'a text of 1 to 64 bytes of printable ASCII and spaces, with no space at its ends')
 DESIGNATOR = forms.Text(16, r'^[A-Za-z0-9_.-]+$', 'a text of 1 to 16 ASCII letters, digits, _, . and -')
 QUANTITY = forms.Whole(1, 10000000)
 LEVEL = forms.OneOf(('1', '2', '2a', '3', '4', '5', '5a', '6'))
