@@ -1,8 +1,8 @@
 # For scripts of rows that a step of the kind `tool` runs: sourced by them, in the row's own folder. The desk in `desk` is
-# served at a free port, and `here` are the words by which tools/rollover and tools/backup know that service.
+# served at a free port, and `here` are the words by which ops/rollover and ops/backup know that service.
 set -u
 export PYTHONDONTWRITEBYTECODE=1
-tools="$(cd "$(dirname "$0")/../../tools" && pwd)"
+ops="$(cd "$(dirname "$0")/../../ops" && pwd)"
 port="$(python3 -c 'import socket; it = socket.socket(); it.bind(("127.0.0.1", 0)); print(it.getsockname()[1])')"
 here=(--db desk --port "$port" --drained drained --stop 'kill "$(cat pid)" 2> /dev/null || true' --start 'sh ./start')
 cat > start <<END

@@ -1,9 +1,9 @@
-"""A shift of tools/shift.py, with the answers that it says its messages have to get."""
+"""A shift of dev/lib/tracedesk_dev/shift.py, with the answers that it says its messages have to get."""
 import pathlib
 import sys
 
-sys.path.insert(0, str(pathlib.Path(__file__).resolve().parents[2] / "tools"))
-import shift  # noqa: E402
+sys.path.insert(0, str(pathlib.Path(__file__).resolve().parents[2] / "dev/lib"))
+from tracedesk_dev import shift  # noqa: E402
 
 said = shift.Shift(seed=5, boards=120).lines
 pathlib.Path("messages.jsonl").write_bytes(b"".join(it.text + b"\n" for it in said))

@@ -78,7 +78,7 @@ def own(number):
 
 
 def begun(uid, minute, word, body, source="begin"):
-    """A message of tools/begin."""
+    """A message of ops/begin."""
     envelope = {"MessageName": "TraceDesk." + word, "UniqueID": uid, "Source": source}
     return text({**envelope, "TimeStamp": stamp(minute).removesuffix("Z"), "MessageBody": body})
 

@@ -5,7 +5,7 @@ import json
 import pathlib
 import unittest
 
-import schemas
+from tracedesk_dev import schemas
 import tracedesk
 from tracedesk import forms, words
 

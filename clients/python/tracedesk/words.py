@@ -1,4 +1,4 @@
-"""The words of a desk, with their ranges. Made by tools/api from docs/api/messages.json: change that one, and run tools/api."""
+"""The words of a desk, with their ranges. Made by dev/api from docs/api/messages.json: change that one, and run dev/api."""
 from __future__ import annotations
 
 import dataclasses

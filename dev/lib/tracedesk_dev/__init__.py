@@ -1,0 +1,1 @@
+"""What the repository's own tools and tests share: the program, made-up shifts, databases, the package's layout."""

@@ -1,0 +1,216 @@
+#!/usr/bin/env python3
+"""Prints the path of the program that the tools use, and proves and builds it first where that is wanting.
+
+usage: dev/lib/tracedesk_dev/program.py             as in  "$(dev/lib/tracedesk_dev/program.py)" feed < examples/first-line.jsonl
+       dev/lib/tracedesk_dev/program.py --build     the repository's own program, whatever PROGRAM says     (make build)
+       dev/lib/tracedesk_dev/program.py --kit       prints nothing; looks whether the kit is here, for tools that only prove
+
+It is the file that PROGRAM in the environment names (so `make day PROGRAM=FILE`); without that,
+crates/tracedesk/out/tracedesk, where no file that it is built of is newer. Else that is proved and built, which wants
+Rattle's kit and takes some 40 minutes on four cores. Meanwhile standard error tells which crate is being proved and
+about how long the rest takes. The tools in Python ask `program.to_use`.
+
+Exit status: 0 done; 1 not proved; 2 there is no such program, or no kit to build one, and standard error says so.
+"""
+import argparse
+import os
+import pathlib
+import re
+import shutil
+import subprocess
+import sys
+import time
+
+ROOT = pathlib.Path(__file__).resolve().parents[3]
+CRATES = ROOT / "crates"
+CRATE = "tracedesk"
+BUILT = CRATES / CRATE / "out" / CRATE
+NAME = os.path.relpath(os.path.realpath(sys.argv[0]), ROOT)
+NO_KIT = ("there is no rt, the command of Rattle's kit, which proves and builds. All but make build, test and wrong-bodies "
+          "work without it on a program that is built: make day PROGRAM=FILE")
+# How long a line of code takes to be proved, on four cores: until this build has shown its own pace.
+SECONDS_A_LINE = 0.09
+LINES_THAT_SHOW = 1000
+
+
+def stop(why):
+    """Ends the tool with a line on standard error: something that it needs is not there."""
+    print(f"{NAME}: {why}", file=sys.stderr)
+    sys.exit(2)
+
+
+def want(command, package):
+    """Stops where a command is not there that a package of Debian brings."""
+    if shutil.which(command) is None:
+        stop(f"there is no {command}: apt-get install {package}")
+
+
+def can_compile():
+    """Whether there is a C compiler, with the C library's headers."""
+    if shutil.which("cc") is None:
+        return False
+    return subprocess.run(["cc", "-E", "-x", "c", "-"], input=b"#include <stdio.h>", capture_output=True).returncode == 0
+
+
+def want_kit():
+    if shutil.which("rt") is None:
+        older = f"{BUILT.relative_to(ROOT)} is older than {newest().relative_to(ROOT)}, and " if can_run(BUILT) else ""
+        stop(older + NO_KIT)
+
+
+# --- What the program is built of
+
+
+def proved_in_turn():
+    """The crates at and below the program, in the order in which rt proves them."""
+    rows = [line.partition("#")[0].partition(":") for line in CRATES.with_suffix(".txt").read_text(encoding="utf-8").splitlines()]
+    named = {name.split()[0]: deps.split() for name, _, deps in rows if name.strip()}
+    found = []
+
+    def add(name):
+        for dep in named.get(name, ()):
+            add(dep)
+        if name in named and name not in found:
+            found.append(name)
+
+    add(CRATE)
+    return found
+
+
+def sources():
+    """The files that the program is built of, and their folders, whose times tell of files that are gone."""
+    yield CRATES.with_suffix(".txt")
+    yield ROOT / "HANDLES"
+    for crate in proved_in_turn():
+        for part in ("src", "specs", "proofs"):
+            yield from (it for it in (CRATES / crate / part, *(CRATES / crate / part).rglob("*")) if it.exists())
+
+
+def newest():
+    """The source that was written last."""
+    return max(sources(), key=lambda it: it.stat().st_mtime_ns)
+
+
+def is_built():
+    """Whether a program is there that no source is newer than."""
+    return can_run(BUILT) and BUILT.stat().st_mtime_ns >= newest().stat().st_mtime_ns
+
+
+def can_run(file):
+    return os.path.isfile(file) and os.access(file, os.X_OK)
+
+
+# --- The build
+
+
+def lines_of(crate):
+    """How many lines of code a crate has without its tests, which stand for the work of its proof."""
+    files = [it for it in (CRATES / crate / "src").rglob("*.rt") if it.name != "tests.rt" and "tests" not in it.parts]
+    return sum(it.read_bytes().count(b"\n") for it in files)
+
+
+class Progress:
+    """What is told on standard error of the lines that rt prints."""
+
+    def __init__(self):
+        self.crates = proved_in_turn()
+        self.lines = {it: lines_of(it) for it in self.crates}
+        self.began, self.done, self.crate = time.monotonic(), 0, None
+
+    def minutes_left(self, at):
+        left = sum(self.lines[it] for it in self.crates[at:])
+        pace = SECONDS_A_LINE
+        if self.done >= LINES_THAT_SHOW:
+            pace = (time.monotonic() - self.began) / self.done
+        return max(1, round(left * pace / 60))
+
+    def hear(self, line):
+        chosen = re.match(r"rt: chose --jobs \d+ for (\w+)$", line)
+        if chosen and chosen[1] in self.lines and chosen[1] != self.crate:
+            self.done += self.lines.get(self.crate, 0)
+            self.crate = chosen[1]
+            at = self.crates.index(self.crate)
+            tell(f"proving {self.crate} ({at + 1} of {len(self.crates)}), about {self.minutes_left(at)} min to go")
+        elif line.startswith("so far:"):
+            tell(f"  {line.strip()}")
+
+
+def tell(text):
+    print(text, file=sys.stderr, flush=True)
+
+
+def build():
+    """Proves and builds the program; where that fails, all that rt said is told, and the tool ends with its status."""
+    tell(f"{NAME}: proving and building the program, some 40 minutes on four cores; `make demo` shows it at work before that")
+    progress, said, began = Progress(), [], time.time_ns()
+    # rt runs what it built: once, for its help
+    words, how = ["rt", "run", "--", "--help"], {"stdin": subprocess.DEVNULL, "stdout": subprocess.DEVNULL}
+    with subprocess.Popen(words, cwd=CRATES / CRATE, stderr=subprocess.PIPE, errors="replace", **how) as building:
+        for line in building.stderr:
+            said.append(line)
+            progress.hear(line)
+    if building.returncode:
+        sys.stderr.writelines(said)
+        tell(f"{NAME}: the program was not built: rt ended with status {building.returncode}")
+        sys.exit(building.returncode if building.returncode == 1 else 2)
+    # rt goes by what the files say: a source written anew with the same text leaves the program as old as it was
+    if BUILT.stat().st_mtime_ns < newest().stat().st_mtime_ns < began:
+        os.utime(BUILT)
+
+
+def own():
+    """The repository's own program, built where that is wanting."""
+    if not is_built():
+        want_kit()
+        build()
+    return str(BUILT)
+
+
+# --- For the tools
+
+
+def to_use(named=None):
+    """The path of the program: the named one, that of PROGRAM, or the repository's own."""
+    named = named or os.environ.get("PROGRAM")
+    if not named:
+        return own()
+    if not can_run(named):
+        stop(f"{named} is {'not executable' if os.path.isfile(named) else 'not there'}: PROGRAM and --program name a program that is built")
+    return os.path.abspath(named)
+
+
+def offer(reader):
+    """Adds --program to a tool's words; what is then asked for goes to `to_use`."""
+    reader.add_argument("--program", metavar="FILE", help="the program; else PROGRAM in the environment, else the repository's own, built where that is wanting")
+
+
+class Ticks:
+    """Tells on standard error how far a long step is, each 20 seconds."""
+    SECONDS = 20
+
+    def __init__(self):
+        self.due = time.monotonic() + self.SECONDS
+
+    def tell(self, text):
+        if time.monotonic() >= self.due:
+            tell(f"  {text}")
+            self.due = time.monotonic() + self.SECONDS
+
+
+def main():
+    reader = argparse.ArgumentParser(description=__doc__, formatter_class=argparse.RawDescriptionHelpFormatter, usage=argparse.SUPPRESS)
+    which = reader.add_mutually_exclusive_group()
+    which.add_argument("--build", action="store_true", help="the repository's own program, whatever PROGRAM says")
+    which.add_argument("--kit", action="store_true", help="look whether the kit is here")
+    asked = reader.parse_args()
+    if asked.kit:
+        want_kit()
+    else:
+        print(own() if asked.build else to_use())
+
+
+if __name__ == "__main__":
+    try:
+        main()
+    except KeyboardInterrupt:
+        sys.exit(130)

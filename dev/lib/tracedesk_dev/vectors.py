@@ -1,0 +1,184 @@
+"""The messages of rows/ with their answers, for dev/api-test, and whole exchanges of rows/ for other languages, for dev/api.
+They were worked out by hand, and no program is run for them."""
+import base64
+import contextlib
+import importlib.machinery
+import importlib.util
+import io
+import json
+import pathlib
+import tempfile
+from typing import NamedTuple
+
+ROOT = pathlib.Path(__file__).resolve().parents[3]
+
+
+def tool_rows():
+    """dev/rows as a module: it knows how a row's files are made, and how a request and an answer are spelled."""
+    loader = importlib.machinery.SourceFileLoader("tool_rows", str(ROOT / "dev/rows"))
+    module = importlib.util.module_from_spec(importlib.util.spec_from_loader("tool_rows", loader))
+    loader.exec_module(module)
+    return module
+
+
+class Vector(NamedTuple):
+    """A message of a row and its answer; of an answer to something else the message is none. Over HTTP it has a status."""
+    row: str
+    message: bytes | None
+    answer: dict
+    status: int | None = None
+
+
+def lines_of(data):
+    """The lines that have an answer, without what ends them."""
+    found = [it.removesuffix(b"\n").removesuffix(b"\r") for it in io.BytesIO(data).readlines()]
+    return [it for it in found if it]
+
+
+def answers_in(data):
+    """The answers among the lines of an output; none where it has other lines."""
+    with contextlib.suppress(ValueError):
+        told = [json.loads(it) for it in data.splitlines()]
+        if all(isinstance(it, dict) and "Answer" in it for it in told):
+            return told
+    return []
+
+
+def of_lines(row, asked, told):
+    """Vectors of an input and an output: each line of the one has one of the other."""
+    messages, answers = lines_of(asked), answers_in(told)
+    if len(messages) == len(answers):
+        return [Vector(row, *it) for it in zip(messages, answers)]
+    return [Vector(row, None, it) for it in answers]
+
+
+def of_connection(row, sent, told, rows, bytes_of):
+    """Vectors of the requests of a connection. A request that is spelled whole, and one of another route, has its answer alone."""
+    for number, answer in enumerate(told):
+        request = sent[number] if number < len(sent) else None
+        body = None
+        if isinstance(request, dict) and request.get("POST") == "/messages":
+            body = rows.spelled_request(request, bytes_of).partition(b"\r\n\r\n")[2]
+        if isinstance(answer, dict) and "json" in answer:
+            yield Vector(row, body, answer["json"], answer.get("status", 200))
+        elif isinstance(answer, str) and "application/json" in answer:
+            head, _, text = answer.partition("\r\n\r\n")
+            if text:
+                yield Vector(row, None, json.loads(text), int(head.split()[1]))
+
+
+def of_step(row, step, rows, bytes_of):
+    if "serve" in step:
+        for sent, told in step["connections"]:
+            yield from of_connection(row, sent, told, rows, bytes_of)
+    elif "cases" in step:
+        yield from (Vector(row, None, told) for _, told in step["cases"] if isinstance(told, dict))
+    elif "answer" in step:
+        yield from of_lines(row, bytes_of(step.get("input")), rows.object_line(step["answer"]))
+    elif "output" in step and {"run", "talk", "each"} & set(step):
+        if "read_from" not in step and "write_to" not in step:
+            yield from of_lines(row, bytes_of(step.get("input")), bytes_of(step["output"]))
+
+
+@contextlib.contextmanager
+def opened(rows, folder):
+    """A row, and a call that gives the bytes of a file of it, which its script may have made."""
+    with tempfile.TemporaryDirectory(prefix="vectors-") as room:
+        made = pathlib.Path(room)
+        rows.make(folder, made)
+
+        def bytes_of(name):
+            if name is None:
+                return b""
+            return next(it for it in (made / name, folder / name) if it.exists() or it.parent == folder).read_bytes()
+        yield json.loads((folder / "row.json").read_text(encoding="utf-8")), bytes_of
+
+
+def all_of(names=()):
+    """The vectors of all rows, or of these."""
+    rows = tool_rows()
+    for folder in sorted(it.parent for it in rows.ROWS.glob("*/row.json")):
+        if names and folder.name not in names:
+            continue
+        with opened(rows, folder) as (row, bytes_of):
+            for step in row["steps"]:
+                yield from of_step(folder.name, step, rows, bytes_of)
+
+
+# --- Exchanges with a fresh desk, whole
+
+
+class Exchange(NamedTuple):
+    """What goes to a fresh desk and what comes back, to the end of both: the lines of `feed`, or a connection of `serve`.
+    `greatest` is how many commands it may take, none for the usual number; `status` the exit status of `feed`."""
+    rows: tuple
+    shows: str
+    form: str
+    greatest: int | None
+    status: int | None
+    request: bytes
+    answer: bytes
+
+    def line(self):
+        """It as a line of the file that docs/api.md describes."""
+        told = {"Rows": list(self.rows), "Shows": self.shows, "Form": self.form, "Greatest": self.greatest, "Status": self.status}
+        told.update([spelled("Request", self.request), spelled("Answer", self.answer)])
+        return json.dumps({name: it for name, it in told.items() if it is not None}, separators=(",", ":")).encode() + b"\n"
+
+    @classmethod
+    def read(cls, line):
+        told = json.loads(line)
+        request, answer = (base64.b64decode(told[f"{it}Base64"]) if f"{it}Base64" in told else told[it].encode() for it in ("Request", "Answer"))
+        return cls(tuple(told["Rows"]), told["Shows"], told["Form"], told.get("Greatest"), told.get("Status"), request, answer)
+
+
+def spelled(name, data):
+    """Bytes as a member: as text where they are one."""
+    try:
+        return name, data.decode()
+    except UnicodeDecodeError:
+        return f"{name}Base64", base64.b64encode(data).decode()
+
+
+def asked_of(words):
+    """The command, the file and the greatest number that the words of a command line name; none of others."""
+    options = dict(zip(words[1::2], words[2::2]))
+    if words[:1] not in (["feed"], ["serve"]) or len(words) % 2 == 0 or not set(options) <= {"--db", "--greatest"} or not options.get("--greatest", "1").isdecimal():
+        return None
+    return words[0], options.get("--db"), int(options["--greatest"]) if "--greatest" in options else None
+
+
+def names_no_file(step):
+    asked = asked_of(step.get("run") or step.get("talk") or [])
+    return asked is not None and asked[1] is None
+
+
+def of_fresh_desk(step, is_fresh, rows, bytes_of):
+    """The exchanges of a step: form, greatest, status, request and answer, and what is put behind the step's number."""
+    kind = next((it for it in ("run", "talk", "serve") if it in step), None)
+    asked = asked_of(step[kind]) if kind else None
+    if asked is None or {"read_from", "write_to", "memory", "held", "errors", "files", "answer", "killed"} & set(step):
+        return
+    command, file, greatest = asked
+    if command == "feed" and (is_fresh or file is None):
+        yield "", "lines", greatest, step.get("status", 0), bytes_of(step.get("input")), bytes_of(step.get("output"))
+    for number, (sent, told) in enumerate(step.get("connections", ()), 1):
+        answer = b"".join(map(rows.spelled_answer, told))
+        if is_fresh:
+            yield f"/{number}", "http", greatest, None, b"".join(rows.spelled_request(it, bytes_of) for it in sent), answer
+        is_fresh = is_fresh and b'"Answer":"Accepted"' not in answer
+
+
+def exchanges(names=()):
+    """All exchanges of rows, or of these, with a fresh desk, each once, in the order of their first rows."""
+    rows, found = tool_rows(), {}
+    for folder in sorted(it.parent for it in rows.ROWS.glob("*/row.json")):
+        if names and folder.name not in names:
+            continue
+        with opened(rows, folder) as (row, bytes_of):
+            is_fresh = True  # no step before has named a file of the row
+            for number, step in enumerate(row["steps"], 1):
+                for place, *exchange in of_fresh_desk(step, is_fresh, rows, bytes_of):
+                    found.setdefault(tuple(exchange), ([], row["shows"]))[0].append(f"{folder.name}/{number}{place}")
+                is_fresh = is_fresh and names_no_file(step)
+    return [Exchange(tuple(them), shows, *exchange) for exchange, (them, shows) in found.items()]

@@ -1,0 +1,383 @@
+"""What station/tests/station-test stands on: the program behind the packaged nginx in a folder of its own, and a browser before it."""
+import base64
+import contextlib
+import datetime
+import http.client
+import json
+import os
+import pathlib
+import shutil
+import signal
+import socket
+import ssl
+import subprocess
+import tempfile
+import time
+import uuid
+
+ROOT = pathlib.Path(__file__).resolve().parents[2]
+PEOPLE = {"op": "senders", "office": "readers"}  # their passwords are their names
+CERTIFICATES = {"m2": "sender", "auditor": "reader"}
+SETUP = {"title": "Line 1", "machines": [{"machine": "M1", "product": "CTRL-A"}, {"machine": "M2", "product": "CTRL-A"}], "boards": 50, "expires": 60}
+PATIENCE = 90  # seconds: of a machine that has much to do
+
+
+class Difference(Exception):
+    """What was wanted, and what came."""
+
+
+def missing():
+    """The packages of Debian that are wanting here, or none."""
+    wanted = {"chromium": "chromium", "chromedriver": "chromium-driver", "nginx": "nginx-light", "openssl": "openssl"}
+    found = [package for command, package in wanted.items() if shutil.which(command, path=os.environ["PATH"] + ":/usr/sbin") is None]
+    try:
+        import selenium  # noqa: F401
+    except ImportError:
+        found.append("python3-selenium")
+    return found
+
+
+def wait_for(what, holds, seconds=PATIENCE):
+    """What `holds` gives once it is true."""
+    end = time.monotonic() + seconds
+    while True:
+        with contextlib.suppress(OSError, http.client.HTTPException):
+            if it := holds():
+                return it
+        if time.monotonic() > end:
+            raise Difference(f"after {seconds} seconds: not {what}")
+        time.sleep(0.02)
+
+
+def free_ports(count):
+    with contextlib.ExitStack() as held:
+        links = [held.enter_context(socket.socket()) for _ in range(count)]
+        for it in links:
+            it.bind(("127.0.0.1", 0))
+        return [it.getsockname()[1] for it in links]
+
+
+class Site:
+    """A desk, its nginx, and what both write, in a folder that goes away."""
+
+    def __init__(self, program, folder=None):
+        self.program = program
+        self.room = pathlib.Path(tempfile.mkdtemp(prefix="station-", dir=folder))
+        self.port, self.desk_port, self.inner_port = free_ports(3)
+        self.desk = self.nginx = None
+        self.last_look = lambda operator: None  # what an operator looks at before the browser is closed
+        self.agreed = 0
+        self.drained = self.room / "drained"
+        for it in ("etc/station", "share", "log", "temporary"):
+            (self.room / it).mkdir(parents=True)
+        (self.room / "share/station").symlink_to(ROOT / "station")
+        self.set_up(SETUP)
+        self.make_secrets()
+        self.write_proxy()
+
+    def __enter__(self):
+        self.start_desk()
+        self.start_nginx()
+        return self
+
+    def __exit__(self, *_):
+        self.stop_nginx()
+        self.kill_desk()
+        shutil.rmtree(self.room, ignore_errors=True)
+
+    @property
+    def url(self):
+        return f"https://localhost:{self.port}"
+
+    def set_up(self, setup):
+        self.setup = setup
+        (self.room / "etc/station/setup.json").write_text(json.dumps(setup), encoding="utf-8")
+
+    def make_secrets(self):
+        at = self.room / "etc"
+        subprocess.run(["openssl", "req", "-x509", "-newkey", "ec", "-pkeyopt", "ec_paramgen_curve:P-256", "-nodes", "-days", "9", "-subj", "/CN=localhost",
+                        "-addext", "subjectAltName=DNS:localhost", "-keyout", at / "server.key", "-out", at / "server.crt"], check=True, capture_output=True)
+        self.sign("clients", "trace desk clients")
+        for name in CERTIFICATES:
+            self.sign(name, name, "clients")
+        (at / "certificates.conf").write_text("".join(f'"CN={name}" sender;\n' for name, may in CERTIFICATES.items() if may == "sender"))
+        lines = {name: f"{name}:{subprocess.run(['openssl', 'passwd', '-6', name], check=True, capture_output=True, text=True).stdout}" for name in PEOPLE}
+        (at / "readers").write_text("".join(lines.values()))
+        (at / "senders").write_text("".join(line for name, line in lines.items() if PEOPLE[name] == "senders"))
+
+    def sign(self, name, subject, by=None):
+        """Makes a key and a certificate; one that signs itself, or by another's key."""
+        at = self.room / "etc"
+        signed = ["-CA", at / f"{by}.crt", "-CAkey", at / f"{by}.key"] if by else []
+        subprocess.run(["openssl", "req", "-x509", "-newkey", "ec", "-pkeyopt", "ec_paramgen_curve:P-256", "-nodes", "-days", "9", "-subj", f"/CN={subject}", *signed,
+                        "-keyout", at / f"{name}.key", "-out", at / f"{name}.crt"], check=True, capture_output=True)
+
+    def write_proxy(self):
+        """The packaged configuration, with the paths and the ports of this folder."""
+        text = (ROOT / "packaging/nginx.conf").read_text(encoding="utf-8")
+        for old, new in (("/etc/tracedesk", self.room / "etc"), ("/usr/share/tracedesk", self.room / "share"), ("/var/lib/nginx/tracedesk-station", self.room / "cache"),
+                         ("/run/tracedesk-drained", self.drained), ("/var/log/nginx", self.room / "log"),
+                         ("listen 443 ssl", f"listen 127.0.0.1:{self.port} ssl"), ("127.0.0.1:8080", f"127.0.0.1:{self.desk_port}"), ("127.0.0.1:8081", f"127.0.0.1:{self.inner_port}")):
+            if old not in text:
+                raise Difference(f"packaging/nginx.conf has no {old}")
+            text = text.replace(old, str(new))
+        clock = f"map $msec $station_msec {{ default $msec; include {self.room}/clock.con[f]; }}\n"
+        (self.room / "tracedesk.conf").write_text(clock + text.replace("X-Station-Now $msec", "X-Station-Now $station_msec"), encoding="utf-8")
+        temporary = "".join(f"{name}_temp_path {self.room}/temporary/{name};" for name in ("client_body", "proxy", "fastcgi", "uwsgi", "scgi"))
+        user = "user root;" if os.geteuid() == 0 else ""
+        (self.room / "nginx.conf").write_text(f"{user} daemon off; pid {self.room}/nginx.pid; error_log {self.room}/log/error.log; events {{}}\n"
+                                              f"http {{ include /etc/nginx/mime.types; default_type application/octet-stream; {temporary} include {self.room}/tracedesk.conf; }}\n")
+
+    def start_nginx(self):
+        self.nginx = subprocess.Popen(["nginx", "-c", self.room / "nginx.conf", "-e", self.room / "log/start.log"], start_new_session=True, env={**os.environ, "PATH": os.environ["PATH"] + ":/usr/sbin"})
+        wait_for("nginx listens", lambda: self.nginx.poll() is None and socket.create_connection(("127.0.0.1", self.port), 1).close() is None)
+
+    def stop_nginx(self):
+        if self.nginx:
+            self.nginx.send_signal(signal.SIGTERM)
+            self.nginx.wait()
+            self.nginx = None
+
+    def shift_clock(self, millions):
+        """Puts the clock of the station's server so many million seconds ahead."""
+        begins = [int(time.time()) // 10**6 + more for more in (0, 1)]
+        (self.room / "clock.conf").write_text("".join(f'"~^{it}(?<below>.*)$" "{it + millions}$below";\n' for it in begins))
+        self.nginx.send_signal(signal.SIGHUP)
+        wait_for("the clock is shifted", lambda: abs(float(self.asked("GET", "/station/", "op")[1]["X-Station-Now"]) - time.time() - millions * 10**6) < 60)
+        time.sleep(0.5)
+
+    def kill_nginx(self):
+        """Ends nginx with its workers as a power cut does."""
+        os.killpg(self.nginx.pid, signal.SIGKILL)
+        self.nginx.wait()
+        self.nginx = None
+
+    def start_desk(self, connections=1_000_000):
+        with open(self.room / "served.txt", "ab") as served:
+            self.desk = subprocess.Popen([self.program, "serve", "--db", self.room / "desk", "--port", str(self.desk_port), "--connections", str(connections)], stdout=served)
+        wait_for("the desk answers", lambda: self.get("/overdue"))
+
+    def kill_desk(self):
+        if self.desk:
+            self.desk.kill()
+            self.desk.wait()
+            self.desk = None
+
+    def pause_desk(self):
+        self.desk.send_signal(signal.SIGSTOP)
+
+    def resume_desk(self):
+        self.desk.send_signal(signal.SIGCONT)
+
+    def connections(self):
+        """How many connections the desk has served."""
+        return (self.room / "served.txt").read_bytes().count(b"\n")
+
+    def get(self, target):
+        """The body of a GET of the desk's own port."""
+        link = http.client.HTTPConnection("127.0.0.1", self.desk_port, timeout=20)
+        try:
+            link.request("GET", target, headers={"Connection": "close"})
+            return link.getresponse().read().decode()
+        finally:
+            link.close()
+
+    def asked(self, method, path, user=None, body=None, certificate=None, **headers):
+        """The status, the headers and the body of a request to nginx. A header is named with _ in place of -; one that is None isn't sent."""
+        trust = ssl.create_default_context(cafile=self.room / "etc/server.crt")
+        if certificate:
+            trust.load_cert_chain(self.room / f"etc/{certificate}.crt", self.room / f"etc/{certificate}.key")
+        link = http.client.HTTPSConnection("localhost", self.port, timeout=30, context=trust)
+        if method == "POST":
+            headers = {"Content_Type": "application/json", **headers}
+        headers = {name.replace("_", "-"): value for name, value in headers.items() if value is not None}
+        if user:
+            headers["Authorization"] = "Basic " + base64.b64encode(f"{user}:{user}".encode()).decode()
+        try:
+            link.request(method, path, body, headers)
+            answer = link.getresponse()
+            return answer.status, dict(answer.getheaders()), answer.read().decode()
+        finally:
+            link.close()
+
+    def say(self, word, body, minutes_ago=0, source="host", uid=None):
+        """Has the desk take a message, and gives its answer."""
+        at = datetime.datetime.now(datetime.timezone.utc) - datetime.timedelta(minutes=minutes_ago)
+        told = {"MessageName": f"TraceDesk.{word}", "UniqueID": uid or str(uuid.uuid4()), "Source": source, "TimeStamp": at.strftime("%Y-%m-%dT%H:%M:%SZ"), "MessageBody": body}
+        link = http.client.HTTPConnection("127.0.0.1", self.desk_port, timeout=30)
+        try:
+            link.request("POST", "/messages", json.dumps(told), {"Connection": "close"})
+            return json.loads(link.getresponse().read())
+        finally:
+            link.close()
+
+    def feed(self, lines):
+        """Gives a desk that doesn't run these lines."""
+        return subprocess.run([self.program, "feed", "--db", self.room / "desk"], input=b"\n".join(lines), capture_output=True, check=False).stdout
+
+    def report(self, target):
+        """What the program's `report` says of a copy of the file and its log, while the desk is stopped for that moment."""
+        self.pause_desk()
+        try:
+            for name in ("desk", "desk-wal"):
+                shutil.copy(self.room / name, self.room / name.replace("desk", "copy"))
+        finally:
+            self.resume_desk()
+        done = subprocess.run([self.program, "report", "--db", self.room / "copy", "--get", target], capture_output=True, text=True)
+        return done.stdout
+
+
+def browser(room, name, size=(1920, 1080)):
+    """A headless Chromium with a profile of its own, which outlives it."""
+    from selenium import webdriver
+    from selenium.webdriver.chrome.service import Service
+    options = webdriver.ChromeOptions()
+    options.binary_location = shutil.which("chromium")
+    for it in ("--headless=new", "--no-sandbox", "--disable-gpu", "--ignore-certificate-errors", "--disable-dev-shm-usage", "--enable-precise-memory-info", "--js-flags=--expose-gc",
+               f"--user-data-dir={room}/{name}", f"--window-size={size[0]},{size[1]}", "--autoplay-policy=no-user-gesture-required"):
+        options.add_argument(it)
+    options.set_capability("goog:loggingPrefs", {"browser": "ALL"})
+    options.accept_insecure_certs = True
+    return webdriver.Chrome(service=Service(shutil.which("chromedriver"), log_path=os.devnull), options=options)
+
+
+def why_no_browser():
+    """Why no browser begins here, or nothing where one does."""
+    from selenium.common.exceptions import WebDriverException
+    with tempfile.TemporaryDirectory() as room:
+        try:
+            browser(room, "profile").quit()
+        except (WebDriverException, OSError) as fault:
+            return str(fault).split("\n")[0]
+    return ""
+
+
+SCANS = """
+const done = arguments[arguments.length - 1], request = indexedDB.open("tracedesk-station");
+request.onsuccess = () => {
+  const all = request.result.transaction("scans").objectStore("scans").getAll();
+  all.onsuccess = () => { request.result.close(); done(all.result); };
+};
+"""
+
+
+class Operator:
+    """Somebody with a scanner at a station."""
+
+    def __init__(self, site, name="W1", user="op", size=(1920, 1080), setup="", begin=True):
+        self.site, self.name, self.user, self.size, self.setup = site, name, user, size, setup
+        self.page = None
+        self.agrees = True  # whether its Line is compared with `report` at the end
+        if begin:
+            with contextlib.ExitStack() as kept:
+                kept.callback(self.close)
+                self.open()
+                kept.pop_all()
+
+    def __enter__(self):
+        return self
+
+    def __exit__(self, kind, *_):
+        try:
+            if kind is None and self.page and not self.setup:
+                self.site.last_look(self)
+        finally:
+            self.close()
+
+    def open(self, before=""):
+        """Begins the browser, logs in and waits until the page is there. `before` is a script that is run before those of each page."""
+        self.page = browser(self.site.room, f"profile-{self.name}", self.size)
+        if before:
+            self.page.execute_cdp_cmd("Page.addScriptToEvaluateOnNewDocument", {"source": before})
+        self.load()
+
+    def load(self, where=""):
+        log_in = self.site.url.replace("https://", f"https://{self.user}:{self.user}@")
+        self.page.get(f"{log_in}/station/icon.svg")
+        self.page.get(f"{self.site.url}/station/?station={self.name}{where}")
+        if not self.setup:
+            wait_for("the page is there", lambda: self.script("return document.querySelectorAll('#screens button').length === 5 && document.getElementById('state').textContent !== ''"))
+
+    def ready(self):
+        """Waits until the Line's reports are there."""
+        wait_for("the page has the desk's answers", lambda: self.script("return document.body.dataset.asked === 'all' && document.getElementById('state').className === 'fresh'"))
+        return self
+
+    def close(self):
+        if self.page:
+            with contextlib.suppress(Exception):
+                self.page.quit()
+            self.page = None
+
+    def kill(self):
+        """Ends the browser as a power cut does."""
+        driver = self.page.service.process.pid
+        processes = subprocess.run(["ps", "-eo", "pid,ppid"], capture_output=True, text=True).stdout.split("\n")[1:]
+        below, pairs = {driver}, [tuple(map(int, it.split())) for it in processes if it.strip()]
+        for _ in range(6):
+            below |= {pid for pid, parent in pairs if parent in below}
+        for pid in below:
+            with contextlib.suppress(ProcessLookupError):
+                os.kill(pid, signal.SIGKILL)
+        self.page.service.process.wait()
+        self.page = None
+        for it in (self.site.room / f"profile-{self.name}").glob("Singleton*"):
+            it.unlink()
+
+    def script(self, text, *words):
+        return self.page.execute_script(text, *words)
+
+    def keys(self, *keys):
+        """What is typed, wherever the focus is."""
+        from selenium.webdriver import ActionChains
+        ActionChains(self.page).send_keys(*keys).perform()
+
+    def scan(self, *codes):
+        """Scans codes as a wedge does: letters and Enter."""
+        from selenium.webdriver.common.keys import Keys
+        for code in codes:
+            self.keys(code + Keys.ENTER)
+
+    def text(self, name):
+        return self.script("return document.getElementById(arguments[0])?.innerText ?? ''", name)
+
+    def turn(self):
+        """The number of what the page showed last over its screens."""
+        return self.script("return Number(document.getElementById('verdict').dataset.turn ?? 0)")
+
+    def verdict(self, kinds=("accepted", "refused", "fault"), seconds=PATIENCE, after=0):
+        """The kind and the text of the verdict, once there is one of these kinds; `after` is the turn of what was there before."""
+        def shown():
+            kind, text, turn = self.script("const v = document.getElementById('verdict'); return v.hidden ? ['', '', 0] : [v.className, v.innerText, Number(v.dataset.turn)]")
+            return (kind, text) if kind in kinds and turn > after else None
+        return wait_for(f"a verdict of {kinds}: {self.text('verdict')!r}", shown, seconds)
+
+    def seen(self):
+        """Cancels until nothing is shown over the screens."""
+        from selenium.webdriver.common.keys import Keys
+        def hidden():
+            self.keys(Keys.ESCAPE)
+            return self.script("return document.getElementById('verdict').hidden")
+        wait_for("nothing is shown", hidden)
+
+    def does(self, *codes, kind="accepted", holds=()):
+        """Scans, and looks whether the verdict is of this kind and has these texts."""
+        after = self.turn() if codes else 0
+        self.scan(*codes)
+        got, text = self.verdict(after=after)
+        lacking = [it for it in holds if it not in text]
+        if got != kind or lacking:
+            raise Difference(f"{codes}: wanted {kind} with {lacking or 'no more'}, got {got}: {text!r}")
+        return text
+
+    def go(self, screen):
+        self.script("location.hash = arguments[0]", screen)
+        wait_for(screen, lambda: self.script("return document.getElementById('main').className") == screen)
+
+    def rows(self, table=0):
+        """The rows of a table of the page, as texts."""
+        return self.script("return [...(document.querySelectorAll('#main table')[arguments[0]]?.querySelectorAll('tbody tr') ?? [])].map((row) => [...row.cells].map((it) => it.textContent))", table)
+
+    def scans(self):
+        """What the browser keeps of its scans."""
+        return self.page.execute_async_script(SCANS)
