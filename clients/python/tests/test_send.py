@@ -148,7 +148,8 @@ class Sending(unittest.TestCase):
             read, write = os.pipe()
             os.close(read)
             given = b"".join(line(f"{closed}{n}") + b"\n" for n in range(5))
-            done = subprocess.run(self.words("--follow", "-"), input=given, timeout=60, **{"stdout": subprocess.PIPE, "stderr": subprocess.PIPE, closed: write})
+            done = subprocess.run(self.words("--follow", "-"), input=given, timeout=60, env={**os.environ, "PYTHONUNBUFFERED": ""},
+                                  **{"stdout": subprocess.PIPE, "stderr": subprocess.PIPE, closed: write})
             os.close(write)
             self.assertEqual((done.returncode, self.uids()[-5:]), (0, [f"{closed}{n}" for n in range(5)]), done)
         self.assertEqual((len(self.uids()), list((self.spool / "aside").iterdir())), (10, []))

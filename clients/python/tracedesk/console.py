@@ -1,7 +1,6 @@
 """How a program reports: news on standard error, results on standard output, and its status. A reader that is gone ends no program."""
 from __future__ import annotations
 
-import contextlib
 import os
 import pathlib
 import sys
@@ -15,9 +14,11 @@ Found = TypeVar("Found")
 
 
 def tell(line: object) -> None:
-    """Writes a line of news."""
-    with contextlib.suppress(OSError, ValueError):
+    """Writes a line of news. Once standard error is closed, or takes no more, what follows goes nowhere."""
+    try:
         print(f"{NAME}: {line}", file=sys.stderr, flush=True)
+    except (OSError, ValueError):
+        silence(2)
 
 
 def say(line: str) -> None:
@@ -26,9 +27,14 @@ def say(line: str) -> None:
         print(line, flush=True)
     except OSError as fault:
         tell(f"standard output: {fault}. Nothing more is printed there; the work goes on")
-        nowhere = os.open(os.devnull, os.O_WRONLY)
-        os.dup2(nowhere, sys.stdout.fileno())
-        os.close(nowhere)
+        silence(1)
+
+
+def silence(number: int) -> None:
+    """Lets nothing come of what a stream still holds: else the end of the program fails as it writes that, with status 120."""
+    nowhere = os.open(os.devnull, os.O_WRONLY)
+    os.dup2(nowhere, number)
+    os.close(nowhere)
 
 
 def ended(call: Callable[[], int], statuses: Mapping[Type[Exception], int]) -> int:

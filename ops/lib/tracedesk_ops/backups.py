@@ -13,7 +13,7 @@ import re
 import sqlite3
 import time
 
-from tracedesk_ops import catalogue, plant
+from tracedesk_ops import carry, catalogue, plant
 
 ARCHIVE, SUMS, ABOUT = "archive", "SHA256SUMS", "backup.json"
 NAME, NAMED = re.compile(r"\d{4}-\d\d-\d\dT\d{6}Z"), "%Y-%m-%dT%H%M%SZ"
@@ -108,7 +108,7 @@ def have_the_same(file, other):
 
 def goes_on_from(first, archive):
     """Whether the desk with this first command was begun from this archive."""
-    return bool(first) and first[0].startswith((f"begin-{archive.sha256[:24]}-", f"begin-{archive.last_minute}-{archive.commands}-"))  # the second up to 0.2.0
+    return bool(first) and first[0].startswith((f"begin-{archive.sha256[:carry.CHECKSUM]}-", f"begin-{archive.last_minute}-{archive.commands}-"))  # the second up to 0.2.0
 
 
 def lines_of(first, path, archives, *named):

@@ -116,11 +116,16 @@ class Archive:
         return it
 
 
+def begun_by(first):
+    """How the UniqueIDs begin with which a desk was begun whose first one this is; none where it was not."""
+    return first[:-1] if re.fullmatch("begin-.*-1", first) else None
+
+
 def known(database):
     """The last UniqueIDs of each source, the newest first: their number, source and own minute. What the desk was begun with is
     left out, but not the UniqueIDs of its own archive that it was told then: those are older than the rest, the newest first."""
     ((first,),) = database.execute("SELECT coalesce(max(uid), '') FROM accepted WHERE number = 1").fetchall()
-    prefix = first[:-1] if re.fullmatch("begin-.*-1", first) else None
+    prefix = begun_by(first)
     ((begun,),) = database.execute("SELECT coalesce(max(number), 0) FROM accepted WHERE uid = ? || number", [prefix]).fetchall()
     return database.execute("""
         WITH those AS (SELECT *, iif(number > ?, number, -number) AS turn FROM accepted WHERE uid IS NOT ? || number)

@@ -23,6 +23,7 @@ import urllib.parse
 from typing import NamedTuple
 
 FILE_NAME = "catalogue.csv"
+RUNNING = "running desk"  # in the place of an archive's name
 HEADER = ("file", "sha256", "desk", "first_minute", "last_minute", "commands", "pieces", "from", "to")
 EPOCH = datetime.datetime(1970, 1, 1)
 CHUNK = 1 << 20
@@ -339,7 +340,6 @@ def changed(path):
         yield archives
         if archives != before:
             write(path, archives)
-            os.fsync(folder)
     finally:
         os.close(folder)
 
@@ -349,16 +349,35 @@ def write(path, archives):
     text = io.StringIO()
     csv.writer(text, lineterminator="\n").writerows([HEADER, *map(row_of, archives)])
     read_lines(path, csv.reader(io.StringIO(text.getvalue()), strict=True))
+    put(path, text.getvalue())
+
+
+def put(path, text, mode=None):
+    """Puts a file of this text in the place of the one that is there, whole and on disk; where a link lies, nothing is written through it."""
     beside = path.with_name(path.name + ".new")
     beside.unlink(missing_ok=True)
-    with open(beside, "x", encoding="utf-8", newline="") as file:  # where a link lies there, nothing is written through it
-        file.write(text.getvalue())
-        file.flush()
-        owner = os.stat(path.parent)
-        if os.geteuid() == 0:
-            os.fchown(file.fileno(), owner.st_uid, owner.st_gid)
-        os.fsync(file.fileno())
-    os.rename(beside, path)
+    try:
+        with open(beside, "x", encoding="utf-8", newline="") as file:
+            if mode is not None:
+                os.fchmod(file.fileno(), mode)
+            file.write(text)
+            file.flush()
+            os.fsync(file.fileno())
+        os.replace(beside, path)
+    except OSError:
+        with contextlib.suppress(OSError):
+            beside.unlink()
+        raise
+    keep(path.parent)
+
+
+def keep(path):
+    """Waits until a file or a folder is on disk."""
+    it = os.open(path, os.O_RDONLY)
+    try:
+        os.fsync(it)
+    finally:
+        os.close(it)
 
 
 def row_of(archive):

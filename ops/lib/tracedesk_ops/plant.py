@@ -10,6 +10,7 @@ import re
 import shutil
 import signal
 import socket
+import sqlite3
 import subprocess
 import sys
 import time
@@ -29,18 +30,48 @@ LONGEST_OTHER = 3600  # seconds that another roll-over or backup may take
 PLAN = "plan.json"  # of a roll-over
 PATIENCE = 120  # seconds that a start may take beside what the pieces ask for
 LIBC, PR_SET_PDEATHSIG = ctypes.CDLL(None), 1
+KILL_AFTER = "TRACEDESK_KILL_AFTER"  # a step of a tool, for its test
+keep = catalogue.keep
 
 
 class Fault(Exception):
     """Why something was not done; the text says what to do."""
 
 
+FAULTS = (Fault, catalogue.CatalogueError, copies.InUse, OSError, sqlite3.Error, KeyboardInterrupt)
+
+
 def tell(text):
     """Says something on standard error. Where nobody reads that any more the work goes on, so that its end is the same."""
     try:
-        print(f"{NAME}: {text}", file=sys.stderr, flush=True)
+        if sys.stderr:
+            print(f"{NAME}: {text}", file=sys.stderr, flush=True)
     except OSError:
         os.dup2(os.open(os.devnull, os.O_WRONLY), 2)
+
+
+def write_out(text):
+    """Prints what was asked for; where that fails, the end of the tool doesn't try it again."""
+    try:
+        sys.stdout.reconfigure(errors="backslashreplace")
+        sys.stdout.write(text)
+        sys.stdout.flush()
+    except OSError as fault:
+        os.dup2(os.open(os.devnull, os.O_WRONLY), sys.stdout.fileno())
+        raise Fault(f"standard output: {fault.strerror}") from fault
+
+
+def reached(step):
+    """A step of a tool is done: its test kills it there."""
+    if os.environ.get(KILL_AFTER) == step:
+        os.kill(os.getpid(), signal.SIGKILL)
+
+
+def want_room(folder, size, what):
+    """Stops where a disk can't hold what is to be made, before anything is stopped for it."""
+    free = shutil.disk_usage(folder).free
+    if free < size:
+        raise Fault(f"{free:,} bytes are free in {folder}, and {size:,.0f} are wanted for {what}: make room")
 
 
 def offer_program(reader):
@@ -86,10 +117,10 @@ def understood(reader, wants_desk=True):
     return asked
 
 
-def tell_fault(fault, kinds):
+def tell_fault(fault, *kinds):
     """Tells a fault, and before it the one in whose handling it came."""
     for it in (fault.__context__, fault):
-        if isinstance(it, kinds):
+        if isinstance(it, (*FAULTS, *kinds)):
             tell(str(it) or "it was interrupted")
 
 
@@ -226,15 +257,6 @@ def wait_for_lock(take, seconds, held):
 def start_seconds(pieces):
     """How long a start takes of a desk with so many placed pieces."""
     return round(pieces * SECONDS_A_MILLION / 1_000_000)
-
-
-def keep(path):
-    """Waits until a file or a folder is on disk."""
-    it = os.open(path, os.O_RDONLY)
-    try:
-        os.fsync(it)
-    finally:
-        os.close(it)
 
 
 def without_log(file):

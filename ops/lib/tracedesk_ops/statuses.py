@@ -1,7 +1,9 @@
 """How a tool of the plant ends: an unexpected failure has a status of its own, never one that answers a question."""
-import pathlib
+import contextlib
 import sys
 import traceback
+
+from tracedesk_ops import plant
 
 INTERRUPTED, UNEXPECTED = 130, 9  # one digit: manual pages list such statuses
 
@@ -13,6 +15,7 @@ def end(main):
     except KeyboardInterrupt:
         sys.exit(INTERRUPTED)
     except Exception:
-        traceback.print_exc()
-        print(f"{pathlib.Path(sys.argv[0]).name}: it failed in a way that nobody foresaw, as the lines above say: report them", file=sys.stderr)
+        with contextlib.suppress(OSError):  # nobody reads it
+            traceback.print_exc()
+        plant.tell("it failed in a way that nobody foresaw, as the lines above say: report them")
         sys.exit(UNEXPECTED)
