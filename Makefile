@@ -40,22 +40,22 @@ station-test:  ## the station in headless Chromium behind nginx: each flow, kill
 	@station/tests/station-test
 torture:       ## kills the program 200 times, fails its disk, looks at its order of calls | 3 min | strace
 	$(say)
-	@dev/faults/torture
-	@dev/faults/torture --planted --kills 20
+	@dev/faults/run kills
+	@dev/faults/run kills --planted --kills 20
 damage:        ## cuts and zeroes a desk's file page by page, and audits it | 1 min
 	$(say)
-	@dev/faults/damage
+	@dev/faults/run damage
 fail-each:     ## fails every read, write, sync and allocation in turn, and the power at each change; reads until a run may read no more | 17 min | gcc libc6-dev
 	$(say)
-	@dev/faults/fail-each
-	@dev/faults/fail-each --planted
-	@dev/faults/many-reads
+	@dev/faults/run calls
+	@dev/faults/run calls --planted
+	@dev/faults/run reads
 watch-test:    ## what the watch writes, the idle clock, rules and units, and each source failing in turn | 2 min | nginx openssl prometheus
 	$(say)
 	@ops/tests/watch-test
 bench:         ## what a day costs, beside stock SQLite | 5 min | time
 	$(say)
-	@dev/bench/day
+	@dev/bench/run day
 pictures:      ## the SVGs of docs/: crates, a splice, starts by pieces, two years | 1 s
 	@dev/pictures
 docs:          ## out/docs: the documents and the definitions as HTML and one PDF | 1 min | pandoc weasyprint
