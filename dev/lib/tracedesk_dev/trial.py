@@ -4,10 +4,14 @@ import contextlib
 import http.client
 import importlib.machinery
 import importlib.util
+import os
 import pathlib
+import shutil
 import socket
+import sqlite3
 import subprocess
 import sys
+import tempfile
 import time
 
 ROOT = pathlib.Path(__file__).resolve().parents[3]
@@ -15,6 +19,30 @@ ROOT = pathlib.Path(__file__).resolve().parents[3]
 
 class Difference(Exception):
     """What is not as it has to be."""
+
+
+FAULTS = (Difference, OSError, sqlite3.Error, subprocess.SubprocessError)  # what fails a try
+
+
+def wanting(wanted):
+    """The packages of Debian that are not here, of those that bring these commands."""
+    path = os.environ["PATH"] + ":/usr/sbin"
+    return [package for command, package in wanted.items() if shutil.which(command, path=path) is None]
+
+
+def tried(calls, *given, folder=None):
+    """Calls each with what is given and a fresh folder: a line with what it returns, or why it failed; the status of all."""
+    failed = 0
+    for call in calls:
+        name = call.__name__.replace("_", " ")
+        with tempfile.TemporaryDirectory(dir=folder) as room:
+            try:
+                print(f"ok      {name}: {call(*given, pathlib.Path(room))}", flush=True)
+            except FAULTS as fault:
+                failed += 1
+                print(f"FAILED  {name}: {fault}", flush=True)
+    print(f"{len(calls) - failed} passed, {failed} failed")
+    return 1 if failed else 0
 
 
 def loaded(path):
