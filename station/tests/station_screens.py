@@ -4,6 +4,7 @@ import csv
 import io
 import json
 import shutil
+import subprocess
 
 from tracedesk_dev import layout
 import station_flows

@@ -132,9 +132,9 @@ def build():
     tell(f"{NAME}: proving and building the program, some 40 minutes on four cores; `make demo` shows it at work before that")
     progress, said, began = Progress(), [], time.time_ns()
     # rt runs what it built: once, for its help
-    words, how = ["rt", "run", "--", "--help"], {"stdin": subprocess.DEVNULL, "stdout": subprocess.DEVNULL}
-    with subprocess.Popen(words, cwd=CRATES / CRATE, stderr=subprocess.PIPE, errors="replace", **how) as building:
-        for line in building.stderr:
+    words = ["rt", "run", "--", "--help"]
+    with subprocess.Popen(words, cwd=CRATES / CRATE, stdin=subprocess.DEVNULL, stdout=subprocess.DEVNULL, stderr=subprocess.PIPE, errors="replace") as building:
+        for line in building.stderr or ():
             said.append(line)
             progress.hear(line)
     if building.returncode:

@@ -167,7 +167,7 @@ class Shift:
         old.open(self.minute)
         self.facts["expiring"] = old.name
         boards = len(self.serials)
-        needs = collections.Counter()
+        needs: collections.Counter = collections.Counter()
         for product, share in (("CTRL-A", 0.67), ("CTRL-B", 0.33)):
             for machine in self.machines:
                 for _slot, part, names in self.sheets[product, machine]:

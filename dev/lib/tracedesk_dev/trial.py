@@ -3,7 +3,6 @@ import argparse
 import contextlib
 import http.client
 import importlib.machinery
-import importlib.util
 import os
 import pathlib
 import shutil
@@ -13,6 +12,7 @@ import subprocess
 import sys
 import tempfile
 import time
+import types
 
 ROOT = pathlib.Path(__file__).resolve().parents[3]
 
@@ -49,7 +49,8 @@ def loaded(path):
     """A tool of the repository as a module, by its path from the top."""
     name = pathlib.Path(path).name.replace("-", "_")
     loader = importlib.machinery.SourceFileLoader(name, str(ROOT / path))
-    module = importlib.util.module_from_spec(importlib.util.spec_from_loader(name, loader))
+    module = types.ModuleType(name)
+    module.__file__ = str(ROOT / path)
     loader.exec_module(module)
     return module
 

@@ -90,7 +90,7 @@ def read(path):
 
 
 def read_lines(path, rows):
-    lines = {}
+    lines: dict = {}
     try:
         if next(rows, None) != list(HEADER):
             raise CatalogueError(f"{path}, line 1: the header is not {','.join(HEADER)}")
@@ -173,7 +173,8 @@ def survey(path):
 
 
 def survey_text(path, text, rows):
-    lines, faults = {}, []
+    lines: dict = {}
+    faults = []
     try:
         if next(rows, None) != list(HEADER):
             return Survey(text, [], [f"{path}, line 1: the header is not {','.join(HEADER)}"])
