@@ -905,12 +905,6 @@ def gate(asked, points, ends):
     print(f"{ends['passed']} passed, {ends['failed']} failed", flush=True)
 
 
-def seed_of_commit():
-    """The first digits of the commit's hash, as a number; 1 where there is no repository."""
-    done = subprocess.run(["git", "-C", ROOT, "rev-parse", "HEAD"], capture_output=True, text=True)
-    return int(done.stdout[:10], 16) if done.returncode == 0 else 1
-
-
 def words(reader):
     program.offer(reader)
     reader.add_argument("--rows", type=pathlib.Path, default=ROOT / "rows")
@@ -934,7 +928,7 @@ def main(asked, reader):
         return 0
     program.want("cc", "gcc libc6-dev")
     if asked.seed is None:
-        asked.seed = seed_of_commit() if asked.gate else 1
+        asked.seed = program.seed_of_commit() if asked.gate else 1
     asked.program = program.to_use(asked.program)
     asked.commands = re.findall(r"^  ([a-z-]+) ", subprocess.run([asked.program, "--help"], capture_output=True, text=True).stdout, re.M)
     with tempfile.TemporaryDirectory(prefix="calls-", dir=asked.folder) as folder:

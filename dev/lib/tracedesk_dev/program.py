@@ -40,6 +40,12 @@ def can_compile():
     return subprocess.run(["cc", "-E", "-x", "c", "-"], input=b"#include <stdio.h>", capture_output=True).returncode == 0
 
 
+def seed_of_commit():
+    """The first digits of the commit's hash, as a number; 1 where there is no repository."""
+    done = subprocess.run(["git", "-C", ROOT, "rev-parse", "HEAD"], capture_output=True, text=True)
+    return int(done.stdout[:10], 16) if done.returncode == 0 else 1
+
+
 def want_kit():
     if shutil.which("rt") is None:
         older = f"{BUILT.relative_to(ROOT)} is older than {newest().relative_to(ROOT)}, and " if can_run(BUILT) else ""
