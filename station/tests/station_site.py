@@ -15,6 +15,8 @@ import tempfile
 import time
 import uuid
 
+from tracedesk_dev.trial import Difference, wanting
+
 ROOT = pathlib.Path(__file__).resolve().parents[2]
 PEOPLE = {"op": "senders", "office": "readers"}  # their passwords are their names
 CERTIFICATES = {"m2": "sender", "auditor": "reader"}
@@ -23,14 +25,9 @@ PATIENCE = 90  # seconds: of a machine that has much to do
 slower = 1  # each wait takes so many times as long: station-test --slower
 
 
-class Difference(Exception):
-    """What was wanted, and what came."""
-
-
 def missing():
     """The packages of Debian that are wanting here, or none."""
-    wanted = {"chromium": "chromium", "chromedriver": "chromium-driver", "nginx": "nginx-light", "openssl": "openssl"}
-    found = [package for command, package in wanted.items() if shutil.which(command, path=os.environ["PATH"] + ":/usr/sbin") is None]
+    found = wanting({"chromium": "chromium", "chromedriver": "chromium-driver", "nginx": "nginx-light", "openssl": "openssl"})
     try:
         import selenium  # noqa: F401
     except ImportError:

@@ -1,4 +1,4 @@
-//! A store in memory: each allocation refused in turn by `dev/faults/refuse-memory`, and the boards of a lot.
+//! A store in memory: each allocation refused in turn by `dev/faults/run memory`, and the boards of a lot.
 
 mod sending;
 mod stopping;

@@ -1,7 +1,6 @@
-#!/usr/bin/env python3
 """Damages a desk's file, and looks at what `audit` says of it.
 
-usage: dev/faults/damage [--program FILE] [--boards N] [--pages N] [--seconds N] [--seed N] [--folder FOLDER]       (make damage)
+usage: dev/faults/run damage [--program FILE] [--boards N] [--pages N] [--seconds N] [--seed N] [--folder FOLDER]
 
 The file is that of the beginning of a shift (dev/lib/tracedesk_dev/shift.py). It is cut at the end of each of its pages, within some
 of them, each page is filled with zeros in turn, and single bytes at random places get another value. So at most
@@ -13,12 +12,7 @@ of them, each page is filled with zeros in turn, and single bytes at random plac
   come: a command with another source, or another minute of its own where that is not the one at which it took effect.
   No rule speaks of these, and no table but `accepted` has them, so the list is a lawful one.
 - the copy's bytes are as they were before `audit` wherever it told a fault.
-
-The last lines say how often each was told. Wanted is Python 3 alone. No part of the gate.
-
-Exit status: 0 all is as above; 1 something is not, told as FOUND; 2 bad command line, or there is no program.
 """
-import argparse
 import collections
 import contextlib
 import os
@@ -27,14 +21,10 @@ import random
 import re
 import sqlite3
 import subprocess
-import sys
 import tempfile
 import time
 
-ROOT = pathlib.Path(__file__).resolve().parents[2]
-sys.path.insert(0, str(ROOT / "dev/lib"))
-sys.dont_write_bytecode = True
-from tracedesk_dev import program, shift  # noqa: E402
+from tracedesk_dev import program, shift, trial
 
 PATIENCE = float(os.environ.get("PATIENCE", "60"))  # seconds for a run of audit
 FAULT = re.compile(rb"tracedesk: (NotADesk|OtherVersion \d+|NotLawful \d+|TableDiffers \w+|Unavailable)\n")
@@ -46,8 +36,7 @@ def rows_of(file):
         try:
             if database.execute("PRAGMA integrity_check").fetchall() != [("ok",)]:
                 return None
-            names = [name for (name,) in database.execute("SELECT name FROM sqlite_schema WHERE type = 'table' ORDER BY name")]
-            return {name: sorted(database.execute(f"SELECT * FROM {name}")) for name in names if not name.startswith("sqlite_")}
+            return trial.rows_in(database)
         except sqlite3.Error:
             return None
 
@@ -112,8 +101,7 @@ def tried(asked, folder):
             print(f"stopped after {asked.seconds:.0f} seconds")
             break
         file = pathlib.Path(folder, "damaged")
-        for more in ("-wal", "-shm", "-journal"):
-            pathlib.Path(folder, "damaged" + more).unlink(missing_ok=True)
+        trial.remove(file)
         file.write_bytes(damaged)
         said = judged(asked.program, file, damaged, rows, count)
         if said.startswith("FOUND"):
@@ -126,19 +114,16 @@ def tried(asked, folder):
     return wrong
 
 
-def main():
-    reader = argparse.ArgumentParser(description=__doc__, formatter_class=argparse.RawDescriptionHelpFormatter)
+def words(reader):
     program.offer(reader)
     reader.add_argument("--boards", type=int, default=12)
     reader.add_argument("--pages", type=int, default=1_000)
     reader.add_argument("--seconds", type=float, default=600)
     reader.add_argument("--seed", type=int, default=1)
     reader.add_argument("--folder", help="where the files are made")
-    asked = reader.parse_args()
+
+
+def main(asked, _reader):
     asked.program = program.to_use(asked.program)
     with tempfile.TemporaryDirectory(prefix="damage-", dir=asked.folder) as folder:
         return 1 if tried(asked, folder) else 0
-
-
-if __name__ == "__main__":
-    sys.exit(main())

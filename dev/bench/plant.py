@@ -1,13 +1,12 @@
-#!/usr/bin/env python3
 """Loads made-up archives into a PostgreSQL of its own folder and asks for a lot and a board: how long, how large?
 
-usage: dev/bench/plant [--program FILE] [--folder FOLDER] [--archives N] [--minutes N] [--boards BOARDS] [--parts N]
-       dev/bench/plant --recall [--program FILE] [--folder FOLDER] [--archives N] [--boards BOARDS]
+usage: dev/bench/run plant [--program FILE] [--folder FOLDER] [--archives N] [--minutes N] [--boards BOARDS] [--parts N]
+       dev/bench/run plant --recall [--program FILE] [--folder FOLDER] [--archives N] [--boards BOARDS]
 
 examples:
-  dev/bench/plant                              40 archives of a million pieces: 20 GB of disk at most, and an hour
-  dev/bench/plant --archives 4 --boards 300    a minute
-  dev/bench/plant --recall                     52 archives of 830,000 pieces by ops/recall: 7 GB of disk, and ten minutes
+  dev/bench/run plant                              40 archives of a million pieces: 20 GB of disk at most, and an hour
+  dev/bench/run plant --archives 4 --boards 300    a minute
+  dev/bench/run plant --recall                     52 archives of 830,000 pieces by ops/recall: 7 GB of disk, and ten minutes
 
 One shift of dev/lib/tracedesk_dev/shift.py is fed to the program: that is the first archive, of ten lines in turn. The others are its
 bytes with other names of boards, machines, reels and lots of the same length; the audit of the second has to be lawful.
@@ -22,10 +21,7 @@ warm is the median of five calls behind that.
 --folder   where all of it lies; it is new, and is removed at the end
 --minutes  nothing more is loaded after so many; what is there is asked
 --boards   of the shift; 5,180 place a million pieces, and 4,144, of --recall, 829,000
-
-Exit status: 0 done; 1 something failed; 2 bad command line, or what is needed is not there.
 """
-import argparse
 import contextlib
 import json
 import os
@@ -39,11 +35,9 @@ import sys
 import tempfile
 import time
 
-ROOT = pathlib.Path(__file__).resolve().parents[2]
-sys.path[:0] = [str(ROOT / it) for it in ("ops/lib", "dev/lib")]
-sys.dont_write_bytecode = True
-from tracedesk_dev import postgres, program, shift  # noqa: E402
-from tracedesk_ops import catalogue, plant  # noqa: E402
+from tracedesk_dev import postgres, program, shift
+from tracedesk_dev.program import ROOT
+from tracedesk_ops import catalogue, plant
 
 LINES, TURNS = 10, 5
 MEMORY = "/dev/shm"
@@ -232,36 +226,6 @@ def more_parts(upto):
         EXECUTE format('CREATE TABLE plant.placement_%s PARTITION OF plant.placement FOR VALUES IN (%s)', 100000 + it, 100000 + it); END LOOP; END $$""")
 
 
-def main():
-    reader = argparse.ArgumentParser(description=__doc__, formatter_class=argparse.RawDescriptionHelpFormatter, usage=argparse.SUPPRESS)
-    program.offer(reader)
-    reader.add_argument("--folder", type=pathlib.Path)
-    reader.add_argument("--recall", action="store_true")
-    reader.add_argument("--archives", type=int)
-    reader.add_argument("--minutes", type=float, default=600)
-    reader.add_argument("--boards", type=int)
-    reader.add_argument("--parts", type=int, default=400)
-    asked = reader.parse_args()
-    asked.program = program.to_use(asked.program)
-    asked.archives = asked.archives or (52 if asked.recall else 40)
-    asked.boards = asked.boards or (4_144 if asked.recall else 5_180)
-    if asked.folder and asked.folder.exists():
-        reader.error(f"{asked.folder} is there already: name a new folder")
-    if not asked.recall and not postgres.is_here():
-        program.stop("there is no PostgreSQL here: apt-get install postgresql")
-    if asked.folder:
-        asked.folder.mkdir()
-    try:
-        if asked.recall:
-            with tempfile.TemporaryDirectory(prefix="plant-", dir=asked.folder) as room:
-                recall_bench(asked, pathlib.Path(room))
-        else:
-            postgres_bench(asked)
-    finally:
-        if asked.folder:
-            asked.folder.rmdir()
-
-
 def postgres_bench(asked):
     with tempfile.TemporaryDirectory(prefix="plant-", dir=asked.folder) as room, tempfile.TemporaryDirectory(prefix="plant-", dir=asked.folder) as folder:
         with postgres.Server(pathlib.Path(folder), fsync="on", shared_buffers="512MB") as server:
@@ -278,8 +242,34 @@ def postgres_bench(asked):
             print(json.dumps({f"with {asked.parts} parts": asked_for(server, board)}, indent=1), flush=True)
 
 
-if __name__ == "__main__":
+def words(reader):
+    program.offer(reader)
+    reader.add_argument("--folder", type=pathlib.Path)
+    reader.add_argument("--recall", action="store_true")
+    reader.add_argument("--archives", type=int)
+    reader.add_argument("--minutes", type=float, default=600)
+    reader.add_argument("--boards", type=int)
+    reader.add_argument("--parts", type=int, default=400)
+
+
+def main(asked, reader):
+    asked.program = program.to_use(asked.program)
+    asked.archives = asked.archives or (52 if asked.recall else 40)
+    asked.boards = asked.boards or (4_144 if asked.recall else 5_180)
+    if asked.folder and asked.folder.exists():
+        reader.error(f"{asked.folder} is there already: name a new folder")
+    if not asked.recall and not postgres.is_here():
+        program.stop("there is no PostgreSQL here: apt-get install postgresql")
+    if asked.folder:
+        asked.folder.mkdir()
     try:
-        main()
+        if asked.recall:
+            with tempfile.TemporaryDirectory(prefix="plant-", dir=asked.folder) as room:
+                recall_bench(asked, pathlib.Path(room))
+        else:
+            postgres_bench(asked)
     except (postgres.Fault, subprocess.CalledProcessError) as fault:
         sys.exit(f"{plant.NAME}: {fault}")
+    finally:
+        if asked.folder:
+            asked.folder.rmdir()

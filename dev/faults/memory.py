@@ -1,20 +1,16 @@
-#!/usr/bin/env python3
 """Runs tests as often as they ask for memory, each time with another of their allocations refused.
 
 A test may then go well, or fail as out of memory, and for nothing else.
 
-usage: [TESTS=FILE] dev/faults/refuse-memory [--jobs N] CRATE [WORD]       as in  dev/faults/refuse-memory store_tests
-       dev/faults/refuse-memory [--jobs N] --gate      the tests of `make test` that are made for it, as `rt ci` built them
+usage: [TESTS=FILE] dev/faults/run memory [--jobs N] CRATE [WORD]       as in  dev/faults/run memory store_tests
+       dev/faults/run memory [--jobs N] --gate      the tests of `make test` that are made for it, as `rt ci` built them
 
 A crate's tests are proved and built first. With a word, only those that have it in their names; with TESTS, those of a
 program that was proved and built already, crates/CRATE/out/CRATE_tests or a copy of it. Wanted is a C compiler, cc, for
-dev/faults/refuse-memory.c; without one --gate is told as skipped. A line for each test; the last one is 'N passed, M failed'.
+dev/faults/memory.c; without one --gate is told as skipped. A line for each test; the last one is 'N passed, M failed'.
 
 Some tests tell on standard error what a refusal came to. Where that never came, the test has failed: SHOWN names them.
-
-Exit status: 0 each went well; 1 one did not, or is not proved; 2 bad command line, or what is needed is not there.
 """
-import argparse
 import concurrent.futures
 import os
 import pathlib
@@ -23,18 +19,13 @@ import subprocess
 import sys
 import tempfile
 
-sys.path.insert(0, str(pathlib.Path(__file__).resolve().parents[1] / "lib"))
-sys.dont_write_bytecode = True
-from tracedesk_dev import program  # noqa: E402
+from tracedesk_dev import program
+from tracedesk_dev.trial import Difference as Found
 
 GATE = {"store_tests": "refused_memory", "desk_tests": "memory_was_refused"}
 SHOWN = {"refused_memory_is_made_good": "the desk was made again"}
 OUT_OF_MEMORY = re.compile(r"^error: (AllocError|AllocFailed|out of memory|(Kind|SqliteFailure)\(OutOfMemory\))", re.M)
 SECONDS = 120  # for one run
-
-
-class Found(Exception):
-    """What is not as it has to be."""
 
 
 def told(library, tests, name, number):
@@ -97,22 +88,18 @@ def built(crate):
     return program.CRATES / crate / "out" / f"{crate}_tests"
 
 
-def read_words():
-    reader = argparse.ArgumentParser(description=__doc__, formatter_class=argparse.RawDescriptionHelpFormatter, usage=argparse.SUPPRESS)
+def words(reader):
     reader.add_argument("--jobs", type=int, default=os.cpu_count() or 1)
     reader.add_argument("--gate", action="store_true")
     reader.add_argument("crate", nargs="?")
     reader.add_argument("word", nargs="?", default="")
-    words = reader.parse_args()
+
+
+def main(words, reader):
     if words.gate == (words.crate is not None):
         reader.error("a crate, or --gate")
     if words.crate and not (program.CRATES / words.crate / "src").is_dir():
         reader.error(f"there is no crate {words.crate}")
-    return words
-
-
-def main():
-    words = read_words()
     if words.gate and not program.can_compile():
         print("skipped: there is no C compiler here with the C library's headers: apt-get install gcc libc6-dev\n0 passed, 0 failed")
         return 0
@@ -120,7 +107,7 @@ def main():
     ready, passed, failed = os.environ.get("TESTS"), 0, 0
     with tempfile.TemporaryDirectory() as room, concurrent.futures.ThreadPoolExecutor(words.jobs) as pool:
         library = str(pathlib.Path(room, "refuse.so"))
-        subprocess.run(["cc", "-shared", "-fPIC", "-O1", "-o", library, program.ROOT / "dev/faults/refuse-memory.c"], check=True)
+        subprocess.run(["cc", "-shared", "-fPIC", "-O1", "-o", library, program.ROOT / "dev/faults/memory.c"], check=True)
         for crate, word in GATE.items() if words.gate else [(words.crate, words.word)]:
             tests = built(crate) if words.gate else os.path.abspath(ready) if ready else proved(crate)
             if not program.can_run(tests):
@@ -137,7 +124,3 @@ def main():
                     failed += 1
     print(f"{passed} passed, {failed} failed")
     return 1 if failed else 0
-
-
-if __name__ == "__main__":
-    sys.exit(main())

@@ -1,12 +1,11 @@
-#!/usr/bin/env python3
 """Measures how long `serve` takes to start, and its memory, by the pieces in the desk's file; writes figures' section.
 
-usage: dev/bench/starts [--program FILE] [--commit COMMIT] [--pieces N,N,..] [--turns N] [--into PAGE] [FOLDER]
+usage: dev/bench/run starts [--program FILE] [--commit COMMIT] [--pieces N,N,..] [--turns N] [--into PAGE] [FOLDER]
 
 examples:
-  dev/bench/starts --into docs/figures.md && make pictures          all of it, on an idle machine: half an hour
-  dev/bench/starts --pieces 10000,100000 --turns 1                  a first look; the section is printed
-  dev/bench/starts --commit 9f39f1f --program ./tracedesk /srv      another program than that of this checkout, on this disk
+  dev/bench/run starts --into docs/figures.md && make pictures          all of it, on an idle machine: half an hour
+  dev/bench/run starts --pieces 10000,100000 --turns 1                  a first look; the section is printed
+  dev/bench/run starts --commit 9f39f1f --program ./tracedesk /srv      another program than that of this checkout, on this disk
 
 One file grows in FOLDER, or in the folder for temporary files, and is measured at each size: a line of four machines
 with 40 slots each. Each board passes all four and gets 100 pieces on each, and reels of 2,000 pieces are spliced. A
@@ -14,22 +13,16 @@ start is the time from the run of the program to its first answer over HTTP, by 
 is the memory that it has then, and most the most that it had until then (VmRSS and VmHWM of /proc). The medians of the
 turns are told. Where PAGE is named, its section of this name gives way to the new one, and the picture of
 docs/long-life.md is drawn from there.
-
-Exit status: 0 done; 1 a message was not accepted, or a start failed; 2 bad command line, or there is no program.
 """
-import argparse
 import collections
 import contextlib
 import datetime
 import hashlib
-import http.client
 import json
 import os
 import pathlib
 import platform
 import random
-import re
-import socket
 import statistics
 import subprocess
 import sys
@@ -38,10 +31,7 @@ import time
 import uuid
 from typing import NamedTuple
 
-ROOT = pathlib.Path(__file__).resolve().parents[2]
-sys.path.insert(0, str(ROOT / "dev/lib"))
-sys.dont_write_bytecode = True
-from tracedesk_dev import program  # noqa: E402
+from tracedesk_dev import program, trial
 
 HEADING = "## A file's start and memory by its pieces"
 SIZES = "10000,100000,400000,1000000,4000000"
@@ -123,40 +113,18 @@ def grown(asked, file, messages, told, pieces):
             ticks.tell(f"{told['pieces']:,} of {pieces:,} pieces")
         running.stdin.close()
     if running.wait():
-        sys.exit(f"dev/bench/starts: feed ended with status {running.returncode}")
+        sys.exit(f"dev/bench/run starts: feed ended with status {running.returncode}")
 
 
 def started(asked, file):
     """Seconds of a start, by the clock and of the processor; its resident memory at the end and the most until then, in bytes."""
-    with socket.socket() as it:
-        it.bind(("127.0.0.1", 0))
-        port = it.getsockname()[1]
-    words = [asked.program, "serve", "--db", file, "--port", str(port), "--connections", "1"]
-    link, began = http.client.HTTPConnection("127.0.0.1", port), time.perf_counter()
-    running = subprocess.Popen(words, stdin=subprocess.DEVNULL, stdout=subprocess.DEVNULL)
-    try:
-        wait_for(link, running)
-        link.request("GET", "/overdue")
-        link.getresponse().read()
+    began = time.perf_counter()
+    with trial.served(asked.program, file) as (process, connection):
+        connection.request("GET", "/overdue")
+        connection.getresponse().read()
         seconds = time.perf_counter() - began
-        status, about = (pathlib.Path(f"/proc/{running.pid}/{name}").read_text() for name in ("status", "stat"))
-        ticks = sum(map(int, about.rpartition(")")[2].split()[11:13]))  # user and system
-        link.close()  # the run ends after its one connection
-        running.wait(60)
-        memory = (1_024 * int(re.search(rf"^{name}:\s+(\d+) kB$", status, re.M)[1]) for name in ("VmRSS", "VmHWM"))
-        return seconds, ticks / os.sysconf("SC_CLK_TCK"), *memory
-    finally:
-        running.kill()
-
-
-def wait_for(link, running):
-    """Connects, once the run takes a connection."""
-    while running.poll() is None:
-        with contextlib.suppress(ConnectionRefusedError):
-            link.connect()
-            return
-        time.sleep(0.002)
-    sys.exit(f"dev/bench/starts: serve ended with status {running.returncode}")
+        ticks = sum(map(int, pathlib.Path(f"/proc/{process.pid}/stat").read_text().rpartition(")")[2].split()[11:13]))  # user and system
+        return seconds, ticks / os.sysconf("SC_CLK_TCK"), trial.memory_of(process, "VmRSS"), trial.memory_of(process, "VmHWM")
 
 
 def figures(asked):
@@ -172,7 +140,7 @@ def sourced(asked):
     """Which program was measured."""
     version = subprocess.run([asked.program, "--version"], stdout=subprocess.PIPE, text=True, check=True).stdout.strip()
     digest = hashlib.sha256(pathlib.Path(asked.program).read_bytes()).hexdigest()[:12]
-    commit = asked.commit or subprocess.run(["git", "-C", ROOT, "log", "-1", "--format=%h"], stdout=subprocess.PIPE, text=True).stdout.strip()
+    commit = asked.commit or subprocess.run(["git", "-C", trial.ROOT, "log", "-1", "--format=%h"], stdout=subprocess.PIPE, text=True).stdout.strip()
     return f"`{version}` of the commit {commit} (its file's SHA-256 begins with {digest})"
 
 
@@ -183,7 +151,7 @@ def section(asked, load, rows):
     busy = " The machine was busy with other work, so the seconds by the clock say little." if max(loads) > os.cpu_count() else ""
     text = f"""{HEADING}
 
-`dev/bench/starts` measured the program {sourced(asked)}: {at}; {turns}.{busy} One file grows: a line of four machines, of which each places 100 pieces on each board. A start is the time from the run of `serve` to its first answer; beside it stands how long the processor worked for it. Resident is its memory then, and most the most until then. The picture on [long-life.md](long-life.md) is drawn from this table by `make pictures`.
+`dev/bench/run starts` measured the program {sourced(asked)}: {at}; {turns}.{busy} One file grows: a line of four machines, of which each places 100 pieces on each board. A start is the time from the run of `serve` to its first answer; beside it stands how long the processor worked for it. Resident is its memory then, and most the most until then. The picture on [long-life.md](long-life.md) is drawn from this table by `make pictures`.
 
 | pieces | commands | file, MB | start, s | of the processor, s | resident, MB | most, MB |
 |---:|---:|---:|---:|---:|---:|---:|
@@ -201,15 +169,16 @@ def put_into(page, text):
     os.replace(beside, page)
 
 
-def main():
-    reader = argparse.ArgumentParser(description=__doc__, formatter_class=argparse.RawDescriptionHelpFormatter, usage=argparse.SUPPRESS)
+def words(reader):
     program.offer(reader)
     reader.add_argument("--commit", metavar="COMMIT", help="the commit of the program's sources, where it isn't that of this checkout")
     reader.add_argument("--pieces", type=lambda text: sorted(int(it) for it in text.split(",")), default=SIZES, metavar="N,N,..", help=f"the sizes ({SIZES})")
     reader.add_argument("--turns", type=int, default=3, metavar="N", help="starts of each size (3)")
     reader.add_argument("--into", type=pathlib.Path, metavar="PAGE", help="the page whose section gives way to the new one")
     reader.add_argument("folder", nargs="?", metavar="FOLDER", help="where the file grows")
-    asked = reader.parse_args()
+
+
+def main(asked, reader):
     if asked.turns < 1 or asked.pieces[0] < 1:
         reader.error("there is at least one turn, and a piece")
     if asked.into and HEADING + "\n" not in asked.into.read_text(encoding="utf-8"):
@@ -224,7 +193,3 @@ def main():
         put_into(asked.into, text)
     else:
         sys.stdout.write(text)
-
-
-if __name__ == "__main__":
-    main()

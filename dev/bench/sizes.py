@@ -1,15 +1,10 @@
-#!/usr/bin/env python3
 """Prints the table of sizes that docs/figures.md begins with.
 
-usage: dev/bench/sizes
-
-Exit status: 0 done; 2 bad command line.
+usage: dev/bench/run sizes
 """
-import argparse
-import pathlib
 import re
 
-CRATES = pathlib.Path(__file__).resolve().parents[2] / "crates"
+from tracedesk_dev.program import CRATES
 
 
 def names():
@@ -53,14 +48,13 @@ def sizes(crate):
     ]
 
 
-def main():
-    argparse.ArgumentParser(description=__doc__, formatter_class=argparse.RawDescriptionHelpFormatter).parse_args()
+def words(_reader):
+    pass
+
+
+def main(_asked, _reader):
     print("| Crate | Code | Definitions | Proofs | Public functions | Tests | Wrong bodies in the gate | outside it |")
     print("|" + "---|" * 8)
     rows = [(f"`{name}`", sizes(CRATES / name)) for name in names()]
     for name, row in [*rows, ("together", [sum(column) for column in zip(*(row for _, row in rows))])]:
         print(f"| {name} | {' | '.join(f'{number:,}' for number in row)} |")
-
-
-if __name__ == "__main__":
-    main()

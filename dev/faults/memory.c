@@ -1,5 +1,5 @@
 /* Refuses one allocation of a program: the one whose number, from 1, is in REFUSED. Without it none is
-   refused, and how many there were is told on standard error at the end. For dev/faults/refuse-memory alone:
+   refused, and how many there were is told on standard error at the end. For dev/faults/run memory alone:
    it is loaded before the C library, whose own names for these functions it calls. */
 #include <errno.h>
 #include <stdio.h>

@@ -1,5 +1,5 @@
 /* Counts a program's calls by their kind, and fails, shortens or ends there those that FAIL names. For
-   dev/faults/fail-each alone: it is loaded before the C library, whose functions it stands for, and makes the system
+   dev/faults/run calls alone: it is loaded before the C library, whose functions it stands for, and makes the system
    calls itself.
 
    FAIL         what fails, as `write 3 5 28`: the kind, the first number and the last, and what is done, which is an

@@ -1,10 +1,9 @@
-#!/usr/bin/env python3
 """Fails each call of the program in turn, and looks whether what it answered is there, and acts once when sent again.
 
-usage: dev/faults/fail-each [--program FILE] [--jobs N] [--most N] [--seconds N] [--patience N] [--seed N] [--only WORD]
-                       [--folder FOLDER] [--apart] [PART..]
-       dev/faults/fail-each --planted    calls that are told as done and are not, which have to be found out
-       dev/faults/fail-each --gate       what `make test` tries of it, in two minutes on four cores
+usage: dev/faults/run calls [--program FILE] [--jobs N] [--most N] [--seconds N] [--patience N] [--seed N] [--only WORD]
+                            [--folder FOLDER] [PART..]
+       dev/faults/run calls --planted    calls that are told as done and are not, which have to be found out
+       dev/faults/run calls --gate       what `make test` tries of it, in two minutes on four cores
 
 The parts, all of them where none is named:
   wire    each read of what is given and each write of what is answered: it fails, or one byte goes, or none; and the
@@ -21,24 +20,20 @@ What is run are `feed` (with a file, and in memory), the two imports, `migrate` 
 and `report` where the program has them. Where there are more than --most points in one of these, a seeded choice of so
 many is taken. A run goes on undisturbed, and before each call that is a point a copy of its process is made, with copies
 of its files, in which the call fails: so what came before is done once for all of them. The connection of `serve` is a
-pair of files then, and only each 25th copy gives memory back, since that would cost most of the time. With --apart each
-point has a run of its own, and `serve` a connection of the network: some four times slower. After each failure:
+pair of files, and only each 25th copy gives memory back, since that would cost most of the time. After each failure:
   - the answers are those of an undisturbed run of the lines that were not answered Unavailable, and the last of them
     may be cut; the status and what was told are the ones for such a failure;
   - `audit` says lawful, and the tables are those of the lines that were answered, or of one more that was at hand;
   - everything sent again to the file that was left is answered as an undisturbed desk answers it a second time, and
     the tables are that desk's.
   - where one allocation alone was refused, at most one answer is Unavailable.
-Wanted are a C compiler, cc, and Python 3.11. `dev/faults/fail-each --only import wire` tries a little of it.
+Wanted are a C compiler, cc, and Python 3.11. `dev/faults/run calls --only import wire` tries a little of it.
 
 With --gate every point is tried of: `wire` of `feed` and `serve` on the first row; `memory` of `feed` and `serve` on it, and of the
 imports; `disk`, `kill` and `power` of `feed` with a file, and of `migrate`. Of all others one point in eight is tried, by a
 seed that is the commit's hash. Then what --planted has of `feed`, which has to be found out. The last line is 'N passed,
 M failed', over the parts of each story and the planted faults. Without a C compiler it is told as skipped, with status 0.
-
-Exit status: 0 all is as above, and the planted faults were found out; 1 not so; 2 bad command line, or what is needed is not there.
 """
-import argparse
 import collections
 import concurrent.futures
 import contextlib
@@ -50,20 +45,18 @@ import random
 import re
 import select
 import shutil
-import socket
 import sqlite3
 import struct
 import subprocess
-import sys
 import tempfile
 import threading
 import time
 
-ROOT = pathlib.Path(__file__).resolve().parents[2]
-sys.path[:0] = [str(ROOT / it) for it in ("ops/lib", "dev/lib")]
-sys.dont_write_bytecode = True
-from tracedesk_dev import program, reports  # noqa: E402
-from tracedesk_ops import copies  # noqa: E402
+from tracedesk_dev import program, reports
+from tracedesk_dev.program import ROOT
+from tracedesk_dev.trial import Difference as Found
+from tracedesk_dev.trial import rows_in
+from tracedesk_ops import copies
 
 BATCH = 250  # points of one run
 KINDS = ("memory", "input", "output", "read", "write", "sync", "call")
@@ -82,10 +75,6 @@ ONE_IN = 8  # of the other points that --gate tries
 
 Got = collections.namedtuple("Got", "answers rest told status files counts record")
 Known = collections.namedtuple("Known", "answers status audit tables")
-
-
-class Found(Exception):
-    """What is not as it has to be."""
 
 
 # ---- one run -----------------------------------------------------------------------------------------------------
@@ -116,8 +105,7 @@ def tables(text):
     """All rows of a desk's file, which has taken its log in. SQLite reads it from memory, and so without a log."""
     with contextlib.closing(sqlite3.connect(":memory:")) as database:
         database.deserialize(text[:18] + b"\1\1" + text[20:])
-        names = [name for (name,) in database.execute("SELECT name FROM sqlite_schema WHERE type = 'table' AND name NOT LIKE 'sqlite_%'")]
-        return {name: sorted(database.execute(f"SELECT * FROM {name}")) for name in names}
+        return rows_in(database)
 
 
 def ended(process, patience):
@@ -304,24 +292,6 @@ class Command(Story):
         return (0,)
 
 
-@contextlib.contextmanager
-def free_port():
-    """A port that no one else has meanwhile: below those that the system gives to connections and to port 0, and of
-    the runs of this tool for the one that holds it on another address of the loopback."""
-    for port in random.sample(range(20_000, 32_000), 1_000):
-        with socket.socket() as held, socket.socket() as it:
-            try:
-                held.bind(("127.0.0.2", port))
-                it.setsockopt(socket.SOL_SOCKET, socket.SO_REUSEADDR, 1)
-                it.bind(("127.0.0.1", port))
-            except OSError:
-                continue
-            it.close()
-            yield port
-            return
-    raise Found("no port is free")
-
-
 class Served(Story):
     """Requests on one connection to `serve`. What it answered is what it wrote: a connection that breaks loses more."""
 
@@ -332,18 +302,8 @@ class Served(Story):
 
     def once(self, room, order, env=None):
         given = b"".join(self.parts[part] for part in order)
-        if not self.asked.apart:
-            told = self.ran(room, [*self.words, *self.port(20_000)], given, {**(env or self.failing(room, "")), "FAIL_GIVEN": str(room / "given")})
-            return self.taken(*told, (room / "answered").read_bytes() if (room / "answered").exists() else b"")
-        if env is not None:
-            env = {**env, "FAIL_RECORD": str(room / "record")}
-        with free_port() as port, open(room / "out", "w") as out, open(room / "told", "w") as told:
-            process = self.process(room, [*self.words, *self.port(port)], env, stdin=subprocess.DEVNULL, stdout=out, stderr=told)
-            got = self.exchange(process, port, given)
-            ended(process, self.asked.patience)
-        if env is not None:
-            got = b"".join(self.put_out(change) for change in changes_in((room / "record").read_bytes()) if change.what == "out")
-        return self.taken((room / "out").read_bytes(), (room / "told").read_bytes(), process.returncode, got)
+        told = self.ran(room, [*self.words, *self.port(20_000)], given, {**(env or self.failing(room, "")), "FAIL_GIVEN": str(room / "given")})
+        return self.taken(*told, (room / "answered").read_bytes() if (room / "answered").exists() else b"")
 
     reads = False
 
@@ -355,19 +315,6 @@ class Served(Story):
         if status in (0, 1) and not re.fullmatch(rb"1 %d( Read| Write| TooManyReads)?\n" % len(answers), out):
             raise Found(f"of the connection is told {out!r}, where {len(answers)} requests were answered")
         return answers, rest, told, status
-
-    def exchange(self, process, port, given):
-        """Connects once the program listens, sends everything, and takes what comes."""
-        got, until = b"", time.monotonic() + self.asked.patience
-        while process.poll() is None and time.monotonic() < until:
-            with contextlib.suppress(OSError), socket.create_connection(("127.0.0.1", port), timeout=self.asked.patience) as connection:
-                connection.sendall(given)
-                connection.shutdown(socket.SHUT_WR)
-                while more := connection.recv(65_536):
-                    got += more
-                return got
-            time.sleep(0.001)
-        return got
 
     def put_out(self, change):
         return change.text if change.number != 1 else b""
@@ -488,7 +435,7 @@ Change = collections.namedtuple("Change", "what name number text")
 
 
 def changes_in(record):
-    """The changes of the disk and the bytes that were put out, in their order, as dev/faults/fail-each.c records them."""
+    """The changes of the disk and the bytes that were put out, in their order, as dev/faults/calls.c records them."""
     at = 0
     while at < len(record):
         end = record.index(b"\n", at)
@@ -843,11 +790,9 @@ def judged(points):
 
 
 def one(story, point):
-    """A point with a run of its own."""
-    call, *rest = point
-    if call is cut:
-        return judged([(rest[3], lambda seen: cut(story, *rest[:2], seen, rest[2]))])
-    return judged([(rest[1], lambda seen: call(story, *rest, seen))])
+    """A power cut, which needs no run of the same calls."""
+    _call, got, files, again, told = point
+    return judged([(told, lambda seen: cut(story, got, files, seen, again))])
 
 
 def many(story, base, points):
@@ -865,7 +810,7 @@ def tasks_of(story, points, until):
     for point in points:
         if time.monotonic() > until:
             return
-        if story.asked.apart or point[0] is cut:
+        if point[0] is cut:
             yield one, story, point
             continue
         base = point[2].partition(",")[2]
@@ -960,8 +905,7 @@ def gate(asked, points, ends):
     print(f"{ends['passed']} passed, {ends['failed']} failed", flush=True)
 
 
-def main():
-    reader = argparse.ArgumentParser(description=__doc__, formatter_class=argparse.RawDescriptionHelpFormatter)
+def words(reader):
     program.offer(reader)
     reader.add_argument("--rows", type=pathlib.Path, default=ROOT / "rows")
     reader.add_argument("--jobs", type=int, default=max(1, (os.cpu_count() or 2) // 2))
@@ -971,11 +915,12 @@ def main():
     reader.add_argument("--patience", type=float, default=60, help="seconds for one run")
     reader.add_argument("--only", help="the stories alone that have this in their names")
     reader.add_argument("--folder", default="/dev/shm" if os.path.isdir("/dev/shm") else None, help="where the desks are made")
-    reader.add_argument("--apart", action="store_true", help="a run of its own for each point, and of `serve` over a connection")
     reader.add_argument("--planted", action="store_true")
     reader.add_argument("--gate", action="store_true")
     reader.add_argument("parts", nargs="*", metavar="PART")
-    asked = reader.parse_args()
+
+
+def main(asked, reader):
     if set(asked.parts) - set(PARTS):
         reader.error(f"the parts are {', '.join(PARTS)}")
     if asked.gate and not program.can_compile():
@@ -986,9 +931,9 @@ def main():
         asked.seed = program.seed_of_commit() if asked.gate else 1
     asked.program = program.to_use(asked.program)
     asked.commands = re.findall(r"^  ([a-z-]+) ", subprocess.run([asked.program, "--help"], capture_output=True, text=True).stdout, re.M)
-    with tempfile.TemporaryDirectory(prefix="fail-each-", dir=asked.folder) as folder:
-        asked.library = str(pathlib.Path(folder, "fail-each.so"))
-        subprocess.run(["cc", "-shared", "-fPIC", "-O1", "-fno-delete-null-pointer-checks", "-o", asked.library, ROOT / "dev/faults/fail-each.c"], check=True)
+    with tempfile.TemporaryDirectory(prefix="calls-", dir=asked.folder) as folder:
+        asked.library = str(pathlib.Path(folder, "calls.so"))
+        subprocess.run(["cc", "-shared", "-fPIC", "-O1", "-fno-delete-null-pointer-checks", "-o", asked.library, ROOT / "dev/faults/calls.c"], check=True)
         asked.rooms = Rooms(os.path.realpath(folder))
         points, ends = collections.Counter(), collections.Counter()
         if asked.gate:
@@ -998,7 +943,3 @@ def main():
         else:
             parts(asked, points, ends)
         return 1 if ends["failed"] else 0
-
-
-if __name__ == "__main__":
-    sys.exit(main())

@@ -1,8 +1,10 @@
-#!/usr/bin/env python3
 """Kills the program, and fails its disk, while it takes commands, and looks whether what it acknowledged is there.
 
-usage: dev/faults/torture [--program FILE] [--kills N] [--seconds N] [--seed N] [--folder FOLDER] [PART..]       as in  dev/faults/torture --kills 20 feed
-       dev/faults/torture --planted      the same on dev/faults/early-answers, which has to be found out by `feed`, `serve` and `order`
+usage: dev/faults/run kills [--program FILE] [--kills N] [--seconds N] [--seed N] [--folder FOLDER] [PART..]
+       dev/faults/run kills --planted      the same on dev/faults/early-answers, which has to be found out by `feed`, `serve` and `order`
+
+examples:
+  dev/faults/run kills --kills 20 feed
 
 The parts, all of them where none is named:
   feed    `feed --db` gets a shift of a line (dev/lib/tracedesk_dev/shift.py) as fast as it takes it, and is killed by SIGKILL at a
@@ -11,21 +13,17 @@ The parts, all of them where none is named:
   serve   the same with `serve`, over one connection, where the program has it.
   order   strace's order of calls: the bytes of each Accepted answer go out after the sync of its commit has returned.
           (A kill alone can't show it, since the system keeps what was written and not yet synced.)
-  migrate `migrate` killed at random moments, and each of its writes and syncs failed in turn: the file is of version 1
-          or of version 2, with the rows that it had.
-  disk    writes and syncs that fail from a random call on, for good or once; a limit on the size of files, with and
-          without its signal; a full file system, where this user may mount one.
+  disk    a limit on the size of files, with and without its signal; a full file system, where this user may mount one.
+
+`dev/faults/run calls` kills the program at each change of its disk, and fails each single call.
 
 After each kill or failure: `audit` says lawful (or no desk was made yet and nothing was acknowledged); the accepted
 commands are those that were acknowledged, in their order and with these very answers, and at most the one that was
 sent besides; the last lines, sent again, get their first answers; the next run goes on with the same file. When a
 shift is done, each table is that of a run that nothing disturbed. A run or an answer that takes longer than PATIENCE
 seconds (120, by the environment) counts as a hang: give more on a machine that is busy with other things. Wanted are
-strace, and Python 3. No part of the gate.
-
-Exit status: 0 all is as above, and a planted fault was found out; 1 not so; 2 bad command line, or what is needed is not there.
+strace.
 """
-import argparse
 import collections
 import contextlib
 import http.client
@@ -41,23 +39,17 @@ import signal
 import socket
 import sqlite3
 import subprocess
-import sys
 import tempfile
 import threading
 import time
 
-ROOT = pathlib.Path(__file__).resolve().parents[2]
-sys.path.insert(0, str(ROOT / "dev/lib"))
-sys.dont_write_bytecode = True
-from tracedesk_dev import program, shift  # noqa: E402
+from tracedesk_dev import program, shift
+from tracedesk_dev.program import ROOT
+from tracedesk_dev.trial import Difference as Found
+from tracedesk_dev.trial import free_port, has_serve, remove, rows_in
 
 PATIENCE = float(os.environ.get("PATIENCE", "120"))  # seconds for a run of audit, or for an answer
 LOGS = ("", "-wal", "-journal")  # the desk's file, and what it is whole with
-BESIDE = (*LOGS, "-shm", ".copy")
-
-
-class Found(Exception):
-    """What is not as it has to be."""
 
 
 class Desk:
@@ -108,7 +100,7 @@ class Desk:
         count = int(done.stdout.split()[1])
         if not acknowledged <= count <= acknowledged + 1:
             raise Found(f"{acknowledged} commands were acknowledged, and audit finds {count}")
-        rows = read(self.file, "SELECT uid, detail FROM accepted ORDER BY number")
+        rows = read(self.file, lambda it: it.execute("SELECT uid, detail FROM accepted ORDER BY number").fetchall())
         if [uid for uid, _detail in rows] != self.uids[:count]:
             raise Found("the accepted commands are not those that were sent, in their order")
         accepted = [answer for said, answer in zip(self.said, self.answers) if said.wanted == "Accepted"]
@@ -124,16 +116,10 @@ class Desk:
         done = run([self.program, "feed", "--db", clean], given)
         if done.stdout.splitlines() != self.answers:
             raise Found("a run that nothing disturbed gives other answers")
-        if tables(clean) != tables(self.file):
+        if read(clean, rows_in) != read(self.file, rows_in):
             raise Found("a run that nothing disturbed leaves other rows")
         remove(clean)
         remove(self.file)
-
-
-def remove(file):
-    for more in BESIDE:
-        with contextlib.suppress(FileNotFoundError):
-            os.remove(file + more)
 
 
 def run(words, given=b""):
@@ -143,17 +129,10 @@ def run(words, given=b""):
         raise Found(f"{' '.join(words[1:3])} had not ended after {PATIENCE} seconds")
 
 
-def read(file, query):
-    """What a query finds in a copy of a file that no run has open."""
-    with tempfile.TemporaryDirectory() as room:
-        copy = shutil.copy(file, room)
-        with contextlib.closing(sqlite3.connect(copy)) as database:
-            return database.execute(query).fetchall()
-
-
-def tables(file):
-    names = [name for (name,) in read(file, "SELECT name FROM sqlite_schema WHERE type = 'table' AND name NOT LIKE 'sqlite_%'")]
-    return {name: sorted(read(file, f"SELECT * FROM {name}")) for name in names}
+def read(file, look):
+    """What `look` finds in a copy of a file that no run has open."""
+    with tempfile.TemporaryDirectory() as room, contextlib.closing(sqlite3.connect(shutil.copy(file, room))) as database:
+        return look(database)
 
 
 def kill(process):
@@ -180,12 +159,6 @@ def feed_for(desk, first, seconds):
         if ended not in (None, 0, 1):
             raise Found(f"feed ended by itself: status {ended}, {told.read()!r}")
         return taken.read().split(b"\n")[:-1]
-
-
-def free_port():
-    with socket.socket() as it:
-        it.bind(("127.0.0.1", 0))
-        return it.getsockname()[1]
 
 
 def serve_for(desk, first, seconds):
@@ -381,11 +354,6 @@ def limited(size, ignored):
     return lambda words, **how: subprocess.Popen(words, start_new_session=True, preexec_fn=limit, restore_signals=False, **how)
 
 
-def failing(call, error, when, log):
-    """A start in which a call fails, from its `when`-th on or that once."""
-    return lambda words, **how: traced(words, log, how.pop("stdin"), ("-e", f"inject={call}:error={error}:when={when}"), **how)
-
-
 def failed(desk, how, start, seen):
     """One run that fails, what is found after it, and the next run, which doesn't fail."""
     status, told = talk(desk, start)
@@ -420,19 +388,9 @@ def within(asked, turns, begun):
 
 def disk(asked, folder):
     chance, begun, told = random.Random(asked.seed), time.monotonic(), []
-    log = str(pathlib.Path(folder, "calls"))
     whole = Desk(asked.program, folder, asked.seed, 12)
-    talk(whole, lambda words, **how: traced(words, log, how.pop("stdin"), **how))
+    talk(whole, plain)
     size = os.path.getsize(whole.file)
-    with open(log, errors="replace") as lines:
-        calls = collections.Counter(match[3] for match in map(CALL.match, lines) if match and match[5] in [whole.file + more for more in LOGS])
-    for call, error in (("pwrite64", "ENOSPC"), ("pwrite64", "EIO"), ("fdatasync", "EIO")):
-        seen = collections.Counter()
-        for turn in within(asked, asked.turns, begun):
-            when = str(chance.randint(1, calls[call])) + ("+" if turn % 2 else "")
-            failed(Desk(asked.program, folder, asked.seed, 12), f"{call} {error} {when}", failing(call, error, when, log), seen)
-            seen["runs"] += 1
-        told.append(f"{call} {error}: {shown(seen)}")
     for ignored in (True, False):
         seen = collections.Counter()
         for _turn in within(asked, asked.turns, begun):
@@ -472,73 +430,9 @@ def full(asked, folder, size, chance, begun):
     return f"a full file system, with room later: {shown(seen)}"
 
 
-# ---- a migration that stops --------------------------------------------------------------------------------------
-def of_version_1(asked, folder):
-    """A file of version 1, and its rows as version 2 has them. A count may find no piece there, so it ends before one."""
-    desk = Desk(asked.program, folder, asked.seed, 12)
-    first = next(number for number, said in enumerate(desk.said) if b"CountsTaken" in said.text)
-    run([desk.program, "feed", "--db", desk.file], b"".join(said.text + b"\n" for said in desk.said[:first]))
-    rows = tables(desk.file)
-    with contextlib.closing(sqlite3.connect(desk.file, isolation_level=None)) as database:
-        database.execute("PRAGMA journal_mode = DELETE")
-        database.executescript("BEGIN; DROP TABLE found; UPDATE version SET number = 1; COMMIT;")
-    return desk, pathlib.Path(desk.file).read_bytes(), rows
-
-
-def version_after(desk, old, rows):
-    """The version that a stopped migration left, whole."""
-    done = desk.audit()
-    if done.returncode == 3 and done.stderr == b"tracedesk: OtherVersion 1\n":
-        rows, version = {name: it for name, it in rows.items() if name not in ("found", "version")}, 1
-    elif done.returncode == 0 and done.stdout == b"lawful %d\n" % len(rows["accepted"]):
-        version = 2
-    else:
-        raise Found(f"after a stopped migration audit says {done.stdout!r} {done.stderr!r}")
-    got = tables(desk.file)
-    if {name: it for name, it in got.items() if version == 2 or name != "version"} != rows:
-        raise Found(f"a stopped migration left other rows in version {version}")
-    return version
-
-
-def migrated(asked, folder):
-    desk, old, rows = of_version_1(asked, folder)
-    chance, seen, begun = random.Random(asked.seed), collections.Counter(), time.monotonic()
-    words, log, seconds = [desk.program, "migrate", "--db", desk.file], str(pathlib.Path(folder, "calls")), 0.3
-    turns = [None] * max(2, asked.kills // 4)
-    turns += [(call, str(number)) for call in ("pwrite64", "fdatasync") for number in range(1, 9)]
-    ticks = program.Ticks()
-    for done, turn in enumerate(turns):
-        if time.monotonic() - begun > asked.seconds:
-            break
-        ticks.tell(f"{done} of {len(turns)} migrations that are stopped")
-        remove(desk.file)
-        pathlib.Path(desk.file).write_bytes(old)
-        more = () if turn is None else ("-e", f"inject={turn[0]}:error=EIO:when={turn[1]}")
-        quiet = {"stdout": subprocess.DEVNULL, "stderr": subprocess.DEVNULL}
-        process = plain(words, **quiet) if turn is None else traced(words, log, None, more, **quiet)
-        at = time.monotonic()
-        with contextlib.suppress(subprocess.TimeoutExpired):
-            process.wait(chance.uniform(0, 1.3 * seconds) if turn is None else PATIENCE)
-            seconds = time.monotonic() - at if turn is None else seconds
-        kill(process)
-        seen["kills" if turn is None else "failures"] += 1
-        seen[f"version {version_after(desk, old, rows)}"] += 1
-    remove(desk.file)
-    pathlib.Path(desk.file).write_bytes(old)
-    done = run(words)
-    if done.stdout != b"version 2\n" or version_after(desk, old, rows) != 2:
-        raise Found(f"a migration that nothing disturbs ends with {done.stdout!r} {done.stderr!r}")
-    remove(desk.file)
-    return f"{seen['kills']} kills and {seen['failures']} failed calls left version 1 {seen['version 1']} times and version 2 {seen['version 2']} times, with all rows as they were"
-
-
 # ---- all of it ---------------------------------------------------------------------------------------------------
-def has_serve(program):
-    return b"serve" in subprocess.run([program, "--help"], capture_output=True).stdout
-
-
 PARTS = {"feed": lambda asked, folder: killed(asked, folder, feed_for), "serve": lambda asked, folder: killed(asked, folder, serve_for),
-         "order": order, "migrate": migrated, "disk": disk}
+         "order": order, "disk": disk}
 
 
 def parts(asked):
@@ -548,7 +442,7 @@ def parts(asked):
         if name == "serve" and not has_serve(asked.program):
             print("serve:   not run, since the program has no `serve`", flush=True)
             continue
-        with tempfile.TemporaryDirectory(prefix="torture-", dir=asked.folder) as folder:
+        with tempfile.TemporaryDirectory(prefix="kills-", dir=asked.folder) as folder:
             try:
                 print(f"{name + ':':8} {PARTS[name](asked, folder)}", flush=True)
             except Found as found:
@@ -557,8 +451,7 @@ def parts(asked):
     return wrong
 
 
-def main():
-    reader = argparse.ArgumentParser(description=__doc__, formatter_class=argparse.RawDescriptionHelpFormatter)
+def words(reader):
     program.offer(reader)
     reader.add_argument("--kills", type=int, default=200)
     reader.add_argument("--seconds", type=float, default=900, help="how long a part goes on at most")
@@ -568,10 +461,12 @@ def main():
     reader.add_argument("--folder", help="where the desks are made, so on the disk in question")
     reader.add_argument("--planted", action="store_true")
     reader.add_argument("parts", nargs="*", metavar="PART")
-    asked = reader.parse_args()
+
+
+def main(asked, reader):
     if set(asked.parts) - set(PARTS):
         reader.error(f"the parts are {', '.join(PARTS)}")
-    if set(asked.parts or PARTS) - {"feed", "serve"}:
+    if "order" in (asked.parts or PARTS):
         program.want("strace", "strace")
     asked.program = program.to_use(asked.program)
     if not asked.planted:
@@ -581,7 +476,3 @@ def main():
     wrong = parts(asked)
     print("the planted program was found out" if wrong == len(asked.parts) else "the planted program was NOT found out")
     return 0 if wrong == len(asked.parts) else 1
-
-
-if __name__ == "__main__":
-    sys.exit(main())
