@@ -42,7 +42,7 @@ module _ (image : Image) (s : State) (finds : FindsAs image s) (opens : Opens s)
   not_bare : (rules : Rules) → IsNamedBy rules s → s.committed.schema ≡ no_schema → ⊥
   not_bare rules named none = true≢false (sym named.0 ∙ ap (λ (x : Schema). list_any is_version x.tables) (ap (λ (db : Database). db.schema) opens.clean ∙ none))
 
-  -- a new desk, in files with none of its tables
+  -- A new desk, in files with none of its tables.
   pub made_begins : (greatest : ℕ) → list_any has_name s.now.schema.tables ≡ false → HasOursFirst image → Begins image (Some greatest) greatest [] × (is_blank s.now.schema ≡ true)
   made_begins greatest nameless alone =
       let seen : s.now.schema ≡ s.committed.schema = ap (λ (db : Database). db.schema) opens.clean in
@@ -55,7 +55,7 @@ module _ (image : Image) (s : State) (finds : FindsAs image s) (opens : Opens s)
   pub no_table : FindsNoTable image → is_blank s.now.schema ≡ true
   no_table none = is_blank_of s.now.schema (ap (λ (db : Database). db.schema) opens.clean ∙ none s.committed found)
 
-  -- the desk that was read
+  -- The desk that was read.
   pub opened_begins : (make : Option ℕ) (greatest : ℕ) (H : History) → IsNamed s → Reads s (λ db. Holds db (ledger_tables greatest H)) → HasOursFirst image
       → Begins image make greatest H × (is_ours s.committed.schema ≡ true)
   opened_begins make greatest H named reads alone =
@@ -64,7 +64,7 @@ module _ (image : Image) (s : State) (finds : FindsAs image s) (opens : Opens s)
         | inr none ↦ absurd (not_bare Two named none)
       ]
 
-  -- the desk of version 1 that was migrated
+  -- The desk of version 1 that was migrated.
   pub migrates : (new : State) (greatest : ℕ) (H : History) (n : ℕ) → IsNamedBy One s → IsMigrated s new greatest H n → HasOursFirst image
       → IsOfOne image greatest H × Holds new.committed (ledger_tables greatest H) × ((trees : Trees) → new.may_leave trees → HoldsAt (ledger_tables greatest H) trees)
   migrates new greatest H n named m alone =

@@ -30,7 +30,7 @@ pub record IsFoundIn (image : Image) (db : Database) : Type 0 where
   pub reads : AreReadIn image db.trees
   pub same : (trees : Trees) → HoldsDatabase image trees → db.trees ≡ trees
 
--- the files hold the tables of a line, of version 1 with none beside them, or of version 2 with none before them and none that refers to them, or no table at all
+-- The files hold the tables of a line, of version 1 with none beside them, or of version 2 with none before them and none that refers to them, or no table at all.
 abbrev pub HasOursFirst : Image → Type 0
 HasOursFirst image = (db : Database) → IsFoundIn image db → IsOurs db.schema ⊎ (db.schema ≡ no_schema)
 

@@ -30,10 +30,9 @@ pub type FileDesk<T, D> = LineStore<FileStore<FileFrom<T>>, D>;
 /// The connection to the file of a desk.
 pub type DeskFile<T> = Connection<FileStore<FileFrom<T>>>;
 
-/// The desk that the file at a path keeps. Where there is no file, or one of no bytes, a desk of an
-/// empty list is made in it if `make` says up to which number, from 1 to 1,000,000,000; else it is
-/// NotADesk. What is no regular file, or can't be opened, is Unavailable. A file that is refused comes
-/// back, unchanged.
+/// Opens the desk in the file at a path. If the file is missing or empty, a desk with an empty history is made if
+/// `make` gives its greatest number, from 1 to 1,000,000,000; otherwise the fault is NotADesk. A path that is no
+/// regular file, or can't be opened, is Unavailable. A refused file is returned unchanged.
 pub fn open_desk<T: Start, D: KeepsRows + Drop>(
     rt: &HostRuntime,
     path: &str,
@@ -61,10 +60,9 @@ pub fn open_desk<T: Start, D: KeepsRows + Drop>(
     }
 }
 
-/// Makes the file at a path, which keeps a desk in the tables of version 1, one of version 2: each of
-/// its commands is judged again by rules One, and its tables are compared, before it is written to.
-/// Where there is no file, or one of no bytes, it is NotADesk, and none is made. A file that is refused
-/// comes back, unchanged; after Unavailable a crash may leave it of version 2.
+/// Migrates the desk's file at a path from version 1 to version 2. First each command is judged again by rules One, and
+/// the tables are compared. A missing or empty file is NotADesk, and none is made. A refused file is returned
+/// unchanged. After Unavailable a crash may leave it in version 2.
 pub fn migrate_desk<T: Start, D: KeepsRows + Drop>(
     rt: &HostRuntime,
     path: &str,
@@ -90,8 +88,8 @@ pub fn migrate_desk<T: Start, D: KeepsRows + Drop>(
     }
 }
 
-/// Closes the file of a desk: what was committed is in it then, without its log. The files come back
-/// for clauses to name, those too that could not be closed; they go where they are dropped.
+/// Closes a desk's file. All commits are then in it, without its log. The files are returned for clauses to name, even
+/// if they could not be closed; the caller drops them.
 pub fn close_desk<T: Start, D: KeepsRows + Drop>(
     desk: FileDesk<T, D>,
 ) -> Result<Files<FileFrom<T>>, (OpenFault, Files<FileFrom<T>>)>
@@ -156,7 +154,7 @@ fn no_connection<T: Start>() -> Refusal<FileFrom<T>>
     }
 }
 
-/// A desk of an empty list in the file, which is made where it is missing.
+/// Makes a desk with an empty history in the file, which is made if missing.
 fn new_desk<T: Start, D: KeepsRows + Drop>(
     rt: &HostRuntime,
     path: &str,
@@ -183,7 +181,7 @@ fn new_desk<T: Start, D: KeepsRows + Drop>(
     }
 }
 
-/// The desk that the file keeps.
+/// Opens the desk in the file.
 fn kept_desk<T: Start, D: KeepsRows + Drop>(
     rt: &HostRuntime,
     path: &str,

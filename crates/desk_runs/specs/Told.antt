@@ -28,7 +28,7 @@ abbrev pub with_end : Kind → List ℕ → List ℕ
 with_end Csv text = text
 with_end Json text = text ++ 10 ∷ []
 
--- The report in an answer, or why there is none.
+-- The report in an answer, or the fault.
 abbrev pub report_output : Told → List ℕ
 report_output answer = with_end answer.kind answer.body
 

@@ -1,4 +1,4 @@
--- The counts that a run requires of its wires, and the counts after a run in which nothing failed.
+-- The counts that a run requires of its wires, and the counts after a run without faults.
 use Rattle.std.specs.Prelude.{◌≡◌, ◌<◌, ◌^◌, ℕ, List, Option}
 use Rattle.std.specs.Io.KnownBytes.{IsAtEnd}
 use Rattle.desk_types.specs.declared.wire.Wire.{Wire}

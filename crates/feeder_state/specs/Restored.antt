@@ -1,4 +1,4 @@
--- Rows from which a desk is rebuilt.
+-- Rows for rebuilding a desk.
 use Rattle.std.specs.Prelude.{◌≡◌, ◌+◌, nat_lt, ◌&&◌, Option, Some, None, List, [], length, unwrap_or, if◌then◌else◌}
 use Rattle.std.specs.BTreeMap as tree
 use Rattle.std.specs.BTreeMap.{BTreeMap}

@@ -1,4 +1,4 @@
--- Reads, in terms of what was committed before.
+-- Reads, in terms of the earlier committed contents.
 use Rattle.std.proofs.Common.{subst, sym}
 use Rattle.sqlite.specs.Effect.{Database}
 use Rattle.sqlite.specs.State.{State, KeepsCommit}

@@ -22,7 +22,8 @@ use Rattle.desk_types.specs.declared.edit.RowEdit.{RowEdit}
 use Rattle.trace_lists.specs.declared.lists.TraceLists.{TraceLists}
 use Rattle.trace_lists.specs.Lists.{IsListed}
 
--- The desk stands for a judged list of so many entries, no more than the greatest number, and the rows beside it are the list's; on a clean disk the list is lawful, and the rows of accepted commands that are committed are its rows.
+-- The desk represents a judged history of this length, within the greatest number, and the expected rows are the
+-- history's. On a clean disk the history is lawful, and the committed rows of `accepted` are its rows.
 pub record IsReplayed {D : Type 0} (StandsFor : D → History → Type 0) (rules : Rules) (greatest : ℕ) (Clean : Type 0) (old : State) (desk : D) (expected : Expected) (count : ℕ) (H : History) : Type 0 where
   pub stands : StandsFor desk H
   pub judged : IsJudged rules H
@@ -52,7 +53,8 @@ pub record IsStuck (rules : Rules) (H : History) (rows : List Row) : Type 0 wher
   pub there : filter (has_number (length H + 1)) rows ≡ row ∷ []
   pub stuck : (e : Entry) → IsNext rules H e → IsAt rows H e → ⊥
 
--- A row was taken with these edits of the state tables: the desk stands for the list with its entry, and no row of a lower number has its UniqueID.
+-- A row was taken with these edits of the state tables: the desk represents the history with its entry, and no row of a
+-- lower number has its UniqueID.
 pub record Accepts {D : Type 0} (StandsFor : D → History → Type 0) (rules : Rules) (Clean : Type 0) (old : State) (number : ℕ) (row : Row) (H : History) (desk : D) (edits : List RowEdit) (before after : KeptRows) : Type 0 where
   pub entry : Entry
   pub stands : StandsFor desk (entry ∷ H)
@@ -61,7 +63,7 @@ pub record Accepts {D : Type 0} (StandsFor : D → History → Type 0) (rules : 
   pub rows : tables_in after ≡ but_placements (with_edits edits (tables_in before)) (tables_in before)
   pub first : Clean → Reads old (λ db. list_any (is_before entry.stamped.uid number) (accepted_in db) ≡ false)
 
--- One entry more is taken.
+-- One more entry is taken.
 pub record Takes {D : Type 0} (StandsFor : D → History → Type 0) (rules : Rules) (Clean : Type 0) (old : State) (H : History) (desk : D) (before after : Expected) : Type 0 where
   pub entry : Entry
   pub stands : StandsFor desk (entry ∷ H)
@@ -71,12 +73,13 @@ pub record Takes {D : Type 0} (StandsFor : D → History → Type 0) (rules : Ru
   pub lead : Lead edits H entry
   pub adds : Adds Clean old edits before after
 
--- A row was taken, or there is none of the next number, and the desk stands for the list.
+-- A row was taken, or there is no row of the next number, and the desk represents the history.
 abbrev pub Goes : {D : Type 0} → (D → History → Type 0) → Rules → Type 0 → State → History → Expected → D → Expected → Bool → Type 0
 Goes StandsFor rules Clean old H before desk after true = Takes StandsFor rules Clean old H desk before after
 Goes StandsFor rules Clean old H before desk after false = StandsFor desk H × (Clean → Reads old (λ db. filter (has_number (length H + 1)) (accepted_in db) ≡ [])) × (after ≡ before)
 
--- The desk stands for a judged list of so many entries, and the rows beside it are the list's; on a clean disk each entry has its row in our schema's table.
+-- The desk represents a judged history of this length, and the expected rows are the history's. On a clean disk each
+-- entry has its row in our schema's table.
 pub record IsTaken {D : Type 0} (StandsFor : D → History → Type 0) (rules : Rules) (Clean : Type 0) (db : Database) (desk : D) (expected : Expected) (count : ℕ) (H : History) : Type 0 where
   pub stands : StandsFor desk H
   pub judged : IsJudged rules H

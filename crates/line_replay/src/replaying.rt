@@ -31,9 +31,8 @@ pub struct Replayed<D: KeepsRows + Drop> {
     pub placed: Placed,
 }
 
-/// Judges each row of `accepted` once more, by number, with a fresh desk of these rules. Numbers go
-/// up to the greatest. One row is in memory at a time. In an open transaction of the caller's
-/// nothing is read, and the fault is Unavailable.
+/// Judges each row of `accepted` again, by number, with a fresh desk of these rules. Numbers go up to the greatest. One
+/// row is in memory at a time. Inside an open transaction of the caller nothing is read, and the fault is Unavailable.
 pub fn replay<S: Alter, D: KeepsRows + Drop>(
     alloc: Global,
     conn: &mut Connection<S>,
@@ -66,9 +65,8 @@ pub fn replay<S: Alter, D: KeepsRows + Drop>(
     })
 }
 
-/// The desk made again from the tables of a list that was judged by these rules, as after a refused
-/// `settle`. None where memory was refused, where the database failed, and where the rows are no
-/// such list.
+/// Rebuilds the desk from the tables of a judged history, as after a refused `settle`. Returns `None` if memory was
+/// refused, if the database failed, or if the rows are no such history.
 pub fn rebuild<S: Alter, D: KeepsRows + Drop>(
     alloc: Global,
     conn: &mut Connection<S>,

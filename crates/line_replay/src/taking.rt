@@ -57,8 +57,8 @@ pub fn are_all<S: Alter>(conn: &mut Connection<S>, taken: u32) -> Result<bool, R
     Ok(count(conn)? == u64::from(taken))
 }
 
-/// Takes row after row, up to the greatest number, into a desk and trace indexes of an empty history,
-/// and looks up their placements. Returns the number of rows, and the result of the look-ups.
+/// Takes row after row, up to the greatest number, into a new desk with its trace indexes, and looks up their
+/// placements. Returns the number of rows, and the result of the look-ups.
 pub fn take_rows<S: Alter, D: KeepsRows>(
     alloc: Global,
     conn: &mut Connection<S>,
@@ -94,7 +94,7 @@ pub fn take_rows<S: Alter, D: KeepsRows>(
     Ok((greatest, placed))
 }
 
-/// Accepts the command of the row with this number, the next one; or there is no such row.
+/// Accepts the command of the row with this number, the next one, if there is such a row.
 fn take_row<S: Alter, D: KeepsRows>(
     alloc: Global,
     conn: &mut Connection<S>,
@@ -127,7 +127,7 @@ fn take_row<S: Alter, D: KeepsRows>(
     }
 }
 
-/// Accepts the command of the row, where no row of a lower number has its UniqueID. Answers its edits.
+/// Accepts the command of the row if no row of a lower number has its UniqueID. Returns its edits.
 fn accept_first<S: Alter, D: KeepsRows>(
     alloc: Global,
     conn: &mut Connection<S>,

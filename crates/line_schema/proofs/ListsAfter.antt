@@ -52,7 +52,7 @@ kept_so L s (IdReused n) h = refl
 kept_so L s DeskFull h = refl
 kept_so L s Unavailable h = absurd (answer_never L s (sym h))
 
--- ---- what a crash may leave
+-- ---- crashes
 
 abbrev pub left_with : Kept → Stamped → Trees → Type 0
 left_with L s trees = HoldsAt (ledger_tables L.greatest (accept L.history s)) trees

@@ -1,4 +1,4 @@
--- Reads of the version and of the history, in terms of what was committed before.
+-- Reads of the version and of the history, in terms of the earlier committed contents.
 use Rattle.std.proofs.Common.{◌≡◌, ◌≢◌, ◌≤◌, ◌∙◌, ◌⊎◌, inl, inr, ℕ, ℤ, pos, true, IsTrue, IfErr, Result, Ok, Err, Option, Some, None, refl, sym, ap, subst}
 use Rattle.std.specs.Prelude.{if◌then◌else◌, ◌==◌}
 use Rattle.sqlite.specs.Effect.{Database}

@@ -19,21 +19,21 @@ pub record ReadsStore {S D : Type 0} (g : Ghosts S) (StandsFor : D → History �
   pub reads : ReadsOnly g (conn_of old) (conn_of new)
 
 -- A call that loads the desk from the tables if it isn't loaded. The store represents a history: the same one if the
--- disk is honest and the tables are the store's own. A crash leaves what it could leave before.
+-- disk is honest and the tables are the store's own. A crash leaves nothing new.
 pub record MakesDesk {S D : Type 0} (g : Ghosts S) (StandsFor : D → History → Type 0) (kept_rules : D → Rules) (old new : LineStore S D) : Type 0 where
   pub at_hand : IsTrue (has_desk old) → new ≡ old
   pub kept : (L : Kept) × Stands g StandsFor kept_rules new L
   pub stands : ForKept g StandsFor kept_rules old new (Stands g StandsFor kept_rules new)
   pub survives : Survives (state_of g old) (state_of g new) (λ _. ⊥)
 
--- A connection on which no tables could be created. The committed contents stay, and no new transaction is open. A
+-- A connection after a failed creation of tables. The committed contents stay, and no new transaction is open. A
 -- crash leaves what it could leave before, or the tables of an empty history.
 pub record LeavesUnmade {S : Type 0} (g : Ghosts S) (greatest : ℕ) (old new : Held S) : Type 0 where
   pub kept : HasCleanDisk (state g new) → KeepsCommit (state g old) (state g new)
   pub mode : old.in_transaction ≡ false → new.in_transaction ≡ false
   pub survives : Survives (state g old) (state g new) (LeavesBlank greatest (state g old))
 
--- Trees in which other people's rows are those of the last commit.
+-- Trees with other people's rows as of the last commit.
 pub record LeavesOthers (old : State) (trees : Trees) : Type 0 where
   pub was_open : IsTrue old.is_open
   pub rows : HasOthers old.committed trees

@@ -1,4 +1,4 @@
--- Files to which other people added something later: the rows of sqlite_schema from 22 on.
+-- Files with later additions by other people: the rows of sqlite_schema from 22 on.
 use Rattle.std.specs.Prelude.{◌++◌, [], ◌∷◌, false, codes}
 use Rattle.sqlite.specs.Schema.{Schema}
 use Rattle.sqlite_schema.specs.declared.schema.Table.{Table}

@@ -14,7 +14,7 @@ use state_rows::KeepsRows;
 use trace_lists::TraceLists;
 
 /// Returns the desk and its trace indexes with the change, accepted under this number by the edits that
-/// were committed, or neither if memory was refused: then they have to be rebuilt.
+/// were committed, or neither if memory was refused: then the store rebuilds them.
 pub fn settle_both<D: KeepsRows + Drop>(
     desk: Option<D>,
     lists: Option<TraceLists>,

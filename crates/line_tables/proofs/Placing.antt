@@ -126,7 +126,7 @@ eight_put rows a c eight ran = puts_pieces rows a c ran.shown.was_open (eight_in
 
 -- ---- the values of edits
 
--- one edit more puts a placement
+-- One edit more puts a placement.
 pub placing_more : (edits : List RowEdit) (i : ℕ) (edit : RowEdit) (row : PlacementRow) (values : Row) → i < length edits → edit ≡ get_or edits i edit → edit ≡ PutPlacement row → ArePlacing (row_edits (take i edits)) values → ArePlacing (row_edits (take (i + 1) edits)) (values ++ placement_kept row)
 placing_more edits i edit row values inside item is was = (
   was.0 ++ row ∷ [],
@@ -134,7 +134,7 @@ placing_more edits i edit row values inside item is was = (
   ap (λ v. v ++ placement_kept row) was.2 ∙ flat_map_more placement_kept [] was.0 row,
 )
 
--- eight edits that put placements are made as their values are put in
+-- Eight edits that put placements are made as their values are put in.
 pub eight_first : (edits : List RowEdit) (values : Row) (a c : State) → 8 ≤ length edits → ArePlacing (row_edits (take 8 edits)) values → ((rows : List PlacementRow) → length rows ≡ 8 → values ≡ flat_map placement_kept rows → Writes (map placement_edit rows) a c) → Writes (row_edits (take 8 edits)) a c
 eight_first edits values a c long are put =
     let eight : length are.0 ≡ 8 = sym (length-map are.0 placement_edit) ∙ ap length (sym are.1) ∙ length-map (take 8 edits) EditRow ∙ length-take-le 8 edits long in

@@ -8,7 +8,7 @@ use Rattle.sqlite.specs.declared.transaction.Transaction.{Transaction}
 use Rattle.sqlite.specs.Held.{Held, state}
 use Rattle.sqlite.specs.State.{HasCleanDisk, Survives, KeepsCommit}
 
--- A call that only reads. It leaves the committed contents and what a crash may leave unchanged, and no new transaction
+-- A call that only reads. It changes neither the committed contents nor the possible results of a crash, and leaves no new transaction
 -- open.
 pub record ReadsOnly {S : Type 0} (g : Ghosts S) (old new : Held S) : Type 0 where
   pub kept : HasCleanDisk (state g new) → KeepsCommit (state g old) (state g new)

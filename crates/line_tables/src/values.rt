@@ -23,7 +23,7 @@ pub fn int<'a>(n: u64) -> Result<ValueRef<'a>, Error>
     }
 }
 
-/// Returns the minute, or -1 if there is none.
+/// Returns the minute, or -1 for no minute.
 pub fn since<'a>(minute: Option<Minute>) -> ValueRef<'a>
     ensures { owned result ≡ Int (since_or_none minute) }
 {

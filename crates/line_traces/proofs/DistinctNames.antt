@@ -113,7 +113,7 @@ module _ {X : Type 0} (cmp : X → X → Ordering) (P : X → Type 0) (test : X 
 
 -- ---- names
 
--- A name as it is shown.
+-- A shown name.
 abbrev pub shown_name : Name → Output
 shown_name name = (Text name ∷ [], Text name ∷ [])
 
@@ -168,7 +168,7 @@ keys-are : (names : List Name) → keys_of (entries_of names) ≡ names
 keys-are [] = refl
 keys-are (n ∷ names) = ap (λ l. n ∷ l) (keys-are names)
 
--- Of the shown names DISTINCT keeps the set of names, in some order.
+-- DISTINCT keeps the set of the shown names, in some order.
 pub kept-set : (names : List Name) (all kept : List Output) → IsPermutation all (map shown_name names) → IsDistinctOf by_shown all kept → IsPermutation kept (map shown_name (set_of names))
 kept-set names all kept are distinct =
     subst (IsPermutation kept) (map-map (λ (e : Name × Unit {0}). shown_name e.0) (λ n. (n, tt)) (set_of names)) (

@@ -25,7 +25,7 @@ swapped f [] ys = IsPermutation-same _ _ (sym (flat_map_none (λ y. []) (λ y. r
 swapped f (x ∷ xs) ys =
     IsPermutation-trans _ _ _ (IsPermutation-append_right (flat_map (f x) ys) _ _ (swapped f xs ys)) (both-found (f x) (λ y. flat_map (λ z. f z y) xs) ys)
 
--- The case in which one element passes.
+-- The case of one element that passes.
 pub the-one : {A X : Type 0} (f : A → List X) (h : A → Bool) (xs : List A) (y : A) → filter h xs ≡ y ∷ [] → ((x : A) → h x ≡ false → f x ≡ []) → flat_map f xs ≡ f y
 the-one f h xs y is none = sym (flat_map-filter f h none xs) ∙ ap (flat_map f) is ∙ append-nil (f y)
 

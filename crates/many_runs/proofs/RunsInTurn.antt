@@ -33,7 +33,7 @@ Same = (image : Image) (trees : Trees) (greatest : ℕ) (H : History) → ∥ Ho
     → (make : Option ℕ) (next : ℕ) (H' : History) → Begins image make next H' → IsJudged Two H' → (next ≡ greatest) × (H' ≡ H)
 
 module _ (reports : Reports) (ours_first : OursFirst) (same_list : Same) where
-  -- the next run went on from the greatest number and the list with which the run ended
+  -- The next run went on from the greatest number and the list with which the run ended.
   pub goes_on : (run next : Run) (greatest number : ℕ) (H H₁ G H' : History) → IsRunFrom reports run greatest H H₁ → IsRunFrom reports next number G H'
       → number ≡ greatest → G ≡ H₁ → IsRunFrom reports (run_then run next) greatest H H'
   goes_on run next greatest number H H₁ G H' before after number_is list_is = record {

@@ -76,7 +76,7 @@ impl Clone for Alternates {
     }
 }
 
-/// Whether part `q` may stand where a sheet says `p`: it is `p`, or an alternate named for it.
+/// Returns whether part `q` may replace `p` of a sheet: it is `p`, or an alternate named for it.
 /// Alternates go in one direction and do not chain. Takes no memory.
 pub fn allowed(alternates: &Alternates, p: &Id, q: &Id) -> bool
     ensures { result ≡ is_allowed_by alternates.now p.now q.now }

@@ -1,4 +1,4 @@
--- Files in which no database has been made.
+-- Files without a database.
 use Rattle.std.proofs.Common.{◌≡◌, ◌≤◌, sym, subst, arith}
 use Rattle.sqlite_wal.specs.Recovery.{Image}
 use Rattle.sqlite_pool.specs.Stored.{reserved}

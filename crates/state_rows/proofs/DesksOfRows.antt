@@ -16,7 +16,7 @@ use Rattle.state_rows.proofs.BoardRows.{last_start, IsWorking, on-is, working}
 
 -- ---- boards in work
 
--- The machine on which a board is in work, by its row.
+-- The machine where a board is in work, by its row.
 abbrev pub machine_in : Option BoardRow → Option Name
 machine_in row = option_and_then (λ (r : BoardRow). r.machine) row
 

@@ -1,4 +1,4 @@
-//! The views from which the edits of a command are made.
+//! The views that the edits of a command need.
 
 use desk_types::{Desk, Id, Mounts, ReelView, SheetRows};
 use std::alloc::AllocError;
@@ -18,7 +18,7 @@ pub trait Views {
     /// The histories for which the views are true.
     ghost Stands: { Self → History → Type 0 };
 
-    /// The rules by which these histories are judged.
+    /// The rules that judge these histories.
     ghost kept_rules: { Self → Rules };
 
     /// A law, without code: each history for which the views are true is judged by the rules.

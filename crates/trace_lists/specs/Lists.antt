@@ -34,7 +34,7 @@ keys_of_install i = map (λ place. (i.number, place)) (range_with_len 1 i.pieces
 abbrev pub keys_of_installs : List Install → List Key
 keys_of_installs installs = flat_map keys_of_install installs
 
--- at least one piece was placed: so each install is kept once
+-- At least one piece was placed: so each install is kept once.
 abbrev pub HasPieces : Install → Type 0
 HasPieces i = 0 < i.pieces
 

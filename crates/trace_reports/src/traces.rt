@@ -13,7 +13,7 @@ use sqlite::Alter;
 use state_rows::KeepsRows;
 use std::alloc::Global;
 
-/// The trace of a board: what is on it. It is not found where no accepted command started the board.
+/// Returns the trace of a board: its pieces. It is not found if no accepted command started the board.
 pub fn board_trace<S: Alter, D: KeepsRows + Drop>(
     alloc: Global,
     store: &mut LineStore<S, D>,
@@ -30,8 +30,8 @@ pub fn board_trace<S: Alter, D: KeepsRows + Drop>(
     Ok(board_text(alloc, detail, pieces.as_slice())?)
 }
 
-/// The trace of a lot: which boards hold its pieces. It is not found where no accepted command received
-/// a reel of the lot.
+/// Returns the trace of a lot: the boards that hold its pieces. It is not found if no accepted command received a reel
+/// of the lot.
 pub fn lot_trace<S: Alter, D: KeepsRows + Drop>(
     alloc: Global,
     store: &mut LineStore<S, D>,
@@ -48,8 +48,8 @@ pub fn lot_trace<S: Alter, D: KeepsRows + Drop>(
     Ok(lot_text(alloc, detail, pieces.as_slice())?)
 }
 
-/// The pieces that were placed off reels whose floor life was used up, by number, then place, with the
-/// effective minutes of their installs.
+/// Returns the pieces placed from reels whose floor life was used up, by number, then place, with the effective minutes
+/// of their installs.
 pub fn overdue_list<S: Alter, D: KeepsRows + Drop>(
     alloc: Global,
     store: &mut LineStore<S, D>,

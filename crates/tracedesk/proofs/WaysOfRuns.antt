@@ -34,7 +34,7 @@ pub record Follows (ways ways' : Ways) : Type 1 where
   pub refuses : (make : Option ℕ) (fault : OpenFault) → ways.Refuses make fault → ways'.Refuses make fault
   pub refuses_to_migrate : (fault : OpenFault) → ways.RefusesToMigrate fault → ways'.RefusesToMigrate fault
 
--- The files show what was open.
+-- The files show the open desk.
 pub follows : {T D : Type 0} {g : disk.Ghosts D} (how : Close) (first : start.Ghosts T) (it : Left D g) (files : Option (Files D)) → ClosesLeft how it files → Follows (ways_when_open first it) (ways_when_closed how first g files)
 follows how first it files closed = record {
   none = λ is. subst (λ (l : Left _ _). ClosesLeft how l files) is closed;

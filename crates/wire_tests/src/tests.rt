@@ -1,4 +1,4 @@
-//! What reads and writes move, and what `feed` leaves behind a read or a write that fails.
+//! The bytes that reads and writes move, and the result of `feed` after a failed read or write.
 
 mod failing;
 mod lengths;
@@ -11,7 +11,7 @@ use served::{ServeFault, Served};
 use std::alloc::Global;
 use std::io::{Read, Write};
 
-/// An owner that stands for no list: it answers each command that the desk is full.
+/// An owner that represents no history: it answers each command with DeskFull.
 #[derive(Drop)]
 struct Full;
 
@@ -31,7 +31,7 @@ impl Owner for Full {
     fn is_lawful(&self) {}
 }
 
-/// What is left of a run of `feed` over a reader and a writer.
+/// The result of a run of `feed` over a reader and a writer.
 #[derive(Drop)]
 struct Fed<R, W> {
     input: R,

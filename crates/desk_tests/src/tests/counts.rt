@@ -1,11 +1,11 @@
-//! What a count changes of a reel.
+//! The effect of a count on a reel.
 
 use super::id;
 use desk_types::{Level, Minute, Moisture, Quantity};
 use reels::{Reel, Usage};
 use std::test::Fail;
 
-/// A count below what is left scraps the difference. One above it finds the difference, which counts as
+/// A count below the pieces left scraps the difference. A count above them finds the difference, which counts as
 /// received.
 #[test]
 fn a_count_scraps_or_finds_pieces(rt: HostRuntime) -> Result<(), Fail> {

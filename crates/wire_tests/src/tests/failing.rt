@@ -1,5 +1,5 @@
-//! Each read and each write of two worked cases fails once. A failure is reported at once: the reader or
-//! writer would go on, so a call made behind it shows.
+//! Each read and each write of two worked cases fails once. A failure is reported at once: the reader or writer would
+//! continue, so a later call would show.
 
 use super::lines::{FIRST_RUN, SPLICE, lines_of};
 use super::{Fed, run_feed};
@@ -10,7 +10,7 @@ use std::io::{Error, ErrorKind, Read, Write};
 use std::process::Abort;
 use std::test::Fail;
 
-/// A reader of some bytes, a few a call, of which one call fails.
+/// A reader of some bytes, a few a call. One of its calls fails.
 #[derive(Drop)]
 struct Source<'a> {
     left: &'a [u8],
@@ -40,7 +40,7 @@ enum Failure {
     TakesNothing,
 }
 
-/// A writer that keeps what it takes, a few bytes a call, of which one call fails.
+/// A writer that keeps its bytes, a few a call. One of its calls fails.
 #[derive(Drop)]
 struct Sink {
     taken: Vec<u8>,
@@ -81,12 +81,12 @@ fn new_sink(alloc: Global, most: usize, fails_at: u64, failure: Failure) -> Sink
     }
 }
 
-/// How many lines are whole in the bytes.
+/// Returns the number of complete lines in the bytes.
 fn whole_lines(bytes: &[u8]) -> u64 {
     bytes.iter().filter(|it| **it == b'\n').count() as u64
 }
 
-/// A run of a case in which one read fails, where it makes so many.
+/// Runs a case in which this read fails, if there are that many.
 fn failed_read<'a>(
     alloc: Global,
     text: &'a [u8],
@@ -102,7 +102,7 @@ fn failed_read<'a>(
     run_feed(alloc, source, new_sink(alloc, usize::MAX, 0, Failure::Told))
 }
 
-/// After a failed read the lines before it are answered, and nothing is read behind it.
+/// After a failed read the lines before it are answered, and no further read is made.
 fn each_read_fails(rt: &impl Abort, alloc: Global, text: &[u8], most: usize) {
     let whole = failed_read(alloc, text, most, 0);
     let answers = whole.output.taken.as_slice();
@@ -121,7 +121,7 @@ fn each_read_fails(rt: &impl Abort, alloc: Global, text: &[u8], most: usize) {
     }
 }
 
-/// After a failed write the answers before it are out, whole, and nothing is written behind it.
+/// After a failed write the answers before it are complete, and no further write is made.
 fn each_write_fails(rt: &impl Abort, alloc: Global, text: &[u8], most: usize, failure: Failure) {
     let whole = run_feed(alloc, text, new_sink(alloc, most, 0, failure));
     let answers = whole.output.taken.as_slice();

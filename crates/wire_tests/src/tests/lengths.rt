@@ -1,4 +1,4 @@
-//! How much a read and a write take. No clause says so: a reader may return one byte a call.
+//! The lengths of reads and writes. No clause fixes them: a reader may return one byte a call.
 
 use super::lines::{FIRST_RUN, lines_of};
 use super::run_feed;
@@ -9,10 +9,10 @@ use std::io::{Read, Write};
 use std::process::Abort;
 use std::test::Fail;
 
-/// The longest piece that is tried: more than a block, and more than one write of `send_line`.
+/// The longest piece tried: longer than a block, and than one write of `send_line`.
 const LONGEST: usize = 70_000;
 
-/// A writer that takes all that it is given, and counts its calls.
+/// A writer that accepts every byte, and counts its calls.
 #[derive(Drop)]
 struct Counted {
     calls: usize,
@@ -48,7 +48,7 @@ fn is_sent(piece: &[u8]) -> bool {
     sent && calls == piece.len().min(1) && bytes == piece.len()
 }
 
-/// Whether a wire reads all that there is in one call, if there is room for it.
+/// Returns whether a wire reads all available bytes in one call, if there is room.
 fn is_read(piece: &[u8], room: &mut [u8]) -> bool {
     let mut wire = Wire::new(piece);
     let count = wire.read(room);
