@@ -43,6 +43,11 @@ judged-after rules H s judged range = by (refusal_of rules H s) refl
     by (Some refusal) is = judged
     by None is = judged-accept rules H s judged range is
 
+pub judged-run : (rules : Rules) (ss : List Stamped) (H : History) → All IsStamped ss → IsJudged rules H → IsJudged rules (after_commands rules H ss)
+judged-run rules [] H ranges judged = judged
+judged-run rules (s ∷ ss) H ranges judged =
+    judged-run rules ss (after_command rules H s) (All-tail IsStamped s ss ranges) (judged-after rules H s judged (All-head IsStamped s ss ranges))
+
 module _ (past_board past_reel : Name → Bool) where
   -- the command names nothing past
   pub record NamesNew (command : Command) : Type 0 where

@@ -44,7 +44,8 @@ pub record IsSame (G H : History) (reel : Name) : Type 0 where
   pub out : is_some (out_since G reel) ≡ is_some (out_since H reel)
   pub minutes : (minute : ℕ) → now_of G ≤ minute → minutes_left G reel minute ≡ minutes_left H reel minute
 
--- Two histories agree but in the boards and the reels that are past. A reel that is past was received and has no pieces left.
+-- Two histories agree but in the boards and the reels that are past. A board that is past was started, and a reel that is past was
+-- received and has no pieces left.
 pub record Agree (past_board past_reel : Name → Bool) (G H : History) : Type 0 where
   pub minute : desk_minute G ≡ desk_minute H
   pub parts : is_part G ≡ is_part H
@@ -55,10 +56,10 @@ pub record Agree (past_board past_reel : Name → Bool) (G H : History) : Type 0
   pub busy : is_in_work G ≡ is_in_work H
   pub products : (board : Name) → past_board board ≡ false → product_of G board ≡ product_of H board
   pub placed : (board : Name) → past_board board ≡ false → is_placed_on G board ≡ is_placed_on H board
-  pub started : (board : Name) → is_started H board ≡ true → is_started G board ≡ true
   pub left : left_of G ≡ left_of H
   pub live : live_on G ≡ live_on H
   pub mounted : is_mounted G ≡ is_mounted H
+  pub started : (board : Name) → past_board board ≡ true → is_started G board ≡ true
   pub spent : (reel : Name) → past_reel reel ≡ true → (is_some (receipt_of G reel) ≡ true) × (left_of G reel ≡ 0)
   pub reels : (reel : Name) → past_reel reel ≡ false → IsSame G H reel
 

@@ -65,9 +65,9 @@ same-next G H s reel at a of_G of_H = record {
     life : floor_life (g ∷ G) reel ≡ floor_life (h ∷ H) reel
     life = life-marked (g ∷ G) reel ∙ ap (option_and_then (λ (m : Name × (Name × LevelWithLabel)). limit_of m.1.1.level m.1.1.label)) marks ∙ sym (life-marked (h ∷ H) reel)
 
-or-mono : (said before other : Bool) → (before ≡ true → other ≡ true) → (said || before) ≡ true → (said || other) ≡ true
-or-mono true before other then is = refl
-or-mono false before other then is = then is
+or-true : (said before : Bool) → before ≡ true → (said || before) ≡ true
+or-true true before is = refl
+or-true false before is = is
 
 some-or : {X : Type 0} (said before : Option X) → is_some before ≡ true → is_some (option_or said before) ≡ true
 some-or None before is = is
@@ -90,7 +90,6 @@ module _ (past_board past_reel : Name → Bool) where
     busy = λ j board. (in_work-next G g board of_G ∙ (λ k. in_work_after board s.command (a.busy k board)) ∙ sym (in_work-next H h board of_H)) j;
     products = λ board new. λ j. option_or (a.products board new j) (option_and_then (a.selections j) (start_by board s.command));
     placed = λ board new. λ j d. places board d s.command || a.placed board new j d;
-    started = λ board is. or-mono (is_some (start_by board s.command)) (is_started H board) (is_started G board) (a.started board) is;
     left = left;
     live = λ j machine slot. (live-next G g machine slot of_G
         ∙ (λ k. filter (λ r. nat_lt 0 (left k r)) (tape_after machine slot s.command (a.live k machine slot)))
@@ -98,6 +97,7 @@ module _ (past_board past_reel : Name → Bool) where
     mounted = λ j reel. (mounted-next G g reel of_G
         ∙ (λ k. mounted_after (nat_lt 0 (left k reel)) (λ m s. has (a.live k m s) reel) reel s.command (a.mounted k reel))
         ∙ sym (mounted-next H h reel of_H)) j;
+    started = λ board past. or-true (is_some (start_by board s.command)) (is_started G board) (a.started board past);
     spent = λ reel past.
         let before = a.spent reel past in (
           some-or (receipt_by reel g.effective s.command) (receipt_of G reel) before.0,

@@ -7,7 +7,8 @@ use Rattle.std.proofs.lemmas.Bool.{eqb-true}
 use Rattle.std.proofs.lemmas.Bool.Decides.{nat_tests}
 use Rattle.desk_types.specs.declared.answer.Refusal.TheVariants.{NotInWork}
 use Rattle.desk_types.specs.declared.command.Command.{Command}
-use Rattle.desk_types.specs.declared.command.Command.TheVariants.{MaterialsInstalled}
+use Rattle.desk_types.specs.declared.command.Command.TheVariants.{WorkStarted, MaterialsInstalled}
+use Rattle.desk_types.specs.declared.command.Entry.{Entry}
 use Rattle.desk_types.specs.declared.command.Receipt.{Receipt}
 use Rattle.desk_types.specs.declared.rules.Rules.TheVariants.{Two}
 use Rattle.desk_types.specs.Id.{Name, same}
@@ -19,11 +20,11 @@ use Rattle.desk_types.specs.Pieces.{left_of, is_mounted}
 use Rattle.desk_types.specs.FloorLife.{IsUntouched, out_since, since_after, exposure_of, is_six, is_baked}
 use Rattle.desk_types.specs.Work.{in_work_on, is_in_work, is_in_work_on, start_by, product_of, places, is_placed_on}
 use Rattle.desk_types.specs.Refusals.{designators_refusal, install_refusal, command_refusal}
-use Rattle.desk_types.specs.Judged.{IsJudged}
+use Rattle.desk_types.specs.Judged.{IsNext, IsJudged}
 use Rattle.desk_types.proofs.Keys.{same-true}
 use Rattle.desk_types.proofs.Tests.{and-both}
 use Rattle.desk_laws.proofs.Accepted.{next-accepted}
-use Rattle.desk_laws.proofs.BoardsInWork.{work-product}
+use Rattle.desk_laws.proofs.BoardsInWork.{work-selected, work-product}
 use Rattle.desk_laws.proofs.Judgements.{untouched}
 use Rattle.desk_laws.proofs.Lookups.{mounted-live, mounted-there, in_work-somewhere}
 use Rattle.desk_laws.proofs.Mounted.{iff}
@@ -31,7 +32,7 @@ use Rattle.alike.specs.Alike.{IsIdle, IsSameReel, AreAlike}
 use Rattle.alike.specs.Past.{is_started, is_spent}
 use Rattle.alike.proofs.Agreeing.{mark, marked, IsSame, Agree, known, left-new}
 
--- ---- boards that were not started
+-- ---- boards
 
 or-neither : (a b : Bool) → (a || b) ≡ false → (a ≡ false) × (b ≡ false)
 or-neither true b is = cc
@@ -41,13 +42,34 @@ no-some : {X : Type 0} (o : Option X) → is_some o ≡ false → o ≡ None
 no-some None is = refl
 no-some (Some x) is = cc
 
--- they have no product,
+-- a board that was not started has no product,
 unstarted-product : (H : History) (board : Name) → is_started H board ≡ false → product_of H board ≡ None
 unstarted-product [] board new = refl
 unstarted-product (e ∷ H) board new =
     let neither = or-neither (is_some (start_by board e.stamped.command)) (is_started H board) new in
     ap (λ o. option_or o (option_and_then (selected_on H) (start_by board e.stamped.command))) (unstarted-product H board neither.1)
     ∙ ap (option_and_then (selected_on H)) (no-some (start_by board e.stamped.command) neither.0)
+
+-- and one that was started has one
+if-is : {X : Type 0} (b : Bool) (x y : X) → (if b then Some x else None) ≡ Some y → x ≡ y
+if-is true x y is = cc
+if-is false x y is = cc
+
+start-selected : (H : History) (e : Entry) (board machine : Name) (command : Command) → IsNext Two H e → e.stamped.command ≡ command → start_by board command ≡ Some machine
+    → is_some (selected_on H machine) ≡ true
+start-selected H e board machine (WorkStarted m b) next is starts =
+    ap (λ x. is_some (selected_on H x)) (sym (if-is (same b board) m machine starts)) ∙ work-selected H e m b next is
+start-selected H e board machine _ next is starts = cc
+
+started-product : (H : History) (board : Name) → IsJudged Two H → is_started H board ≡ true → is_some (product_of H board) ≡ true
+started-product [] board judged started = cc
+started-product (e ∷ H) board (next, judged) started = by (start_by board e.stamped.command) (product_of H board) refl refl started (started-product H board judged)
+  where
+    by : (start product : Option Name) → start_by board e.stamped.command ≡ start → product_of H board ≡ product → (is_some start || is_started H board) ≡ true
+        → (is_started H board ≡ true → is_some (product_of H board) ≡ true) → is_some (option_or product (option_and_then (selected_on H) start)) ≡ true
+    by start (Some product) starts has started before = refl
+    by None None starts has started before = sym (ap is_some has) ∙ before started
+    by (Some machine) None starts has started before = start-selected H e board machine e.stamped.command next refl starts
 
 in-work-there : (H : History) (machine board : Name) → is_in_work_on H machine board ≡ true → in_work_on H machine ≡ Some board
 in-work-there H machine board is = by (in_work_on H machine) is
@@ -80,7 +102,7 @@ places-none H minute (MaterialsInstalled machine b ds) board d judged none produ
         cc
 places-none H minute _ board d judged none product = refl
 
--- and none is placed on them
+-- and none is placed on a board that was not started
 unstarted-placed : (H : History) (board d : Name) → IsJudged Two H → is_started H board ≡ false → is_placed_on H board d ≡ false
 unstarted-placed [] board d judged new = refl
 unstarted-placed (e ∷ H) board d (next, judged) new =
@@ -168,10 +190,10 @@ agree-from G H of_G of_H a = record {
   busy = λ j board. (idle-boards G board a.old_idle ∙ sym (idle-boards H board a.new_idle)) j;
   products = λ board new. unstarted-product G board new ∙ sym (unstarted-product H board (new-board board new));
   placed = λ board new. λ j d. (unstarted-placed G board d of_G new ∙ sym (unstarted-placed H board d of_H (new-board board new))) j;
-  started = a.boards_known;
   left = λ j reel. a.left reel j;
   live = λ j machine slot. a.slots machine slot j;
   mounted = λ j reel. mounted reel j;
+  started = λ board past. past;
   spent = λ reel past. let both = and-both (is_some (receipt_of G reel)) (left_of G reel == 0) past in (both.0, eqb-true (left_of G reel) 0 both.1);
   reels = λ reel new. of-reel reel new (receipt_of G reel) refl;
 }
@@ -201,8 +223,8 @@ agree-from G H of_G of_H a = record {
 
 -- ---- and back to alike ones
 
-pub alike-from : (past_board past_reel : Name → Bool) (G H : History) → Agree past_board past_reel G H → IsIdle G → AreAlike G H
-alike-from past_board past_reel G H a idle = record {
+pub alike-from : (past_board past_reel : Name → Bool) (G H : History) → IsJudged Two H → Agree past_board past_reel G H → IsIdle G → AreAlike G H
+alike-from past_board past_reel G H of_H a idle = record {
   minute = a.minute;
   parts = λ part. λ j. a.parts j part;
   alternates = λ p q. λ j. a.alternates j p q;
@@ -213,10 +235,18 @@ alike-from past_board past_reel G H a idle = record {
   slots = λ machine slot. λ j. a.live j machine slot;
   left = λ reel. λ j. a.left j reel;
   reels = λ reel some. same-to G H reel (a.reels reel (left-new past_board past_reel G H reel a (is-some (left_of G reel) some)));
-  boards_known = a.started;
+  boards_known = λ board is. of-board board is (past_board board) refl (is_started G board) refl;
   reels_known = λ reel is. of-reel reel is (past_reel reel) refl;
 }
   where
+    of-board : (board : Name) → is_started H board ≡ true → (b : Bool) → past_board board ≡ b → (c : Bool) → is_started G board ≡ c → is_started G board ≡ true
+    of-board board is true past c started = a.started board past
+    of-board board is false new true started = started
+    of-board board is false new false started =
+        let has = ap is_some (a.products board new) ∙ started-product H board of_H is in
+        let lacks = ap is_some (unstarted-product G board started) in
+        cc
+
     of-reel : (reel : Name) → is_some (receipt_of H reel) ≡ true → (b : Bool) → past_reel reel ≡ b → is_some (receipt_of G reel) ≡ true
     of-reel reel is true past = (a.spent reel past).0
     of-reel reel is false new = known G H reel (a.reels reel new) ∙ is
