@@ -14,7 +14,8 @@ use Rattle.desk_types.specs.History.{History, now_of, effective_minute, accept}
 use Rattle.desk_types.specs.Refusals.{refusal_of}
 use Rattle.desk_types.specs.Outcome.{change_of, detail_of, reply_to, after_command, replies_to, after_commands}
 use Rattle.desk_types.specs.Judged.{IsJudged}
-use Rattle.desk_types.proofs.BothRules.{judged-by-two}
+use Rattle.desk_types.proofs.BothRules.{accepted-by-two, judged-by-two}
+use Rattle.desk_laws.proofs.Accepted.{command-accepted}
 use Rattle.alike.specs.Past.{boards_named, reels_named}
 use Rattle.alike.proofs.Agreeing.{Agree, effective-same, refusal-same, detail-same}
 use Rattle.alike.proofs.AgreeingNext.{agree-next}
@@ -63,9 +64,10 @@ module _ (past_board past_reel : Name → Bool) where
       both : refusal_of rules G s ≡ refusal_of rules H s
       both = refusal-same past_board past_reel rules G H s a new.boards new.reels
 
-      told : (change_of G s).detail ≡ (change_of H s).detail
-      told =
+      told : refusal_of rules G s ≡ None → (change_of G s).detail ≡ (change_of H s).detail
+      told none =
           detail-same past_board past_reel G H (effective_minute G s.minute) s.command a new.reels (omega arith)
+          (command-accepted G s (accepted-by-two rules G s none))
           ∙ ap (λ m. detail_of H m s.command) (effective-same past_board past_reel G H s a)
 
       by : (of_old of_new : Option Refusal) → refusal_of rules G s ≡ of_old → refusal_of rules H s ≡ of_new
@@ -75,7 +77,7 @@ module _ (past_board past_reel : Name → Bool) where
       by (Some x) None is_x is_y = let one : Some x ≡ None = sym is_x ∙ both ∙ is_y in cc
       by None (Some y) is_x is_y = let one : None ≡ Some y = sym is_x ∙ both ∙ is_y in cc
       by None None is_x is_y = (
-        ap (λ detail. Accepted detail) told,
+        ap (λ detail. Accepted detail) (told is_x),
         agree-next past_board past_reel G H s a (judged-by-two rules (accept G s) (judged-accept rules G s of_G range is_x))
             (judged-by-two rules (accept H s) (judged-accept rules H s of_H range is_y)),
       )

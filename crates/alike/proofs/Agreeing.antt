@@ -15,6 +15,7 @@ use Rattle.desk_types.specs.declared.command.Stamped.{Stamped}
 use Rattle.desk_types.specs.declared.limits.TheConstants.{FURTHEST_AHEAD}
 use Rattle.desk_types.specs.declared.count.CountRow.{CountRow}
 use Rattle.desk_types.specs.declared.rules.Rules.{Rules}
+use Rattle.desk_types.specs.declared.rules.Rules.TheVariants.{Two}
 use Rattle.desk_types.specs.declared.sheet.SheetRow.{SheetRow}
 use Rattle.desk_types.specs.declared.take.Purpose.TheVariants.{Rejected}
 use Rattle.desk_types.specs.Id.{Name, same}
@@ -25,8 +26,9 @@ use Rattle.desk_types.specs.Tape.{tape_of}
 use Rattle.desk_types.specs.Pieces.{install_picks, scrap_picks, count_picks, picks_of, left_of, live_on, first, front_of, is_mounted}
 use Rattle.desk_types.specs.FloorLife.{exposure_of, floor_life, is_expired, minutes_left, is_unbaked, out_since}
 use Rattle.desk_types.specs.Work.{in_work_on, is_in_work, product_of, is_placed_on}
-use Rattle.desk_types.specs.Refusals.{first_refusal, part_refusal, alternate_refusal, sheet_refusal, definition_refusal, selection_refusal, receipt_refusal, opening_refusal, closing_refusal, is_wrong_for, is_wrong_part, mounting_refusal, unload_refusal, scrap_refusal, feeding_refusal, front_refusal, slots_refusal, differ, start_refusal, completion_refusal, designators_refusal, install_refusal, is_above, counts_refusal, command_refusal, is_clock, refusal_of}
+use Rattle.desk_types.specs.Refusals.{first_refusal, part_refusal, alternate_refusal, sheet_refusal, definition_refusal, selection_refusal, receipt_refusal, opening_refusal, closing_refusal, is_wrong_for, is_wrong_part, mounting_refusal, unload_refusal, scrap_refusal, front_refusal, slots_refusal, differ, start_refusal, completion_refusal, designators_refusal, install_refusal, is_above, counts_refusal, command_refusal, is_clock, refusal_of}
 use Rattle.desk_types.specs.Outcome.{reels_of, pieces_of, detail_of}
+use Rattle.desk_laws.proofs.Accepted.{mountable}
 use Rattle.desk_laws.proofs.Lives.{picks-live, designators-live, scrap-live}
 use Rattle.alike.specs.Past.{is_started, boards_named, reels_named}
 
@@ -42,7 +44,7 @@ pub record IsSame (G H : History) (reel : Name) : Type 0 where
   pub marks : marks_of G reel ≡ marks_of H reel
   pub unbaked : is_unbaked G reel ≡ is_unbaked H reel
   pub out : is_some (out_since G reel) ≡ is_some (out_since H reel)
-  pub minutes : (minute : ℕ) → now_of G ≤ minute → minutes_left G reel minute ≡ minutes_left H reel minute
+  pub minutes : is_unbaked G reel ≡ false → (minute : ℕ) → now_of G ≤ minute → minutes_left G reel minute ≡ minutes_left H reel minute
 
 -- Two histories agree but in the boards and the reels that are past. A board that is past was started, and a reel that is past was
 -- received and has no pieces left.
@@ -96,9 +98,28 @@ expired-is H reel minute = by (floor_life H reel)
     by None = refl
     by (Some limit) = none-left limit (exposure_of H reel minute)
 
-expired : (G H : History) (reel : Name) (minute : ℕ) → IsSame G H reel → now_of G ≤ minute → is_expired G reel minute ≡ is_expired H reel minute
-expired G H reel minute a le =
-    expired-is G reel minute ∙ ap (λ o. option_map_or (λ left. left == 0) o false) (a.minutes minute le) ∙ sym (expired-is H reel minute)
+expired : (G H : History) (reel : Name) (minute : ℕ) → IsSame G H reel → is_unbaked G reel ≡ false → now_of G ≤ minute
+    → is_expired G reel minute ≡ is_expired H reel minute
+expired G H reel minute a baked le =
+    expired-is G reel minute ∙ ap (λ o. option_map_or (λ left. left == 0) o false) (a.minutes baked minute le) ∙ sym (expired-is H reel minute)
+
+-- the refusal of the first test that holds, or else another
+abbrev tests-then : List (Bool × Refusal) → Option Refusal → Option Refusal
+tests-then [] rest = rest
+tests-then (t ∷ ts) rest = if t.0 then Some t.1 else tests-then ts rest
+
+-- the tests of a reel's floor life: an unbaked reel is refused before its minutes matter
+life-tests : (G H : History) (reel : Name) (minute : ℕ) (not_baked expiry : Refusal) → IsSame G H reel → now_of G ≤ minute
+    → first_refusal ((is_unbaked G reel, not_baked) ∷ (is_expired G reel minute, expiry) ∷ [])
+    ≡ first_refusal ((is_unbaked H reel, not_baked) ∷ (is_expired H reel minute, expiry) ∷ [])
+life-tests G H reel minute not_baked expiry a le = by (is_unbaked G reel) refl
+  where
+    tests : Bool → Bool → Option Refusal
+    tests unbaked expired = first_refusal ((unbaked, not_baked) ∷ (expired, expiry) ∷ [])
+
+    by : (b : Bool) → is_unbaked G reel ≡ b → tests (is_unbaked G reel) (is_expired G reel minute) ≡ tests (is_unbaked H reel) (is_expired H reel minute)
+    by true is = ap (λ b. tests b (is_expired G reel minute)) is ∙ sym (ap (λ b. tests b (is_expired H reel minute)) (sym a.unbaked ∙ is))
+    by false is = λ j. tests (a.unbaked j) (expired G H reel minute a is le j)
 
 -- the front of a slot has pieces left
 first-passes : (p : Name → Bool) (names : List Name) (x : Name) → first (filter (λ r. p r) names) ≡ Some x → p x ≡ true
@@ -157,7 +178,7 @@ module _ (past_board past_reel : Name → Bool) where
   unfolding mounting_refusal
   mounting G H minute machine s reel t u a new le is =
       let it = a.reels reel (only past_reel reel new) in
-      λ j. first_refusal (
+      λ j. tests-then (
       (is_none (a.selections j machine), NoProduct machine)
       ∷ (is_none (row G H machine s a j), SlotNotOnSheet s)
       ∷ is j
@@ -165,16 +186,15 @@ module _ (past_board past_reel : Name → Bool) where
       ∷ (a.mounted j reel, ReelMounted reel)
       ∷ (a.left j reel == 0, ReelEmpty reel)
       ∷ (wrong-part G H machine s reel a it j, WrongPart reel)
-      ∷ (it.unbaked j, NotBaked reel)
-      ∷ (expired G H reel minute it le j, Expired reel)
       ∷ [])
+      (life-tests G H reel minute (NotBaked reel) (Expired reel) it le j)
 
   front : (G H : History) (minute : ℕ) (machine : Name) (r : SheetRow) (o : Option Name) → front_of G machine r.slot ≡ o → Agree past_board past_reel G H
       → now_of G ≤ minute → front_refusal G minute r o ≡ front_refusal H minute r o
   front G H minute machine r None is a le = refl
   front G H minute machine r (Some reel) is a le =
       let it = a.reels reel (left-new G H reel a (front-left G machine r.slot reel is)) in
-      λ j. feeding_refusal r.slot (wrong-for G H r reel a it j) (it.unbaked j) (expired G H reel minute it le j)
+      λ j. tests-then ((wrong-for G H r reel a it j, WrongPart r.slot) ∷ []) (life-tests G H reel minute (NotBaked r.slot) (Expired r.slot) it le j)
 
   slots : (G H : History) (minute : ℕ) (machine : Name) (rows : List SheetRow) → Agree past_board past_reel G H → now_of G ≤ minute
       → slots_refusal G minute machine rows ≡ slots_refusal H minute machine rows
@@ -290,10 +310,13 @@ module _ (past_board past_reel : Name → Bool) where
   picks-same G H _ a = refl
 
   pub detail-same : (G H : History) (minute : ℕ) (command : Command) → Agree past_board past_reel G H → AreNew past_reel (reels_named command) → now_of G ≤ minute
-      → detail_of G minute command ≡ detail_of H minute command
-  detail-same G H minute (MaterialsLoaded machine s reel) a reels le = ap MinutesLeft ((a.reels reel (only past_reel reel reels)).minutes minute le)
-  detail-same G H minute (MaterialsSpliced machine s reel) a reels le = ap MinutesLeft ((a.reels reel (only past_reel reel reels)).minutes minute le)
-  detail-same G H minute (MaterialsInstalled machine board ds) a reels le = λ j. Reels (reels_of (picks-same G H (MaterialsInstalled machine board ds) a j))
-  detail-same G H minute (MaterialsScrapped machine s quantity) a reels le = λ j. Taken (pieces_of (picks-same G H (MaterialsScrapped machine s quantity) a j))
-  detail-same G H minute (CountsTaken rows) a reels le = λ j. Taken (pieces_of (picks-same G H (CountsTaken rows) a j))
-  detail-same G H minute _ a reels le = refl
+      → command_refusal Two G minute command ≡ None → detail_of G minute command ≡ detail_of H minute command
+  unfolding command_refusal
+  detail-same G H minute (MaterialsLoaded machine s reel) a reels le none =
+      ap MinutesLeft ((a.reels reel (only past_reel reel reels)).minutes (mountable G minute machine s reel _ none).baked minute le)
+  detail-same G H minute (MaterialsSpliced machine s reel) a reels le none =
+      ap MinutesLeft ((a.reels reel (only past_reel reel reels)).minutes (mountable G minute machine s reel _ none).baked minute le)
+  detail-same G H minute (MaterialsInstalled machine board ds) a reels le none = λ j. Reels (reels_of (picks-same G H (MaterialsInstalled machine board ds) a j))
+  detail-same G H minute (MaterialsScrapped machine s quantity) a reels le none = λ j. Taken (pieces_of (picks-same G H (MaterialsScrapped machine s quantity) a j))
+  detail-same G H minute (CountsTaken rows) a reels le none = λ j. Taken (pieces_of (picks-same G H (CountsTaken rows) a j))
+  detail-same G H minute _ a reels le none = refl

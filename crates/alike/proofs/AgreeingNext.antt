@@ -1,5 +1,5 @@
 -- Two histories that agree but in what is past still agree after a command that both accept.
-use Rattle.std.proofs.Common.{◌≡◌, ◌-◌, max, nat_lt, Bool, true, false, Option, Some, None, ◌∷◌, refl, sym, ap, ◌∙◌, arith}
+use Rattle.std.proofs.Common.{◌≡◌, ℕ, ◌≤◌, ◌-◌, max, nat_lt, Bool, true, false, Option, Some, None, ◌∷◌, refl, sym, ap, ◌∙◌, arith}
 use Rattle.std.specs.Prelude.{◌||◌, is_some, unwrap_or}
 use Rattle.std.specs.Option.{option_and_then, option_map, option_or}
 use Rattle.std.specs.List.{filter}
@@ -13,7 +13,7 @@ use Rattle.desk_types.specs.History.{History, effective_minute, entry_of, accept
 use Rattle.desk_types.specs.Setup.{defines, allows, sheet_by, selection_by, receipt_by, receipt_of}
 use Rattle.desk_types.specs.Tape.{tape_after}
 use Rattle.desk_types.specs.Pieces.{pieces_picked, pieces_by, left_of}
-use Rattle.desk_types.specs.FloorLife.{open_by, baked_by, floor_life, minutes_left}
+use Rattle.desk_types.specs.FloorLife.{open_by, baked_by, floor_life, minutes_left, is_unbaked}
 use Rattle.desk_types.specs.Work.{work_by, start_by, places}
 use Rattle.desk_types.specs.Judged.{IsJudged}
 use Rattle.desk_laws.specs.Place.{mounted_after}
@@ -26,7 +26,7 @@ use Rattle.desk_laws.proofs.Mounts.{has}
 use Rattle.desk_laws.proofs.ReelsLater.{not-again}
 use Rattle.alike.specs.Past.{is_started}
 use Rattle.alike.proofs.Agreeing.{mark, marks_of, IsSame, Agree, effective-same, picks-same}
-use Rattle.alike.proofs.FloorNext.{is_anew, minutes-next, remaining, remaining-same, life-marked, waiting, unbaked-next, out_after, out-next}
+use Rattle.alike.proofs.FloorNext.{is_anew, baked-anew, minutes-next, remaining, remaining-same, life-marked, waiting, unbaked-next, out_after, out-next}
 
 map-or : (said before : Option Receipt) → option_map mark (option_or said before) ≡ option_or (option_map mark said) (option_map mark before)
 map-or None before = refl
@@ -42,11 +42,10 @@ same-next G H s reel at a of_G of_H = record {
       ∙ (λ j. waiting (baked_by reel s.command) (marks j) (a.unbaked j))
       ∙ sym (unbaked-next H h reel);
   out = out-next G g reel ∙ ap (out_after (open_by reel s.command)) a.out ∙ sym (out-next H h reel);
-  minutes = λ minute le.
+  minutes = λ baked minute le.
       minutes-next G g reel minute of_G (omega arith) (omega (arith, le))
       ∙ (λ j. remaining (open_by reel s.command) (is_anew s.command) (at j) (life j) (minutes_left G reel) minute)
-      ∙ remaining-same (open_by reel s.command) (is_anew s.command) h.effective (floor_life (h ∷ H) reel) (minutes_left G reel) (minutes_left H reel) minute
-      (omega (arith, at, le)) (λ m later. a.minutes m (omega (arith, at, later)))
+      ∙ remain baked minute (omega (arith, at, le))
       ∙ sym (minutes-next H h reel minute of_H (omega arith) (omega (arith, at, le)));
 }
   where
@@ -64,6 +63,26 @@ same-next G H s reel at a of_G of_H = record {
 
     life : floor_life (g ∷ G) reel ≡ floor_life (h ∷ H) reel
     life = life-marked (g ∷ G) reel ∙ ap (option_and_then (λ (m : Name × (Name × LevelWithLabel)). limit_of m.1.1.level m.1.1.label)) marks ∙ sym (life-marked (h ∷ H) reel)
+
+    -- a reel that waited for its bake is baked or received by the command, so its floor life is whole
+    remain : is_unbaked (g ∷ G) reel ≡ false → (minute : ℕ) → h.effective ≤ minute
+        → remaining (open_by reel s.command) (is_anew s.command) h.effective (floor_life (h ∷ H) reel) (minutes_left G reel) minute
+        ≡ remaining (open_by reel s.command) (is_anew s.command) h.effective (floor_life (h ∷ H) reel) (minutes_left H reel) minute
+    remain baked minute le = by (is_unbaked G reel) (baked_by reel s.command) refl refl
+      where
+        by : (unbaked : Bool) (said : Option Bool) → is_unbaked G reel ≡ unbaked → baked_by reel s.command ≡ said
+            → remaining (open_by reel s.command) (is_anew s.command) h.effective (floor_life (h ∷ H) reel) (minutes_left G reel) minute
+            ≡ remaining (open_by reel s.command) (is_anew s.command) h.effective (floor_life (h ∷ H) reel) (minutes_left H reel) minute
+        by false said is says =
+            remaining-same (open_by reel s.command) (is_anew s.command) h.effective (floor_life (h ∷ H) reel) (minutes_left G reel) (minutes_left H reel) minute
+            le (λ m later. a.minutes is m (omega (arith, at, later)))
+        by true None is says =
+            let waits : false ≡ true = sym baked ∙ unbaked-next G g reel ∙ (λ j. waiting (says j) (marks_of (g ∷ G) reel) (is j)) in
+            cc
+        by true (Some b) is says =
+            let anew = baked-anew reel s.command b says in
+            (λ j. remaining (anew.0 j) (anew.1 j) h.effective (floor_life (h ∷ H) reel) (minutes_left G reel) minute)
+            ∙ sym (λ j. remaining (anew.0 j) (anew.1 j) h.effective (floor_life (h ∷ H) reel) (minutes_left H reel) minute)
 
 or-true : (said before : Bool) → before ≡ true → (said || before) ≡ true
 or-true true before is = refl

@@ -19,7 +19,7 @@ use Rattle.desk_types.specs.Outcome.{after_commands}
 use Rattle.desk_types.proofs.Exposure.{exposure-after, exposure-untouched}
 use Rattle.desk_types.proofs.Keys.{same-true}
 use Rattle.desk_types.proofs.ReelCommands.{IsQuiet-untouched, exposure_starts-quiet}
-use Rattle.desk_types.proofs.RowsCommon.{M, S1, K1, B1, R1, R2, R3, at, received_at, base}
+use Rattle.desk_types.proofs.RowsCommon.{M, S1, K1, B1, R1, R2, R3, at, received_at, received_at_six, base}
 use Rattle.alike.specs.Alike.{IsSameReel, AreAlike}
 
 -- ---- the two desks
@@ -114,7 +114,17 @@ minutes minute le =
     ap (λ n. Some (1440 - n)) is
 
 the-reel : IsSameReel old new K1
-the-reel = record { part = refl; lot = refl; moisture = refl; unbaked = refl; out = refl; minutes = minutes }
+the-reel = record { part = refl; lot = refl; moisture = refl; unbaked = refl; out = refl; minutes = λ baked. minutes }
+
+-- A reel that waits for its bake is the same, though its minutes out of the bag are not carried: its exposure begins anew with the bake.
+abbrev opened_unbaked : History
+opened_unbaked = with [] (base ++ at 0 (received_at_six 60 K1) ∷ at 0 (ReelOpened K1) ∷ at 30 (ReelSealed K1) ∷ [])
+
+abbrev never_opened : History
+never_opened = with [] (base ++ at 30 (received_at_six 60 K1) ∷ [])
+
+pub an_unbaked_reel_is_the_same : IsSameReel opened_unbaked never_opened K1
+an_unbaked_reel_is_the_same = record { part = refl; lot = refl; moisture = refl; unbaked = refl; out = refl; minutes = λ baked minute le. let no : true ≡ false = baked in cc }
 
 -- ---- they are alike
 

@@ -1,5 +1,5 @@
 -- A third desk that is alike to the second is alike to the first.
-use Rattle.std.proofs.Common.{◌≡◌, ◌<◌, ap, ◌∙◌, subst, arith}
+use Rattle.std.proofs.Common.{◌≡◌, ◌<◌, sym, ap, ◌∙◌, subst, arith}
 use Rattle.std.specs.Prelude.{unwrap_or}
 use Rattle.desk_types.specs.Id.{Name}
 use Rattle.desk_types.specs.History.{History, now_of}
@@ -12,7 +12,7 @@ same-chain F G H reel now a b = record {
   moisture = a.moisture ∙ b.moisture;
   unbaked = a.unbaked ∙ b.unbaked;
   out = a.out ∙ b.out;
-  minutes = λ minute le. a.minutes minute le ∙ b.minutes minute (omega (arith, now, le));
+  minutes = λ baked minute le. a.minutes baked minute le ∙ b.minutes (sym a.unbaked ∙ baked) minute (omega (arith, now, le));
 }
 
 pub alike-chain : (F G H : History) → AreAlike F G → AreAlike G H → AreAlike F H

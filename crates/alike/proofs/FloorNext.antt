@@ -171,6 +171,12 @@ unreceived : (reel : Name) (at : ℕ) (command : Command) → baked_by reel comm
 unreceived reel at (ReelReceived r part lot moisture quantity) none = if-none (same r reel) false _ none
 unreceived reel at _ none = refl
 
+-- what says whether a reel is baked puts it into its bag, and its exposure begins anew
+pub baked-anew : (reel : Name) (command : Command) (baked : Bool) → baked_by reel command ≡ Some baked → (open_by reel command ≡ Some false) × (is_anew command ≡ true)
+baked-anew reel (ReelReceived r part lot moisture quantity) baked says = (ap (λ b. if b then Some false else None) (if-some (same r reel) false baked says), refl)
+baked-anew reel (ReelBaked r) baked says = (ap (λ b. if b then Some false else None) (if-some (same r reel) true baked says), refl)
+baked-anew reel _ baked says = cc
+
 -- Whether the reel waits for its bake after one entry more.
 pub unbaked-next : (H : History) (e : Entry) (reel : Name) → is_unbaked (e ∷ H) reel ≡ waiting (baked_by reel e.stamped.command) (marks_of (e ∷ H) reel) (is_unbaked H reel)
 unbaked-next H e reel = by (baked_by reel e.stamped.command) refl

@@ -136,7 +136,7 @@ same-absent G H reel of_G of_H in_G in_H = record {
       ap (λ o. option_map_or (λ (r : Receipt). is_six r.moisture.level) o false && not (is_baked G reel)) in_G
       ∙ sym (ap (λ o. option_map_or (λ (r : Receipt). is_six r.moisture.level) o false && not (is_baked H reel)) in_H);
   out = ap is_some (out-untouched G reel (untouched G reel of_G in_G) ∙ sym (out-untouched H reel (untouched H reel of_H in_H)));
-  minutes = λ minute _.
+  minutes = λ _ minute _.
       ap (λ o. minutes_by o (exposure_of G reel minute)) in_G ∙ sym (ap (λ o. minutes_by o (exposure_of H reel minute)) in_H);
 }
 

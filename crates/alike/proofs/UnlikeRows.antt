@@ -118,7 +118,7 @@ pub a_reel_is_one_minute_more_exposed : (AreAlike (after (opened_at 1)) (after (
     × (answers (opened_at 1) (load_at 10) ≡ Accepted (MinutesLeft (Some 1431)) ∷ [])
     × (answers (opened_at 0) (load_at 10) ≡ Accepted (MinutesLeft (Some 1430)) ∷ [])
 unfolding refusal_of command_refusal part_refusal definition_refusal sheet_refusal selection_refusal receipt_refusal opening_refusal mounting_refusal tape_of left_of live_on is_out_at exposure_of
-a_reel_is_one_minute_more_exposed = ((λ alike. let is : true ≡ false = ap (is_of 1431) ((alike.reels K1 (omega arith)).minutes 10 (omega arith)) in cc), refl, refl)
+a_reel_is_one_minute_more_exposed = ((λ alike. let is : true ≡ false = ap (is_of 1431) ((alike.reels K1 (omega arith)).minutes refl 10 (omega arith)) in cc), refl, refl)
 
 -- An expired reel was carried as usable.
 abbrev expired : List Stamped
@@ -131,7 +131,7 @@ pub an_expired_reel_is_usable : (AreAlike (after expired) (after usable) → ⊥
     × (answers expired (load_at 1440) ≡ Refused (Expired K1) ∷ [])
     × (answers usable (load_at 1440) ≡ Accepted (MinutesLeft (Some 1440)) ∷ [])
 unfolding refusal_of command_refusal part_refusal definition_refusal sheet_refusal selection_refusal receipt_refusal opening_refusal mounting_refusal tape_of left_of live_on is_out_at exposure_of
-an_expired_reel_is_usable = ((λ alike. let is : true ≡ false = ap (is_of 0) ((alike.reels K1 (omega arith)).minutes 1440 (omega arith)) in cc), refl, refl)
+an_expired_reel_is_usable = ((λ alike. let is : true ≡ false = ap (is_of 0) ((alike.reels K1 (omega arith)).minutes refl 1440 (omega arith)) in cc), refl, refl)
 
 -- A reel of level 6 that was baked is carried as one that waits for its bake.
 abbrev of_level_six : List Stamped

@@ -1,6 +1,6 @@
 -- When a desk that is begun anew answers as the desk that it follows. A line's evidence over years is a chain of desk files: at a
 -- roll-over the old desk is closed, and its setup, its reels and its slots are carried to a new desk with an empty history.
-use Rattle.std.specs.Prelude.{◌≡◌, ℕ, ◌<◌, ◌≤◌, true, None, is_some}
+use Rattle.std.specs.Prelude.{◌≡◌, ℕ, ◌<◌, ◌≤◌, true, false, None, is_some}
 use Rattle.std.specs.Option.{option_map}
 use Rattle.desk_types.specs.declared.command.Receipt.{Receipt}
 use Rattle.desk_types.specs.Id.{Name}
@@ -17,15 +17,15 @@ abbrev pub IsIdle : History → Type 0
 IsIdle H = (machine : Name) → in_work_on H machine ≡ None
 
 -- The reel is the same in both histories: its part, its lot, its moisture level with the label, whether it waits for its bake, and
--- whether it is out of its bag. From the desk minute on it has the same minutes of floor life left at every minute. So its exposure may
--- differ only if the reel has no limit, or is expired in both.
+-- whether it is out of its bag. Unless it waits for its bake, it has the same minutes of floor life left at every minute from the desk
+-- minute on. So its exposure may differ if it waits for its bake, has no limit, or is expired in both.
 pub record IsSameReel (H H' : History) (reel : Name) : Type 0 where
   pub part : part_of H reel ≡ part_of H' reel
   pub lot : lot_of H reel ≡ lot_of H' reel
   pub moisture : option_map (λ (r : Receipt). r.moisture) (receipt_of H reel) ≡ option_map (λ (r : Receipt). r.moisture) (receipt_of H' reel)
   pub unbaked : is_unbaked H reel ≡ is_unbaked H' reel
   pub out : is_some (out_since H reel) ≡ is_some (out_since H' reel)
-  pub minutes : (minute : ℕ) → now_of H ≤ minute → minutes_left H reel minute ≡ minutes_left H' reel minute
+  pub minutes : is_unbaked H reel ≡ false → (minute : ℕ) → now_of H ≤ minute → minutes_left H reel minute ≡ minutes_left H' reel minute
 
 -- The new desk, whose history is H', was begun as the old one, whose history is H, ended.
 pub record AreAlike (H H' : History) : Type 0 where
