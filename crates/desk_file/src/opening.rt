@@ -144,7 +144,6 @@ fn has_no_byte(found: &Metadata) -> Option<bool>
     }
 }
 
-/// Returns a file without a connection.
 fn no_connection<T: Start>() -> Refusal<FileFrom<T>>
     ensures { result ≡ record { fault = Fault.Unavailable; file = None } }
 {
@@ -181,7 +180,6 @@ fn new_desk<T: Start, D: KeepsRows + Drop>(
     }
 }
 
-/// Opens the desk in the file.
 fn kept_desk<T: Start, D: KeepsRows + Drop>(
     rt: &HostRuntime,
     path: &str,

@@ -44,9 +44,7 @@ pub fn reports_read_back()
     texts_read_back();
 }
 
-/// Board and lot traces of the same pieces agree. Detail 2 of a board has the lot exactly if detail
-/// 1 of the lot has the board. It has the part and lot exactly if detail 2 of the lot has the board
-/// and part. Detail 3 of both agree on the reel.
+/// Board and lot traces of the same pieces agree on boards, lots, parts and reels.
 pub fn traces_are_converse()
     ensures lots { (pieces : List Placement) (board lot : Name)
         → ((part : Name) × Contains (board_rows Two (pieces_on board pieces)) (part ∷ lot ∷ []))

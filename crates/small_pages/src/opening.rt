@@ -52,7 +52,6 @@ pub fn open_files<D: Disk + Drop>(
 
 const FAILED: Error = Error::SqliteFailure(ErrorCode::SystemIoFailure);
 
-/// Makes an empty database in the files.
 fn new_store<D: Disk + Drop>(
     alloc: Global,
     files: Files<D>,
@@ -70,7 +69,6 @@ fn new_store<D: Disk + Drop>(
     }
 }
 
-/// The files, before anything is read.
 fn unopened_files<D: Disk + Drop>(
     alloc: Global,
     files: Files<D>,
