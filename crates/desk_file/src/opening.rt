@@ -88,8 +88,8 @@ pub fn migrate_desk<T: Start, D: KeepsRows + Drop>(
     }
 }
 
-/// Closes a desk's file. All commits are then in it, without its log. The files are returned for clauses to name, even
-/// if they could not be closed; the caller drops them.
+/// Closes a desk's file. All commits are then in it, without its log. The files are returned even if they could not be
+/// closed; the caller drops them.
 pub fn close_desk<T: Start, D: KeepsRows + Drop>(
     desk: FileDesk<T, D>,
 ) -> Result<Files<FileFrom<T>>, (OpenFault, Files<FileFrom<T>>)>

@@ -15,9 +15,8 @@ ghost use Rattle.report_texts.specs.Csv.{csv_text};
 ghost use Rattle.report_texts.specs.Kit.{kit_rows, reels_in};
 ghost use Rattle.report_texts.specs.Traces.{project, board_columns, lot_columns, board_header, lot_header, overdue_header, overdue_row, board_text, lot_text, overdue_text, board_rows, lot_rows, pieces_on, pieces_of_lot};
 
-/// Reading a report with `csv` gives back its header and records, even with commas, quotes or line
-/// ends in fields. So different records have different texts. Holds for all records with at least
-/// one field.
+/// Reading a report with `csv` gives back its header and records, even with commas, quotes or line ends in fields.
+/// Holds for all records with at least one field.
 pub fn texts_read_back()
     ensures { (header : List (List ℕ)) (rows : List (List (List ℕ))) → All (λ r. r ≢ []) (header ∷ rows)
         → records default_config (csv_text header rows) ≡ header ∷ rows }

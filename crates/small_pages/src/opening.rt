@@ -18,7 +18,7 @@ use sqlite_store::Unopened;
 use sqlite_wal::PageSize;
 use std::alloc::{AllocFailed, Global};
 
-/// Opens the database in the files, or makes one if there is none yet, even if its creation was interrupted earlier.
+/// Opens the database in the files, or makes it, even if an earlier creation was interrupted.
 pub fn open_files<D: Disk + Drop>(
     alloc: Global,
     mut files: Files<D>,

@@ -249,7 +249,7 @@ fn free_again(alloc: Global, messages: &[Stamped]) -> Result<usize, Fail> {
     Ok(restored.free_reels(&id("P")?)?.as_slice().len())
 }
 
-/// A large desk can be rebuilt from its rows: one of 10,000 reels, each of which may be loaded.
+/// A desk of 10,000 reels, all free to be loaded, can be rebuilt from its rows.
 #[test]
 fn ten_thousand_reels_are_restored(rt: HostRuntime) -> Result<(), Fail> {
     let messages = reels(rt.alloc(), 10_000)?;
