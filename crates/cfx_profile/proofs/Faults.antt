@@ -3,7 +3,6 @@ use Rattle.std.proofs.Common.{◌≡◌, ◌≢◌, ◌∙◌, sym, ap, Result, 
 use Rattle.std.specs.Result.{IsErrAnd}
 use Rattle.cfx_profile.specs.Fault.{IsSaidBut}
 
--- Returning the definition's fault is correct.
 pub IsSaid-fault : {X F : Type 0} {want : F} (said answer : Result X F) (fault : F)
     → (fault ≢ want → said ≡ Err fault) → IsErrAnd answer (λ e. e ≡ fault) → IsSaidBut want said answer
 IsSaid-fault said (Ok x) fault is handed = absurd handed

@@ -18,7 +18,6 @@ pub items_in-of : (m : Member) (body : Data) (ds : List Data)
 unfolding items_in
 items_in-of m body ds is = rw (is, items_list-of ds) refl
 
--- Reading two lists is reading one after the other.
 each-append : {X : Type 0} (reading : Data → Result X MessageFault) (ds es : List Data)
     → each reading (ds ++ es) ≡ both (each reading ds) (each reading es)
 unfolding first_of_each
@@ -30,7 +29,6 @@ pub each-more : {X : Type 0} (reading : Data → Result X MessageFault) (ds : Li
 unfolding both
 each-more reading ds d xs x before here = rw (each-append reading ds (d ∷ []), before, here) refl
 
--- The first faulty item.
 pub each-fault : {X : Type 0} (reading : Data → Result X MessageFault) (ds : List Data) (d : Data) (later : List Data) (xs : List X) (fault : MessageFault)
     → each reading ds ≡ Ok xs → reading d ≡ Err fault → each reading (ds ++ d ∷ later) ≡ Err fault
 unfolding both
@@ -45,7 +43,6 @@ length-first (Ok x) (Ok ys) xs n is count =
     let whole : x ∷ ys ≡ xs = cc in
     ap length (sym whole) ∙ ap suc (count ys refl)
 
--- Each item gives one element.
 pub length-each : {X : Type 0} (reading : Data → Result X MessageFault) (ds : List Data) (xs : List X)
     → each reading ds ≡ Ok xs → length xs ≡ length ds
 unfolding first_of_each

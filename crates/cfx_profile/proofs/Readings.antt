@@ -2,14 +2,12 @@
 use Rattle.std.proofs.Common.{◌≡◌, refl, List, [], ◌∷◌, ◌++◌, Result, Ok, Err}
 use Rattle.cfx_profile.specs.Fault.{◌>>=◌}
 
--- An element before the others.
 unfoldable pub first_of_each : {X F : Type 0} → Result X F → Result (List X) F → Result (List X) F
 first_of_each first rest = do
   x ← first
   xs ← rest
   Ok (x ∷ xs)
 
--- The elements of two lists in sequence.
 unfoldable pub both : {X F : Type 0} → Result (List X) F → Result (List X) F → Result (List X) F
 both first second = do
   xs ← first

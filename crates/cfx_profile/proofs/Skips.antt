@@ -50,7 +50,6 @@ list_skips : {X : Type 0} (reading : Data → Result X MessageFault) (m : Member
 unfolding list_in items_in
 list_skips reading m a b same = rw same refl
 
--- The steps after a value.
 then_same : {X Y : Type 0} (r : Result X MessageFault) (f g : X → Result Y MessageFault) → ((x : X) → r ≡ Ok x → f x ≡ g x) → (r >>= f) ≡ (r >>= g)
 then_same (Ok x) f g same = same x refl
 then_same (Err fault) f g same = refl
@@ -70,7 +69,6 @@ each_skips reading ms (a ∷ ds) (b ∷ es) row h = rw (row a b h.0, each_skips 
 each_skips reading ms [] (b ∷ es) row h = absurd h
 each_skips reading ms (a ∷ ds) [] row h = absurd h
 
--- Checking the length before reading the elements.
 judged_first : {X Y : Type 0} (is_none fits : Bool) (x : X) (f : X → Result Y MessageFault) (none over : MessageFault)
     → (cond is_none (Err none) (cond fits (Ok x) (Err over)) >>= f) ≡ cond is_none (Err none) (cond fits (f x) (Err over))
 judged_first true fits x f none over = refl

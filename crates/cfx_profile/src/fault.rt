@@ -24,7 +24,6 @@ pub enum MessageFault {
     NoMemory,
 }
 
-/// A message can't be read without enough memory.
 impl From<AllocError> for MessageFault {
     ghost use Rattle.std.specs.Prelude.{◌≡◌};
     ghost use Rattle.cfx_profile.specs.declared.fault.MessageFault.TheVariants.{NoMemory};

@@ -36,7 +36,6 @@ pub fn id_in(body: &Value, member: Member) -> Result<Id, MessageFault>
     id_at(body, member).ok_or(MessageFault::BodyMember(member))
 }
 
-/// Reads a whole number below 2^64.
 #[tactic(auto, unfolding(crate::specs::Forms::number_in))]
 fn number_in(body: &Value, member: Member) -> Result<u64, MessageFault>
     ensures { result ≡ number_in member (view body.now) }

@@ -26,7 +26,6 @@ pub trait Element: Drop + Sized {
         ensures { IsSaid (said (view item.now)) result };
 }
 
-/// Returns the 1 to 5,000 items of a list.
 #[tactic(auto, unfolding(crate::specs::Lists::items_in))]
 fn items_in(body: &Value, member: Member) -> Result<&[Value], MessageFault>
     ensures ok { IfOk result (λ items. items_in member (view body.now) ≡ Ok (map view items.now)) }
@@ -52,7 +51,6 @@ fn put<T: Drop>(found: &mut Vec<T>, element: T) -> Result<(), AllocError>
     Ok(())
 }
 
-/// Reads the items in order.
 fn each<T: Element>(alloc: Global, items: &[Value]) -> Result<Listing<T>, MessageFault>
     ensures { IsSaid (each T.said (map view items.now)) result }
 {

@@ -47,7 +47,6 @@ pub fn read_message(alloc: Global, bytes: &[u8]) -> Result<Said, MessageFault>
     }
 }
 
-/// Reads the bytes' JSON value.
 #[tactic(auto, unfolding(crate::specs::Message::value_of))]
 fn value_of(alloc: Global, bytes: &[u8]) -> Result<Value, MessageFault>
     ensures ok { IfOk result (λ value. value_of bytes.now ≡ Some (view value)) }
@@ -61,7 +60,6 @@ fn value_of(alloc: Global, bytes: &[u8]) -> Result<Value, MessageFault>
     }
 }
 
-/// Reads a command with its envelope.
 #[tactic(auto, unfolding(crate::specs::Message::stamped_in))]
 fn stamped_in(alloc: Global, word: Word, envelope: &Value) -> Result<Stamped, MessageFault>
     ensures { IsSaid (stamped_in word (view envelope.now)) result }
@@ -106,7 +104,6 @@ fn envelope_object(envelope: &Value, member: Member) -> Result<&Value, MessageFa
     }
 }
 
-/// Reads the minute of a time text.
 #[tactic(auto, unfolding(crate::specs::Message::minute_in, crate::specs::Minute::minute_said))]
 fn minute_in(time: &str) -> Result<Minute, MessageFault>
     ensures { result ≡ minute_in time.now }

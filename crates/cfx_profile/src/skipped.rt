@@ -2,9 +2,7 @@
 
 ghost use Rattle.cfx_profile.specs.Skipped.{OthersAreSkipped};
 
-/// The content of a message only depends on the members that are read: the name; for our messages
-/// also the rest of the envelope and the members of the body and its rows; the label only at level
-/// 6.
+/// The content of a message only depends on the members that are read.
 pub fn other_members_are_skipped()
     ensures { OthersAreSkipped }
 {}

@@ -88,7 +88,6 @@ pub fn words_are_read()
     ensures { (word : Word) → word_of (message_name word) ≡ Some word }
 {}
 
-/// Returns the first of these kinds with this message name.
 fn first_named<'a>(words: &'a [Word], name: &str) -> Option<&'a Word>
     ensures { option_map (λ word. word.now) result ≡ find (λ word. same (message_name word) name.now) words.now }
 {

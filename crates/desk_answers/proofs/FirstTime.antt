@@ -8,7 +8,6 @@ use Rattle.desk_types.specs.Id.{Name, same}
 use Rattle.desk_types.proofs.Keys.{same-sym}
 use Rattle.desk_answers.specs.Commands.{answer_under, earlier_answer}
 
--- No entry has its UniqueID.
 pub first-uid : (H : History) (s : Stamped) → earlier_answer H s ≡ None → AllByRecursion (λ uid. same s.uid uid ≡ false) (map (λ (e : Entry). e.stamped.uid) H)
 first-uid [] s none = tt
 first-uid (e ∷ H) s none = by (same e.stamped.uid s.uid) refl none (first-uid H s)

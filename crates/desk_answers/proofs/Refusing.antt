@@ -23,12 +23,10 @@ by_cases H grown s detail None true refusal e = refl
 by_cases H grown s detail None false (Some refusal) e = refl
 by_cases H grown s detail None false None e = absurd (cc)
 
--- The definition keeps the history when its answer is a refusal.
 pub refused_stays : (rules : Rules) (greatest : ℕ) (H : History) (s : Stamped) → is_refused (command_answer rules greatest H s) ≡ true → command_after rules greatest H s ≡ H
 refused_stays rules greatest H s =
     by_cases H (accept H s) s (change_of H s).detail (earlier_answer H s) (is_full greatest H) (refusal_of rules H s)
 
--- The same for the actual answer, including Unavailable.
 pub refused_leaves : (L : Ledger) (s : Stamped) (answer : Answer) → IsAnswer L s answer → is_refused answer ≡ true → ledger_after L s answer ≡ L
 refused_leaves L s (Accepted number text) e refused = absurd (cc)
 refused_leaves L s (Refused refusal) e refused = ap (λ H. record L { history = H }) (refused_stays L.rules L.greatest L.history s (ap is_refused (sym e)))

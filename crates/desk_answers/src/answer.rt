@@ -201,7 +201,6 @@ fn word(refusal: &Refusal) -> &'static str
     }
 }
 
-/// Returns the name at fault.
 fn place(refusal: &Refusal) -> Option<Id>
     ensures { result ≡ place_of refusal.now }
 {

@@ -25,7 +25,6 @@ use Rattle.desk_commands.specs.Runs.{Audits, RunsOn}
 abbrev pub IsKept : {D : Type 0} {g : disk.Ghosts D} → LineStore (FileStore D g) StateDesk → Ledger → Type 0
 IsKept store G = (G.rules ≡ Two) × Stands over_files state.Stands state.kept_rules store (record { greatest = G.greatest; history = G.history; own = true })
 
--- It was opened with a history, and continued from it.
 pub runs_on : {T D : Type 0} {g : disk.Ghosts D} (first : start.Ghosts T) (make : Option ℕ) (old new : LineStore (FileStore D g) StateDesk) (Fact : Ledger → History → Type 0)
     → (HasCleanDisk (state_of over_files new) → HasCleanDisk (state_of over_files old))
     → (HasCleanDisk (state_of over_files old) → HasOursFirst (image_at first) → (greatest : ℕ) × (H : History) × Begins (image_at first) make greatest H
@@ -36,7 +35,6 @@ runs_on first make old new Fact trusts begins goes clean alone =
     let after = goes (record { rules = Two; greatest = b.0; history = b.1 }) (refl, b.3) clean in
     (b.0, b.1, b.2, b.3.lawful (trusts clean) refl, after.0, after.1.1, after.2)
 
--- It was opened with a history, and left unchanged.
 pub stays : {T D : Type 0} {g : disk.Ghosts D} (first : start.Ghosts T) (make : Option ℕ) (old new : LineStore (FileStore D g) StateDesk) → new ≡ old
     → (HasCleanDisk (state_of over_files old) → HasOursFirst (image_at first) → (greatest : ℕ) × (H : History) × Begins (image_at first) make greatest H
     × Stands over_files state.Stands state.kept_rules old (record { greatest = greatest; history = H; own = true }))
@@ -45,7 +43,6 @@ stays first make old new same begins =
     subst (λ (store : LineStore (FileStore _ _) StateDesk). RunsOn first make (Desk store) StaysSame) (sym same)
     (runs_on first make old old StaysSame (λ clean. clean) begins (λ G stands clean. (G.history, stands, refl)))
 
--- It was opened with a history, and counted.
 pub audits : {T D : Type 0} {g : disk.Ghosts D} (first : start.Ghosts T) (store : LineStore (FileStore D g) StateDesk) (count : ℕ)
     → (L : Kept) × Stands over_files state.Stands state.kept_rules store L
     → (HasCleanDisk (state_of over_files store) → HasOursFirst (image_at first) → (greatest : ℕ) × (H : History) × Begins (image_at first) None greatest H
@@ -58,12 +55,10 @@ audits first store count stands begins counts = (
       (b.0, b.1, b.2, b.3.lawful clean refl, b.1, b.3, (refl, counts (record { greatest = b.0; history = b.1; own = true }) b.3)),
 )
 
--- A store behind a gateway represents the same history.
 pub stands_behind : {D : Type 0} {g : disk.Ghosts D} (store : LineStore (FileStore D g) StateDesk) (gateway : Gateway (ReportedStore (FileStore D g) StateDesk)) → store_in gateway ≡ store
     → (L : Kept) × Stands over_files state.Stands state.kept_rules store L → (L : Kept) × Stands over_files state.Stands state.kept_rules (store_in gateway) L
 stands_behind store gateway same stands = (stands.0, subst (λ (d : LineStore (FileStore _ _) StateDesk). Stands over_files state.Stands state.kept_rules d stands.0) (sym same) stands.1)
 
--- It was opened with a history, and continued from it behind a gateway.
 pub runs_behind : {T D : Type 0} {g : disk.Ghosts D} (first : start.Ghosts T) (make : Option ℕ) (store last : LineStore (FileStore D g) StateDesk) (old new : Gateway (ReportedStore (FileStore D g) StateDesk))
     (Fact : Ledger → History → Type 0) → store_in old ≡ store → last ≡ store_in new
     → (HasCleanDisk (state_of over_files (store_in new)) → HasCleanDisk (state_of over_files (store_in old)))
@@ -75,13 +70,11 @@ runs_behind first make store last old new Fact before after trusts begins goes =
     × Stands over_files state.Stands state.kept_rules d (record { greatest = greatest; history = H; own = true })) (sym before) begins in
     subst (λ (d : LineStore (FileStore _ _) StateDesk). RunsOn first make (Desk d) Fact) (sym after) (runs_on first make (store_in old) (store_in new) Fact trusts begun goes)
 
--- The exit status of an open desk differs from that of a refused one.
 pub never_refused : {A : Type 0} (status : ℕ) → (status ≡ 0) ⊎ (status ≡ 1) ⊎ (status ≡ 4) → status ≡ 3 → A
 never_refused status (inl done) is = absurd (omega (arith, done, is))
 never_refused status (inr (inl refused)) is = absurd (omega (arith, refused, is))
 never_refused status (inr (inr failed)) is = absurd (omega (arith, failed, is))
 
--- It is one of the exit statuses.
 pub ends_so : (status : ℕ) → (status ≡ 0) ⊎ (status ≡ 1) ⊎ (status ≡ 4) → (status ≡ 0) ⊎ (status ≡ 1) ⊎ (status ≡ 3) ⊎ (status ≡ 4)
 ends_so status (inl done) = inl done
 ends_so status (inr (inl refused)) = inr (inl refused)

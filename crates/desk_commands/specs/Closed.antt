@@ -71,9 +71,8 @@ HoldsFound failed g files first = ⊤
 
 -- ---- effect of the run
 
--- A fact about the history at the start of a run, if its files never lied and held only the desk's tables. That history
--- is lawful, the fact gives the history after it, which is lawful and consistent, and the files hold the tables of that
--- one.
+-- Honest files that held only the desk's tables led the run from their history to one that the fact gives, and hold the
+-- tables of that one.
 abbrev pub RunsTo : {T D : Type 0} → Close → start.Ghosts T → disk.Ghosts D → Option (Files D) → Option ℕ → (Ledger → History → Type 0) → Type 0
 RunsTo how first g files make Fact = IsSomeAnd files (λ f. AreClean g f.log f.db → HasOursFirst (image_at first)
     → (greatest : ℕ) × (H : History) × Begins (image_at first) make greatest H × IsLawful Two greatest H
@@ -89,8 +88,7 @@ abbrev pub MigratesTo : {T D : Type 0} → Close → start.Ghosts T → disk.Gho
 MigratesTo how first g files = IsSomeAnd files (λ f. AreClean g f.log f.db → HasOursFirst (image_at first)
     → (greatest : ℕ) × (H : History) × IsOfOne (image_at first) greatest H × HoldsTables how g f (ledger_tables greatest H))
 
--- The files were refused for this fault. If they never lied, the fault is in their contents, which are unchanged. If
--- none was opened, the fault is Unavailable, or NotADesk if none may be made.
+-- The files were refused for this fault. If they never lied, the fault is in their contents, which are unchanged.
 abbrev pub IsRefusedTo : {T D : Type 0} → Close → start.Ghosts T → disk.Ghosts D → Option (Files D) → (OpenFault → Type 0) → Type 0 → OpenFault → Type 0
 IsRefusedTo how first g files StandsIn MakesNone fault =
     MatchOption files ((fault ≡ Unavailable) ⊎ ((fault ≡ NotADesk) × MakesNone)) (λ f. AreClean g f.log f.db → StandsIn fault × HoldsFound how g f (image_at first))

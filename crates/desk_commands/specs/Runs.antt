@@ -27,9 +27,8 @@ use Rattle.desk_commands.specs.declared.left.Left.TheVariants.{Desk, Migrated, R
 abbrev pub fresh : ℕ → Ledger
 fresh greatest = record { rules = Two; greatest = greatest; history = [] }
 
--- A fact about the initial history of a run on a file, if the disk did not lie and the file held only the desk's
--- tables, of version 1 or 2. That history is lawful, and the remaining desk represents a history given by the fact. A
--- run begins with tables of version 2 or with none, so a file of version 1 gives no answers.
+-- If the disk did not lie and the file held only the desk's tables, the open desk went from their history to one that
+-- the fact gives. A run begins with tables of version 2 or with none, so a file of version 1 gives no answers.
 abbrev pub RunsOn : {T D : Type 0} {g : disk.Ghosts D} → start.Ghosts T → Option ℕ → Left D g → (Ledger → History → Type 0) → Type 0
 RunsOn first make (Desk d) Fact =
     HasCleanDisk (state_of over_files d) → HasOursFirst (image_at first)
@@ -38,14 +37,14 @@ RunsOn first make (Desk d) Fact =
     × Fact (record { rules = Two; greatest = greatest; history = H }) H'
 RunsOn first make _ Fact = ⊥
 
--- An audit found this number of commands. The remaining desk represents a judged history of that length, even if its
--- disk lied. If it did not lie, and the file held only the desk's tables, this is the initial history of the run.
+-- An audit found this number of commands, the length of a judged history, even if the disk lied. If it did not lie, and
+-- the file held only the desk's tables, this is the history at the start of the run.
 abbrev pub Audits : {T D : Type 0} {g : disk.Ghosts D} → start.Ghosts T → Left D g → ℕ → Type 0
 Audits first (Desk d) count = ((L : Kept) × Stands over_files state.Stands state.kept_rules d L × (count ≡ length L.history)) × RunsOn first None (Desk d) (λ G H. (H ≡ G.history) × (count ≡ length H))
 Audits first _ count = ⊥
 
--- A file was migrated. If its disk did not lie, and it held only the desk's tables, the files held the tables of a
--- history by version 1. Its connection holds them by version 2, and a crash leaves only those.
+-- A file was migrated. If its disk did not lie, and it held only the desk's tables, its connection holds those of its
+-- history by version 2, and a crash leaves only these.
 abbrev pub Migrates : {T D : Type 0} {g : disk.Ghosts D} → start.Ghosts T → Left D g → Type 0
 Migrates first (Migrated conn) = HasCleanDisk (file_state conn) → HasOursFirst (image_at first) → MigratedFrom (image_at first) conn
 Migrates first _ = ⊥

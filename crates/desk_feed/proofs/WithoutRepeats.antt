@@ -29,7 +29,6 @@ short_leaves : (long again : Bool) (H after : History) → (if long then false e
 short_leaves true again H after is leaves = refl
 short_leaves false again H after is leaves = leaves is
 
--- A repeat leaves the history unchanged.
 pub repeat_leaves : (rules : Rules) (greatest : ℕ) (H : History) (line : List ℕ) → is_repeat H line ≡ true → line_after rules greatest false H line ≡ H
 repeat_leaves rules greatest H line again =
     short_leaves (nat_lt LONGEST_INPUT (length line)) (repeats H (said_in line)) H (list_after rules greatest H line) again (heard_leaves rules greatest H (said_in line))

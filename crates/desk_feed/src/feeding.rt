@@ -85,7 +85,6 @@ pub fn feed<R: Read, W: Write, L: Owner>(
     }
 }
 
-/// Answers a line and writes the answer.
 fn serve_line<W: Write, L: Owner>(
     alloc: Global,
     output: &mut Wire<W>,

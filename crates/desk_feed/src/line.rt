@@ -49,7 +49,6 @@ impl LineAnswer {
     }
 }
 
-/// Returns the text of the answer to a line over the limit. Takes no memory.
 fn too_long_text() -> &'static str
     ensures { result.now ≡ too_long_text }
 {

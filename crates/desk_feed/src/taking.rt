@@ -99,14 +99,12 @@ fn ready<R: Read>(block: &mut Block, wire: &mut Wire<R>, most_reads: u64) -> Res
     Ok(true)
 }
 
-/// Returns the place of the first line feed.
 fn first_feed(block: &[u8]) -> Option<usize>
     ensures { IsFirstFeed block.now result }
 {
     block.iter().position(|b| *b == b'\n')
 }
 
-/// Returns the line with more bytes at its end.
 fn extend_line(line: RawLine, piece: &[u8]) -> RawLine
     ensures { (raw : List ℕ) → HoldsLine line raw → HoldsLine result (raw ++ piece.now) }
 {

@@ -30,7 +30,8 @@ pub record IsFoundIn (image : Image) (db : Database) : Type 0 where
   pub reads : AreReadIn image db.trees
   pub same : (trees : Trees) → HoldsDatabase image trees → db.trees ≡ trees
 
--- The files hold the tables of a line, of version 1 with none beside them, or of version 2 with none before them and none that refers to them, or no table at all.
+-- Any open of the files finds no table at all, or the tables of a line. Those of version 1 are alone. Those of version
+-- 2 come first, and no other table refers to them.
 abbrev pub HasOursFirst : Image → Type 0
 HasOursFirst image = (db : Database) → IsFoundIn image db → IsOurs db.schema ⊎ (db.schema ≡ no_schema)
 
@@ -57,8 +58,8 @@ pub record IsOfOne (image : Image) (greatest : ℕ) (H : History) : Type 0 where
   pub by_one : IsLawful One greatest H
   pub by_two : IsLawful Two greatest H
 
--- The files held the tables of a history by version 1, which is lawful by the rules of both versions. The connection
--- holds its tables by version 2, and a crash leaves only these.
+-- The files held the tables of a history by version 1. The connection holds its tables by version 2, and a crash leaves
+-- only these.
 abbrev pub MigratedFrom : {D : Type 0} {g : disk.Ghosts D} → Image → Held (FileStore D g) → Type 0
 MigratedFrom image conn = (greatest : ℕ) × (H : History) × IsOfOne image greatest H × Holds (file_state conn).committed (ledger_tables greatest H)
     × ((trees : Trees) → (file_state conn).may_leave trees → HoldsAt (ledger_tables greatest H) trees)
@@ -75,14 +76,13 @@ Copies {g = g} conn files = AreClean g files.log files.db → IsCopied conn file
 abbrev pub Leaves : {D : Type 0} {g : disk.Ghosts D} → Held (FileStore D g) → Files D → Type 0
 Leaves {g = g} conn files = AreClean g files.log files.db → HasCleanDisk (file_state conn)
 
--- The files of a connection hold whatever tables it held, if it was sound and open and the disk never lied. They hold
--- them now and after any crash.
+-- The files of a connection hold whatever tables it held, now and after any crash, if it was sound and open and the
+-- disk never lied.
 abbrev pub KeepsTables : {D : Type 0} {g : disk.Ghosts D} → Held (FileStore D g) → Files D → Type 0
 KeepsTables {g = g} conn files = (tables : Tables) → (HasCleanDisk (file_state conn) → IsTrue (file_state conn).is_open → Holds (file_state conn).committed tables) → AreClean g files.log files.db
     → (image : Image) → (image ≡ image_of g files) ⊎ outcomes g files.log files.db image → IsWhole tables image
 
--- The files of a desk that represented a history, with its own tables, hold the tables of that history, if the disk
--- never lied. They hold them now and after any crash.
+-- The files of a desk with its own tables hold those of its history, now and after any crash, if the disk never lied.
 abbrev pub Closes : {D E : Type 0} {g : disk.Ghosts D} → (E → History → Type 0) → (E → Rules) → LineStore (FileStore D g) E → Files D → Type 0
 Closes {g = g} StandsFor kept_rules desk files = (L : Kept) → Stands over_files StandsFor kept_rules desk L → IsTrue L.own → AreClean g files.log files.db
     → (image : Image) → (image ≡ image_of g files) ⊎ outcomes g files.log files.db image → IsWhole (ledger_tables L.greatest L.history) image

@@ -62,9 +62,8 @@ pub record IsUnchangedSince {D : Type 0} {g : disk.Ghosts D} (image : Image) (Le
   pub kept : HasCleanDisk (file_state last) → KeepsCommit (file_state first) (file_state last)
   pub survives : Survives (file_state first) (file_state last) (Leaves (file_state first))
 
--- The files were refused. Without a connection to them the fault is Unavailable, or NotADesk if none may be made.
--- Otherwise, if the disk did not lie, the fault is in their contents, which are those the connection has committed. A
--- fault is never NotBlank if no desk may be made.
+-- The files were refused. If the disk did not lie, the fault is in their contents, which are those that the connection
+-- has committed. Without a connection it is Unavailable, or NotADesk if none may be made.
 pub record IsRefused {D : Type 0} {g : disk.Ghosts D} (image : Image) (StandsIn : OpenFault → Type 0) (Leaves : State → Trees → Type 0) (MakesNone : Type 0) (r : Refusal D g) : Type 0 where
   pub unopened : r.file ≡ None → (r.fault ≡ Unavailable) ⊎ ((r.fault ≡ NotADesk) × MakesNone)
   pub fault : IfSome r.file (λ conn. HasCleanDisk (file_state conn) → StandsIn r.fault)

@@ -14,9 +14,8 @@ ghost use Rattle.desk_file.specs.Files.{Begins, HasOursFirst, IsFoundIn};
 
 use line_rows::rows_tell_lists_apart;
 
-/// A law: if the files hold the tables of a judged history, as `close_desk` leaves them, each run on them begins with
-/// that history and its greatest number, whatever greatest number is requested. It serves proofs and does nothing when
-/// it runs.
+/// A law: each run on files that hold the tables of a judged history begins with that history and its greatest number,
+/// whatever greatest number is requested. It serves proofs and does nothing when it runs.
 pub fn next_run_goes_on()
     ensures ours_first { (image : Image) (trees : Trees) (greatest : ℕ) (H : History) → ∥ HoldsDatabase image trees ∥₁
         → HoldsAt (ledger_tables greatest H) trees → HasOursFirst image }

@@ -88,8 +88,8 @@ pub fn migrate_desk<T: Start, D: KeepsRows + Drop>(
     }
 }
 
-/// Closes a desk's file. All commits are then in it, without its log. The files are returned for clauses to name, even
-/// if they could not be closed; the caller drops them.
+/// Closes a desk's file. All commits are then in it, without its log. The files are returned even if they could not be
+/// closed; the caller drops them.
 pub fn close_desk<T: Start, D: KeepsRows + Drop>(
     desk: FileDesk<T, D>,
 ) -> Result<Files<FileFrom<T>>, (OpenFault, Files<FileFrom<T>>)>
@@ -144,7 +144,6 @@ fn has_no_byte(found: &Metadata) -> Option<bool>
     }
 }
 
-/// Returns a file without a connection.
 fn no_connection<T: Start>() -> Refusal<FileFrom<T>>
     ensures { result ≡ record { fault = Fault.Unavailable; file = None } }
 {
@@ -181,7 +180,6 @@ fn new_desk<T: Start, D: KeepsRows + Drop>(
     }
 }
 
-/// Opens the desk in the file.
 fn kept_desk<T: Start, D: KeepsRows + Drop>(
     rt: &HostRuntime,
     path: &str,

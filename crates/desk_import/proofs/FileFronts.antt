@@ -24,7 +24,6 @@ known_front : (file : Option (List ℕ)) (bytes : List ℕ) → IfSome (option_m
 known_front None bytes all = tt
 known_front (Some xs) bytes all = all
 
--- Reading the first bytes of a file to their end.
 pub is_read : {R : Type 0} (remaining : R → Option (List ℕ)) (t : Take R) (opened : R) (file : Option (List ℕ)) (old new : List ℕ)
     → take_limit t ≡ suc LONGEST_INPUT → take_inner t ≡ opened → remaining opened ≡ file → old ≡ []
     → IfSome (take_remaining remaining t) (λ xs. new ≡ old ++ xs) → IsRead file new
@@ -58,7 +57,6 @@ unfolding command_said
 front_command import all =
     ap (λ (r : Result Command ImportFault). r >>= (λ command. Ok (stamped_by import command))) (front_rows import.content all (nat_le (length all) LONGEST_INPUT) refl)
 
--- The bytes that are read have the content of the whole file.
 pub said_by_all : (import : Import) (file : Option (List ℕ)) (bytes : List ℕ) → IsRead file bytes → IsSaidBy import file (command_said import bytes)
 said_by_all import None bytes is = tt
 said_by_all import (Some all) bytes is = ap (command_said import) is ∙ front_command import all

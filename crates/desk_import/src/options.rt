@@ -16,9 +16,7 @@ use std::alloc::Global;
 pub enum Content {
     /// A product's sheet on a machine.
     Sheet {
-        /// The product.
         product: Id,
-        /// The machine.
         machine: Id,
     },
     /// A count of reels.
@@ -95,14 +93,12 @@ pub fn counts_import(id: &str, source: &str, time: &str) -> Result<Import, BadOp
     })
 }
 
-/// Reads an option's text as an id.
 fn id_in(text: &str, option: BadOption) -> Result<Id, BadOption>
     ensures { result ≡ id_in text.now option }
 {
     Id::read(text.as_bytes()).ok_or(option)
 }
 
-/// Reads the minute of the option `time`.
 #[tactic(auto, unfolding(cfx_profile::specs::Minute::minute_said))]
 fn time_in(text: &str) -> Result<Minute, BadOption>
     ensures { result ≡ time_in text.now }

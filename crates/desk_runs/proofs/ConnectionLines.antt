@@ -8,7 +8,6 @@ use Rattle.served.specs.Sent.{SendsFront}
 use Rattle.desk_runs.specs.Clients.{Ended}
 use Rattle.desk_runs.specs.Connections.{connection_line, lines_from}
 
--- Its line follows.
 pub lines_more : (n : ℕ) (ends : List Ended) (ended : Ended) (number : ℕ) → number ≡ n + length ends → lines_from n (ends ++ ended ∷ []) ≡ lines_from n ends ++ connection_line number ended
 lines_more n [] ended number is =
     let same : n ≡ number = omega (arith, is) in
@@ -17,7 +16,6 @@ lines_more n (e ∷ es) ended number is =
     ap (λ text. connection_line n e ++ text) (lines_more (n + 1) es ended number (omega (arith, is)))
     ∙ sym (append_assoc (connection_line n e) (lines_from (n + 1) es) (connection_line number ended))
 
--- The first bytes of a text are the first bytes of more.
 pub front_of_more : (a b : Option (List ℕ)) (text more : List ℕ) → SendsFront a b text → SendsFront a b (text ++ more)
 front_of_more a b text more front =
     (front.0, omega (arith, front.1, length-append text more), subst (Appends a b) (sym (take-append-le front.0 text more front.1)) front.2)

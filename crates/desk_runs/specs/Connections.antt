@@ -68,8 +68,8 @@ abbrev pub TellsSome : ℕ → List Ended → ℕ → Option (List ℕ) → Opti
 TellsSome connections ends status out out' failures failures' = (length ends < connections) × (status ≡ 4)
     × Appends out out' (lines_from 1 ends) × (failures' ≡ failures)
 
--- A line could not be written, as the writer's count shows. It is the line of the last connection, and only its first
--- bytes were sent. The earlier connections have their lines.
+-- A line could not be written, as the writer's count shows. Only its first bytes were sent, after the lines of all
+-- earlier connections.
 abbrev pub TellsFront : ℕ → List Ended → ℕ → Option (List ℕ) → Option (List ℕ) → ℕ → ℕ → Type 0
 TellsFront connections ends status out out' failures failures' = (length ends ≤ connections) × (status ≡ 4) × (failures' ≡ failures + 1)
     × (before : List Ended) × (last : Ended) × (mid : Option (List ℕ)) × (ends ≡ before ++ last ∷ [])

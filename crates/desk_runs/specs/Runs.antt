@@ -29,8 +29,8 @@ AnswersUpTo remaining contents input output output' fault G H =
 
 -- ---- an import
 
--- The command of an import and its file, as far as the file is known, was answered by the history of this desk, and the
--- answer counts as refused or doesn't.
+-- The command of an import and its file, as far as known, was answered by the history of this desk, and the answer
+-- counts as refused or doesn't.
 abbrev pub AnswersImport : {W : Type 0} → (W → Option (List ℕ)) → Wire W → Wire W → Bool → Import → Option (List ℕ) → Ledger → History → Type 0
 AnswersImport contents output output' refused import file G H =
     (said : Result Stamped ImportFault) × IsSaidBy import file said × IsAnswered said (contents (inner_of output)) (contents (inner_of output')) refused G H

@@ -34,7 +34,6 @@ pub fn tell_failure<E: Write>(fault: &ServeFault, errors: &mut Wire<E>) -> u8
     Exit::Failed as u8
 }
 
-/// Returns the line for an input that was not answered to its end.
 fn fault_line(fault: &ServeFault) -> &'static str
     ensures { result.now ≡ fault_line fault.now }
 {
@@ -65,7 +64,6 @@ pub fn bad_option<E: Write>(option: BadOption, errors: &mut Wire<E>) -> u8
     Exit::BadCommandLine as u8
 }
 
-/// Returns the line for an option that can't be read.
 fn option_line(option: BadOption) -> &'static str
     ensures { result.now ≡ option_line option }
 {

@@ -63,7 +63,6 @@ pub fn serve_port<A: Handler, C: Clients, W: Write, E: Write>(
     status
 }
 
-/// Prints why no further connection was served: a line could not be written, or none was accepted.
 fn tell_end<E: Write>(errors: &mut Wire<E>, unwritten: bool)
     requires error_failures { failures_of errors.old < 2 ^ 63 }
     ensures read { unwritten ≡ false → TellsLine E.contents errors.old errors.new (fault_line (ReadFault none_served)) }
@@ -119,7 +118,6 @@ pub fn tell_report<L: ReportedOwner, W: Write, E: Write>(
     }
 }
 
-/// Writes an answer's text to standard output.
 fn send_report<W: Write>(output: &mut Wire<W>, response: &Response) -> Result<(), WriteFailed>
     requires few_failures { failures_of output.old < 2 ^ 63 }
     ensures ok { OnOk result

@@ -1,8 +1,5 @@
-//! The work of each command at an open desk, and the texts that a run prints.
-//!
-//! `specs/Told.antt` has the printed lines, `specs/Runs.antt` the answers by the history of a desk,
-//! `specs/Clients.antt` the events of clients, `specs/Connections.antt` the effect of connections, and
-//! `specs/Wires.antt` the counts of readers and writers. This crate doesn't know how a desk is stored.
+//! The work of each command at an open desk, and the texts that a run prints. This crate doesn't know how a desk is
+//! stored.
 #![tactic(auto)]
 
 mod clients;

@@ -54,7 +54,6 @@ pub fn serve_listener<A: Handler, C: Clients, W: Write>(
     u8::from(faulty)
 }
 
-/// Serves the next connection, if a client comes.
 fn serve_next<A: Handler, C: Clients>(
     alloc: Global,
     clients: &mut C,
@@ -79,7 +78,6 @@ fn serve_next<A: Handler, C: Clients>(
     Some(ended)
 }
 
-/// A request was refused, or a fault ended the connection.
 fn is_faulty(ended: &Result<Served, ServeFault>) -> bool
     ensures { result ≡ is_faulty ended.now }
 {

@@ -27,37 +27,28 @@ pub enum Asked {
     },
     /// Serve connections, one after another.
     Serve {
-        /// The desk's file.
         file: String,
-        /// The port on which it listens.
         port: u16,
-        /// The number of connections.
         connections: u32,
-        /// The greatest number of a desk that this run makes.
         greatest: u32,
     },
     /// Print a report.
     Report {
-        /// The desk's file.
         file: String,
         /// The target of the request, such as `/slots?machine=M`.
         target: String,
     },
     /// Audit the desk in a file.
     Audit {
-        /// The file.
         file: String,
     },
     /// Migrate a desk's file from version 1 to version 2.
     Migrate {
-        /// The file.
         file: String,
     },
     /// Answer an import.
     Import {
-        /// The desk's file.
         file: String,
-        /// The import.
         import: Import,
         /// The file with its records.
         from: String,
@@ -91,7 +82,6 @@ pub fn read_words(alloc: Global, words: &[String]) -> Result<Asked, AllocError>
     }
 }
 
-/// Returns the text to print if no command is run.
 fn help_or_mistake(alloc: Global, error: &clap::Error) -> Result<Asked, AllocError>
     ensures asks { (words : List (List ℕ)) → HasKind (told_of words) error.now → IfOk result (Asks words) }
     ensures range { IfOk result IsInRange }
@@ -107,7 +97,6 @@ fn help_or_mistake(alloc: Global, error: &clap::Error) -> Result<Asked, AllocErr
     }
 }
 
-/// Returns the command to run.
 fn command_of(alloc: Global, matches: &ArgMatches<'_>) -> Result<Asked, AllocError>
     requires named { (words : List (List ℕ)) × (told_of words ≡ [])
         × (subcommand_rows_of matches.now ≡ named_by words) }
@@ -133,7 +122,6 @@ fn command_of(alloc: Global, matches: &ArgMatches<'_>) -> Result<Asked, AllocErr
     }
 }
 
-/// Returns the meaning of `feed` with these options.
 fn feed_of(alloc: Global, found: &ArgMatches<'_>) -> Result<Asked, AllocError>
     ensures asks { (words : List (List ℕ)) → Names words (codes "feed") (rows_of (found_of found.now))
         → IfOk result (Asks words) }
@@ -149,7 +137,6 @@ fn feed_of(alloc: Global, found: &ArgMatches<'_>) -> Result<Asked, AllocError>
     Ok(Asked::Feed { file, greatest })
 }
 
-/// Returns the meaning of `serve` with these options.
 fn serve_of(alloc: Global, found: &ArgMatches<'_>) -> Result<Asked, AllocError>
     ensures asks { (words : List (List ℕ)) → Names words (codes "serve") (rows_of (found_of found.now))
         → IfOk result (Asks words) }
@@ -175,7 +162,6 @@ fn serve_of(alloc: Global, found: &ArgMatches<'_>) -> Result<Asked, AllocError>
     }
 }
 
-/// Returns the meaning of `report` with these options.
 fn report_of(alloc: Global, found: &ArgMatches<'_>) -> Result<Asked, AllocError>
     ensures asks { (words : List (List ℕ)) → Names words (codes "report") (rows_of (found_of found.now))
         → IfOk result (Asks words) }
@@ -190,7 +176,6 @@ fn report_of(alloc: Global, found: &ArgMatches<'_>) -> Result<Asked, AllocError>
     }
 }
 
-/// Returns the meaning of `audit` with these options.
 fn audit_of(alloc: Global, found: &ArgMatches<'_>) -> Result<Asked, AllocError>
     ensures asks { (words : List (List ℕ)) → Names words (codes "audit") (rows_of (found_of found.now))
         → IfOk result (Asks words) }
@@ -204,7 +189,6 @@ fn audit_of(alloc: Global, found: &ArgMatches<'_>) -> Result<Asked, AllocError>
     }
 }
 
-/// Returns the meaning of `migrate` with these options.
 fn migrate_of(alloc: Global, found: &ArgMatches<'_>) -> Result<Asked, AllocError>
     ensures asks { (words : List (List ℕ)) → Names words (codes "migrate") (rows_of (found_of found.now))
         → IfOk result (Asks words) }
@@ -218,7 +202,6 @@ fn migrate_of(alloc: Global, found: &ArgMatches<'_>) -> Result<Asked, AllocError
     }
 }
 
-/// Returns the meaning of an import with these options.
 fn import_of(
     alloc: Global,
     found: &ArgMatches<'_>,
@@ -242,7 +225,6 @@ fn import_of(
     }
 }
 
-/// Returns the import in the options of `import-setup`.
 fn setup_in(found: &ArgMatches<'_>) -> Result<Import, BadOption>
     ensures { result ≡ setup_in (rows_of (found_of found.now)) }
 {
@@ -254,7 +236,6 @@ fn setup_in(found: &ArgMatches<'_>) -> Result<Import, BadOption>
     setup_import(id, source, time, product, machine)
 }
 
-/// Returns the import in the options of `import-counts`.
 fn counts_in(found: &ArgMatches<'_>) -> Result<Import, BadOption>
     ensures { result ≡ counts_in (rows_of (found_of found.now)) }
 {
@@ -264,7 +245,6 @@ fn counts_in(found: &ArgMatches<'_>) -> Result<Import, BadOption>
     counts_import(id, source, time)
 }
 
-/// Returns the text of an option that the grammar requires.
 fn text_of<'m>(found: &'m ArgMatches<'_>, name: &str) -> &'m str
     ensures { result.now ≡ text_of (rows_of (found_of found.now)) name.now }
 {
@@ -274,7 +254,6 @@ fn text_of<'m>(found: &'m ArgMatches<'_>, name: &str) -> &'m str
     }
 }
 
-/// Reports a missing file.
 fn no_file(alloc: Global) -> Result<String, AllocError> {
     String::from_str(alloc, "error: a value is required for '--db <FILE>'\n")
 }
@@ -301,7 +280,6 @@ fn number_in(found: &ArgMatches<'_>, name: &str, most: u32) -> Option<u32>
     }
 }
 
-/// Returns the number in a text, from 1 to the greatest.
 fn numeral(text: &str, most: u32) -> Option<u32>
     ensures some { IfSome result (λ n. IsUnsignedIn 1 most text.now × (n ≡ number_of text.now)) }
     ensures none { IsNone result → IsUnsignedIn 1 most text.now → ⊥ }
@@ -313,12 +291,10 @@ fn numeral(text: &str, most: u32) -> Option<u32>
     Some(number)
 }
 
-/// Reports an invalid greatest number.
 fn no_greatest(alloc: Global, found: &ArgMatches<'_>) -> Result<String, AllocError> {
     no_number(alloc, found, "greatest", MOST_ENTRIES as u32)
 }
 
-/// Reports an option whose text is no number from 1 to the greatest.
 fn no_number(
     alloc: Global,
     found: &ArgMatches<'_>,
@@ -331,7 +307,6 @@ fn no_number(
     )
 }
 
-/// The commands of the program.
 fn commands<'a>(alloc: Global) -> Result<clap::Command<'a>, AllocError>
     ensures { IfOk result (λ command. app_of command ≡ commands) }
 {
@@ -341,7 +316,6 @@ fn commands<'a>(alloc: Global) -> Result<clap::Command<'a>, AllocError>
     with_audit.subcommand(migrate(alloc)?)
 }
 
-/// The program with the commands that answer messages and files.
 fn with_answering<'a>(alloc: Global) -> Result<clap::Command<'a>, AllocError>
     ensures { IfOk result (λ command. app_of command ≡ with_answering) }
 {
@@ -352,7 +326,6 @@ fn with_answering<'a>(alloc: Global) -> Result<clap::Command<'a>, AllocError>
     with_setup.subcommand(import_counts(alloc)?)
 }
 
-/// The program without its commands.
 fn bare<'a>(alloc: Global) -> Result<clap::Command<'a>, AllocError>
     ensures { IfOk result (λ command. app_of command ≡ bare) }
 {
@@ -367,7 +340,6 @@ fn bare<'a>(alloc: Global) -> Result<clap::Command<'a>, AllocError>
     Ok(tracedesk)
 }
 
-/// The command `feed`.
 fn feed<'a>(alloc: Global) -> Result<clap::Command<'a>, AllocError>
     ensures shape { IfOk result (λ command. shape_of command ≡ feed_shape) }
     ensures local { IfOk result (λ command. (out-Command command).has_globals ≡ false) }
@@ -382,7 +354,6 @@ fn feed<'a>(alloc: Global) -> Result<clap::Command<'a>, AllocError>
     with_greatest(alloc, kept)
 }
 
-/// The command with the option `--greatest`.
 fn with_greatest<'a>(
     alloc: Global,
     command: clap::Command<'a>,
@@ -400,7 +371,6 @@ fn with_greatest<'a>(
     command.arg(option)
 }
 
-/// The command `serve`.
 fn serve<'a>(alloc: Global) -> Result<clap::Command<'a>, AllocError>
     ensures shape { IfOk result (λ command. shape_of command ≡ serve_shape) }
     ensures local { IfOk result (λ command. (out-Command command).has_globals ≡ false) }
@@ -426,7 +396,6 @@ fn serve<'a>(alloc: Global) -> Result<clap::Command<'a>, AllocError>
     with_greatest(alloc, ending)
 }
 
-/// The command `report`.
 fn report<'a>(alloc: Global) -> Result<clap::Command<'a>, AllocError>
     ensures shape { IfOk result (λ command. shape_of command ≡ report_shape) }
     ensures local { IfOk result (λ command. (out-Command command).has_globals ≡ false) }
@@ -444,7 +413,6 @@ fn report<'a>(alloc: Global) -> Result<clap::Command<'a>, AllocError>
     )
 }
 
-/// The command `import-setup`.
 fn import_setup<'a>(alloc: Global) -> Result<clap::Command<'a>, AllocError>
     ensures shape { IfOk result (λ command. shape_of command ≡ import_setup_shape) }
     ensures local { IfOk result (λ command. (out-Command command).has_globals ≡ false) }
@@ -464,7 +432,6 @@ fn import_setup<'a>(alloc: Global) -> Result<clap::Command<'a>, AllocError>
     )
 }
 
-/// The command `import-counts`.
 fn import_counts<'a>(alloc: Global) -> Result<clap::Command<'a>, AllocError>
     ensures shape { IfOk result (λ command. shape_of command ≡ import_counts_shape) }
     ensures local { IfOk result (λ command. (out-Command command).has_globals ≡ false) }
@@ -482,7 +449,6 @@ fn import_counts<'a>(alloc: Global) -> Result<clap::Command<'a>, AllocError>
     )
 }
 
-/// The command with the options of both imports: the desk's file, and the stamp of its command.
 fn with_stamp<'a>(
     alloc: Global,
     command: clap::Command<'a>,
@@ -529,7 +495,6 @@ fn with_wanted<'a>(
     command.arg(option)
 }
 
-/// The command `audit`.
 fn audit<'a>(alloc: Global) -> Result<clap::Command<'a>, AllocError>
     ensures { IfOk result (λ command. (shape_of command ≡ audit_shape) × ((out-Command command).has_globals ≡ false)) }
 {
@@ -544,7 +509,6 @@ fn audit<'a>(alloc: Global) -> Result<clap::Command<'a>, AllocError>
         .arg(file)
 }
 
-/// The command `migrate`.
 fn migrate<'a>(alloc: Global) -> Result<clap::Command<'a>, AllocError>
     ensures { IfOk result (λ command. (shape_of command ≡ migrate_shape)
         × ((out-Command command).has_globals ≡ false)) }

@@ -4,7 +4,6 @@ use Rattle.desk_types.specs.Id.{Name}
 use Rattle.desk_types.specs.History.{History, desk_minute}
 use Rattle.desk_types.specs.Front.{fronts_of}
 
--- No sheet is selected in an empty history.
 pub no-fronts : (H : History) (machine : Name) → desk_minute H ≡ None → fronts_of H machine ≡ []
 no-fronts [] machine none = refl
 no-fronts (e ∷ H) machine none = cc

@@ -22,7 +22,6 @@ use Rattle.entry_search.proofs.ReelsLater.{pieces_taken-map}
 use Rattle.entry_search.proofs.Live.{front_of-tape}
 use Rattle.entry_search.proofs.MountedReels.{mounted-last}
 
--- An entry either sets a reel's pieces or takes some off.
 pub left_of-next : (H : History) (e : Entry) (takes : List Take) (reel : Name) → takes ≡ takes_by H e.effective e.stamped.command
     → unwrap_or (pieces_by reel e.stamped.command) (left_of H reel - pieces_taken takes reel) ≡ left_of (e ∷ H) reel
 unfolding left_of
@@ -34,7 +33,6 @@ pub tape_of-next : (H : History) (e : Entry) (machine slot : Name) → tape_afte
 unfolding tape_of
 tape_of-next H e machine slot = refl
 
--- An empty history has no pieces and no tapes.
 pub left_of-none : (reel : Name) → 0 ≡ left_of [] reel
 unfolding left_of
 left_of-none reel = refl
@@ -57,7 +55,6 @@ floor-front H floor machine slot is_floor =
     ∙ ap (find (λ reel. nat_lt 0 (left_of H reel))) (is_floor.tapes machine slot)
     ∙ sym (front_of-tape H machine slot)
 
--- Every reel's last command was in effect by the desk minute, and by any later one.
 pub floor-by : (H : History) (floor : Floor) (minute : ℕ) → IsFloor H floor → now_of H ≤ minute → AreReelsBy floor.reels minute
 floor-by H floor minute is_floor later name reel is = by (reel_at floor.reels name) (is_floor.reels name) is
   where

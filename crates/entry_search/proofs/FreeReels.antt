@@ -76,7 +76,6 @@ turn-put H part rest reel turns is = by (is_free H part reel)
     by true = ap (λ ts. insert_key by_life ts (turn_of H reel)) is ∙ insert-turn H (in_order (by_turn H) (filter (is_free H part) rest)) reel
     by false = is
 
--- One more entry inserts the reel that it receives, if that is free.
 pub turns-next : (H G : History) (part : Name) (e : Entry) (turns : List (Left × Name)) → turns ≡ map (turn_of H) (free_among H part G)
     → option_map_or (insert_key by_life turns) (turn_by H part e.stamped.command) turns ≡ map (turn_of H) (free_among H part (e ∷ G))
 turns-next H G part e turns is = by (received_by e.stamped.command)
@@ -94,7 +93,6 @@ one-more : {Y : Type 0} (y : Option Y) → option_to_list y ≡ cons_option y []
 one-more None = refl
 one-more (Some y) = refl
 
--- Adding the next element's value, if it has one.
 pub told-next : {X Y : Type 0} (f : X → Option Y) (xs : List X) (i : ℕ) (x : X) (told new : List Y) (one : Option Y) → i < length xs → x ≡ get_or xs i x
     → told ≡ filter_map f (take i xs) → one ≡ f x → new ≡ told ++ option_to_list one → new ≡ filter_map f (take (i + 1) xs)
 told-next f xs i x told new one inside at is one_is new_is =

@@ -29,7 +29,6 @@ out-of-bag : {P : Type 0} (b : Bool) → cond b (Some true) None ≡ Some false 
 out-of-bag true is = cc
 out-of-bag false is = cc
 
--- A command that leaves a received reel in its bag is a seal or a bake.
 pub sealed : (H : History) (e : Entry) (name : Name) (receipt : Receipt) → IsNext Two H e → receipt_of H name ≡ Some receipt → open_by name e.stamped.command ≡ Some false
     → is_bake e.stamped.command ≡ false → e.stamped.command ≡ ReelSealed name
 sealed H e name receipt next was says no_bake = by e.stamped.command refl says no_bake
@@ -58,7 +57,6 @@ received name minute (ReelReceived r part lot moisture quantity) receipt is =
     ∙ ap (λ (x : Receipt). ReelReceived name x.part x.lot x.moisture x.quantity) it
 received name minute _ receipt is = cc
 
--- The entries so far with the next one, newest first.
 pub so-far : (entries : List Entry) (i : ℕ) (e : Entry) → i < length entries → e ≡ get_or entries i e → reverse (take (i + 1) entries) ≡ e ∷ reverse (take i entries)
 so-far entries i e inside is = reverse-last (take (i + 1) entries) (take i entries) e (take-next entries i e inside is)
 
@@ -71,12 +69,10 @@ split-at xs i x inside is =
     split : xs ≡ take i xs ++ x ∷ drop (i + 1) xs
     split = sym (take-append-drop i xs) ∙ ap (λ rest. take i xs ++ rest) (drop-next xs i x inside is)
 
--- An accepted history includes an accepted prefix up to the next entry.
 pub judged-next : (entries : List Entry) (i : ℕ) (e : Entry) → i < length entries → e ≡ get_or entries i e → IsJudged Two (reverse entries) → IsJudged Two (e ∷ reverse (take i entries))
 judged-next entries i e inside is judged =
     judged-prefix (e ∷ reverse (take i entries)) (reverse entries) (reverse (drop (i + 1) entries), split-at entries i e inside is) judged
 
--- The reel's last command was in effect by the next entry.
 pub by-then : (H : History) (e : Entry) (name : Name) (found : Option Reel) → IsJudged Two (e ∷ H) → IsReelOf H name found → (reel : Reel) → found ≡ Some reel → reel.last ≤ e.effective
 by-then H e name None judged is_reel reel is = cc
 by-then H e name (Some found) judged is_reel reel is = omega (arith, is_reel.1, judged.0.effective, le-max_right e.stamped.minute (now_of H), ap (λ (o : Option Reel). option_map_or (λ (r : Reel). r.last) o 0) is)

@@ -30,7 +30,6 @@ pub no-mounts : (H : History) (machine : Name) → desk_minute H ≡ None → mo
 no-mounts [] machine none = refl
 no-mounts (e ∷ H) machine none = cc
 
--- Numbering one more element.
 enumerate-push : {X : Type 0} (n : ℕ) (xs : List X) (x : X) → enumerate_from n (xs ++ x ∷ []) ≡ enumerate_from n xs ++ (n + length xs, x) ∷ []
 enumerate-push n [] x = let is : n ≡ n + 0 = omega arith in ap (λ k. (k, x) ∷ []) is
 enumerate-push n (y ∷ ys) x =

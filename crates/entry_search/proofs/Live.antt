@@ -7,7 +7,6 @@ use Rattle.desk_types.specs.History.{History}
 use Rattle.desk_types.specs.Tape.{tape_of}
 use Rattle.desk_types.specs.Pieces.{left_of, live_on, first, front_of}
 
--- The first element that passes a test.
 first-filter : (p : Name → Bool) (xs : List Name) → first (filter p xs) ≡ find p xs
 first-filter p [] = refl
 first-filter p (x ∷ xs) = by (p x) (first-filter p xs)

@@ -16,7 +16,6 @@ use Rattle.desk_laws.proofs.Mounted.{mounted-is}
 use Rattle.desk_laws.proofs.Places.{placed}
 use Rattle.entry_search.specs.Floor.{mount_by, last_mount, is_on}
 
--- A command sets a reel's place where it mounts the reel, or leaves it.
 last-after : (reel : Name) (command : Command) (place last : Option (Name × Name)) (p : Name × Name) → (place ≡ Some p → last ≡ Some p)
     → place_after reel command place ≡ Some p → option_or (mount_by reel command) last ≡ Some p
 last-after reel (MaterialsLoaded m s r) place last p before is = by (same r reel) (is_at m s place) is
@@ -60,7 +59,6 @@ on-last H reel judged some = by (place_of H reel) refl (last_mount H reel) refl
         ∙ sym (placed H q.0 q.1 reel judged some ∙ ap (is_at q.0 q.1) is)
         ∙ ap (is_on (tape_of H) reel) (sym was)
 
--- A reel is mounted exactly if it has pieces left and is on the tape where it was last mounted.
 pub mounted-last : (H : History) (reel : Name) → IsJudged Two H → (nat_lt 0 (left_of H reel) && is_on (tape_of H) reel (last_mount H reel)) ≡ is_mounted H reel
 mounted-last H reel judged = by (nat_lt 0 (left_of H reel)) refl ∙ sym (mounted-is H reel judged)
   where

@@ -21,7 +21,6 @@ few-reversed entries few = let same_length = length-reverse entries in omega (ar
 abbrev pub most : ℕ
 most = 2 ^ 64 - 1
 
--- A reel's received pieces fit in 64 bits.
 received-fits : (H : History) (reel : Name) → IsJudged Two H → length H ≤ MOST_ENTRIES → received_of H reel ≤ most
 received-fits H reel judged few = let range = received-range H reel judged in omega (arith, range, few)
 
@@ -29,7 +28,6 @@ pub total-fits : (usage : Usage) (H : History) (reel : Name) → IsJudged Two H 
 total-fits Placed H reel judged few = let all = balance H reel judged in let fits = received-fits H reel judged few in omega (arith, all, fits)
 total-fits Scrapped H reel judged few = let all = balance H reel judged in let fits = received-fits H reel judged few in omega (arith, all, fits)
 
--- A reel's placed, scrapped and remaining pieces add up to the received ones, which fit in 64 bits.
 pub summed : (entries : List Entry) (reel : Name) (placed scrapped : ℕ) → IsJudged Two (reverse entries) → length entries ≤ MOST_ENTRIES
     → (length (reverse entries) ≤ MOST_ENTRIES → placed ≡ placed_of (reverse entries) reel)
     → (length (reverse entries) ≤ MOST_ENTRIES → scrapped ≡ scrapped_of (reverse entries) reel)

@@ -16,7 +16,6 @@ pub no-reel : (H : History) (name : Name) → desk_minute H ≡ None → reel_vi
 no-reel [] name none = refl
 no-reel (e ∷ H) name none = cc
 
--- The reel's stored exposure is that of the view.
 used-is : (H : History) (name : Name) (found : Reel) → StandsFor H name found → found.last ≤ now_of H → found.used ≡ used_of H name
 used-is H name found stands by_now = by found.open_since refl ∙ ap (λ since. exposure_of H name (unwrap_or since (now_of H))) stands.open_since
   where

@@ -20,12 +20,10 @@ pieces_taken-map H minute (p ∷ ps) reel =
     ∙ ap (λ n. cond (same p.reel reel) p.quantity 0 + n) (pieces_taken-map H minute ps reel)
     ∙ sym (sum_by-cons (λ (q : Pick). cond (same q.reel reel) q.quantity 0) p ps)
 
--- An entry that states a reel's pieces sets them.
 left_of-told : (H : History) (e : Entry) (reel : Name) (pieces : ℕ) → pieces_by reel e.stamped.command ≡ Some pieces → left_of (e ∷ H) reel ≡ pieces
 unfolding left_of
 left_of-told H e reel pieces told = ap (λ o. unwrap_or o (left_of H reel - pieces_picked (picks_of H e.stamped.command) reel)) told
 
--- Any other entry takes off the pieces of its takes.
 left_of-pieces_taken : (H : History) (e : Entry) (takes : List Take) (reel : Name) → pieces_by reel e.stamped.command ≡ None
     → takes ≡ takes_by H e.effective e.stamped.command → left_of (e ∷ H) reel ≡ left_of H reel - pieces_taken takes reel
 unfolding left_of
@@ -62,7 +60,6 @@ going-told H e kept gone whole pieces reel going told range =
     let left : left_of (e ∷ H) reel ≡ pieces = left_of-told H e reel pieces told in
     omega (arith, going.gone_is, going.whole_is, left)
 
--- No entry stated any pieces.
 pub going-none : (kept : List (List Take)) (gone whole : ℕ) (reel : Name) → Going [] kept gone whole reel → 0 ≡ whole
 unfolding left_of
 going-none kept gone whole reel going = omega (arith, going.whole_is)

@@ -35,7 +35,6 @@ taken_for-map usage H minute (p ∷ ps) reel =
     ∙ ap (λ n. cond (same p.reel reel && is_usage_of usage p.purpose) p.quantity 0 + n) (taken_for-map usage H minute ps reel)
     ∙ sym (pieces_picked-filter (λ p. is_usage_of usage p.purpose) p ps reel)
 
--- Adding one entry's takes.
 total-next : (usage : Usage) (H : History) (picks : List Pick) (reel : Name)
     → pieces_picked (filter (λ p. is_usage_of usage p.purpose) (all_picks H ++ picks)) reel ≡ total_of usage H reel + pieces_picked (filter (λ p. is_usage_of usage p.purpose) picks) reel
 total-next usage H picks reel =

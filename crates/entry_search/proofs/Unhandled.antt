@@ -18,19 +18,16 @@ if-none : {X Y : Type 0} (b : Bool) (x : X) (y : Y) → cond b (Some x) None ≡
 if-none true x y is = cc
 if-none false x y is = refl
 
--- A command that doesn't handle a reel doesn't receive it.
 not-received : (name : Name) (minute : ℕ) (command : Command) → open_by name command ≡ None → receipt_by name minute command ≡ None
 not-received name minute (ReelReceived r part lot moisture quantity) none = if-none (same r name) false _ none
 not-received name minute _ none = refl
 
--- An entry keeps a reel that it doesn't handle.
 pub reel-kept : (H : History) (e : Entry) (name : Name) (found : Option Reel) → open_by name e.stamped.command ≡ None → IsReelOf H name found → IsReelOf (e ∷ H) name found
 reel-kept H e name None none is_reel =
     ap (λ o. option_or o (receipt_of H name)) (not-received name e.effective e.stamped.command none) ∙ is_reel
 reel-kept H e name (Some reel) none is_reel =
     (StandsFor-untouched H e name reel is_reel.0 none, omega (arith, is_reel.1, le-max_right e.effective (now_of H)))
 
--- A command that handles no reel doesn't handle this one.
 pub unhandled : (said : Option Bool) (handled : Option Name) (name : Name) → ((out : Bool) → said ≡ Some out → handled ≡ Some name) → handled ≡ None → said ≡ None
 unhandled None handled name names is = refl
 unhandled (Some out) handled name names is = let it = names out refl in cc

@@ -36,7 +36,6 @@ pub struct Floor {
     pub mounts: BTreeMap<Id, (Id, Id)>,
 }
 
-/// Returns an empty floor. Takes no memory.
 fn bare(alloc: Global) -> Floor
     ensures { IsFloor [] result }
 {
@@ -74,7 +73,6 @@ pub fn floor_of(alloc: Global, entries: &[Entry], takes: &[Takes]) -> Result<Flo
     Ok(floor)
 }
 
-/// Returns the first reel of a tape with pieces left.
 fn first_with_pieces(stock: &BTreeMap<Id, u64>, tape: &Tape) -> Option<Id>
     ensures { result ≡ find (λ reel. nat_lt 0 (pieces_at stock.now reel)) tape.now }
 {
@@ -97,7 +95,6 @@ pub fn front(floor: &Floor, machine: &Id, slot: &Id) -> Option<Id>
     }
 }
 
-/// Returns the reels of a tape with pieces left.
 fn with_pieces(alloc: Global, stock: &BTreeMap<Id, u64>, tape: &Tape) -> Result<Vec<Id>, AllocError>
     ensures { IfOk result (λ reels. reels.items ≡ filter (λ reel. nat_lt 0 (pieces_at stock.now reel)) tape.now) }
 {
@@ -129,7 +126,6 @@ pub fn reel_on(floor: &Floor, name: &Id) -> Option<Reel>
     reel_in(&floor.reels, name)
 }
 
-/// Returns whether the reel is on the tape where it was last mounted.
 fn is_on_tape(floor: &Floor, reel: &Id) -> bool
     ensures { result ≡ is_on (tape_at floor.now.tapes) reel.now (mount_at floor.now.mounts reel.now) }
 {

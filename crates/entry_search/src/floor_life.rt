@@ -38,7 +38,6 @@ fn received_reel(name: &Id, entry: &Entry) -> Option<Reel>
     Some(Reel::receive(said.part, said.lot, said.moisture, said.quantity, at))
 }
 
-/// Applies an entry to a received reel.
 fn handle(reel: &mut Reel, name: &Id, entry: &Entry)
     requires { reel.old.last ≤ entry.now.effective }
     ensures last { reel.new.last ≤ entry.now.effective }

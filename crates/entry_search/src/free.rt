@@ -41,7 +41,6 @@ pub fn is_usable(left: Left) -> bool
     }
 }
 
-/// Returns whether the reel can be loaded for the part.
 fn is_free(entries: &[Entry], part: &Id, view: &ReelView) -> bool
     ensures { (reel : Name) → reel_view (reverse entries.now) reel ≡ Some view.now
         → result ≡ is_free (reverse entries.now) part.now reel }
@@ -52,7 +51,6 @@ fn is_free(entries: &[Entry], part: &Id, view: &ReelView) -> bool
         && is_usable(view.left)
 }
 
-/// Returns the turn of the reel that the command receives, if it is free for the part.
 fn turn_by(entries: &[Entry], takes: &[Takes], part: &Id, command: &Command) -> Option<(Left, Id)>
     requires most { length entries.now ≤ MOST_ENTRIES }
     requires judged { IsJudged Two (reverse entries.now) }
@@ -67,7 +65,6 @@ fn turn_by(entries: &[Entry], takes: &[Takes], part: &Id, command: &Command) -> 
     Some((view.left, reel))
 }
 
-/// Returns the turns of the free reels in order.
 fn turns(
     alloc: Global,
     entries: &[Entry],

@@ -33,7 +33,6 @@ pub fn life(reel: &Reel, minute: Minute) -> Life
     }
 }
 
-/// Returns a received reel with its part and its life.
 fn front_reel(floor: &Floor, minute: Minute, reel: Option<Id>) -> Option<FrontReel>
     requires { AreReelsBy floor.now.reels minute }
     ensures { (H : History) → IsFloor H floor.now → ForSome reel (λ name. is_some (receipt_of H name) ≡ true)
@@ -48,7 +47,6 @@ fn front_reel(floor: &Floor, minute: Minute, reel: Option<Id>) -> Option<FrontRe
     })
 }
 
-/// Returns a slot's front reel with its part and its life.
 fn front_at(floor: &Floor, minute: Minute, machine: &Id, slot: &Id) -> Option<FrontReel>
     requires { AreReelsBy floor.now.reels minute }
     ensures { (H : History) → IsJudged Two H → IsFloor H floor.now

@@ -20,7 +20,6 @@ fn unless_at(machine: &Id, slot: &Id, place: Option<(Id, Id)>) -> Option<(Id, Id
     Some((m, s))
 }
 
-/// Returns the reel's machine and slot after a command.
 fn place_after(reel: &Id, command: &Command, place: Option<(Id, Id)>) -> Option<(Id, Id)>
     ensures { result ≡ place_after reel.now command.now place }
 {
@@ -45,7 +44,6 @@ fn place_after(reel: &Id, command: &Command, place: Option<(Id, Id)>) -> Option<
     }
 }
 
-/// Returns the machine and slot where the reel was last mounted, if it is still there.
 #[tactic(auto, unfolding(desk_laws::specs::Place::place_of))]
 fn place(entries: &[Entry], reel: &Id) -> Option<(Id, Id)>
     ensures { result ≡ place_of (reverse entries.now) reel.now }

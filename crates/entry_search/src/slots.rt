@@ -59,7 +59,6 @@ fn loaded_slots(alloc: Global, entries: &[Entry], machine: &Id) -> Result<Vec<Id
     slots.into_iter().collect(alloc)
 }
 
-/// Returns a received reel at its position on a slot.
 fn mount(floor: &Floor, minute: Minute, slot: &Id, position: u64, reel: &Id) -> Mount
     requires by_now { AreReelsBy floor.now.reels minute }
     requires received { is_some (reel_at floor.now.reels reel.now) ≡ true }

@@ -19,7 +19,6 @@ pub fn is_placed(purpose: &Purpose) -> bool
     matches!(purpose, Purpose::Placed { .. })
 }
 
-/// Returns whether pieces taken for this purpose have this usage.
 fn is_usage_of(usage: Usage, purpose: &Purpose) -> bool
     ensures { result ≡ is_usage_of usage purpose.now }
 {

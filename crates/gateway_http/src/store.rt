@@ -39,7 +39,6 @@ impl<S: Alter, D: KeepsRows + Drop> ReportedStore<S, D> {
     }
 }
 
-/// As the store itself.
 impl<S: Alter, D: KeepsRows + Drop> Owner for ReportedStore<S, D> {
     ghost use Rattle.std.specs.Prelude.{◌≡◌, true};
     ghost use Rattle.sqlite.specs.State.{HasCleanDisk};
@@ -61,7 +60,6 @@ impl<S: Alter, D: KeepsRows + Drop> Owner for ReportedStore<S, D> {
     }
 }
 
-/// The reports on the history that the store represents.
 impl<S: Alter, D: KeepsRows + Drop> ReportedOwner for ReportedStore<S, D> {
     ghost use Rattle.gateway_http.specs.Reports.{report_of};
 
@@ -89,7 +87,6 @@ impl<S: Alter, D: KeepsRows + Drop> ReportedOwner for ReportedStore<S, D> {
     }
 }
 
-/// Returns the report, or `None` if it is not found.
 fn if_found(told: Result<Text, ReportFault>) -> Result<Option<Text>, Unavailable>
     ensures { (kind : Kind) (text : Option (List ℕ)) → Answers kind text told → IfOk result (λ found. found ≡ text) }
 {

@@ -58,7 +58,6 @@ pub get-stays : (reports : Reports) (L : Ledger) (target : List ℕ) → (outcom
 unfolding asked_of
 get-stays reports L target = stays reports L [] (asked_of (codes "GET") target) (by-path (route_of (path_of target)) (query_of target))
 
--- A gateway's answer to a GET is the rule's or Unavailable, and its history is unchanged.
 pub get-told : (reports : Reports) (G : Ledger) (target : List ℕ) (told : Told) (H : History)
     → AnswersRequest (request_rule reports G.rules G.greatest) (get_of target) G.history told H → AnswersGet reports G target told × (H ≡ G.history)
 get-told reports G target told H (mark, is, after) = by mark is after

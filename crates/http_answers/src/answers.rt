@@ -21,7 +21,6 @@ use imports::{ImportFault, read_counts, read_setup};
 use report_texts::not_found_text;
 use std::alloc::Global;
 
-/// Returns an answer in JSON.
 fn json(status: Status, text: Text) -> Response
     ensures { response_told result ≡ json status text }
 {
@@ -63,14 +62,12 @@ pub fn answer_request<L: ReportedOwner>(
     }
 }
 
-/// Answers a request that can't be read.
 fn answer_fault(alloc: Global, fault: AskFault) -> Result<Response, Unavailable>
     ensures { IfOk result (λ response. response_told response ≡ json (request_fault_status fault) (fault_text fault)) }
 {
     Ok(json(request_fault_status(fault), fault.write_text(alloc)?))
 }
 
-/// Answers a message.
 fn answer_message<L: Owner>(
     alloc: Global,
     owner: &mut L,
@@ -89,7 +86,6 @@ fn answer_message<L: Owner>(
     }
 }
 
-/// Answers a setup file.
 fn answer_setup<L: Owner>(
     alloc: Global,
     owner: &mut L,
@@ -111,7 +107,6 @@ fn answer_setup<L: Owner>(
     }
 }
 
-/// Answers a count file.
 fn answer_counts<L: Owner>(
     alloc: Global,
     owner: &mut L,
@@ -161,7 +156,6 @@ fn answer_command<L: Owner>(
     }
 }
 
-/// Answers with a report, or that its subject isn't found.
 fn answer_report<L: ReportedOwner>(
     alloc: Global,
     owner: &mut L,
@@ -183,7 +177,6 @@ fn answer_report<L: ReportedOwner>(
     }
 }
 
-/// Answers that a report's subject isn't found.
 fn answer_none(alloc: Global, about: Option<report_texts::Kind>) -> Result<Response, Unavailable>
     ensures { IfOk result (λ response. response_told response ≡ none_told about) }
 {
@@ -193,7 +186,6 @@ fn answer_none(alloc: Global, about: Option<report_texts::Kind>) -> Result<Respo
     }
 }
 
-/// Returns the subject of a report; the overdue list has no subject.
 fn kind_of(report: Report) -> Option<report_texts::Kind>
     ensures { result ≡ kind_of report }
 {

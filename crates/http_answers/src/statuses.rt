@@ -20,7 +20,6 @@ pub fn request_fault_status(fault: AskFault) -> Status
     }
 }
 
-/// Returns the allowed method as an answer names it.
 fn allow_of(method: Method) -> Allow
     ensures { result ≡ allow_of method }
 {

@@ -88,7 +88,6 @@ row_at-routes path (r ∷ rs) = by (same (route_path r) path) refl (row_at-route
     by true e later = rw e refl
     by false e later = rw e later
 
--- The result of a router of all routes.
 pub first-table : (path : List ℕ) → option_map (λ e. e.value) (first table path) ≡ route_of path
 unfolding route_of
 first-table path = ap (option_map (λ e. e.value)) (first-literal path table table-literal) ∙ row_at-routes path routes

@@ -96,7 +96,6 @@ impl RouteTable {
     }
 }
 
-/// Splits the target into path and query.
 fn cut_target(target: &[u8]) -> (&[u8], &[u8])
     ensures path { result.0.now ≡ path_of target.now }
     ensures query { result.1.now ≡ query_of target.now }
@@ -107,14 +106,12 @@ fn cut_target(target: &[u8]) -> (&[u8], &[u8])
     }
 }
 
-/// Returns the place of the first `?`.
 fn first_mark(target: &[u8]) -> Option<usize>
     ensures { result ≡ position is_mark target.now }
 {
     target.iter().position(|byte| *byte == b'?')
 }
 
-/// Returns the route if this is its method.
 fn by_method(route: Route, method: &[u8]) -> Result<Route, AskFault>
     ensures { result ≡ by_method method.now route }
 {
@@ -126,7 +123,6 @@ fn by_method(route: Route, method: &[u8]) -> Result<Route, AskFault>
     }
 }
 
-/// Reads the parameters of a route in order.
 #[tactic(auto, unfolding(crate::specs::Asked::asked_at))]
 fn read_parameters(alloc: Global, route: Route, query: &[u8]) -> Result<Asked, AskFault>
     ensures { IsAsked (asked_at route query.now) result }
@@ -231,7 +227,6 @@ fn boards_in(alloc: Global, query: &[u8]) -> Result<Boards, AskFault>
     boards_of(text.as_str()).ok_or(AskFault::BadQuery(Parameter::Boards))
 }
 
-/// Returns the parameter's value if it occurs exactly once.
 #[tactic(auto, unfolding(crate::specs::Asked::parameter_value))]
 fn parameter_value<'a>(
     alloc: Global,

@@ -18,7 +18,6 @@ pub enum AskFault {
     NoMemory,
 }
 
-/// A request can't be read without enough memory.
 impl From<AllocError> for AskFault {
     ghost use Rattle.std.specs.Prelude.{◌≡◌};
     ghost use Rattle.http_routes.specs.declared.fault.AskFault.TheVariants.{NoMemory};

@@ -22,7 +22,6 @@ pub fn boards_of(text: &str) -> Option<Boards>
     Boards::new(number_of(text, 6)?)
 }
 
-/// Reads a number of 1 to this many digits.
 #[tactic(auto, unfolding(crate::specs::Values::number_of))]
 fn number_of(text: &str, most_digits: usize) -> Option<u64>
     requires { most_digits ≤ 9 }

@@ -13,7 +13,6 @@ use Rattle.http_stream.specs.Bodies.{ReadsFewer}
 use Rattle.http_stream.specs.Cut.{Portion, whole, bad_head, head_too_large, unread, starved, IsPortion, EndsInside, ReadsInside, TakesPortion, PortionsGone, Leads, IsCut, is_last}
 use Rattle.httparse.specs.Spans.{span_bytes}
 
--- The searched bytes are the window of the pending ones.
 pub window_is : (bytes pend : List ℕ) (n : ℕ) → bytes ≡ pend → n ≡ min HEAD_LIMIT (length bytes) → take n bytes ≡ window pend
 window_is bytes pend n same least = ap (λ k. take k bytes) least ∙ take_min HEAD_LIMIT bytes ∙ ap (take HEAD_LIMIT) same
 
@@ -33,7 +32,6 @@ bad-more : (p q : List ℕ) → IsBadHead p → IsBadHead (p ++ q)
 bad-more p q (inl never) = inl (never-more p q never)
 bad-more p q (inr e) = inr (exceeds-more MOST_HEADERS p q e.0, overflows-more MOST_HEADERS p q e.1)
 
--- More bytes only extend the window.
 window-more : (n : ℕ) (p q : List ℕ) → take n (p ++ q) ≡ take n p ++ drop (length (take n p)) (take n (p ++ q))
 window-more n p q =
     let m = length (take n p) in
@@ -69,7 +67,6 @@ takes_large a pend (Some us) k long un =
 
 -- ---- after a head
 
--- The stream starts with this head.
 takes_head : (bytes more us : List ℕ) (head : Head) (h : RequestHead) → IsHeadOf bytes head h → length bytes ≤ HEAD_LIMIT
     → TakesHead ((bytes ++ more) ++ us) h ((drop head.len bytes ++ more) ++ us)
 takes_head bytes more us head h is few =
@@ -135,7 +132,6 @@ keeps_consumes (Some xs) (Some ys) (Some zs) bytes k p = sym k ∙ p
 pub keeps_inside : (a b c : Option (List ℕ)) → Keeps a b → ReadsInside b c → ReadsInside a c
 keeps_inside a b c k (bytes, gone, inside) = (bytes, keeps_consumes a b c bytes k gone, inside)
 
--- The pending bytes have no whole head.
 pub stops_in_head : (a : Option (List ℕ)) (pend : List ℕ) (known new : Option (List ℕ)) → Keeps a (prepend_known pend known) → Keeps known new → length pend < HEAD_LIMIT → IsUnfinished pend
     → ReadsInside a new
 stops_in_head a pend known new k l short un = (pend, keeps_consumes a (prepend_known pend known) new pend k (pending_goes pend known new l), inl (short, un))
@@ -145,7 +141,6 @@ stops_in_head a pend known new k l short un = (pend, keeps_consumes a (prepend_k
     pending_goes pend (Some us) None l = absurd l
     pending_goes pend (Some us) (Some vs) l = ap (λ l. pend ++ l) (sym l)
 
--- The bytes behind the head have no whole body.
 pub stops_in_body : (pend bytes behind : List ℕ) (head : Head) (h : RequestHead) (known new : Option (List ℕ)) (n : ℕ) → Sees pend bytes behind head h
     → head.body ≡ Ok n → ReadsFewer (prepend_known behind known) new n → ReadsInside (prepend_known pend known) new
 stops_in_body pend bytes behind head h known new n s e (gone, few, p) =
@@ -172,21 +167,18 @@ cut_end : (a b : List ℕ) (ps : List Portion) → Leads a ps b → EndsInside b
 cut_end a b [] e end = subst EndsInside e end
 cut_end a b (q ∷ qs) w end = (w.0, w.1, inr (w.2, cut_end w.0 b qs w.3 end))
 
--- One more portion is taken.
 pub portions_go : (a b c : Option (List ℕ)) (ps : List Portion) (p : Portion) → PortionsGone a ps b → TakesPortion b p c → is_last p ≡ false → PortionsGone a (ps ++ p ∷ []) c
 portions_go None b c ps p g t going = tt
 portions_go (Some xs) None c ps p g t going = absurd g
 portions_go (Some xs) (Some ys) None ps p g t going = absurd t
 portions_go (Some xs) (Some ys) (Some zs) ps p g t going = leads_more xs ys zs ps p g t going
 
--- The last portion is taken.
 pub last_goes : (a b c : Option (List ℕ)) (ps : List Portion) (p : Portion) → PortionsGone a ps b → TakesPortion b p c → is_last p ≡ true → IfSome a (λ bytes. IsCut bytes (ps ++ p ∷ []))
 last_goes None b c ps p g t ends = tt
 last_goes (Some xs) None c ps p g t ends = absurd g
 last_goes (Some xs) (Some ys) None ps p g t ends = absurd t
 last_goes (Some xs) (Some ys) (Some zs) ps p g t ends = cut_last xs ys zs ps p g t ends
 
--- The stream ends.
 pub end_comes : (a b : Option (List ℕ)) (ps : List Portion) → PortionsGone a ps b → IfSome b EndsInside → IfSome a (λ bytes. IsCut bytes ps)
 end_comes None b ps g end = tt
 end_comes (Some xs) None ps g end = absurd g
@@ -204,7 +196,6 @@ next_first (Some xs) None c ps p g t = absurd g
 next_first (Some xs) (Some ys) None ps p g t = absurd t
 next_first (Some xs) (Some ys) (Some zs) ps p g t = (ys, zs, g, t)
 
--- No portion is taken at the start.
 pub start_gone : (a : Option (List ℕ)) → PortionsGone a [] a
 start_gone None = tt
 start_gone (Some xs) = refl

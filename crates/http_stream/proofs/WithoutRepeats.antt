@@ -10,7 +10,6 @@ use Rattle.http_stream.specs.Stream.{Rule}
 
 -- ---- the history
 
--- A repeat leaves the history unchanged.
 repeat_leaves : (rule : Rule) (again : Repeats) → LeavesTheList rule again → (H : History) (p : Portion) → is_repeat again H p ≡ true → after_portion rule H p ≡ H
 repeat_leaves rule again leaves H (whole r ends) is = leaves H r is
 repeat_leaves rule again leaves H bad_head is = refl
@@ -32,7 +31,6 @@ same_list rule again leaves H (p ∷ ps) =
 
 -- ---- the bytes
 
--- Any bytes may follow a portion that isn't the last.
 other_rest : (input bytes rest other : List ℕ) (p : Portion) → IsPortion input p rest → is_last p ≡ false → input ≡ bytes ++ rest → IsPortion (bytes ++ other) p other
 other_rest input bytes rest other (whole r ends) is going cut =
     let h = is.0 in

@@ -53,7 +53,6 @@ impl Letter {
         }
     }
 
-    /// Appends a text.
     fn put(&mut self, text: &[u8])
         requires room { self.old.end + length text.now ≤ ONE_WRITE }
         ensures bytes { take self.new.end self.new.block ≡ take self.old.end self.old.block ++ text.now }
@@ -63,7 +62,6 @@ impl Letter {
         self.end += text.len();
     }
 
-    /// Appends everything before the body.
     fn put_head(&mut self, reply: &Reply, closes: bool)
         requires empty { self.old.end ≡ 0 }
         ensures bytes { take self.new.end self.new.block ≡ head_bytes closes (reply_told reply.now) }

@@ -80,7 +80,6 @@ pub fn look(bytes: &[u8]) -> Glance
     }
 }
 
-/// Returns the number of bytes of the body, or why it can't be read.
 fn body_length(bytes: &[u8], method: &[u8], headers: &[HeaderSpan]) -> Result<usize, LengthFault>
     requires within { All (IsHeaderWithin (length bytes.now)) headers.now }
     ensures { result ≡ body_length method.now (map (header_bytes bytes.now) headers.now) }
@@ -96,7 +95,6 @@ fn body_length(bytes: &[u8], method: &[u8], headers: &[HeaderSpan]) -> Result<us
     }
 }
 
-/// Returns the values under a name, ignoring case.
 fn values_of(bytes: &[u8], headers: &[HeaderSpan], name: &[u8]) -> Values
     requires within { All (IsHeaderWithin (length bytes.now)) headers.now }
     ensures { HasValues bytes.now result (values_of name.now (map (header_bytes bytes.now) headers.now)) }
@@ -108,7 +106,6 @@ fn values_of(bytes: &[u8], headers: &[HeaderSpan], name: &[u8]) -> Values
     found
 }
 
-/// Returns the values with those of one more line.
 fn next_values(bytes: &[u8], found: Values, header: &HeaderSpan, name: &[u8]) -> Values
     requires within { IsHeaderWithin (length bytes.now) header.now }
     ensures { (vs : List (List ℕ)) → HasValues bytes.now found vs
@@ -132,7 +129,6 @@ fn is_name(a: &[u8], b: &[u8]) -> bool
     a.eq_ignore_ascii_case(b)
 }
 
-/// Returns the length in a value of Content-Length.
 fn length_in(value: &[u8]) -> Result<usize, LengthFault>
     ensures { result ≡ length_in value.now }
 {
@@ -173,7 +169,6 @@ fn capped_value(digits: &[u8]) -> usize
     value
 }
 
-/// Returns whether some Connection header has the element `close`.
 fn any_close(bytes: &[u8], headers: &[HeaderSpan]) -> bool
     requires within { All (IsHeaderWithin (length bytes.now)) headers.now }
     ensures { result ≡ list_any has_close (values_of (codes "Connection") (map (header_bytes bytes.now) headers.now)) }
@@ -185,7 +180,6 @@ fn any_close(bytes: &[u8], headers: &[HeaderSpan]) -> bool
     any
 }
 
-/// Returns whether the line is a Connection header with the element `close`.
 fn closes_by(bytes: &[u8], header: &HeaderSpan) -> bool
     requires within { IsHeaderWithin (length bytes.now) header.now }
     ensures { result ≡ closes_by (header_bytes bytes.now header.now) }
@@ -193,7 +187,6 @@ fn closes_by(bytes: &[u8], header: &HeaderSpan) -> bool
     is_name(header.name.of(bytes), b"Connection") && has_close(header.value.of(bytes))
 }
 
-/// Returns whether a comma-separated element is `close`.
 fn has_close(value: &[u8]) -> bool
     ensures { result ≡ has_close value.now }
 {
@@ -202,14 +195,12 @@ fn has_close(value: &[u8]) -> bool
         .any(|part| is_name(trim_ows(part), b"close"))
 }
 
-/// Returns the part without spaces and tabs at both ends.
 fn trim_ows(part: &[u8]) -> &[u8]
     ensures { result.now ≡ trim_ows part.now }
 {
     trim(part, 0, part.len()).of(part)
 }
 
-/// Returns the range without spaces and tabs at both ends.
 fn trim(buf: &[u8], mut start: usize, mut end: usize) -> Span
     requires ordered { start ≤ end }
     requires in_range { end ≤ length buf.now }

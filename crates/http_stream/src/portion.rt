@@ -58,7 +58,6 @@ pub fn take_portion<R: Read>(
     }
 }
 
-/// Takes the request with this head.
 fn take_request<R: Read>(
     alloc: Global,
     block: &mut Block,

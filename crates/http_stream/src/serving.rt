@@ -153,7 +153,6 @@ fn serve_portion<W: Write, A: Handler>(
     Ok(told.closes)
 }
 
-/// Returns the answer to a portion.
 fn answer_portion<A: Handler>(alloc: Global, handler: &mut A, block: &[u8], taken: Taken) -> Told
     requires taken { IsTaken block.now taken }
     requires ready { A.Ready handler.old }

@@ -5,7 +5,6 @@ use Rattle.cfx_profile.proofs.Readings.{first_of_each, both, both-nothing, both-
 use Rattle.imports.specs.declared.fault.ImportFault.{ImportFault}
 use Rattle.imports.specs.File.{Record, row_at, each}
 
--- Reading two lists is reading one after the other, with line numbers going on.
 each-append : {X : Type 0} (reading : ℕ → Record → Result X ImportFault) (line : ℕ) (rs ss : List Record)
     → each reading line (rs ++ ss) ≡ both (each reading line rs) (each reading (line + length rs) ss)
 unfolding first_of_each

@@ -5,7 +5,6 @@ use Rattle.csv.specs.Reading.{Reached, records_from, records_next}
 use Rattle.csv.specs.declared.parser.Config.{Config}
 use Rattle.csv.specs.declared.parser.State.{State}
 
--- Reading stopped at the end of the text or after n records, so these are the first n.
 pub first-of_reached : (cfg : Config) (n : ℕ) (s : State) (xs : List ℕ) (rows : List (List (List ℕ))) (s2 : State) (ys : List ℕ)
     → length rows ≤ n → Reached cfg s xs rows s2 ys → (next_record cfg s2 [] [] ys ≡ None) ⊎ (length rows ≡ n) → rows ≡ records_from cfg n s xs
 unfolding Reached records_from

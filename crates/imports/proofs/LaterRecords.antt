@@ -14,7 +14,6 @@ use Rattle.imports.specs.declared.records.TheConstants.{MOST_RECORDS}
 use Rattle.imports.specs.declared.rows.TheConstants.{FIRST_ROW, LAST_ROW}
 use Rattle.imports.specs.File.{Record, row_at, each, some_rows, rows_of}
 
--- Reading fewer records gives all of them, or a prefix of those from reading on.
 front_of : (cfg : Config) (m n : ℕ) (s : State) (xs : List ℕ) → m ≤ n
     → (records_from cfg n s xs ≡ records_from cfg m s xs)
     ⊎ ((rest : List Record) × (records_from cfg n s xs ≡ records_from cfg m s xs ++ rest) × (length (records_from cfg m s xs) ≡ m))

@@ -80,7 +80,6 @@ pieces_read n fits =
 no_space : (b : ℕ) → is_designator_byte b ≡ true → (b == 0x20) ≡ false
 no_space b is = grind (arith, nat_tests)
 
--- Designators joined by spaces are read back.
 words_split : (words : List Name) → 1 ≤ length words → All IsDesignator words → words_of (join_with_byte 0x20 words) ≡ words
 words_split [] some all = absurd (omega (arith, some))
 words_split (w ∷ []) some all = slice_split_none (λ b. b == 0x20) w (λ k d inside. no_space _ ((All-head IsDesignator w [] all).marks k d inside))
@@ -125,7 +124,6 @@ unfolding sheet_row three_texts field_at
 sheet_read line row is =
     rw (id_text row.slot is.slot, id_text row.part is.part, words_text row.designators is.designators.each, id_read row.slot is.slot, id_read row.part is.part, words_read row.designators is.designators) refl
 
--- Rows that are read back at any line are read back in sequence.
 each_read : {X : Type 0} (reading : ℕ → Record → Result X ImportFault) (fields : X → Record) (Fits : X → Type 0)
     → ((line : ℕ) (x : X) → Fits x → reading line (fields x) ≡ Ok x)
     → (line : ℕ) (xs : List X) → All Fits xs → line + length xs ≤ suc LAST_ROW → each reading line (map fields xs) ≡ Ok xs

@@ -19,7 +19,6 @@ pub enum ImportFault {
     NoMemory,
 }
 
-/// A file can't be read without enough memory.
 impl From<AllocError> for ImportFault {
     ghost use Rattle.std.specs.Prelude.{◌≡◌};
     ghost use Rattle.imports.specs.declared.fault.ImportFault.TheVariants.{NoMemory};

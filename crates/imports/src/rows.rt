@@ -43,7 +43,6 @@ fn put<T: Drop>(rows: &mut Vec<T>, row: T) -> Result<(), AllocError>
     Ok(())
 }
 
-/// Reads the records after the header as rows.
 fn each<T: Row>(alloc: Global, records: &[ByteRecord]) -> Result<Listing<T>, ImportFault>
     ensures said { IsSaid (each T.said FIRST_ROW (map fields_of records.now)) result }
     ensures bound { IfOk result (λ rows. length rows ≤ LONGEST_LIST) }
@@ -74,7 +73,6 @@ pub fn rows_of<T: Row>(alloc: Global, records: &[ByteRecord]) -> Result<Bounded<
     }
 }
 
-/// Returns the two fields of a UTF-8 record.
 #[tactic(auto, unfolding(crate::specs::File::two_texts))]
 fn two_texts(row: &ByteRecord) -> Option<(&str, &str)>
     ensures { option_map (λ t. (t.0.now, t.1.now)) result ≡ two_texts (fields_of row.now) }
@@ -85,7 +83,6 @@ fn two_texts(row: &ByteRecord) -> Option<(&str, &str)>
     Some((text_at(row, 0)?, text_at(row, 1)?))
 }
 
-/// Returns the three fields of a UTF-8 record.
 #[tactic(auto, unfolding(crate::specs::File::three_texts))]
 fn three_texts(row: &ByteRecord) -> Option<(&str, &str, &str)>
     ensures { option_map (λ t. (t.0.now, t.1.now, t.2.now)) result ≡ three_texts (fields_of row.now) }

@@ -50,7 +50,6 @@ module _ (picks : List Pick) (p : Pick) where
   spent-still pieces [] all = tt
   spent-still pieces (r ∷ rs) (none, all) = let more = picked-grows r in (omega (arith, none, more), spent-still pieces rs all)
 
-  -- Reels other than the pick's stay untouched.
   untouched-still : (reels : List Name) → AllByRecursion (λ r. same p.reel r ≡ false) reels → AllByRecursion (λ r. pieces_picked picks r ≡ 0) reels
       → AllByRecursion (λ r. pieces_picked (picks ++ p ∷ []) r ≡ 0) reels
   untouched-still [] away all = tt
@@ -60,7 +59,6 @@ all-other : (x : Name) (reels : List Name) → has reels x ≡ false → AllByRe
 all-other x [] absent = tt
 all-other x (r ∷ rs) absent = let both = or_parts (same x r) (has rs x) absent in (both.0, all-other x rs both.1)
 
--- A reel in a list without duplicates differs from those behind it.
 passed-others : (before : List Name) (x : Name) (after : List Name) → IsDistinct same (before ++ x ∷ after) → AllByRecursion (λ r. same x r ≡ false) after
 unfolding IsDistinct
 passed-others [] x after distinct = distinct.0
@@ -73,7 +71,6 @@ abbrev pub IsEmptyHanded : Option Feed → Type 0
 IsEmptyHanded feed = IfSome feed (λ f. f.pieces ≡ 0)
 
 module _ (pieces : Name → ℕ) (live reels : List Name) (picks : List Pick) where
-  -- A pick from a reel not on this slot changes nothing.
   fed-elsewhere : (feed : Option Feed) (p : Pick) → has live p.reel ≡ false → IsFed pieces live reels picks feed → IsFed pieces live reels (picks ++ p ∷ []) feed
   fed-elsewhere feed p absent is =
       let next = live_next pieces reels feed in
@@ -93,7 +90,6 @@ module _ (pieces : Name → ℕ) (live reels : List Name) (picks : List Pick) wh
       hand None away was = tt
       hand (Some f) away was = was ∙ ap (λ n. pieces f.reel - n) (sym (picked-same picks p f.reel away.0))
 
-  -- A piece off the current reel.
   fed-here : (f : Feed) (p : Pick) → p.reel ≡ f.reel → p.quantity ≡ 1 → IsDistinct same live → IsFed pieces live reels picks (Some f)
       → IsFed pieces live reels (picks ++ p ∷ []) (Some (one_less f))
   fed-here f p own one distinct is =
@@ -107,14 +103,12 @@ module _ (pieces : Name → ℕ) (live reels : List Name) (picks : List Pick) wh
         untouched = untouched-still picks p next away is.untouched;
       }
 
-  -- A search skips spent reels.
   search-past : (spent rest : List Name) → AllByRecursion (λ r. pieces r ≤ pieces_picked picks r) spent
       → find (λ r. nat_lt (pieces_picked picks r) (pieces r)) (spent ++ rest) ≡ find (λ r. nat_lt (pieces_picked picks r) (pieces r)) rest
   search-past [] rest all = refl
   search-past (r ∷ rs) rest (none, all) =
       ap (λ b. cond b (Some r) (find (λ x. nat_lt (pieces_picked picks x) (pieces x)) (rs ++ rest))) (le-ltb (pieces_picked picks r) (pieces r) none) ∙ search-past rs rest all
 
-  -- A current reel with pieces left is the first reel with a piece left.
   pub fed-front : (f : Feed) → 0 < f.pieces → IsFed pieces live reels picks (Some f) → find (λ r. nat_lt (pieces_picked picks r) (pieces r)) live ≡ Some f.reel
   fed-front f some is =
       let next = live_past pieces reels f.passed in
@@ -123,7 +117,6 @@ module _ (pieces : Name → ℕ) (live reels : List Name) (picks : List Pick) wh
       ∙ search-past is.spent (f.reel ∷ next) is.none_left
       ∙ ap (λ b. cond b (Some f.reel) (find (λ r. nat_lt (pieces_picked picks r) (pieces r)) next)) (lt-ltb (pieces_picked picks f.reel) (pieces f.reel) left)
 
-  -- A current reel with nothing left is spent.
   hand-spent : (feed : Option Feed) → IsEmptyHanded feed → IfSome feed (λ f. f.pieces ≡ pieces f.reel - pieces_picked picks f.reel)
       → AllByRecursion (λ r. pieces r ≤ pieces_picked picks r) (reel_in_hand feed)
   hand-spent None none was = tt
@@ -135,7 +128,6 @@ module _ (pieces : Name → ℕ) (live reels : List Name) (picks : List Pick) wh
   reels-past : (feed : Option Feed) (is : IsFed pieces live reels picks feed) → live ≡ (is.spent ++ reel_in_hand feed) ++ live_next pieces reels feed
   reels-past feed is = is.reels_are ∙ sym (append_assoc is.spent (reel_in_hand feed) (live_next pieces reels feed))
 
-  -- The first live reel behind a spent current one becomes the current reel.
   pub fed-next : (feed : Option Feed) (f : Feed) → IsEmptyHanded feed → f.pieces ≡ pieces f.reel → live_next pieces reels feed ≡ f.reel ∷ live_past pieces reels f.passed
       → IsFed pieces live reels picks feed → IsFed pieces live reels picks (Some f)
   fed-next feed f none told next is =
@@ -148,7 +140,6 @@ module _ (pieces : Name → ℕ) (live reels : List Name) (picks : List Pick) wh
         untouched = untouched.1;
       }
 
-  -- Without a live reel behind it, no piece is left.
   pub fed-none : (feed : Option Feed) → IsEmptyHanded feed → live_next pieces reels feed ≡ [] → IsFed pieces live reels picks feed
       → find (λ r. nat_lt (pieces_picked picks r) (pieces r)) live ≡ None
   fed-none feed none next is =
@@ -168,7 +159,6 @@ hand-there : (spent next : List Name) (reel : Name) → has (spent ++ reel ∷ n
 hand-there spent next reel =
     list_any-append (same reel) spent (reel ∷ next) ∙ or_right (has spent reel) (has (reel ∷ next) reel) (or_left (same reel reel) (has next reel) (same-refl reel))
 
--- The state before the first pick.
 pub feeds-first : (live : Name → List Name) (pieces : Name → ℕ) (reels : Name → List Name) (feeds : BTreeMap Name Feed)
     → ((slot : Name) → filter (λ reel. nat_lt 0 (pieces reel)) (reels slot) ≡ live slot) → ((slot : Name) → feed_at feeds slot ≡ None)
     → IsFeeding live pieces reels [] feeds
@@ -184,7 +174,6 @@ feeds-first live pieces reels feeds are empty = λ slot. subst (λ o. IsFed piec
     nothing [] = tt
     nothing (r ∷ rs) = (refl, nothing rs)
 
--- The state after one more piece off a slot's current reel.
 pub feeds-next : (H : History) (machine : Name) (reels : Name → List Name) (picks : List Pick) (old new : BTreeMap Name Feed) (slot : Name) (f : Feed) (p : Pick)
     → IsJudged Two H → ((s : Name) → IsDistinct same (live_on H machine s)) → p.reel ≡ f.reel → p.quantity ≡ 1
     → IsFeeding (live_on H machine) (left_of H) reels picks old → IsFed (left_of H) (live_on H machine slot) (reels slot) picks (Some f)
@@ -227,7 +216,6 @@ given_by-nothing (Some f) past is = by (f.pieces == 0) refl is
 
 -- ---- updates of the map
 
--- Taking a piece off the slot's current reel.
 pub less-written : (old : BTreeMap Name Feed) (slot : Name) (f less : Feed) → feed_at old slot ≡ Some f → less ≡ one_less f → (s : Name)
     → cond (same slot s) (Some less) (feed_at old s) ≡ cond (same slot s) (option_map one_less (feed_at old s)) (feed_at old s)
 less-written old slot f less was is s = name-changed (Some f) (Some less) (feed_at old) (option_map one_less) slot was (ap Some (sym is)) s
@@ -235,7 +223,6 @@ less-written old slot f less was is s = name-changed (Some f) (Some less) (feed_
 pub none-less : (f : Feed) → f.pieces ≡ 0 → f ≡ one_less f
 none-less f none = ap (λ n. record { reel = f.reel; pieces = n; passed = f.passed }) (let same_pieces : f.pieces ≡ f.pieces - 1 = omega (arith, none) in same_pieces)
 
--- Making another reel current.
 pub other-written : (old left : BTreeMap Name Feed) (slot : Name) (f : Feed) (s : Name)
     → feed_at left s ≡ cond (same slot s) (option_map one_less (feed_at old s)) (feed_at old s)
     → cond (same slot s) (Some f) (feed_at left s) ≡ cond (same slot s) (Some f) (feed_at old s)

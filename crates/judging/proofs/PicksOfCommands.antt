@@ -123,7 +123,6 @@ off-pieces reel n purpose = by (nat_lt 0 n) refl
 pieces-append : (before after : List Pick) → pieces_of (before ++ after) ≡ pieces_of before + pieces_of after
 pieces-append before after = sum_by-append (λ (p : Pick). p.quantity) before after
 
--- A scrap takes at most its quantity.
 scrap-within : (pieces : Name → ℕ) (purpose : Purpose) (tape : List Name) (n : ℕ) → pieces_of (scrap_picks pieces purpose tape n) ≤ n
 scrap-within pieces purpose [] n = omega arith
 scrap-within pieces purpose (r ∷ rs) n =
@@ -132,7 +131,6 @@ scrap-within pieces purpose (r ∷ rs) n =
     let rest = scrap-within pieces purpose rs (n - pieces r) in
     omega (arith, both, first, rest)
 
--- A count takes at most the pieces of its reels.
 count-within : (pieces : Name → ℕ) (rows : List CountRow) → ((r : Name) → pieces r ≤ GREATEST_QUANTITY)
     → pieces_of (count_picks pieces rows) ≤ length rows * GREATEST_QUANTITY
 count-within pieces [] few = omega arith
@@ -146,7 +144,6 @@ count-within pieces (row ∷ rows) few =
 abbrev most : ℕ
 most = 2 ^ 64 - 1
 
--- The pieces of a scrap or a count fit in 64 bits.
 pub scrap-fits : (H : History) (machine slot : Name) (n : ℕ) → n ≤ GREATEST_QUANTITY
     → min (pieces_of (picks_of H (MaterialsScrapped machine slot n))) most ≡ pieces_of (picks_of H (MaterialsScrapped machine slot n))
 scrap-fits H machine slot n range =

@@ -26,7 +26,6 @@ abbrev pub before_at : List Name → List Pick → ℕ → Before
 before_at ds picks i = record { picks = picks; designators = take i ds }
 
 module _ (bench : Bench) (ds : List Name) where
-  -- After a placed designator, the rest decide the refusal.
   pub refusal-next : (picks : List Pick) (i : ℕ) (d : Name) (pick : Pick) → i < length ds → d ≡ get_or ds i d
       → next_refusal bench (before_at ds picks i) d ≡ None → next_pick bench (before_at ds picks i) d ≡ Some pick
       → refusal_on bench (picks ++ pick ∷ []) (take (i + 1) ds) (drop (i + 1) ds) ≡ refusal_on bench picks (take i ds) (drop i ds)
@@ -36,14 +35,12 @@ module _ (bench : Bench) (ds : List Name) where
       ∙ ap (λ o. option_or o (refusal_on bench (picks ++ option_to_list (next_pick bench (before_at ds picks i) d)) (take i ds ++ d ∷ []) (drop (i + 1) ds))) (sym none)
       ∙ ap (refusal_on bench picks (take i ds)) (sym (drop-next ds i d inside is))
 
-  -- A faulty designator decides the refusal.
   pub refusal-here : (picks : List Pick) (i : ℕ) (d : Name) (refusal : Refusal) → i < length ds → d ≡ get_or ds i d
       → next_refusal bench (before_at ds picks i) d ≡ Some refusal → refusal_on bench picks (take i ds) (drop i ds) ≡ Some refusal
   refusal-here picks i d refusal inside is faulty =
       ap (refusal_on bench picks (take i ds)) (drop-next ds i d inside is)
       ∙ ap (λ o. option_or o (refusal_on bench (picks ++ option_to_list (next_pick bench (before_at ds picks i) d)) (take i ds ++ d ∷ []) (drop (i + 1) ds))) faulty
 
-  -- The designator's pick is appended.
   pub picks-next : (picks : List Pick) (i : ℕ) (d : Name) (pick : Pick) → i < length ds → d ≡ get_or ds i d
       → next_pick bench (before_at ds picks i) d ≡ Some pick → picks_on bench (picks ++ pick ∷ []) (drop (i + 1) ds) ≡ picks_on bench picks (drop i ds)
   unfolding install_picks

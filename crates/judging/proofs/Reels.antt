@@ -16,11 +16,9 @@ use Rattle.desk_types.proofs.LoopSteps.{drop-next}
 
 -- ---- one place further
 
--- The rest from a place on starts with the element at this place.
 pub drop-at : {X : Type 0} (xs : List X) (i : ℕ) (x : X) → slice_get xs i ≡ Some x → drop i xs ≡ x ∷ drop (i + 1) xs
 drop-at xs i x is = drop-next xs i x (slice_get_within xs i x is) (sym (get_or_from_slice_get xs i x x is))
 
--- Each place in range has an element.
 pub no-gap : {X : Type 0} (xs : List X) (i n : ℕ) → n ≡ length xs → i < n → slice_get xs i ≡ None → ⊥
 no-gap {X} xs i n is inside none = by (slice_get_cases xs i).1
   where
@@ -29,31 +27,24 @@ no-gap {X} xs i n is inside none = by (slice_get_cases xs i).1
     by (inr (past, gone)) = omega (arith, is, inside, past)
 
 module _ {X : Type 0} (test : X → Bool) (xs : List X) (i : ℕ) where
-  -- A search skips an element that fails the test.
   pub find-past : (x : X) → slice_get xs i ≡ Some x → test x ≡ false → find test (drop (i + 1) xs) ≡ find test (drop i xs)
   find-past x is fails = sym (ap (find test) (drop-at xs i x is) ∙ ap (λ b. cond b (Some x) (find test (drop (i + 1) xs))) fails)
 
-  -- A search ends at an element that passes the test.
   pub find-here : (x : X) → slice_get xs i ≡ Some x → test x ≡ true → find test (drop i xs) ≡ Some x
   find-here x is passes = ap (find test) (drop-at xs i x is) ∙ ap (λ b. cond b (Some x) (find test (drop (i + 1) xs))) passes
 
-  -- A search past the end finds nothing.
   pub find-end : length xs ≤ i → find test (drop i xs) ≡ None
   find-end past = ap (find test) (drop_all i xs past)
 
-  -- A filter drops an element that fails the test.
   pub filter-past : (x : X) → slice_get xs i ≡ Some x → test x ≡ false → filter test (drop (i + 1) xs) ≡ filter test (drop i xs)
   filter-past x is fails = sym (ap (filter test) (drop-at xs i x is) ∙ ap (λ b. cond b (x ∷ filter test (drop (i + 1) xs)) (filter test (drop (i + 1) xs))) fails)
 
-  -- A filter keeps an element that passes the test.
   pub filter-here : (x : X) → slice_get xs i ≡ Some x → test x ≡ true → filter test (drop i xs) ≡ x ∷ filter test (drop (i + 1) xs)
   filter-here x is passes = ap (filter test) (drop-at xs i x is) ∙ ap (λ b. cond b (x ∷ filter test (drop (i + 1) xs)) (filter test (drop (i + 1) xs))) passes
 
-  -- A filter past the end is empty.
   pub filter-end : length xs ≤ i → filter test (drop i xs) ≡ []
   filter-end past = ap (filter test) (drop_all i xs past)
 
-  -- So is one from a place without an element.
   pub filter-gap : slice_get xs i ≡ None → filter test (drop i xs) ≡ []
   filter-gap none = by (slice_get_cases xs i).1
     where
@@ -63,11 +54,9 @@ module _ {X : Type 0} (test : X → Bool) (xs : List X) (i : ℕ) where
 
 -- ---- live reels
 
--- A reel without pieces fails the test.
 pub spent : (pieces told : ℕ) → told ≡ pieces → told ≤ 0 → nat_lt 0 pieces ≡ false
 spent pieces told is none = let zero : pieces ≡ 0 = omega (arith, is, none) in ap (nat_lt 0) zero
 
--- The first element that passes a test.
 first-filter : (p : Name → Bool) (xs : List Name) → first (filter p xs) ≡ find p xs
 first-filter p [] = refl
 first-filter p (x ∷ xs) = by (p x) (first-filter p xs)
@@ -76,7 +65,6 @@ first-filter p (x ∷ xs) = by (p x) (first-filter p xs)
     by true rest = refl
     by false rest = rest
 
--- A search whose matches are all kept finds the same after filtering.
 find-kept : (keep test : Name → Bool) (xs : List Name) → ((x : Name) → test x ≡ true → keep x ≡ true) → find test (filter keep xs) ≡ find test xs
 find-kept keep test [] only = refl
 find-kept keep test (x ∷ xs) only = by (keep x) refl (test x) refl (find-kept keep test xs only)
@@ -87,7 +75,6 @@ find-kept keep test (x ∷ xs) only = by (keep x) refl (test x) refl (find-kept 
     by false lost true is rest = let kept = only x is in cc
     by false lost false is rest = rest
 
--- A spent reel adds no pick.
 off-none : (reel : Name) (n : ℕ) (purpose : Purpose) → n ≡ 0 → pieces_off reel n purpose ≡ []
 off-none reel n purpose none = ap (λ m. pieces_off reel m purpose) none
 
@@ -130,7 +117,6 @@ sum-kept pieces (r ∷ rs) = by (nat_lt 0 (pieces r)) refl (sum-kept pieces rs)
     by true is rest = sum_by-cons pieces r (filter (λ x. nat_lt 0 (pieces x)) rs) ∙ ap (λ n. pieces r + n) rest ∙ sym (sum_by-cons pieces r rs)
     by false is rest = let none = ltb-false 0 (pieces r) is in rest ∙ sym (sum_by-cons pieces r rs ∙ omega (arith, none))
 
--- A search for a reel with a piece left finds the same on the tape as among the live reels.
 pub find-tape : (H : History) (machine slot : Name) (picks : List Pick)
     → find (λ r. nat_lt (pieces_picked picks r) (left_of H r)) (live_on H machine slot) ≡ find (λ r. nat_lt (pieces_picked picks r) (left_of H r)) (tape_of H machine slot)
 unfolding live_on
@@ -139,26 +125,21 @@ find-tape H machine slot picks =
     (λ r left. let less = ltb-true (pieces_picked picks r) (left_of H r) left in lt-ltb 0 (left_of H r) (omega (arith, less)))
 
 module _ (H : History) (machine slot : Name) (reels : List Name) (live : filter (λ reel. nat_lt 0 (left_of H reel)) reels ≡ live_on H machine slot) where
-  -- The first reel with pieces left is the front.
   first-front : find (λ reel. nat_lt 0 (left_of H reel)) reels ≡ front_of H machine slot
   first-front = sym (first-filter (λ reel. nat_lt 0 (left_of H reel)) reels) ∙ ap first live
 
-  -- A reel with pieces left behind spent ones is the front.
   pub front-here : (i : ℕ) (reel : Name) → slice_get reels i ≡ Some reel → nat_lt 0 (left_of H reel) ≡ true
       → find (λ r. nat_lt 0 (left_of H r)) (drop i reels) ≡ find (λ r. nat_lt 0 (left_of H r)) reels → Some reel ≡ front_of H machine slot
   front-here i reel is some past = sym (find-here (λ r. nat_lt 0 (left_of H r)) reels i reel is some) ∙ past ∙ first-front
 
-  -- There is no front if all reels are spent.
   pub front-none : (i : ℕ) → length reels ≤ i
       → find (λ r. nat_lt 0 (left_of H r)) (drop i reels) ≡ find (λ r. nat_lt 0 (left_of H r)) reels → None ≡ front_of H machine slot
   front-none i end past = sym (find-end (λ r. nat_lt 0 (left_of H r)) reels i end) ∙ past ∙ first-front
 
-  -- A scrap picks the same from these reels as from the tape.
   pub scrap-live : (purpose : Purpose) (n : ℕ) → scrap_picks (left_of H) purpose reels n ≡ scrap_picks (left_of H) purpose (tape_of H machine slot) n
   unfolding live_on
   scrap-live purpose n =
       sym (scrap-kept (left_of H) purpose reels n) ∙ ap (λ rs. scrap_picks (left_of H) purpose rs n) live ∙ scrap-kept (left_of H) purpose (tape_of H machine slot) n
 
-  -- These reels have as many pieces as the live ones.
   pub sum-live : sum_by (left_of H) (live_on H machine slot) ≡ sum_by (left_of H) reels
   sum-live = ap (sum_by (left_of H)) (sym live) ∙ sum-kept (left_of H) reels

@@ -13,7 +13,6 @@ use Rattle.std.proofs.lemmas.List.Folds.{list_any_at, list_any_none}
 use Rattle.desk_types.specs.Id.{Name, same, by_name}
 use Rattle.desk_types.proofs.Keys.{is_at-by_name, same-sym}
 
--- Names are equal exactly if they compare equal.
 ties : (x y : Name) (order : Ordering) → by_name y x ≡ order → same x y ≡ is_eq order
 ties x y order is = same-sym x y ∙ sym (is_at-by_name y x) ∙ ap is_eq is
 

@@ -15,7 +15,6 @@ use desk_types::{CountRow, Id, Listing, Pick, Purpose, Refusal, Rules};
 use std::alloc::{AllocError, Global};
 use std::collections::BTreeSet;
 
-/// Returns whether a count is too high for a reel with these pieces left.
 fn is_above(rules: Rules, left: u64, counted: u64) -> bool
     ensures { result ≡ is_above rules left counted }
 {
@@ -25,7 +24,6 @@ fn is_above(rules: Rules, left: u64, counted: u64) -> bool
     }
 }
 
-/// Returns the missing pieces of a counted reel, or the row's fault.
 fn pieces_above<F: Facts>(
     rules: Rules,
     facts: &F,

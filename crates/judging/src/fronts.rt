@@ -27,7 +27,6 @@ pub fn front<F: Facts>(facts: &F, machine: &Id, slot: &Id) -> Option<Id>
     None
 }
 
-/// Returns a slot's front reel with its part and its life at the minute.
 fn front_at<F: Facts>(facts: &F, minute: Minute, machine: &Id, slot: &Id) -> Option<FrontReel>
     ensures { (H : History) → F.Stands facts.now H → now_of H ≤ minute
         → result ≡ option_map (front_reel H minute) (front_of H machine.now slot.now) }

@@ -74,7 +74,6 @@ fn command_refusal<F: Facts>(
     })
 }
 
-/// Returns the pieces that a command takes, or its refusal under the rules.
 #[tactic(auto, unfolding(desk_types::specs::Refusals::command_refusal))]
 fn command_picks<F: Facts>(
     alloc: Global,
@@ -111,7 +110,6 @@ fn command_picks<F: Facts>(
     }
 }
 
-/// Returns the details of the reply to an accepted command with these picks.
 fn detail<F: Facts>(
     alloc: Global,
     facts: &F,
@@ -154,7 +152,6 @@ fn takes_by<F: Facts>(
     Ok(takes_for(alloc, facts, minute, picks)?)
 }
 
-/// Returns the reel's remaining floor life in minutes, or none without a limit.
 fn minutes_left<F: Facts>(facts: &F, minute: Minute, reel: &Id) -> Option<u64>
     requires { IsBy F.Stands facts.now minute }
     ensures { (H : History) → F.Stands facts.now H → result ≡ minutes_left H reel.now minute }
@@ -163,7 +160,6 @@ fn minutes_left<F: Facts>(facts: &F, minute: Minute, reel: &Id) -> Option<u64>
     found.minutes_left(minute)
 }
 
-/// Returns whether a message is over two weeks ahead of the desk minute.
 fn is_too_far_ahead<F: Facts>(facts: &F, stamped: &Stamped) -> bool
     ensures { (H : History) → F.Stands facts.now H → result ≡ is_too_far_ahead H stamped.now }
 {
@@ -175,7 +171,6 @@ fn is_too_far_ahead<F: Facts>(facts: &F, stamped: &Stamped) -> bool
     }
 }
 
-/// Returns the minute at which a command with this minute takes effect.
 fn effective_minute<F: Facts>(facts: &F, own: Minute) -> Minute
     ensures { (H : History) → F.Stands facts.now H → result ≡ effective_minute H own }
 {

@@ -13,7 +13,6 @@ use crate::refusals::is_vacant;
 use desk_types::{Id, Minute, Refusal, SheetRow};
 use setup_sheets::allowed;
 
-/// Returns the fault of a reel to load or splice for a row.
 #[tactic(auto, unfolding(crate::specs::Feeding::reel_refusal))]
 fn reel_refusal<F: Facts>(facts: &F, minute: Minute, row: &SheetRow, reel: &Id) -> Option<Refusal>
     requires { IsBy F.Stands facts.now minute }

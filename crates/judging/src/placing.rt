@@ -38,7 +38,6 @@ enum Given {
     Nothing(usize),
 }
 
-/// Takes one piece off the slot's current reel.
 fn take_in_hand(feeds: &mut BTreeMap<Id, Feed>, slot: &Id) -> Given
     ensures given { result ≡ given_by (feed_at feeds.old slot.now) }
     ensures lowered { (s : Name)
@@ -108,7 +107,6 @@ fn next_reel<F: Facts>(facts: &F, machine: &Id, slot: &Id, past: usize) -> Optio
     })
 }
 
-/// Takes one piece from the front of a slot's reels, if there is one.
 fn take_piece<F: Facts>(
     facts: &F,
     feeds: &mut BTreeMap<Id, Feed>,
@@ -146,7 +144,6 @@ fn take_piece<F: Facts>(
     Ok(Some(next.reel))
 }
 
-/// Returns the designator's slot, from the sheet's index if there is one.
 fn slot_for<F: Facts>(
     facts: &F,
     sheet: Option<&Sheet>,
@@ -162,7 +159,6 @@ fn slot_for<F: Facts>(
     }
 }
 
-/// Returns whether the designator is placed on the board, from the board's list if there is one.
 fn has_placed<F: Facts>(
     facts: &F,
     placed: Option<&[Designator]>,
@@ -185,7 +181,6 @@ struct Feeder {
     reel: Id,
 }
 
-/// Takes one piece for a designator, after the message's earlier ones.
 fn place<F: Facts>(
     facts: &F,
     sheet: Option<&Sheet>,

@@ -40,7 +40,6 @@ struct Scrapping {
     wanting: u64,
 }
 
-/// Takes pieces off a slot's reels, one after another, until none is missing.
 fn scrap<F: Facts>(
     alloc: Global,
     facts: &F,

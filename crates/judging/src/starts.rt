@@ -14,7 +14,6 @@ use desk_types::{Id, Minute, Refusal};
 use setup_sheets::verify;
 use std::alloc::{AllocError, Global};
 
-/// Returns the fault of the first faulty slot of the selected product's sheet.
 fn slots_refusal<F: Facts>(
     alloc: Global,
     facts: &F,

@@ -15,7 +15,6 @@ use entry_search::totals::is_placed;
 use reels::Reel;
 use std::alloc::{AllocError, Global};
 
-/// Appends a pick to the takes, with its reel's part and lot.
 fn put_take(
     takes: &mut Vec<Take>,
     reel: &Reel,

@@ -24,7 +24,6 @@ use Rattle.line_replay.proofs.RowsOfLists.{are_rows}
 use Rattle.line_replay.proofs.StopsOfRows.{stops_stuck, stops_short}
 use Rattle.desk_types.specs.declared.rules.Rules.TheVariants.{Two}
 
--- A place where the rows stop being a history, in terms of the original rows.
 pub stops_before : (rules : Rules) (greatest : ℕ) (old mid : State) (n : ℕ) → KeepsCommit old mid → Reads old (λ db. IsNumbered (accepted_in db)) → IsStop rules greatest mid n → IsFaultOf rules greatest old (NotLawful n)
 stops_before rules greatest old mid n kept numbered stop =
     let H = stop.0 in
@@ -33,7 +32,6 @@ stops_before rules greatest old mid n kept numbered stop =
     (reads_two old (λ db. IsNumbered (accepted_in db)) (λ db. AreAt (accepted_in db) H × IsStuck rules H (accepted_in db)) (λ db. StopsAt rules greatest (accepted_in db) (length H + 1))
     (λ db first at. stops_stuck rules greatest (accepted_in db) H first stop.1 at.0 low at.1) numbered (reads_back old mid _ kept stop.4))
 
--- The meaning of a fault of the loop.
 pub fault_before : (rules : Rules) (greatest : ℕ) (old mid : State) (f : ReplayFault) → KeepsCommit old mid → Reads old (λ db. IsNumbered (accepted_in db))
     → (f ≡ Unavailable) ⊎ ((n : ℕ) × (f ≡ NotLawful n) × IsStop rules greatest mid n) → IsFaultOf rules greatest old f
 fault_before rules greatest old mid f kept numbered (inl is) = subst (IsFaultOf rules greatest old) (sym is) tt
@@ -76,7 +74,6 @@ module _ {D : Type 0} (F : D → History → Type 0) (rules : Rules) (greatest :
     };
   }
 
-  -- There are more rows than were taken.
   apart : (long : ℕ) → are ≡ (n == long) → are ≡ false → length H ≡ long → ⊥
   apart long told not is = true≢false (sym (eq-eqb n long (sym taken.counted ∙ is)) ∙ sym told ∙ not)
 
@@ -92,7 +89,6 @@ module _ {D : Type 0} (F : D → History → Type 0) (rules : Rules) (greatest :
             (stops_short rules greatest (accepted_in first.committed) H (numbered.are schema) taken.judged (here clean schema) within (end_of clean end schema) (apart _ (r.are schema) not));
       }
 
--- The replayed history is the one that has these tables.
 pub same_list : {D : Type 0} (F : D → History → Type 0) (rules : Rules) (greatest : ℕ) (Clean : Type 0) (old : State) (desk : D) (expected : Expected) (count : ℕ) (H G : History)
     → ((A B : History) → IsJudged rules A → IsJudged rules B → IsPermutation (rows_of A) (rows_of B) → A ≡ B) → IsReplayed F rules greatest Clean old desk expected count H → IsJudged rules G
     → (IsTrue old.is_open → Holds old.committed (ledger_tables greatest G)) → Clean → H ≡ G

@@ -44,7 +44,6 @@ one_edit (PutBoard row) t n = refl
 one_edit (PutPlacement row) t n = refl
 one_edit (PutFound reel pieces) t n = refl
 
--- Edits of tables with other placements.
 but-edits : (xs : List RowEdit) (t n m : Tables) → but_placements (with_edits xs (but_placements t m)) n ≡ but_placements (with_edits xs t) n
 but-edits [] t n m = refl
 but-edits (x ∷ xs) t n m =
@@ -67,7 +66,6 @@ named_or row n k is = let p = two _ _ is in ap₂ (λ (a b : ℕ). (a, b)) (sym 
     two true b h = (refl, h)
     two false b h = absurd cc
 
--- A new placement.
 module _ (row : PlacementRow) (t : Tables) (new : t.placements row.number row.place ≡ None) where
   other : (key : ℕ × ℕ) (r : PlacementRow) → pieces_in t key ≡ Some r → (row.number, row.place) ≡ key → ⊥
   other key r is same = let both = sym new ∙ ap (pieces_in t) same ∙ is in cc
@@ -126,7 +124,6 @@ onto_length (x ∷ xs) es = onto_length xs (map piece_of (option_to_list (placem
     by None = refl
     by (Some row) = omega arith
 
--- A fact about all placements is one about the old and the new ones.
 onto_all : (P : (ℕ × ℕ) × PlacementRow → Type 0) (xs : List RowEdit) (es : Pieces) → AllByRecursion P (placed_onto xs es) ↔ (AllByRecursion P es × AllByRecursion P (map piece_of (placements_by xs)))
 onto_all P [] es = (λ h. (h, tt), λ h. h.0)
 onto_all P (x ∷ xs) es = by (placement_by x) (onto_all P xs (map piece_of (option_to_list (placement_by x)) ++ es))
@@ -153,11 +150,9 @@ placed_onto_all db before after xs es too was = record {
 
 -- ---- the result
 
--- If one was missing before, nothing is looked up.
 pub too_false : (db : Database) (found : Bool) (rows : List PlacementRow) → found ≡ false → ArePlacedToo db found false rows
 too_false db found rows not = record { here = λ is. absurd cc; missing = λ _. inl not }
 
--- With no placement, nothing is looked up.
 pub too_none : (db : Database) (found : Bool) (rows : List PlacementRow) → found ≡ true → length rows ≡ 0 → ArePlacedToo db found true rows
 too_none db found [] was none = record { here = λ is. (was, record { here = λ _. tt; missing = λ h. absurd cc }); missing = λ h. absurd cc }
 too_none db found (row ∷ rows) was none = absurd (omega (arith, none))
@@ -179,12 +174,10 @@ tells_back old mid P kept (inr r) = inr (reads_back old mid P kept r)
 pub looks_back : (Clean : Type 0) (old mid : State) (edits : List RowEdit) (before after : Placed) → (Clean → KeepsCommit old mid) → LooksUp Clean mid edits before after → LooksUp Clean old edits before after
 looks_back Clean old mid edits before after kept a = record { count = a.count; told = λ clean. tells_back old mid _ (kept clean) (a.told clean) }
 
--- An empty history has no placements.
 pub none_placed : (number place : ℕ) → placement_row [] number place ≡ None
 unfolding takes_of
 none_placed number place = refl
 
--- A desk of an empty history keeps no rows, except maybe placements.
 no_rows : (t : Tables) → unnumbered t ≡ unnumbered (state_of []) → but_placements t (state_of []) ≡ state_of []
 no_rows t is =
     let none = state_of [] in
@@ -195,7 +188,6 @@ no_rows t is =
     by None p = refl
     by (Some m) p = cc
 
--- Nothing was taken yet.
 pub none_expected : (Clean : Type 0) (db : Database) (rows : KeptRows) → unnumbered (tables_in rows) ≡ unnumbered (state_of []) → AreExpected Clean db (record { rows = rows; placed = record { all = true; count = 0 } }) []
 none_expected Clean db rows is = record {
   rows = no_rows (tables_in rows) is;
@@ -206,7 +198,6 @@ none_expected Clean db rows is = record {
   told = λ clean schema. record { here = λ is. tt; missing = λ is. absurd cc };
 }
 
--- The placements with one more edit.
 pub placements-next : (xs : List RowEdit) (i : ℕ) (x : RowEdit) (rows : List PlacementRow) (o : Option PlacementRow) → i < length xs → x ≡ get_or xs i x → rows ≡ placements_by (take i xs) → placement_by x ≡ o
     → rows ++ option_to_list o ≡ placements_by (take (i + 1) xs)
 placements-next xs i x rows o inside is so_far by =
@@ -216,7 +207,6 @@ placements-next xs i x rows o inside is so_far by =
     one None = refl
     one (Some row) = refl
 
--- The expected rows of the history with the entry.
 pub expected_more : (Before After : Type 0) (old mid : State) (edits : List RowEdit) (b0 b1 : Expected) (H : History) (e : Entry) → (After → Before) → (After → KeepsCommit old mid) → AreExpected Before old.committed b0 H
     → Lead edits H e → Adds After mid edits b0 b1 → AreExpected After old.committed b1 (e ∷ H)
 expected_more Before After old mid edits b0 b1 H e early kept was lead adds =

@@ -37,7 +37,6 @@ module _ {D : Type 0} (F : D → History → Type 0) (rules : Rules) (old mid : 
     },
   )
 
--- A row of the next number is that of an entry.
 pub row_taken : (old first : State) (o : Option Row) (row : Row) (H : History) (e : Entry) (number : ℕ) → KeepsCommit old first → o ≡ Some row → length H + 1 ≡ number → row ≡ entry_row H e
     → Reads old (λ db. filter (has_number number) (accepted_in db) ≡ only o) → Reads first (λ db. list_any (is_before e.stamped.uid number) (accepted_in db) ≡ false) → Reads old (λ db. IsAt (accepted_in db) H e)
 row_taken old first o row H e number kept is numbered same found none =
@@ -48,7 +47,6 @@ row_taken old first o row H e number kept is numbered same found none =
     })
     found (reads_back old first _ kept none)
 
--- The row of the next number is that of no valid next entry, or of one whose UniqueID came before.
 row_stuck : (rules : Rules) (old first : State) (o : Option Row) (row : Row) (H : History) (number : ℕ) → KeepsCommit old first → o ≡ Some row → length H + 1 ≡ number
     → Reads old (λ db. filter (has_number number) (accepted_in db) ≡ only o) → ((e : Entry) → GoesOn rules H row e → Reads first (λ db. list_any (is_before e.stamped.uid number) (accepted_in db) ≡ true))
     → Reads old (λ db. IsStuck rules H (accepted_in db))
@@ -74,7 +72,6 @@ pub fault_stuck : (rules : Rules) (old first : State) (o : Option Row) (row : Ro
 fault_stuck rules old first o row H number kept is numbered found f (inl none) = inl none
 fault_stuck rules old first o row H number kept is numbered found f (inr stop) = inr (stop.0, row_stuck rules old first o row H number kept is numbered found stop.1)
 
--- No entry continues the rows that were taken.
 pub fault_taken : {D : Type 0} (F : D → History → Type 0) (rules : Rules) (greatest : ℕ) (old mid : State) (Clean : Type 0) (desk : D) (expected : Expected) (count : ℕ) (H : History) → Clean → KeepsCommit old mid
     → IsTaken F rules Clean old.committed desk expected count H → count + 1 ≤ greatest → (f : ReplayFault) → (f ≡ Unavailable) ⊎ ((f ≡ NotLawful (count + 1)) × Reads mid (λ db. IsStuck rules H (accepted_in db)))
     → (f ≡ Unavailable) ⊎ ((n : ℕ) × (f ≡ NotLawful n) × IsStop rules greatest old n)
@@ -83,7 +80,6 @@ fault_taken F rules greatest old mid Clean desk expected count H clean kept take
     let stuck = reads_back old mid _ kept stop.1 in
     inr (count + 1, stop.0, (H, taken.judged, omega (arith, taken.counted), low, record { was_open = stuck.was_open; are = λ schema. (taken.rows clean schema, stuck.are schema) }))
 
--- A row taken into a desk with indexes is taken into the desk.
 pub desk-taken : {D : Type 0} {F : D → History → Type 0} {rules : Rules} {Clean : Type 0} {db : Database} {desk : D} {lists : TraceLists} {expected : Expected} {count : ℕ} {H : History}
     → IsTaken (StandsListed F) rules Clean db (desk, lists) expected count H → IsTaken F rules Clean db desk expected count H
 desk-taken taken = record { stands = taken.stands.0; judged = taken.judged; counted = taken.counted; rows = taken.rows; others = taken.others }

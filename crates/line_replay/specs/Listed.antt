@@ -27,9 +27,7 @@ pub record BeginWith (rows : List Row) (H : History) : Type 0 where
   pub least : 1 ≤ length H → IsLeast rows (Some (pos 1))
   pub entries : AreAt rows H
 
--- The rows before the place n are those of a lawful history, there are more rows, and no entry continues it. The row at
--- n is missing, has another number, can't be read, is not what judging it again gives, repeats a UniqueID, or is one
--- too many.
+-- The rows before the place n are those of a lawful history, there are more rows, and no entry continues it.
 pub record StopsAt (rules : Rules) (greatest : ℕ) (rows : List Row) (n : ℕ) : Type 0 where
   pub list : History
   pub lawful : IsLawful rules greatest list

@@ -34,7 +34,6 @@ pub fn look_up<S: Alter>(
     Ok(())
 }
 
-/// Returns the placements among the edits.
 fn placements_by(alloc: Global, edits: &[RowEdit]) -> Result<Vec<PlacementRow>, AllocError>
     ensures { IfOk result (λ rows. rows.items ≡ placements_by edits.now) }
 {
@@ -68,7 +67,6 @@ fn sum(placed: u64, more: usize) -> Result<u64, ReplayFault>
     }
 }
 
-/// Returns whether all were found so far, and these rows too.
 fn are_found<S: Alter>(
     conn: &mut Connection<S>,
     found: bool,

@@ -94,7 +94,6 @@ pub fn take_rows<S: Alter, D: KeepsRows>(
     Ok((greatest, placed))
 }
 
-/// Accepts the command of the row with this number, the next one, if there is such a row.
 fn take_row<S: Alter, D: KeepsRows>(
     alloc: Global,
     conn: &mut Connection<S>,

@@ -15,7 +15,6 @@ use Rattle.desk_types.specs.Edits.{with_edit, with_edits, AreNew as AreNewRows}
 use Rattle.line_rows.specs.Rows.{columns, rows_of, ledger_tables}
 use Rattle.line_rows.proofs.Judgements.{row_is}
 
--- Edits of the state tables, among those of all tables.
 rows_edited : (rows : List RowEdit) (t : Tables) → after_edits (row_edits rows) t ≡ record t { state = with_edits rows t.state }
 rows_edited [] t = refl
 rows_edited (x ∷ rows) t = rows_edited rows (record t { state = with_edit x t.state })
@@ -24,7 +23,6 @@ rows_new : (rows : List RowEdit) (t : Tables) → AreNewRows rows t.state → Ar
 rows_new [] t new = tt
 rows_new (x ∷ rows) t new = (new.0, rows_new rows (record t { state = with_edit x t.state }) new.1)
 
--- The new row is that of the entry, and the state tables are those of the history with it.
 pub put_is : (greatest number : ℕ) (H : History) (change : Change) (text : List ℕ) (row : Accepted) (rows : List RowEdit)
     → columns_of row ≡ columns number change.stamped change.minute text → IsChange Two H change.stamped change → number ≡ length H + 1 → text ≡ accepted_text number change.stamped.uid change.detail
     → with_edits rows (state_of H) ≡ state_of (accept H change.stamped) → after_edits (command_edits row rows) (ledger_tables greatest H) ≡ ledger_tables greatest (accept H change.stamped)
@@ -33,6 +31,5 @@ put_is greatest number H change text row rows kept is numbered told lead =
     ∙ ap (λ (t : StateTables). record { greatest = greatest; accepted = columns_of row ∷ rows_of H; state = t }) lead
     ∙ ap (λ (r : Row). record { greatest = greatest; accepted = r ∷ rows_of H; state = state_of (accept H change.stamped) }) (kept ∙ row_is Two H change.stamped change number text is numbered told)
 
--- No edit inserts an existing row.
 pub put_new : (greatest : ℕ) (H : History) (row : Accepted) (rows : List RowEdit) → AreNewRows rows (state_of H) → AreNew (command_edits row rows) (ledger_tables greatest H)
 put_new greatest H row rows new = (tt, rows_new rows (record { greatest = greatest; accepted = columns_of row ∷ rows_of H; state = state_of H }) new)

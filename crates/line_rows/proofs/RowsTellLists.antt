@@ -31,7 +31,6 @@ pub entry_parts : (e f : Entry) → e.number ≡ f.number → e.stamped ≡ f.st
 entry_parts e f number stamped effective =
     ap (λ n. record e { number = n }) number ∙ ap (λ s. record e { number = f.number; stamped = s }) stamped ∙ ap (λ m. record f { effective = m }) effective
 
--- An entry that may come next is the one that its message becomes.
 pub next_entry : (rules : Rules) (H : History) (e : Entry) → IsNext rules H e → e ≡ entry_of H e.stamped
 next_entry rules H e next = entry_parts e (entry_of H e.stamped) next.number refl next.effective
 
@@ -46,7 +45,6 @@ number_in _ = 0
 abbrev is_number : ℕ → Row → Bool
 is_number n row = number_in row == n
 
--- The numbers of a judged list are at most its length.
 none_above : (rules : Rules) (H : History) (n : ℕ) → IsJudged rules H → length H < n → AllByRecursion (λ r. is_number n r ≡ false) (rows_of H)
 none_above rules [] n judged h = tt
 none_above rules (e ∷ H) n judged h = (grind (arith, nat_tests, judged.0.number), none_above rules H n judged.1 (omega arith))

@@ -27,8 +27,7 @@ pub struct Acceptance {
     pub edits: RowEdits,
 }
 
-/// Returns the answer, the row and the edits for a change that the desk judged, under this number. The
-/// row and the edits turn the tables of a history into those of the history with it.
+/// Returns the answer, the row and the edits for a change that the desk judged, under this number.
 pub fn prepare<D: Desk>(
     alloc: Global,
     number: u32,

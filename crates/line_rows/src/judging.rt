@@ -26,9 +26,9 @@ pub struct Taken {
     pub edits: RowEdits,
 }
 
-/// Accepts the command of the row once more, where it has this number and the row is just what
-/// accepting it gives, notes it in the lists, and answers its UniqueID and its edits. UniqueIDs are the caller's
-/// to compare, and so is the greatest number. After an `Err` nothing is known of the desk and the lists: drop them.
+/// Accepts the command of the row again, provided that it has this number and the row is exactly what accepting it
+/// gives. Adds it to the indexes, and returns its UniqueID and its edits. The caller compares UniqueIDs and the
+/// greatest number. After an `Err` the desk and the indexes are unknown: drop them.
 pub fn accept_row<D: KeepsRows>(
     alloc: Global,
     desk: &mut D,

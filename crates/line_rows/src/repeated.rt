@@ -30,7 +30,6 @@ pub fn answer_under(alloc: Global, row: Accepted, stamped: &Stamped) -> Result<A
     Ok(Answer::IdReused(number))
 }
 
-/// Returns whether the row has this source, this own minute and this text of the command.
 fn is_row_of(row: &Accepted, stamped: &Stamped, text: &Text) -> bool
     ensures { IsTrue result ↔ ((string_bytes row.now.source ≡ stamped.now.source) × (row.now.own ≡ stamped.now.minute)
         × (string_bytes row.now.command ≡ text.now)) }

@@ -34,7 +34,6 @@ impl Install {
     }
 }
 
-/// Returns the selected product's sheet, with indexes.
 fn look_up(alloc: Global, entries: &[Entry], machine: &Id) -> Result<Option<Sheet>, AllocError>
     ensures { IfOk result (λ sheet. sheet ≡ sheet_on (reverse entries.now) machine.now) }
 {
@@ -53,7 +52,6 @@ fn add_all(names: &mut BTreeSet<Designator>, designators: &[Designator]) -> Resu
     Ok(())
 }
 
-/// Updates the board's designators for a command.
 fn note_placed(
     placed: &mut BTreeSet<Designator>,
     board: &Id,

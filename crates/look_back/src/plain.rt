@@ -105,7 +105,6 @@ impl PlainDesk {
     }
 }
 
-/// Returns the newest entry with this UniqueID.
 fn earlier<'a>(entries: &'a [Entry], uid: &Id) -> Option<&'a Entry>
     ensures { option_copied result ≡ find (λ e. same e.stamped.uid uid.now) (reverse entries.now) }
 {

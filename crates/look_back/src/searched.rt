@@ -52,7 +52,6 @@ pub fn search<'a>(
     })
 }
 
-/// Returns the designator's slot in the selected product's sheet.
 fn slot_on(entries: &[Entry], machine: &Id, designator: &Designator) -> Option<Id>
     ensures { result ≡ slot_on (reverse entries.now) machine.now designator.now }
 {

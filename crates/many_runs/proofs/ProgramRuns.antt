@@ -77,7 +77,6 @@ module _ {T D : Type 0} (g : disk.Ghosts D) (first : start.Ghosts T) (make : Opt
         },
       )
 
--- A connection, for any end.
 serves : (reports : Reports) (G : Ledger) (sent unread before after : Option (List ℕ)) (ended : Ended) (H : History) → ConnectedSo (request_rule reports G.rules G.greatest) sent unread G.history before ended H after
     → Serves (request_rule reports G.rules G.greatest) G.history sent unread before after ended H
 serves reports G sent unread before after (Ok served) H connected = connected
@@ -85,7 +84,6 @@ serves reports G sent unread before after (Err (Read served)) H connected = conn
 serves reports G sent unread before after (Err (TooManyReads served)) H connected = connected
 serves reports G sent unread before after (Err (Write served)) H connected = connected
 
--- Connections one after another are calls one after another.
 pub serves_each : (exchanges : List Exchange) (G : Ledger) (H : History) → ServesEach exchanges G H → AnswersByTheList report_of G (connections_of exchanges) H
 serves_each [] G H same = same
 serves_each (e ∷ es) G H (H₁, one, rest) = (H₁, serves report_of G e.sent e.unread e.before e.after e.ended H₁ one, serves_each es (record G { history = H₁ }) H rest)

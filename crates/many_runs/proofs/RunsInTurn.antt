@@ -14,13 +14,11 @@ use Rattle.desk_file.specs.Files.{Begins, HasOursFirst}
 use Rattle.headline.specs.Calls.{AnswersByTheList, Call}
 use Rattle.many_runs.specs.Runs.{Ending, closed, crashed, Run, EndsWith, by_two, IsRunFrom, IsRun, KeepsList, AreRuns, run_then, as_one}
 
--- Calls that were answered one after another, followed by others.
 pub appended : (reports : Reports) (calls later : List Call) (G : Ledger) (H H' : History) → AnswersByTheList reports G calls H
     → AnswersByTheList reports (record G { history = H }) later H' → AnswersByTheList reports G (calls ++ later) H'
 appended reports [] later G H H' same answers = subst (λ (it : History). AnswersByTheList reports (record G { history = it }) later H') same answers
 appended reports (call ∷ calls) later G H H' (H₁, one, rest) answers = (H₁, one, appended reports calls later (record G { history = H₁ }) H H' rest answers)
 
--- The tables are in the trees of the files, for any end of the run.
 pub held : (ending : Ending) (tables : Tables) (image : Image) → EndsWith ending tables image → (trees : Trees) × HoldsAt tables trees × ∥ HoldsDatabase image trees ∥₁
 held closed tables image (trees, holds, alone) = (trees, holds, alone.both)
 held crashed tables image left = left
@@ -33,7 +31,6 @@ Same = (image : Image) (trees : Trees) (greatest : ℕ) (H : History) → ∥ Ho
     → (make : Option ℕ) (next : ℕ) (H' : History) → Begins image make next H' → IsJudged Two H' → (next ≡ greatest) × (H' ≡ H)
 
 module _ (reports : Reports) (ours_first : OursFirst) (same_list : Same) where
-  -- The next run went on from the greatest number and the list with which the run ended.
   pub goes_on : (run next : Run) (greatest number : ℕ) (H H₁ G H' : History) → IsRunFrom reports run greatest H H₁ → IsRunFrom reports next number G H'
       → number ≡ greatest → G ≡ H₁ → IsRunFrom reports (run_then run next) greatest H H'
   goes_on run next greatest number H H₁ G H' before after number_is list_is = record {
@@ -56,7 +53,6 @@ module _ (reports : Reports) (ours_first : OursFirst) (same_list : Same) where
       let told = same_list run.last trees greatest H₁ database holds before.lawful.judged next.make number G begins after.lawful_first.judged in
       (greatest, H, H', goes_on run next greatest number H H₁ G H' before after told.0 told.1)
 
-  -- A run that kept the history adds no answer.
   pub stays : (run next : Run) → next.first ≡ run.last → IsRun reports run → KeepsList next → IsRun reports (run_then run next)
   stays run next same is (none, keeps) alone =
       let (greatest, H, H₁, before) = is alone in

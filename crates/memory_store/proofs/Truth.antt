@@ -14,7 +14,6 @@ use Rattle.sqlite.specs.State.{HasCleanDisk}
 use Rattle.memory_store.specs.declared.file.MemoryFile.{MemoryFile}
 use Rattle.memory_store.specs.contracts.file.MemoryFileDisk.TheImpl.{ghosts as disk}
 
--- Each call finds it clean and leaves it clean.
 pub stays_clean : (conn : Held (FileStore MemoryFile disk)) → HasCleanDisk (file_state conn)
 unfolding pool_state
 stays_clean conn = no_doubt true refl
@@ -22,7 +21,6 @@ stays_clean conn = no_doubt true refl
 abbrev no_tables : Schema
 no_tables = record { tables = []; indexes = []; views = [] }
 
--- An open of empty files finds no table.
 pub finds_none : (log : List ℕ) (db : Database) → IsDatabase db → AreFoundIn (record { log = log; db = [] }) db.trees → db.schema ≡ no_tables
 finds_none log db sound (inl found) = absurd (omega (arith, found.3.found.present))
 finds_none log db sound (inr none) = lists_once (db.trees catalog_tree) db.schema no_tables sound.lists (empty_is_sound db.trees none.1.1).lists

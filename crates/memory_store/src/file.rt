@@ -121,7 +121,6 @@ fn count(outcome: Result<(), AllocError>, faults: &mut u64) -> io::Result<()>
     Ok(())
 }
 
-/// Gives the file this length.
 fn resize(file: &mut Vec<u8>, len: usize) -> Result<(), AllocError>
     ensures len { OnOk result (length file.new.items ≡ len) }
     ensures others { Cut len file.old.items file.new.items }
@@ -129,7 +128,6 @@ fn resize(file: &mut Vec<u8>, len: usize) -> Result<(), AllocError>
     file.resize(len, 0)
 }
 
-/// Writes the bytes at the offset, and extends the file if needed.
 fn overwrite(file: &mut Vec<u8>, at: usize, bytes: &[u8]) -> Result<(), AllocError>
     ensures written { OnOk result (Holds file.new.items at bytes.now) }
     ensures others { Torn at (length bytes.now) file.old.items file.new.items }

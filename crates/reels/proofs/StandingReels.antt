@@ -16,7 +16,6 @@ use Rattle.desk_types.proofs.ReelCommands.{IsQuiet, IsQuiet-open, IsQuiet-untouc
 use Rattle.reels.specs.declared.reel.Reel.{Reel}
 use Rattle.reels.specs.Reel.{HasReceipt, StandsFor, SameReceipt, SamePieces, exposure_at}
 
--- An entry that doesn't receive the reel keeps its receipt.
 HasReceipt-next : (H : History) (e : Entry) (name : Name) (old new : Reel) → HasReceipt H name old → SameReceipt old new → SamePieces old new
     → receipt_by name e.effective e.stamped.command ≡ None → HasReceipt (e ∷ H) name new
 HasReceipt-next H e name old new has same pieces none = record {
@@ -41,7 +40,6 @@ in-bag name = ap (λ b. if b then Some false else None) (same-refl name)
 in-bag-baked : (name : Name) → open_by name (ReelBaked name) ≡ Some false
 in-bag-baked name = ap (λ b. if b then Some false else None) (same-refl name)
 
--- An entry that doesn't concern the reel changes nothing.
 pub StandsFor-untouched : (H : History) (e : Entry) (name : Name) (reel : Reel) → StandsFor H name reel → open_by name e.stamped.command ≡ None → StandsFor (e ∷ H) name reel
 StandsFor-untouched H e name reel stands none =
     let quiet = IsQuiet-untouched name e.effective e.stamped.command none in
@@ -65,7 +63,6 @@ since-fits : (o : Option ℕ) (last m : ℕ) → ForSome o (λ s. s ≤ last) �
 since-fits None last m fits le = omega arith
 since-fits (Some s) last m fits le = let here : s ≤ last = fits s refl in let fit : s ≤ m = omega arith in fit
 
--- The minute since which a reel is out is between its stored exposure and the open.
 pub since-between : (o : Option ℕ) (used last at x : ℕ) → ForSome o (λ s. (used ≤ s) × (s ≤ last)) → ForNone o (used ≤ last) → last ≤ at
     → unwrap_or o at ≡ x → (used ≤ x) × (x ≤ at)
 since-between None used last at x out in_bag le is =
@@ -78,7 +75,6 @@ since-between (Some s) used last at x out in_bag le is =
     let same : s ≡ x = is in
     (omega arith, omega arith)
 
--- The minutes out since the first open can be split at any later minute.
 out-on : (o : Option ℕ) (used last m minute : ℕ) → ForSome o (λ s. s ≤ last) → last ≤ m → m ≤ minute
     → used + option_map_or (λ s. minute - s) (Some (unwrap_or o m)) 0 ≡ used + option_map_or (λ s. m - s) o 0 + (minute - m)
 out-on None used last m minute fits le low = let is : used + (minute - m) ≡ used + 0 + (minute - m) = omega arith in is
@@ -87,7 +83,6 @@ out-on (Some s) used last m minute fits le low =
     let is : used + (minute - s) ≡ used + (m - s) + (minute - m) = omega arith in
     is
 
--- The stored exposure is the one at the minute since which the reel is out.
 used-since : (H : History) (name : Name) (reel : Reel) (m : ℕ) (o : Option ℕ) → StandsFor H name reel → reel.open_since ≡ o → reel.last ≤ m
     → reel.used ≡ exposure_of H name (unwrap_or o m)
 used-since H name reel m None stands is le =

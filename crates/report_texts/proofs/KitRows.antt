@@ -23,7 +23,6 @@ pieces-next reels i reel inside is = ap pieces_of_reels (take-next reels i reel 
 -- ---- one more sheet row
 
 module _ (H : History) (boards : ℕ) (names : List Name) (sheet : List SheetRow) (i : ℕ) where
-  -- The kit so far, with the rows of one more sheet row.
   pub kit-next : (row : SheetRow) (was now : List KitRow) (needed : ℕ) (reels : List ReelView) → i < length sheet → row ≡ get_or sheet i row
       → needed ≡ needed_by boards row → reels ≡ reels_for H boards names row → now ≡ was ++ rows_for row needed reels
       → now ++ kit_rows H boards (names ++ map (λ (r : ReelView). r.reel) reels) (drop (i + 1) sheet) ≡ was ++ kit_rows H boards names (drop i sheet)
@@ -36,7 +35,6 @@ module _ (H : History) (boards : ℕ) (names : List Name) (sheet : List SheetRow
       ∙ append_assoc was (rows_for row (needed_by boards row) (reels_for H boards names row)) (rest (reels_for H boards names row))
       ∙ ap (λ l. was ++ kit_rows H boards names l) (sym (drop-next sheet i row inside is))
 
-  -- The kit is complete when no sheet row remains.
   pub kit-end : (kit all : List KitRow) → drop i sheet ≡ [] → kit ++ kit_rows H boards names (drop i sheet) ≡ all → kit ≡ all
   unfolding kit_rows
   kit-end kit all none is = sym (append-nil kit) ∙ ap (λ l. kit ++ kit_rows H boards names l) (sym none) ∙ is

@@ -196,7 +196,6 @@ row-names row needed reels others =
     ∙ ap (λ l. map name_of reels ++ l) (short-named (nat_lt (pieces_of_reels reels) needed) row needed (needed - pieces_of_reels reels))
     ∙ append-nil (map name_of reels))
 
--- A name outside a concatenation is outside both parts.
 neither : (given more ys : List Name) → AllByRecursion (λ y. is_among (given ++ more) y ≡ false) ys
     → AllByRecursion (λ y. is_among given y ≡ false) ys × AllByRecursion (λ y. is_among more y ≡ false) ys
 neither given more [] all = (tt, tt)

@@ -11,13 +11,11 @@ use Rattle.report_texts.specs.Kit.{pieces_of_reels, prefixes, enough}
 
 -- ---- sufficient prefixes
 
--- The empty prefix suffices for no pieces.
 pub enough-zero : (reels : List ReelView) → enough 0 reels ≡ []
 unfolding prefixes
 enough-zero [] = refl
 enough-zero (r ∷ reels) = refl
 
--- The only prefix of no reels is empty.
 pub enough-nil : (needed : ℕ) → enough needed [] ≡ []
 unfolding prefixes
 enough-nil needed = by (nat_le needed 0)
@@ -26,7 +24,6 @@ enough-nil needed = by (nat_le needed 0)
     by true = refl
     by false = refl
 
--- Subtracting one reel's pieces from the pieces needed.
 le-less : (n a b : ℕ) → nat_le n (a + b) ≡ nat_le (n - a) b
 le-less n a b = by (nat_le n (a + b)) (nat_le (n - a) b) refl refl
   where
@@ -50,7 +47,6 @@ find-behind needed r (p ∷ ps) =
     by true rest = refl
     by false rest = rest
 
--- The sufficient prefix has the first reel, then enough of the rest.
 pub enough-next : (needed : ℕ) (r : ReelView) (reels : List ReelView) → 0 < needed → enough needed (r ∷ reels) ≡ r ∷ enough (needed - r.remaining) reels
 unfolding prefixes
 enough-next needed r reels some =
@@ -72,7 +68,6 @@ module _ (test : ReelView → Bool) (reels : List ReelView) (i : ℕ) (reel : Re
   at : filter test (drop i reels) ≡ cond (test reel) (reel ∷ filter test (drop (i + 1) reels)) (filter test (drop (i + 1) reels))
   at = ap (filter test) (drop-next reels i reel inside is)
 
-  -- A matching reel is chosen while pieces are missing.
   pub step-chosen : (was now : List ReelView) (missing after : ℕ) → test reel ≡ true → 0 < missing → now ≡ was ++ reel ∷ [] → after ≡ missing - reel.remaining
       → now ++ enough after (filter test (drop (i + 1) reels)) ≡ was ++ enough missing (filter test (drop i reels))
   step-chosen was now missing after passes some put less =
@@ -83,7 +78,6 @@ module _ (test : ReelView → Bool) (reels : List ReelView) (i : ℕ) (reel : Re
       ∙ ap (λ l. was ++ l) (sym (enough-next missing reel rest some))
       ∙ ap (λ l. was ++ enough missing l) (sym (at ∙ ap (λ b. cond b (reel ∷ rest) rest) passes))
 
-  -- Any other reel is skipped.
   pub step-past : (missing : ℕ) → test reel ≡ false → enough missing (filter test (drop (i + 1) reels)) ≡ enough missing (filter test (drop i reels))
   step-past missing fails =
       let rest = filter test (drop (i + 1) reels) in
@@ -91,12 +85,10 @@ module _ (test : ReelView → Bool) (reels : List ReelView) (i : ℕ) (reel : Re
 
 -- ---- the end
 
--- The choice is complete when no pieces are missing.
 pub end-reached : (chosen reels all : List ReelView) (missing : ℕ) → missing ≡ 0 → chosen ++ enough missing reels ≡ all → chosen ≡ all
 end-reached chosen reels all missing none is =
     sym (append-nil chosen) ∙ ap (λ l. chosen ++ l) (sym (ap (λ n. enough n reels) none ∙ enough-zero reels)) ∙ is
 
--- The choice is complete when no reel remains.
 pub end-of_reels : (test : ReelView → Bool) (chosen reels all : List ReelView) (missing : ℕ) → reels ≡ [] → chosen ++ enough missing (filter test reels) ≡ all → chosen ≡ all
 end-of_reels test chosen reels all missing none is =
     sym (append-nil chosen) ∙ ap (λ l. chosen ++ l) (sym (ap (λ l. enough missing (filter test l)) none ∙ enough-nil missing)) ∙ is

@@ -11,12 +11,10 @@ use Rattle.csv.specs.declared.parser.State.TheVariants as st
 use Rattle.csv.proofs.RoundTrip.{read-write}
 use Rattle.report_texts.specs.Csv.{record_text, csv_text}
 
--- A record with a field is read back unchanged.
 as_it_was : (row : List (List ℕ)) → row ≢ [] → read_back row ≡ row
 as_it_was [] some = absurd (some refl)
 as_it_was (x ∷ row) some = refl
 
--- Several records are read back unchanged, and no others.
 read-all : (n : ℕ) (rows : List (List (List ℕ))) → length rows ≤ n → All (λ r. r ≢ []) rows
     → records_from default_config n st.StartRecord (flat_map record_text rows) ≡ rows
 unfolding records_from next_record

@@ -53,7 +53,6 @@ has-read read test (x ∷ xs) row = by (test x) (has-read read test xs row)
     by true rest = ap (λ b. alike row (read x) || b) rest
     by false rest = rest
 
--- The set has a record exactly if one of these pieces gives it.
 row-of : (read : Placement → Fields) (test : Placement → Bool) (pieces : List Placement) (row : Fields)
     → has (set_of (map read (filter test pieces))) row ≡ list_any (λ p. test p && alike row (read p)) pieces
 row-of read test pieces row = has-set _ row ∙ has-read read test pieces row
@@ -111,7 +110,6 @@ reels-converse pieces board part lot reel = (
   λ there. from _ _ (reels-agree pieces board part lot reel ∙ into _ _ there),
 )
 
--- A lot in the board's trace has the board in its own trace.
 lot-listed : (board lot part : Name) (pieces : List Placement)
     → list_any (λ (p : Placement). same p.board board && (same part p.part && (same lot p.lot && true))) pieces ≡ true
     → list_any (λ (p : Placement). same p.lot lot && (same board p.board && true)) pieces ≡ true

@@ -29,7 +29,6 @@ fn level_text(view: &ReelView) -> &str
     view.level.as_str()
 }
 
-/// A report with one row for each reel.
 struct ReelCard;
 
 impl Report<ReelView> for ReelCard {

@@ -35,7 +35,6 @@ pub enum Supply {
     Short { missing: u64 },
 }
 
-/// A report with one row for each kit row.
 struct KitList;
 
 impl Report<KitRow> for KitList {
@@ -91,8 +90,6 @@ impl Report<KitRow> for KitList {
     }
 }
 
-/// Returns the shortest prefix of the reels with the pieces needed, or else all of them. Skips
-/// reels already given.
 fn enough(
     alloc: Global,
     needed: u64,
@@ -117,7 +114,6 @@ fn enough(
     Ok(chosen)
 }
 
-/// Appends the rows of one sheet row, and marks its reels as given.
 fn put_rows(
     row: &SheetRow,
     needed: u64,

@@ -15,9 +15,8 @@ ghost use Rattle.report_texts.specs.Csv.{csv_text};
 ghost use Rattle.report_texts.specs.Kit.{kit_rows, reels_in};
 ghost use Rattle.report_texts.specs.Traces.{project, board_columns, lot_columns, board_header, lot_header, overdue_header, overdue_row, board_text, lot_text, overdue_text, board_rows, lot_rows, pieces_on, pieces_of_lot};
 
-/// Reading a report with `csv` gives back its header and records, even with commas, quotes or line
-/// ends in fields. So different records have different texts. Holds for all records with at least
-/// one field.
+/// Reading a report with `csv` gives back its header and records, even with commas, quotes or line ends in fields.
+/// Holds for all records with at least one field.
 pub fn texts_read_back()
     ensures { (header : List (List ℕ)) (rows : List (List (List ℕ))) → All (λ r. r ≢ []) (header ∷ rows)
         → records default_config (csv_text header rows) ≡ header ∷ rows }
@@ -44,9 +43,7 @@ pub fn reports_read_back()
     texts_read_back();
 }
 
-/// Board and lot traces of the same pieces agree. Detail 2 of a board has the lot exactly if detail
-/// 1 of the lot has the board. It has the part and lot exactly if detail 2 of the lot has the board
-/// and part. Detail 3 of both agree on the reel.
+/// Board and lot traces of the same pieces agree on boards, lots, parts and reels.
 pub fn traces_are_converse()
     ensures lots { (pieces : List Placement) (board lot : Name)
         → ((part : Name) × Contains (board_rows Two (pieces_on board pieces)) (part ∷ lot ∷ []))

@@ -17,7 +17,6 @@ fn overdue_word(piece: &Placement) -> &[u8]
     if piece.overdue { b"yes" } else { b"no" }
 }
 
-/// Returns a detail's fields for a piece on a board.
 fn on_board<'a>(
     alloc: Global,
     detail: TraceDetail,
@@ -44,7 +43,6 @@ fn on_board<'a>(
     }
 }
 
-/// Returns a detail's fields for a piece from a lot.
 fn of_lot<'a>(
     alloc: Global,
     detail: TraceDetail,

@@ -10,7 +10,6 @@ use desk_types::{Desk, Id, Mount, Text};
 use itoa::Buffer;
 use std::alloc::{AllocError, Global};
 
-/// A report with one row for each live reel.
 struct SlotList;
 
 impl Report<Mount> for SlotList {

@@ -13,7 +13,6 @@ use itoa::Buffer;
 use std::alloc::{AllocError, Global};
 use std::collections::BTreeSet;
 
-/// Returns the report of a header and a set of rows.
 fn text_of_set(
     alloc: Global,
     header: &[&[u8]],
@@ -56,7 +55,6 @@ pub fn lot_text(
     text_of_set(alloc, lot_header(detail), &rows)
 }
 
-/// The report of pieces placed from expired reels.
 struct OverdueList;
 
 impl Report<Placement> for OverdueList {

@@ -98,7 +98,6 @@ impl Block {
         }
     }
 
-    /// Moves the pending bytes to the start of the block.
     fn move_down(&mut self)
         requires valid { IsBlock self.old }
         ensures valid { IsBlock self.new }
@@ -114,7 +113,6 @@ impl Block {
     }
 }
 
-/// Reads once into a block, behind its first bytes.
 fn read_behind<R: Read>(
     wire: &mut Wire<R>,
     block: &mut [u8; BLOCK],

@@ -30,7 +30,6 @@ pub fn send_line<W: Write>(wire: &mut Wire<W>, text: &[u8]) -> Result<(), WriteF
     send(wire, b"\n")
 }
 
-/// Returns the text with a line feed, in a block.
 fn with_line_feed(text: &[u8]) -> [u8; ONE_WRITE]
     requires { length text.now < ONE_WRITE }
     ensures { take (length text.now + 1) result ≡ text.now ++ 10 ∷ [] }

@@ -32,7 +32,6 @@ name_twice-new before x xs new = ap (λ b. if b then Some x else name_twice (bef
 pub name_twice-seen : (before : List Name) (x : Name) (xs : List Name) → list_any (same x) before ≡ true → name_twice before (x ∷ xs) ≡ Some x
 name_twice-seen before x xs seen = ap (λ b. if b then Some x else name_twice (before ++ x ∷ []) xs) seen
 
--- A repeated name in the first list is the result for both lists.
 pub name_twice-append_some : (before xs ys : List Name) (x : Name) → name_twice before xs ≡ Some x → name_twice before (xs ++ ys) ≡ Some x
 name_twice-append_some before [] ys x is = cc
 name_twice-append_some before (z ∷ xs) ys x is = by (list_any (same z) before) refl (name_twice-append_some (before ++ z ∷ []) xs ys x)
@@ -42,7 +41,6 @@ name_twice-append_some before (z ∷ xs) ys x is = by (list_any (same z) before)
     by true seen next = name_twice-seen before z (xs ++ ys) seen ∙ sym (name_twice-seen before z xs seen) ∙ is
     by false new next = name_twice-new before z (xs ++ ys) new ∙ next (sym (name_twice-new before z xs new) ∙ is)
 
--- Without one, the second list decides.
 pub name_twice-append_none : (before xs ys : List Name) → name_twice before xs ≡ None → name_twice before (xs ++ ys) ≡ name_twice (before ++ xs) ys
 name_twice-append_none before [] ys none = ap (λ l. name_twice l ys) (sym (append-nil before))
 name_twice-append_none before (z ∷ xs) ys none = by (list_any (same z) before) refl (name_twice-append_none (before ++ z ∷ []) xs ys)
@@ -54,7 +52,6 @@ name_twice-append_none before (z ∷ xs) ys none = by (list_any (same z) before)
         name_twice-new before z (xs ++ ys) new ∙ next (sym (name_twice-new before z xs new) ∙ none)
         ∙ ap (λ l. name_twice l ys) (append_assoc before (z ∷ []) xs)
 
--- An inserted name was not among the earlier ones.
 pub was-new : (seen : BTreeSet Name) (before : List Name) (x : Name) (added : Bool) → HasSeen seen before
     → added ≡ not (contains by_name seen x) → added ≡ true → is_among before x ≡ false
 was-new seen before x added has told is = sym (has x) ∙ by (contains by_name seen x) (sym told ∙ is)
@@ -63,7 +60,6 @@ was-new seen before x added has told is = sym (has x) ∙ by (contains by_name s
     by true n = sym n
     by false n = refl
 
--- A name that wasn't inserted was among the earlier ones.
 pub was-seen : (seen : BTreeSet Name) (before : List Name) (x : Name) (added : Bool) → HasSeen seen before
     → added ≡ not (contains by_name seen x) → added ≡ false → is_among before x ≡ true
 was-seen seen before x added has told is = sym (has x) ∙ by (contains by_name seen x) (sym told ∙ is)

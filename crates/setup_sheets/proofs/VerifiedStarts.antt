@@ -32,7 +32,6 @@ same-test a b c d there back = by (nat_le a b) refl (nat_le c d) refl
     by true first false second = let low = there (leb-true a b first) in let high = leb-false c d second in absurd (omega (arith, low, high))
     by false first true second = let low = back (leb-true c d second) in let high = leb-false a b first in absurd (omega (arith, low, high))
 
--- The life at the desk minute ends when the reel expires.
 until-is : (now limit before after minute : ℕ) → now ≤ minute → after ≡ before + (minute - now)
     → nat_le (now + (limit - before)) minute ≡ nat_le limit after
 until-is now limit before after minute le is =
@@ -70,14 +69,12 @@ part-wrong H alternates row reel are received = by (receipt_of H reel) received
 
 -- ---- slots
 
--- The fault of a reel depends on its life only if it is baked.
 feeding-is : (slot : Name) (wrong unbaked expired told : Bool) → (unbaked ≡ false → told ≡ expired)
     → feeding_refusal slot wrong unbaked told ≡ feeding_refusal slot wrong unbaked expired
 feeding-is slot true unbaked expired told is = refl
 feeding-is slot false true expired told is = refl
 feeding-is slot false false expired told is = ap (feeding_refusal slot false false) (is refl)
 
--- Verification and a start find the same fault in a row's slot.
 front-told : (H : History) (alternates : List (Name × Name)) (minute : ℕ) (machine : Name) (row : SheetRow) → IsJudged Two H → now_of H ≤ minute → AreAlternates H alternates
     → front_fault alternates minute row (option_map (front_reel H (now_of H)) (front_of H machine row.slot)) ≡ front_refusal H minute row (front_of H machine row.slot)
 front-told H alternates minute machine row judged le are = by (front_of H machine row.slot) refl
@@ -98,7 +95,6 @@ first-of : (slot : Name) (here : Option Refusal) (later : Option (Name × Refusa
 first-of slot None later = refl
 first-of slot (Some refusal) later = refl
 
--- Verification and a start of work find the same first fault.
 pub first-told : (H : History) (alternates : List (Name × Name)) (minute : ℕ) (machine : Name) (rows : List SheetRow) → IsJudged Two H → now_of H ≤ minute → AreAlternates H alternates
     → refusal_in (first_fault alternates minute rows (map (front_at H (now_of H) machine) rows)) ≡ slots_refusal H minute machine rows
 first-told H alternates minute machine [] judged le are = refl

@@ -73,7 +73,6 @@ impl Sheet {
     }
 }
 
-/// Maps each slot to the place of its first row.
 fn places_in(alloc: Global, rows: &[SheetRow]) -> Result<BTreeMap<Id, usize>, AllocError>
     ensures { (s : Name) → IfOk result (λ places. row_at rows.now places s ≡ row_in rows.now s) }
 {
@@ -96,7 +95,6 @@ fn note_row(slots: &mut BTreeMap<Designator, Id>, row: &SheetRow) -> Result<(), 
     Ok(())
 }
 
-/// Maps each designator of a sheet to the slot of its first row.
 fn slots_in(alloc: Global, rows: &[SheetRow]) -> Result<BTreeMap<Designator, Id>, AllocError>
     ensures { (d : Name) → IfOk result (λ slots. slot_at slots d ≡ slot_in rows.now d) }
 {

@@ -50,7 +50,6 @@ pub fn check_sheet(alloc: Global, parts: &Parts, rows: &[SheetRow]) -> Result<()
     }
 }
 
-/// Returns the first slot that repeats an earlier row's.
 fn slot_twice(alloc: Global, rows: &[SheetRow]) -> Result<Option<Id>, AllocError>
     ensures { IfOk result (λ twice. twice ≡ name_twice [] (slots_of_rows rows.now)) }
 {
@@ -63,7 +62,6 @@ fn slot_twice(alloc: Global, rows: &[SheetRow]) -> Result<Option<Id>, AllocError
     Ok(None)
 }
 
-/// Returns the first designator that repeats an earlier one.
 fn designator_twice(alloc: Global, rows: &[SheetRow]) -> Result<Option<Designator>, AllocError>
     ensures { IfOk result (λ twice. twice ≡ name_twice [] (designators_of_rows rows.now)) }
 {
@@ -94,7 +92,6 @@ fn twice_in(
     Ok(None)
 }
 
-/// Returns the part of the first row whose part is unknown.
 fn part_unknown(parts: &Parts, rows: &[SheetRow]) -> Option<Id>
     ensures { result ≡ unknown_part (is_among parts.now) rows.now }
 {

@@ -14,11 +14,9 @@ use desk_types::{Front, FrontReel, Fronts, Id, Life, Minute, Refusal, SheetRow, 
 
 /// Checks the front reels before a start of work, without taking memory.
 ///
-/// It reports the first faulty slot in sheet order with `SlotEmpty`, `WrongPart`, `NotBaked` or
-/// `Expired`, tested in this order. Given the selected product's sheet, and the fronts and
-/// alternates of an accepted history, it agrees with a start of work at or after the desk minute.
-/// The slots are ready exactly if a start finds no fault in them. Otherwise the start is refused
-/// for the reported fault, unless it has another fault.
+/// It reports the first faulty slot in sheet order with `SlotEmpty`, `WrongPart`, `NotBaked` or `Expired`, tested in
+/// this order. Given the selected product's sheet, and the fronts and alternates of an accepted history, it agrees with
+/// a start of work at or after the desk minute.
 pub fn verify(
     rows: &SheetRows,
     fronts: &Fronts,
@@ -41,7 +39,6 @@ pub fn verify(
     }
 }
 
-/// Returns the first faulty slot in sheet order, with its fault.
 fn first_faulty(
     rows: &[SheetRow],
     fronts: &[Front],
@@ -60,7 +57,6 @@ fn first_faulty(
     None
 }
 
-/// Returns the fault of the front reel in a row's slot.
 fn front_fault(
     row: &SheetRow,
     front: &Front,

@@ -7,7 +7,6 @@ use Rattle.sqlite_trees.specs.Tree.{Trees}
 use Rattle.sqlite.specs.Files.{HoldsDatabase}
 use Rattle.small_pages.specs.Found.{IsNew}
 
--- They hold no database, for any size of pages.
 pub new_holds_none : (image : Image) (trees : Trees) → IsNew image → ¬ HoldsDatabase image trees
 new_holds_none image trees new held =
     let few : reserved held.0 ≤ 8 = grind arith in

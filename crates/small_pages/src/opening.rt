@@ -18,7 +18,7 @@ use sqlite_store::Unopened;
 use sqlite_wal::PageSize;
 use std::alloc::{AllocFailed, Global};
 
-/// Opens the database in the files, or makes one if there is none yet, even if its creation was interrupted earlier.
+/// Opens the database in the files, or makes it, even if an earlier creation was interrupted.
 pub fn open_files<D: Disk + Drop>(
     alloc: Global,
     mut files: Files<D>,
@@ -52,7 +52,6 @@ pub fn open_files<D: Disk + Drop>(
 
 const FAILED: Error = Error::SqliteFailure(ErrorCode::SystemIoFailure);
 
-/// Makes an empty database in the files.
 fn new_store<D: Disk + Drop>(
     alloc: Global,
     files: Files<D>,
@@ -70,7 +69,6 @@ fn new_store<D: Disk + Drop>(
     }
 }
 
-/// The files, before anything is read.
 fn unopened_files<D: Disk + Drop>(
     alloc: Global,
     files: Files<D>,

@@ -41,7 +41,6 @@ word_of (command.MaterialsScrapped _ _ _) = MaterialsScrapped
 word_of (command.CountsTaken _) = CountsTaken
 word_of command.ClockSet = ClockSet
 
--- The members of a command of this kind.
 abbrev pub MembersOf : Word → Type 0
 MembersOf PartDefined = Name
 MembersOf AlternateAllowed = Name × Name
@@ -124,7 +123,6 @@ said word c is =
     let texts : word_text (word_of c) ≡ word_text word = let e = fields_are c in cc in
     subst (λ w. (m : MembersOf w) × (c ≡ made w m)) (word_text-apart (word_of c) word texts) (opened c)
 
--- If reading a kind's members fails, so does reading a command of that kind.
 pub word_unread : (W : Word) (Is : MembersOf W → Type 0) (spelling : MembersOf W → List Field)
     → ((m : MembersOf W) → IsCommand (made W m) → Is m) → ((m : MembersOf W) → members_of (made W m) ≡ spelling m)
     → (word : Word) → word ≡ W → (before after then : List Field) (fault : Unread) (r : Result Command Unread)
@@ -172,7 +170,6 @@ receipts_apart =
     (triples_apart IsId IsId IsId name_fields name_fields name_fields (names_apart IsId) (names_apart IsId) (names_apart IsId))
     (triples_apart (λ _. ⊤) IsQuantity IsNumber level_fields number_fields number_fields (levels_apart (λ _. ⊤)) (numbers_apart IsQuantity quantities_fit) (numbers_apart IsNumber (λ n fits. fits)))
 
--- No command's members are a prefix of another's of the same kind.
 apart_by_word : (word : Word) → IsPrefixFree (λ (m : MembersOf word). IsCommand (made word m)) (λ m. members_of (made word m))
 apart_by_word PartDefined = names_apart IsId
 apart_by_word AlternateAllowed = two_names

@@ -11,7 +11,6 @@ use Rattle.stored_texts.specs.StoredText.{Field, list_fields}
 use Rattle.stored_texts.specs.declared.fields.Unread.{Unread}
 use Rattle.stored_texts.specs.declared.fields.Unread.TheVariants.{NoMemory, NotStored}
 
--- If reading a kind of value fails, so does reading values spelled in the same way.
 pub unread_as : {X Y : Type 0} (Is : X → Type 0) (spelling : X → List Field) (IsY : Y → Type 0) (spelling_y : Y → List Field) (of : Y → X)
     → ((y : Y) → IsY y → Is (of y)) → ((y : Y) → spelling_y y ≡ spelling (of y)) → (before after then : List Field) (fault : Unread) (r : Result Y Unread)
     → IsErrAnd r (λ e. e ≡ fault) → Reads Is spelling before after (Err fault) → Reads IsY spelling_y before then r
@@ -22,7 +21,6 @@ unread_as {X} {Y} Is spelling IsY spelling_y of is spelled before after then fau
     by NoMemory unread = tt
     by NotStored unread = λ y more is_y e. unread (of y) more (is y is_y) (e ∙ ap (λ fields. fields ++ more) (spelled y))
 
--- If reading the next of a counted sequence fails, the sequence can't be read.
 pub value_unread : {X : Type 0} (Is : X → Type 0) (spelling : X → List Field) → IsPrefixFree Is spelling
     → (count : ℕ) (found : List X) (before here after then : List Field) (fault : Unread) (r : Result (List X) Unread)
     → AllByRecursion Is found → before ≡ flat_map spelling found ++ here → length found < count → IsErrAnd r (λ e. e ≡ fault)
@@ -46,7 +44,6 @@ pub length_read : {X : Type 0} (Is : X → Type 0) (spelling : X → List Field)
 length_read Is spelling count before here fits read xs more is e =
     numbers_apart IsNumber (λ n fits. fits) count (length xs) here (flat_map spelling xs ++ more) fits (lengths_fit (length xs) is.count) (sym read ∙ e)
 
--- If reading the elements fails, so does reading the list.
 pub list_unread : {X : Type 0} (Is : X → Type 0) (spelling : X → List Field) (count : ℕ) (before here after then : List Field) (fault : Unread) (r : Result (List X) Unread)
     → count < 2 ^ 64 → before ≡ decimal count ∷ here → IsErrAnd r (λ e. e ≡ fault) → Reads (AreCounted Is count) (flat_map spelling) here after (Err fault)
     → Reads (IsListOf Is) (list_fields spelling) before then r

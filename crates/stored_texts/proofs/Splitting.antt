@@ -9,7 +9,6 @@ use Rattle.stored_texts.specs.Fields.{fields_in}
 abbrev is_tab : ℕ → Bool
 is_tab byte = byte == 0x09
 
--- The fields after a tab are those of the remaining text.
 pub cut_at : (text : List ℕ) (end : ℕ) → position is_tab text ≡ Some end → fields_in text ≡ take end text ∷ fields_in (drop (end + 1) text)
 cut_at text end is = by (nat_lt (position_or_len is_tab text) (length text)) refl is
   where

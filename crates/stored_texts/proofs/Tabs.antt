@@ -31,7 +31,6 @@ HasNoTab field = All (λ byte. (byte == 0x09) ≡ false) field
 abbrev HaveNoTab : List Field → Type 0
 HaveNoTab fields = AllByRecursion HasNoTab fields
 
--- Joining tab-free fields by tabs and splitting again gives the same fields.
 cut_again : (field : Field) (fields : List Field) → HaveNoTab (field ∷ fields) → fields_in (join_with_byte 0x09 (field ∷ fields)) ≡ field ∷ fields
 cut_again field [] none = slice_split_none (λ byte. byte == 0x09) field none.0
 cut_again field (next ∷ fields) none =
@@ -134,7 +133,6 @@ pub stored_text-fields_in : (c : Command) (text : List ℕ) → fields_in text �
 unfolding stored_text
 stored_text-fields_in c text e = sym (join_with_byte-slice_split 0x09 text) ∙ ap (join_with_byte 0x09) e
 
--- Joining fields by tabs puts a tab before each but the first.
 pub stored_text-fields_text : (c : Command) → stored_text c ≡ fields_text (fields_of c)
 unfolding stored_text
 stored_text-fields_text c = by (fields_of c)
@@ -147,7 +145,6 @@ stored_text-fields_text c = by (fields_of c)
     by [] = refl
     by (field ∷ fields) = behind field fields
 
--- Different commands in range have different texts.
 pub texts_apart : (a b : Command) → IsCommand a → IsCommand b → stored_text a ≡ stored_text b → a ≡ b
 texts_apart a b is_a is_b e =
     let fields : fields_of a ≡ fields_of b = sym (fields_in-stored_text a is_a) ∙ ap fields_in e ∙ fields_in-stored_text b is_b in

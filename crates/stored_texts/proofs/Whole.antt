@@ -14,7 +14,6 @@ use Rattle.stored_texts.proofs.Tabs.{fields_in-stored_text}
 pub begins : (text : List ℕ) (c : Command) → IsCommand c → text ≡ stored_text c → fields_in text ≡ word_text (word_of c) ∷ members_of c
 begins text c is e = ap fields_in e ∙ fields_in-stored_text c is ∙ fields_are c
 
--- A text with this first field is of a command of that kind, whose members are the other fields.
 pub said_in : (text : List ℕ) (first : Field) (rest : List Field) (word : Word) → fields_in text ≡ first ∷ rest → first ≡ word_text word
     → (c : Command) → IsCommand c → text ≡ stored_text c → IsSaidBy word c × (rest ≡ members_of c ++ [])
 said_in text first rest word fields is_word c is e =

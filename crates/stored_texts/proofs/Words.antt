@@ -13,7 +13,6 @@ words = PartDefined ∷ AlternateAllowed ∷ SheetDefined ∷ ProductSelected �
 abbrev pub word_in : Field → Option Word
 word_in text = find (λ word. same (word_text word) text) words
 
--- Each kind is found by its own text.
 pub word_in-word_text : (word : Word) → word_in (word_text word) ≡ Some word
 unfolding word_text
 word_in-word_text PartDefined = refl
@@ -34,7 +33,6 @@ word_in-word_text MaterialsScrapped = refl
 word_in-word_text CountsTaken = refl
 word_in-word_text ClockSet = refl
 
--- Different kinds have different texts.
 pub word_text-apart : (a b : Word) → word_text a ≡ word_text b → a ≡ b
 word_text-apart a b e = let found : Some a ≡ Some b = sym (word_in-word_text a) ∙ ap word_in e ∙ word_in-word_text b in cc
 

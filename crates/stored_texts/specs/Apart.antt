@@ -32,7 +32,6 @@ counted_quantities_fit n is = omega arith
 pub lengths_fit : (n : ℕ) → IsListLength n → n < 2 ^ 64
 lengths_fit n is = omega arith
 
--- Each level is read back from its own text.
 pub level_of-text_of : (level : Level) → level_of (text_of level) ≡ Some level
 level_of-text_of One = refl
 level_of-text_of Two = refl
@@ -75,7 +74,6 @@ front_apart InRange spelling apart (x ∷ xs) (y ∷ ys) left right is_x is_y n 
     let others = front_apart InRange spelling apart xs ys left right is_x.1 is_y.1 (omega arith) one.1 in
     (others.0, ap (λ z. z ∷ ys) (sym one.0) ∙ ap (λ zs. x ∷ zs) others.1, others.2, others.3)
 
--- The same for sequences of equal length.
 values_apart : {X : Type 0} (InRange : X → Type 0) (spelling : X → List Field) → IsPrefixFree InRange spelling
     → (xs ys : List X) (left right : List Field) → AllByRecursion InRange xs → AllByRecursion InRange ys → length xs ≡ length ys
     → flat_map spelling xs ++ left ≡ flat_map spelling ys ++ right → (xs ≡ ys) × (left ≡ right)

@@ -58,7 +58,6 @@ fn put<T: Drop>(found: &mut Vec<T>, value: T) -> Result<(), AllocError>
     Ok(())
 }
 
-/// Reads this many values.
 fn values<T: Stored>(alloc: Global, fields: &mut Fields, count: u64) -> Result<Listing<T>, Unread>
     ensures { Reads (AreCounted T.in_range count) (flat_map T.spelling) fields.old fields.new result }
 {

@@ -26,7 +26,6 @@ pub fn whole(alloc: Global, text: &[u8]) -> Result<Command, Unread>
     Ok(command)
 }
 
-/// Reads the members of a command of this kind.
 fn members(alloc: Global, word: Word, fields: &mut Fields) -> Result<Command, Unread>
     ensures { Reads (IsSaidBy word) members_of fields.old fields.new result }
 {

@@ -37,7 +37,6 @@ pub trait Stored: Drop + Sized {
     ghost apart: { IsPrefixFree in_range spelling };
 }
 
-/// Appends a tab and a field to the text.
 fn put_field(text: &mut Vec<u8>, field: &[u8]) -> Result<(), AllocError>
     ensures { OnOk result (text.new.items ≡ text.old.items ++ after_tabs (field.now ∷ [])) }
 {

@@ -82,7 +82,6 @@ impl Word {
     }
 }
 
-/// Returns the first of these kinds with this text.
 fn first_named<'a>(words: &'a [Word], text: &[u8]) -> Option<&'a Word>
     ensures { option_map (λ word. word.now) result ≡ find (λ word. same (word_text word) text.now) words.now }
 {

@@ -42,7 +42,6 @@ fn word_of(command: &Command) -> Word
     }
 }
 
-/// Appends the command's members to the text, each preceded by a tab.
 fn write_members(command: &Command, text: &mut Vec<u8>) -> Result<(), AllocError>
     ensures { OnOk result (text.new.items ≡ text.old.items ++ after_tabs (members_of command.now)) }
 {

@@ -53,7 +53,6 @@ module _ (slot_of : Name → Option Name) (tape : Name → List Name) (pieces : 
       all-on (before ++ option_to_list (pick_for slot_of tape pieces machine board before d)) ds
       (on-append board before (option_to_list (pick_for slot_of tape pieces machine board before d)) all (one-on before d))
 
--- The test for a board.
 abbrev is_on : Name → Placement → Bool
 is_on board p = same p.board board
 
@@ -117,7 +116,6 @@ keys-counted test H minute number pieces (row ∷ rows) place = by (nat_lt 0 (pi
 
 -- ---- any command
 
--- The keys that a command adds on a board are those of its install there.
 pub keys-installed : (H : History) (minute number count : ℕ) (board : Name) (command : Command) → count ≡ length (takes_by H minute command)
     → keys_in (λ p. same p.board board) number minute 1 (takes_by H minute command) ≡ install_keys board command (record { number = number; pieces = count })
 keys-installed H minute number count board (MaterialsInstalled machine b designators) is =

@@ -25,12 +25,10 @@ no-more k n old now is = by (same k n) refl
     by true one = is ∙ ap old (same-true k n one)
     by false one = refl
 
--- One thing more at most, which has the same form.
 pub all-kept : {X : Type 0} (P : X → Type 0) (old now : List X) (thing : X) (there : Bool) → now ≡ old ++ (if there then thing ∷ [] else []) → P thing → All P old → All P now
 all-kept P old now thing true is one all = All-same P now (old ++ thing ∷ []) is (All-push P old thing all one)
 all-kept P old now thing false is one all = All-same P now old (is ∙ append-nil old) all
 
--- Lists that keep the same under every name list the same.
 pub listed-still : (old new : TraceLists) (H : History) → ((n : Name) → kept_at new.lots n ≡ kept_at old.lots n) → ((n : Name) → kept_at new.boards n ≡ kept_at old.boards n)
     → new.overdue.items ≡ old.overdue.items → new.minutes.items ≡ old.minutes.items → IsListed old H → IsListed new H
 listed-still old new H lots boards overdue minutes is = record {

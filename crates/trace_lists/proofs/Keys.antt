@@ -14,7 +14,6 @@ use Rattle.trace_lists.specs.Noting.{keys_in}
 abbrev pub placed_key : Placement → Key
 placed_key p = (p.number, p.place)
 
--- The keys after an entry are the earlier ones, then its own.
 pub keys-accepted : (test : Placement → Bool) (H : History) (s : Stamped)
     → keys_where test (accept H s) ≡ keys_where test H ++ keys_in test (entry_of H s).number (entry_of H s).effective 1 (takes_by H (entry_of H s).effective s.command)
 unfolding takes_of
@@ -23,7 +22,6 @@ keys-accepted test H s =
     ∙ ap (map placed_key) (filter-append test (placements_of H) (filter_map placement_of (entry_takes H (entry_of H s))))
     ∙ map-append placed_key (filter test (placements_of H)) (filter test (filter_map placement_of (entry_takes H (entry_of H s))))
 
--- Adding an entry's keys to the earlier ones gives those of the history.
 pub keys-noted : (test : Placement → Bool) (H : History) (s : Stamped) (number : ℕ) (takes : List Take) (old new : List Key)
     → new ≡ old ++ keys_in test number (entry_of H s).effective 1 takes → old ≡ keys_where test H → number ≡ length H + 1 → takes ≡ takes_by H (entry_of H s).effective s.command
     → new ≡ keys_where test (accept H s)

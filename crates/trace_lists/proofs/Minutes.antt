@@ -36,6 +36,5 @@ minutes-accepted H s ms m count is before number = by (length H + 1 == number) r
         let other : number ≢ length ms + 1 = λ same. eqb-false (length H + 1) number at (omega (arith, same, count)) in
         minute-other ms m number other ∙ before number
 
--- The number of minutes after an entry.
 pub count-accepted : (H : History) (s : Stamped) (ms : List ℕ) (m : ℕ) → length ms ≡ length H → length (ms ++ m ∷ []) ≡ length (accept H s)
 count-accepted H s ms m count = omega (arith, length-append ms (m ∷ []), count)

@@ -104,7 +104,6 @@ pub fn note_pieces(
     Ok(())
 }
 
-/// Adds a placed piece to its lot and, if it is overdue, to the overdue list.
 fn note_piece(
     alloc: Global,
     lots: &mut BTreeMap<Id, Kept<PieceKey>>,

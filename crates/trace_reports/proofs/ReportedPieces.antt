@@ -7,7 +7,6 @@ use Rattle.desk_types.specs.declared.placement.Placement.{Placement}
 use Rattle.report_texts.specs.Sets.{Fields}
 use Rattle.trace_reports.specs.Reports.{rows_below}
 
--- The records read from a report are those of its pieces.
 pub found-rows : (found : Bool) (text : List Placement → List ℕ) (header : Fields) (rows : List Placement → List Fields)
     → ((pieces : List Placement) → records default_config (text pieces) ≡ header ∷ rows pieces) → (ps : List Placement) (paper : List ℕ)
     → option_map text (if found then Some ps else None) ≡ Some paper → rows_below paper ≡ rows ps

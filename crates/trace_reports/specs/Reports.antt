@@ -17,7 +17,7 @@ use Rattle.trace_reports.specs.declared.fault.ReportFault.TheVariants.{NotFound,
 abbrev pub board_trace : TraceDetail → History → Name → Option (List ℕ)
 board_trace detail H board = option_map (board_text detail) (traced.board_trace H board)
 
--- The trace of a lot of which some entry received a reel.
+-- The trace of a lot with a received reel.
 abbrev pub lot_trace : TraceDetail → History → Name → Option (List ℕ)
 lot_trace detail H lot = option_map (lot_text detail) (traced.lot_trace H lot)
 

@@ -6,9 +6,8 @@ ghost use Rattle.desk_types.specs.History.{History};
 ghost use Rattle.desk_types.specs.declared.trace_detail.TraceDetail.TheVariants.{One, Two, Three};
 ghost use Rattle.trace_reports.specs.Reports.{board_trace, lot_trace, rows_below};
 
-/// The printed traces of one history agree in both directions, for a board and a lot that are found. Detail 2 of the
-/// board, read by `csv`, has a record with the lot exactly when detail 1 of the lot has the board. Detail 3 of the
-/// board has a reel of a part exactly when detail 3 of the lot has it. This holds for every history.
+/// The printed traces of one history agree in both directions, for a board and a lot that are found. Holds for every
+/// history.
 pub fn reports_are_converse()
     ensures lots { (H : History) (board lot : Name) (on of : List ℕ) → board_trace Two H board ≡ Some on
         → lot_trace One H lot ≡ Some of

@@ -112,9 +112,7 @@ module _ {R W E : Type 0} (ways : Ways) (holds : List ℕ → Option (List ℕ))
   abbrev pub ToldLine : List ℕ → Type 0
   ToldLine line = TellsLine tells errors errors' line
 
-  -- Status 0, by command: all lines were answered and none refused; the audit counted; the file was migrated; the
-  -- import was answered and not refused; a text was written; all connections were served and none was faulty; the
-  -- report was written.
+  -- Status 0: the command did everything that was asked, and nothing was refused.
   abbrev pub Done : Type 0
   Done = ((served : Served) × (served.refused ≡ 0) × RunsAsked ways words (AnswersAll reads writes input output output' served))
       ⊎ ((file : List ℕ) × AsksForAudit words file × (count : ℕ) × Sent (lawful_line count) × ways.Audits count)
@@ -136,13 +134,12 @@ module _ {R W E : Type 0} (ways : Ways) (holds : List ℕ → Option (List ℕ))
   Bad = (AsksForNothing words × (text : List ℕ) × told.Tells tells errors errors' text)
       ⊎ ((option : BadOption) × HasBadOption words option × ToldLine (option_line option))
 
-  -- Status 3, nothing was read or sent. The file that the arguments name was refused, and its fault or Unavailable was
-  -- printed; or memory was refused, with no file open or with a desk whose history is unchanged.
+  -- Status 3: the file that the arguments name was refused, or memory was, and nothing was read or sent.
   abbrev pub NoDesk : Type 0
   NoDesk = ((input' ≡ input) × (output' ≡ output)) × HasNoDesk (RefusesNamed ways words) (ways.OpensNone ⊎ ways.Runs None StaysSame) ToldLine
 
-  -- Status 4: a fault of the wires was printed, and the output before it is a prefix of the full output; or the file of
-  -- an import could not be read, which may fail; or no further connection was served.
+  -- Status 4: a read or a write failed, or the file of an import could not be read, or no further connection was
+  -- served.
   abbrev pub Failed : Type 0
   Failed = ((fault : ServeFault) × IsShown fault input input' output output' × ToldLine (fault_line fault)
       × ((LeavesNone (reads (inner_of input)) (reads (inner_of input')) fault × RunsAsked ways words (AnswersUpTo reads writes input output output' fault))

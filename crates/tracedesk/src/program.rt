@@ -93,7 +93,6 @@ pub fn whole_run<T: Start, F: Folder, C: Clients, R: Read, W: Write, E: Write>(
     }
 }
 
-/// Closes the file that a command left open. Returns the closed files, or those that could not be closed.
 fn close_run<T: Start>(
     left: Left<FileFrom<T>>,
 ) -> Result<Option<Files<FileFrom<T>>>, Option<Files<FileFrom<T>>>>
@@ -121,15 +120,6 @@ fn close_run<T: Start>(
 }
 
 /// Runs the program with these arguments. Returns the exit status, and the file that it left open.
-///
-/// 0: done. 1: some line or request, or the import, was refused, a connection failed, or there is no such report. 2:
-/// the command line is bad, and standard error says why; for an option of an import, `tracedesk: Bad id`. 3: the desk's
-/// file was refused, or memory was, outside of a message: `tracedesk: ` and the fault, with its number or its table
-/// after a space. 4: input or output failed, with `tracedesk: Read`, `tracedesk: Write` or `tracedesk: TooManyReads`.
-/// Read also means that the file of an import can't be opened or read, or that a port can't be opened or a connection
-/// accepted.
-///
-/// Only `feed` reads standard input, and only `serve` opens a port.
 fn open_run<T: Start, F: Folder, C: Clients, R: Read, W: Write, E: Write>(
     rt: &HostRuntime,
     words: &[String],

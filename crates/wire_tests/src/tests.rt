@@ -40,7 +40,6 @@ struct Fed<R, W> {
     ended: Result<Served, ServeFault>,
 }
 
-/// Runs `feed` under an owner of no history.
 fn run_feed<R: Read + Drop, W: Write + Drop>(alloc: Global, input: R, output: W) -> Fed<R, W> {
     let (mut input, mut output) = (Wire::new(input), Wire::new(output));
     let ended = feed(alloc, &mut input, &mut output, &mut Full);

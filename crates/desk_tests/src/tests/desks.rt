@@ -17,7 +17,6 @@ use std::alloc::{AllocError, Global};
 use std::process::Abort;
 use std::test::Fail;
 
-/// Returns a desk's replies to the messages.
 fn replies<D: Desk>(alloc: Global, desk: &mut D, messages: &[Stamped]) -> Result<Replies, Fail>
     requires { HasRoom D.Stands desk.old 1000 }
 {
@@ -85,7 +84,6 @@ fn same_free<D: Desk, E: Desk>(one: &D, other: &E, name: &Id) -> Result<bool, Al
     Ok(one == other)
 }
 
-/// Returns whether both desks give the same views of each name.
 fn same_views<D: Desk, E: Desk>(rt: &impl Abort, one: &D, other: &E) -> Result<(), Fail> {
     let product = id("PR")?;
     assert!(rt; same_minute(one, other));
@@ -210,7 +208,6 @@ fn goes_on(
     same_views(rt, &plain.desk, &*restored)
 }
 
-/// The same after each message.
 fn each_goes_on(
     rt: &impl Abort,
     alloc: Global,
@@ -234,7 +231,6 @@ fn a_desk_made_of_the_rows_goes_on(rt: HostRuntime) -> Result<(), Fail> {
     Ok(())
 }
 
-/// Messages that define a part, and receive this number of reels of it.
 fn reels(alloc: Global, count: u32) -> Result<Vec<Stamped>, Fail> {
     let mut messages = messages(alloc, "1\tPartDefined\tP")?;
     for i in 0..count {
@@ -253,7 +249,7 @@ fn free_again(alloc: Global, messages: &[Stamped]) -> Result<usize, Fail> {
     Ok(restored.free_reels(&id("P")?)?.as_slice().len())
 }
 
-/// A large desk can be rebuilt from its rows: one of 10,000 reels, each of which may be loaded.
+/// A desk of 10,000 reels, all free to be loaded, can be rebuilt from its rows.
 #[test]
 fn ten_thousand_reels_are_restored(rt: HostRuntime) -> Result<(), Fail> {
     let messages = reels(rt.alloc(), 10_000)?;

@@ -9,7 +9,6 @@ use desk_types::{Command, Id};
 use std::alloc::AllocError;
 use std::collections::BTreeMap;
 
-/// Records a reel's slot.
 fn put(
     mounts: &mut BTreeMap<Id, (Id, Id)>,
     reel: Id,

@@ -20,7 +20,6 @@ pub fn pieces(stock: &BTreeMap<Id, u64>, reel: &Id) -> u64
     }
 }
 
-/// Takes pieces off a reel.
 fn lower(stock: &mut BTreeMap<Id, u64>, reel: &Id, n: u64)
     ensures { (r : Name) → pieces_at stock.new r ≡ pieces_at stock.old r - (if same reel.now r then n else 0) }
 {
@@ -29,7 +28,6 @@ fn lower(stock: &mut BTreeMap<Id, u64>, reel: &Id, n: u64)
     }
 }
 
-/// Takes the pieces of all takes off their reels.
 fn lower_all(stock: &mut BTreeMap<Id, u64>, takes: &[Take])
     ensures { (r : Name) → pieces_at stock.new r ≡ pieces_at stock.old r - pieces_taken takes.now r }
 {

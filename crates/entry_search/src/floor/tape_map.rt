@@ -76,7 +76,6 @@ impl Tape {
     }
 }
 
-/// Starts a slot's tape with one reel.
 fn load(
     alloc: Global,
     tapes: &mut BTreeMap<(Id, Id), Tape>,
@@ -93,7 +92,6 @@ fn load(
     Ok(())
 }
 
-/// Joins a reel to a slot's tape.
 fn splice(
     tapes: &mut BTreeMap<(Id, Id), Tape>,
     machine: Id,

@@ -98,7 +98,6 @@ pub fn viewed<S: Alter>(store: &mut LineStore<S, StateDesk>) -> Option<View>
     }
 }
 
-/// Returns the command of a stored text, in a message of minute 0, or `None` if memory is refused.
 fn message_of_text(alloc: Global, number: u32, text: &str) -> Option<Stamped> {
     let uid = format!(in alloc; "u{number}").ok()?;
     Some(Stamped {
@@ -215,7 +214,6 @@ pub fn send_over<S: Alter>(
     }
 }
 
-/// Sends commands to an existing desk.
 fn send_on<S: Alter>(rt: &impl Abort, alloc: Global, conn: Connection<S>, row: &str) -> Sent<S> {
     match LineStore::<S, StateDesk>::open(alloc, conn) {
         Ok(mut store) => {

@@ -81,12 +81,10 @@ fn new_sink(alloc: Global, most: usize, fails_at: u64, failure: Failure) -> Sink
     }
 }
 
-/// Returns the number of complete lines in the bytes.
 fn whole_lines(bytes: &[u8]) -> u64 {
     bytes.iter().filter(|it| **it == b'\n').count() as u64
 }
 
-/// Runs a case in which this read fails, if there are that many.
 fn failed_read<'a>(
     alloc: Global,
     text: &'a [u8],

@@ -2,7 +2,6 @@ use Rattle.std.proofs.Common.{◌≡◌, reverse, length}
 use Rattle.desk_types.specs.Setup.{selected_on}
 use Rattle.entry_search.proofs.setup.selected_on.Given as goal
 
--- The remaining entries give the result of all.
 abbrev pub invariant-loop-entry : goal.invariant-loop-entry
 invariant-loop-entry l = selected_on (reverse l.rest) l.machine ≡ selected_on (reverse l.entries) l.machine
 

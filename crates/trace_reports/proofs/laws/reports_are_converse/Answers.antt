@@ -19,7 +19,6 @@ on-board : ((detail : TraceDetail) (pieces : List Placement) → records default
 on-board back detail H board paper found =
     found-rows (traced.is_board H board) (board_text detail) (project (board_columns detail) board_header) (board_rows detail) (back detail) (traced.pieces_on H board) paper found
 
--- The records read from a lot's trace.
 of-lot : ((detail : TraceDetail) (pieces : List Placement) → records default_config (lot_text detail pieces) ≡ project (lot_columns detail) lot_header ∷ lot_rows detail pieces)
     → (detail : TraceDetail) (H : History) (lot : Name) (paper : List ℕ) → lot_trace detail H lot ≡ Some paper
     → rows_below paper ≡ lot_rows detail (pieces_of_lot lot (placements_of H))
