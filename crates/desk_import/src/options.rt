@@ -15,10 +15,7 @@ use std::alloc::Global;
 #[derive(Clone, Copy)]
 pub enum Content {
     /// A product's sheet on a machine.
-    Sheet {
-        product: Id,
-        machine: Id,
-    },
+    Sheet { product: Id, machine: Id },
     /// A count of reels.
     Counts,
 }
