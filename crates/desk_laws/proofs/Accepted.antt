@@ -22,7 +22,6 @@ use Rattle.desk_types.proofs.Tests.{if-some}
 
 -- ---- tests
 
--- If there is no refusal, every test is false.
 pub none-holds : (ts : List (Bool × Refusal)) → first_refusal ts ≡ None → AllByRecursion (λ (t : Bool × Refusal). t.0 ≡ false) ts
 none-holds [] none = tt
 none-holds ((true, refusal) ∷ ts) none = cc
@@ -32,7 +31,6 @@ if-none : {X : Type 0} (b : Bool) (x : X) (o : Option X) → (if b then Some x e
 if-none true x o none = cc
 if-none false x o none = (refl, none)
 
--- An accepted command passes its own tests.
 pub command-accepted : (H : History) (s : Stamped) → refusal_of Two H s ≡ None → command_refusal Two H (effective_minute H s.minute) s.command ≡ None
 unfolding refusal_of
 command-accepted H s none = (if-none (is_too_far_ahead H s) TooFarAhead _ none).1
@@ -42,7 +40,6 @@ next-accepted H e next = ap (λ m. command_refusal Two H m e.stamped.command) ne
 
 -- ---- reels
 
--- The reel was received and is not mounted.
 pub record IsAtRest (H : History) (reel : Name) : Type 0 where
   pub received : is_none (receipt_of H reel) ≡ false
   pub not_mounted : is_mounted H reel ≡ false
@@ -59,7 +56,6 @@ pub record IsMountable (H : History) (minute : ℕ) (machine slot reel : Name) (
   pub baked : is_unbaked H reel ≡ false
   pub not_expired : is_expired H reel minute ≡ false
 
--- The part is defined and the reel was not received.
 pub record IsReceivable (H : History) (reel part : Name) : Type 0 where
   pub known : not (is_part H part) ≡ false
   pub new : is_some (receipt_of H reel) ≡ false
@@ -125,7 +121,6 @@ received-too : {X : Type 0} (H : History) (r name : Name) (x y : X) → (if same
     → is_none (receipt_of H name) ≡ false
 received-too H r name x y says received = sym (ap (λ n. is_none (receipt_of H n)) (same-true r name (if-some (same r name) x y says))) ∙ received
 
--- An accepted command on a reel, other than its receipt, is on a received reel.
 pub handled-by : (H : History) (minute : ℕ) (name : Name) (command : Command) (out : Bool) → command_refusal Two H minute command ≡ None
     → receipt_by name minute command ≡ None → open_by name command ≡ Some out → is_none (receipt_of H name) ≡ false
 unfolding command_refusal
@@ -140,7 +135,6 @@ handled-by H minute name (MaterialsSpliced machine slot r) out accepted none say
     received-too H r name true out says (mountable H minute machine slot r _ accepted).received
 handled-by H minute name _ out accepted none says = cc
 
--- An entry on a reel, other than its receipt, comes after the receipt.
 pub handled-received : (H : History) (e : Entry) (name : Name) (out : Bool) → IsNext Two H e → receipt_by name e.effective e.stamped.command ≡ None
     → open_by name e.stamped.command ≡ Some out → receipt_of H name ≡ None → ⊥
 handled-received H e name out next none says unknown = cc (handled-by H e.effective name e.stamped.command out (next-accepted H e next) none says)

@@ -32,7 +32,6 @@ pub record IsTaken (H : History) (command : Command) (reel : Name) : Type 0 wher
       ≡ left_of H reel - pieces_picked (picks_of H command) reel + found_by (left_of H reel) reel command
   pub spent : left_of H reel ≡ 0 → found_by (left_of H reel) reel command ≡ 0
 
--- An accepted command that doesn't receive the reel does this.
 taken-by : (H : History) (minute : ℕ) (command : Command) (reel : Name) → IsJudged Two H → command_refusal Two H minute command ≡ None
     → receipt_by reel minute command ≡ None → IsTaken H command reel
 unfolding command_refusal
@@ -57,13 +56,11 @@ pub picks-within : (H : History) (e : Entry) (reel : Name) → IsJudged Two (e �
     → pieces_picked (picks_of H e.stamped.command) reel ≤ left_of H reel
 picks-within H e reel (next, judged) other = (taken-by H e.effective e.stamped.command reel judged (next-accepted H e next) other).within
 
--- The next entry leaves the remaining pieces, less those taken, plus those found.
 pub left-next : (H : History) (e : Entry) (reel : Name) → IsJudged Two (e ∷ H) → receipt_by reel e.effective e.stamped.command ≡ None
     → left_of (e ∷ H) reel ≡ left_of H reel - pieces_picked (picks_of H e.stamped.command) reel + found_by (left_of H reel) reel e.stamped.command
 unfolding left_of
 left-next H e reel (next, judged) other = (taken-by H e.effective e.stamped.command reel judged (next-accepted H e next) other).rest
 
--- A spent reel stays spent unless it is received.
 pub spent-next : (H : History) (e : Entry) (reel : Name) → IsJudged Two (e ∷ H) → receipt_by reel e.effective e.stamped.command ≡ None → left_of H reel ≡ 0
     → left_of (e ∷ H) reel ≡ 0
 spent-next H e reel (next, judged) other empty =
@@ -71,7 +68,6 @@ spent-next H e reel (next, judged) other empty =
     let nothing = (taken-by H e.effective e.stamped.command reel judged (next-accepted H e next) other).spent empty in
     omega (arith, is, nothing, empty)
 
--- A reel with pieces left had some before, unless it was just received.
 pub some-next : (H : History) (e : Entry) (reel : Name) → IsJudged Two (e ∷ H) → receipt_by reel e.effective e.stamped.command ≡ None
     → nat_lt 0 (left_of (e ∷ H) reel) ≡ true → nat_lt 0 (left_of H reel) ≡ true
 some-next H e reel judged other some = by (nat_lt 0 (left_of H reel)) refl
@@ -112,7 +108,6 @@ unreceived-empty (e ∷ H) reel (next, judged) none =
 
 -- ---- totals
 
--- All pieces taken from a reel.
 abbrev taken_of : History → Name → ℕ
 taken_of H reel = pieces_picked (all_picks H) reel
 

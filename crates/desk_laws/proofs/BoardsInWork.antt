@@ -55,7 +55,6 @@ completable H machine board none = by (in_work_on H machine) (not-false _ (none-
 
 -- ---- one more entry
 
--- An entry sets the board in work on a machine or leaves it.
 pub work-next : (H : History) (e : Entry) (machine : Name) → in_work_on (e ∷ H) machine ≡ unwrap_or (work_by machine e.stamped.command) (in_work_on H machine)
 work-next H e machine = by (work_by machine e.stamped.command)
   where
@@ -63,14 +62,12 @@ work-next H e machine = by (work_by machine e.stamped.command)
     by None = refl
     by (Some at) = refl
 
--- An accepted command puts a board in work on at most one machine.
 one-step : (H : History) (minute : ℕ) (m n board : Name) (command : Command) → command_refusal Two H minute command ≡ None
     → (in_work_on H m ≡ Some board → in_work_on H n ≡ Some board → m ≡ n)
     → unwrap_or (work_by m command) (in_work_on H m) ≡ Some board → unwrap_or (work_by n command) (in_work_on H n) ≡ Some board → m ≡ n
 unfolding command_refusal
 one-step H minute m n board (WorkStarted k b) accepted before on_m on_n = by (same k m) (same k n) refl refl on_m on_n
   where
-    -- The board was not in work before.
     new : (machine : Name) → b ≡ board → in_work_on H machine ≡ Some board → ⊥
     new machine one on =
         let busy = somewhere-in_work H board (machine, on) in
@@ -129,7 +126,6 @@ after-there H minute board (WorkStarted k b) accepted is = by (same b board) ref
     by true its is = (k, ap (λ s. unwrap_or (if s then Some (Some b) else None) (in_work_on H k)) (same-refl k) ∙ ap (λ x. Some x) (same-true b board its))
     by false other is = let on = in_work-somewhere H board is in (on.0, stays on.0 (same k on.0) refl on.1)
       where
-        -- The start's machine had no board in work.
         stays : (machine : Name) (s : Bool) → same k machine ≡ s → in_work_on H machine ≡ Some board → unwrap_or (if s then Some (Some b) else None) (in_work_on H machine) ≡ Some board
         stays machine true here on =
             let free = (startable H minute k b accepted).machine_free in
@@ -143,7 +139,6 @@ after-there H minute board (WorkCompleted k b) accepted is = by (same b board) r
     by true its is = cc
     by false other is = let on = in_work-somewhere H board is in (on.0, stays on.0 (same k on.0) refl on.1)
       where
-        -- The completion's machine had its board in work.
         stays : (machine : Name) (s : Bool) → same k machine ≡ s → in_work_on H machine ≡ Some board → unwrap_or (if s then Some None else None) (in_work_on H machine) ≡ Some board
         stays machine true here on =
             let both : Some b ≡ Some board = sym (completable H k b accepted) ∙ ap (in_work_on H) (same-true k machine here) ∙ on in
@@ -153,7 +148,6 @@ after-there H minute board (WorkCompleted k b) accepted is = by (same b board) r
         stays machine false elsewhere on = on
 after-there H minute board _ accepted is = in_work-somewhere H board is
 
--- One more entry changes whether a board is in work as `in_work_after` says.
 pub in_work-next : (H : History) (e : Entry) (board : Name) → IsJudged Two (e ∷ H) → is_in_work (e ∷ H) board ≡ in_work_after board e.stamped.command (is_in_work H board)
 in_work-next H e board (next, judged) =
     iff _ _

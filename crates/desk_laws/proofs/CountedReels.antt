@@ -45,7 +45,6 @@ mounted-finds-none H s reel none mounted =
 
 -- ---- counted reels
 
--- A reel counted in an earlier row appears in no later one.
 absent-rows : (H : History) (seen : List Name) (rows : List CountRow) (reel : Name) → counts_refusal Two H seen rows ≡ None → list_any (same reel) seen ≡ true
     → AllByRecursion (λ (row : CountRow). same row.reel reel ≡ false) rows
 absent-rows H seen [] reel none before = tt
@@ -89,7 +88,6 @@ found-rows : (H : History) (minute : ℕ) (command : Command) (rows : List Count
 unfolding command_refusal
 found-rows H minute command rows none is = rows-found H [] rows (sym (ap (command_refusal Two H minute) is) ∙ none)
 
--- A receipt or count leaves the pieces that it states.
 left-told : (H : History) (s : Stamped) (reel : Name) (n : ℕ) → pieces_by reel s.command ≡ Some n → left_of (accept H s) reel ≡ n
 unfolding left_of
 left-told H s reel n told = ap (λ o. unwrap_or o (left_of H reel - pieces_picked (picks_of H s.command) reel)) told

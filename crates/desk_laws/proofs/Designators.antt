@@ -66,7 +66,6 @@ unplaced-spots (p ∷ ps) (first, all) = by p.purpose first (unplaced-spots ps a
     by (Rejected machine slot) is rest = rest
     by Counted is rest = rest
 
--- An accepted command places a piece on each spot that it names.
 command-spots : (H : History) (minute : ℕ) (command : Command) → command_refusal Two H minute command ≡ None → spots (picks_of H command) ≡ spots_named command
 unfolding command_refusal
 command-spots H minute (MaterialsInstalled machine board ds) none =
@@ -75,7 +74,6 @@ command-spots H minute (MaterialsScrapped machine slot n) none = unplaced-spots 
 command-spots H minute (CountsTaken counts) none = unplaced-spots _ (unplaced-count (left_of H) counts)
 command-spots H minute _ none = refl
 
--- Searching a board's spots finds exactly its named designators.
 board-named : (board : Name) (ds : List Name) (b d : Name) → list_any (same_pair (b, d)) (map (λ (x : Name). (board, x)) ds) ≡ (same board b && list_any (same d) ds)
 board-named board [] b d = sym (and-false (same board b))
 board-named board (x ∷ xs) b d =
@@ -150,7 +148,6 @@ spots-next H e (next, judged) =
     ∙ map-append (λ (p : Placement). (p.board, p.designator)) (placements_of H) (filter_map placement_of (entry_takes H e))
     ∙ ap (λ l. spots_of (placements_of H) ++ l) (entry-spots H e 1 (picks_of H e.stamped.command) ∙ command-spots H e.effective e.stamped.command (next-accepted H e next))
 
--- A designator is placed exactly if the placements contain it.
 pub spot-placed : (H : History) (board d : Name) → IsJudged Two H → list_any (same_pair (board, d)) (spots_of (placements_of H)) ≡ is_placed_on H board d
 unfolding takes_of
 spot-placed [] board d judged = refl
@@ -161,7 +158,6 @@ spot-placed (e ∷ H) board d (next, judged) =
     ∙ ap (λ b. is_placed_on H board d || b) (named-placed e.stamped.command board d)
     ∙ or_comm (is_placed_on H board d) (places board d e.stamped.command)
 
--- No designator of a board is placed twice.
 pub designators-once : (H : History) → IsJudged Two H → IsDistinct same_pair (spots_of (placements_of H))
 unfolding takes_of IsDistinct
 designators-once [] judged = tt

@@ -31,7 +31,6 @@ exposure-within H reel minute =
     (length-range_with_len (exposure_starts H reel) (minute - exposure_starts H reel))
     (count_by-le-length (is_out_at H reel) (minutes_between (exposure_starts H reel) minute))
 
--- Exposure never falls as minutes pass.
 pub exposure-rises : (H : History) (reel : Name) (earlier later : ℕ) → earlier ≤ later → exposure_of H reel earlier ≤ exposure_of H reel later
 unfolding exposure_of
 exposure-rises H reel earlier later le = by (nat_le (exposure_starts H reel) earlier) refl
@@ -48,7 +47,6 @@ exposure-rises H reel earlier later le = by (nat_le (exposure_starts H reel) ear
 
 -- ---- later entries
 
--- Entries after a minute don't change whether the reel was out then.
 out-later : (more : List Entry) (G : History) (reel : Name) (minute bound : ℕ) → All (λ (x : Entry). bound ≤ x.effective) more → minute < bound
     → is_out_at (more ++ G) reel minute ≡ is_out_at G reel minute
 out-later [] G reel minute bound all before = refl
@@ -64,7 +62,6 @@ untouched-exposure H reel minute all = count-one (is_out_at H reel) false (expos
     inside [] t all = refl
     inside (e ∷ G) t (none, all) = is_out-untouched G e reel t none ∙ inside G t all
 
--- Later entries keep the exposure at a minute unless they change its start.
 exposure-kept : (more : List Entry) (G : History) (reel : Name) (minute : ℕ) → exposure_starts (more ++ G) reel ≡ exposure_starts G reel
     → All (λ (e : Entry). minute ≤ e.effective) more → exposure_of (more ++ G) reel minute ≡ exposure_of G reel minute
 unfolding exposure_of

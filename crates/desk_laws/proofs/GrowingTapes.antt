@@ -32,7 +32,6 @@ command-joins machine slot (MaterialsLoaded m s reel) reels other = ([], ap (λ 
 command-joins machine slot (MaterialsUnloaded m s) reels other = ([], ap (λ b. if b then [] else reels) other ∙ sym (append-nil reels))
 command-joins machine slot _ reels other = stays reels
 
--- A tape only grows until its slot is loaded or unloaded.
 pub tape-joins : (G : History) (more : List Entry) (machine slot : Name) → All (λ (e : Entry). restarts machine slot e.stamped.command ≡ false) more
     → GoesOn (tape_of (more ++ G) machine slot) (tape_of G machine slot)
 unfolding tape_of

@@ -58,7 +58,6 @@ picked-push H command before [] p all last = (subst (λ b. IsPicked H command b 
 picked-push H command before (x ∷ xs) p (first, all) last =
     (first, picked-push H command (before ++ x ∷ []) xs p all (subst (λ b. IsPicked H command b p.reel p.purpose) (sym (append_assoc before (x ∷ []) xs)) last))
 
--- Adding one designator keeps this.
 one-picked : (H : History) (machine board : Name) (all : List Name) (before : List Pick) (d : Name) → ArePicked H (MaterialsInstalled machine board all) [] before
     → ArePicked H (MaterialsInstalled machine board all) [] (before ++ option_to_list (pick_for (slot_on H machine) (tape_of H machine) (left_of H) machine board before d))
 one-picked H machine board all before d right = by (slot_on H machine d) refl

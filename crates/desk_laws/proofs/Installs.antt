@@ -71,7 +71,6 @@ module _ (slot_of : Name → Option Name) (tape : Name → List Name) (pieces : 
           ∷ (is_none (pick_for slot_of tape pieces machine board before d), ReelShort d)
           ∷ []
 
-  -- The designators of an accepted message are distinct.
   pub designators-differ : (before : List Pick) (seen ds : List Name) → designators_refusal slot_of tape pieces placed machine board before seen ds ≡ None → IsDistinct same seen
       → IsDistinct same (seen ++ ds)
   designators-differ before seen [] none distinct = subst (IsDistinct same) (sym (append-nil seen)) distinct
@@ -80,14 +79,12 @@ module _ (slot_of : Name → Option Name) (tape : Name → List Name) (pieces : 
       subst (IsDistinct same) (append_assoc seen (d ∷ []) ds)
       (designators-differ (next_picks before d) (seen ++ d ∷ []) ds both.1 (one-more seen d distinct both.0.once))
 
-  -- An accepted message names only designators that aren't placed.
   pub designators-new : (before : List Pick) (seen ds : List Name) → designators_refusal slot_of tape pieces placed machine board before seen ds ≡ None
       → AllByRecursion (λ d. placed d ≡ false) ds
   designators-new before seen [] none = tt
   designators-new before seen (d ∷ ds) none =
       let both = placeable before seen d ds none in (both.0.new, designators-new (next_picks before d) (seen ++ d ∷ []) ds both.1)
 
-  -- Each designator gets a piece.
   next-placed : (before : List Pick) (seen : List Name) (d : Name) → is_none (pick_for slot_of tape pieces machine board before d) ≡ false
       → ArePlacedFor machine board seen before → ArePlacedFor machine board (seen ++ d ∷ []) (next_picks before d)
   next-placed before seen d some all = by (slot_of d) some
@@ -117,7 +114,6 @@ module _ (slot_of : Name → Option Name) (tape : Name → List Name) (pieces : 
 
 -- ---- one command
 
--- An accepted install passes its designators' tests.
 pub installable : (H : History) (machine board : Name) (ds : List Name) → install_refusal H machine board ds ≡ None
     → designators_refusal (slot_on H machine) (tape_of H machine) (left_of H) (is_placed_on H board) machine board [] [] ds ≡ None
 unfolding install_refusal
@@ -128,7 +124,6 @@ installable H machine board ds none = by (is_in_work_on H machine board) none
     by true none = none
     by false none = cc
 
--- An accepted install picks one piece for each designator.
 pub each-placed : (H : History) (minute : ℕ) (command : Command) (machine board : Name) (ds : List Name) → command_refusal Two H minute command ≡ None
     → command ≡ MaterialsInstalled machine board ds → ArePlacedFor machine board ds (picks_of H command)
 unfolding command_refusal

@@ -19,7 +19,6 @@ pub or-none : {X : Type 0} (a b : Option X) → option_or a b ≡ None → (a �
 or-none None b none = (refl, none)
 or-none (Some x) b none = cc
 
--- No command handles a reel that was not received.
 pub untouched : (H : History) (name : Name) → IsJudged Two H → receipt_of H name ≡ None → IsUntouched H name
 untouched [] name judged none = tt
 untouched (e ∷ H) name (next, judged) none = (unhandled (open_by name e.stamped.command) refl, untouched H name judged both.1)
@@ -33,7 +32,6 @@ untouched (e ∷ H) name (next, judged) none = (unhandled (open_by name e.stampe
 
 -- ---- time
 
--- Every entry took effect by the minute.
 abbrev pub AreBy : History → ℕ → Type 0
 AreBy H minute = AllByRecursion (λ (e : Entry). e.effective ≤ minute) H
 

@@ -29,7 +29,6 @@ use Rattle.desk_laws.proofs.Places.{joined, vacant-same}
 
 -- ---- filters
 
--- Filtering twice equals filtering by the stronger test.
 filter-twice : (p q : Name → Bool) (reels : List Name) → ((r : Name) → has reels r ≡ true → p r ≡ true → q r ≡ true) → filter p (filter q reels) ≡ filter p reels
 filter-twice p q [] weaker = refl
 filter-twice p q (x ∷ xs) weaker =
@@ -54,7 +53,6 @@ find-filter p q weaker (x ∷ xs) = by (q x) (p x) refl refl (find-filter p q we
 
 -- ---- one more entry
 
--- A reel on a tape with pieces left after the next entry had some before.
 some-before : (H : History) (e : Entry) (machine slot reel : Name) → IsJudged Two (e ∷ H) → has (tape_of H machine slot) reel ≡ true
     → nat_lt 0 (left_of (e ∷ H) reel) ≡ true → nat_lt 0 (left_of H reel) ≡ true
 some-before H e machine slot reel (next, judged) there = some-next H e reel (next, judged) (by (receipt_by reel e.effective e.stamped.command) refl)
@@ -63,7 +61,6 @@ some-before H e machine slot reel (next, judged) there = some-next H e reel (nex
     by None is = is
     by (Some receipt) is = let nowhere = unreceived-nowhere H machine slot reel judged (received-once H e reel receipt next is) in cc
 
--- A reel joins the end of a non-empty tape.
 tape_with-some : (reels : List Name) (reel : Name) → is_none (first reels) ≡ false → tape_with reels reel ≡ reels ++ reel ∷ []
 tape_with-some [] reel some = cc
 tape_with-some (x ∷ xs) reel some = refl
@@ -116,7 +113,6 @@ find-live H machine slot test some = find-filter test (λ r. nat_lt 0 (left_of H
 more-some : (k n : ℕ) → nat_lt k n ≡ true → nat_lt 0 n ≡ true
 more-some k n more = let above = ltb-true k n more in lt-ltb 0 n (omega (arith, above))
 
--- A designator's pick is the same from live reels as from the tape.
 pub pick-live : (H : History) (slot_of : Name → Option Name) (machine board : Name) (before : List Pick) (d : Name)
     → pick_for slot_of (live_on H machine) (left_of H) machine board before d ≡ pick_for slot_of (tape_of H machine) (left_of H) machine board before d
 pick-live H slot_of machine board before d =
@@ -124,7 +120,6 @@ pick-live H slot_of machine board before d =
     (λ j slot. option_map (λ reel. record { reel = reel; quantity = 1; purpose = Placed board d machine slot })
     (find-live H machine slot (λ r. nat_lt (pieces_picked before r) (left_of H r)) (λ r. more-some (pieces_picked before r) (left_of H r)) j))
 
--- The same for the picks of an install after earlier ones.
 pub picks-live-after : (H : History) (slot_of : Name → Option Name) (machine board : Name) (before : List Pick) (ds : List Name)
     → install_picks slot_of (live_on H machine) (left_of H) machine board before ds ≡ install_picks slot_of (tape_of H machine) (left_of H) machine board before ds
 unfolding install_picks
@@ -137,7 +132,6 @@ pub picks-live : (H : History) (slot_of : Name → Option Name) (machine board :
     → install_picks slot_of (live_on H machine) (left_of H) machine board [] ds ≡ install_picks slot_of (tape_of H machine) (left_of H) machine board [] ds
 picks-live H slot_of machine board ds = picks-live-after H slot_of machine board [] ds
 
--- The same for the fault of a message's designators.
 pub designators-live : (H : History) (slot_of : Name → Option Name) (placed : Name → Bool) (machine board : Name) (before : List Pick) (seen ds : List Name)
     → designators_refusal slot_of (live_on H machine) (left_of H) placed machine board before seen ds
     ≡ designators_refusal slot_of (tape_of H machine) (left_of H) placed machine board before seen ds

@@ -41,7 +41,6 @@ mounted-there H reel (machine, slot, live) =
 
 -- ---- placed designators
 
--- The placement is of this designator of the board.
 abbrev pub IsOf : Name → Name → Placement → Type 0
 IsOf board designator p = (p.board ≡ board) × (p.designator ≡ designator)
 

@@ -29,7 +29,6 @@ use Rattle.desk_laws.proofs.Places.{placed, live-placed, untouched-unplaced}
 abbrev some_left : History → Name → Bool
 some_left H reel = nat_lt 0 (left_of H reel)
 
--- The reel's remaining pieces after the command.
 abbrev left_after : History → Command → Name → ℕ
 left_after H command reel = unwrap_or (pieces_by reel command) (left_of H reel - pieces_picked (picks_of H command) reel)
 
@@ -86,7 +85,6 @@ off H machine slot reel judged vacant some =
     none [] is = refl
     none (x ∷ xs) is = cc
 
--- A mounted reel with pieces left after a take stays mounted.
 less : (H : History) (reel : Name) (command : Command) → (nat_lt 0 (left_after H command reel) ≡ true → some_left H reel ≡ true)
     → (is_some (place_of H reel) && nat_lt 0 (left_after H command reel)) ≡ (is_placed_with_some H reel && nat_lt 0 (left_after H command reel))
 less H reel command had = by (nat_lt 0 (left_after H command reel)) refl
@@ -139,7 +137,6 @@ mounted-step H minute reel (MaterialsUnloaded m s) judged accepted had =
     ∙ cases (some_left H reel) (is_at m s (place_of H reel)) (place_of H reel)
     ∙ ap (λ b. is_placed_with_some H reel && not b) (sym (there (some_left H reel) refl))
   where
-    -- A reel with pieces left is live exactly at its place.
     there : (some : Bool) → some_left H reel ≡ some → has (live_on H m s) reel ≡ (some_left H reel && is_at m s (place_of H reel))
     there true some = has-live_on H m s reel ∙ ap (λ b. some_left H reel && b) (placed H m s reel judged some)
     there false none =
@@ -155,7 +152,6 @@ mounted-step H minute reel (MaterialsScrapped m s n) judged accepted had = less 
 mounted-step H minute reel (CountsTaken counts) judged accepted had = less H reel (CountsTaken counts) (had refl)
 mounted-step H minute reel _ judged accepted had = ap (λ n. is_some (place_of H reel) && nat_lt 0 n) (less-none (left_of H reel))
 
--- One more entry changes whether a reel is mounted as `mounted_after` says.
 pub mounted-next : (H : History) (e : Entry) (reel : Name) → IsJudged Two (e ∷ H)
     → is_mounted (e ∷ H) reel ≡ mounted_after (some_left (e ∷ H) reel) (λ m s. has (live_on H m s) reel) reel e.stamped.command (is_mounted H reel)
 unfolding left_of place_of

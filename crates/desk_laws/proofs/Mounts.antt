@@ -26,11 +26,9 @@ has reels reel = list_any (same reel) reels
 
 -- ---- live reels
 
--- A filter keeps exactly the reels that pass its test.
 pub has-filter : (p : Name → Bool) (reels : List Name) (reel : Name) → has (filter (λ r. p r) reels) reel ≡ (p reel && has reels reel)
 has-filter p reels reel = any-filter_same (same reel) p (p reel) (λ r is. ap p (sym (same-true reel r is))) reels
 
--- A reel is live on a slot exactly if it is on the tape and has pieces left.
 pub has-live_on : (H : History) (machine slot reel : Name) → has (live_on H machine slot) reel ≡ (nat_lt 0 (left_of H reel) && has (tape_of H machine slot) reel)
 unfolding live_on
 has-live_on H machine slot reel = has-filter (λ r. nat_lt 0 (left_of H r)) (tape_of H machine slot) reel
@@ -44,7 +42,6 @@ has-one r reel rest is = by (same reel r) (same-sym reel r) is
     by true eq is = or_left _ rest (sym eq)
     by false eq is = cc
 
--- A reel on a tape after a splice is the spliced one or an earlier one.
 has-tape_with : (reels : List Name) (r reel : Name) (rest : Bool) → has (tape_with reels r) reel ≡ true → (has reels reel ≡ true → rest ≡ true)
     → (same r reel || rest) ≡ true
 has-tape_with [] r reel rest is there = cc
@@ -54,7 +51,6 @@ has-tape_with (x ∷ xs) r reel rest is there = by (has (x ∷ xs) reel) refl (s
     by true before is = or_right _ rest (there before)
     by false before is = has-one r reel rest is
 
--- A command either puts a reel on a tape or finds it there.
 pub mounted-step : (machine slot reel : Name) (command : Command) (reels : List Name) (rest : Bool) → has (tape_after machine slot command reels) reel ≡ true
     → (has reels reel ≡ true → rest ≡ true) → (mounts machine slot reel command || rest) ≡ true
 mounted-step machine slot reel (MaterialsLoaded m s r) reels rest is there = by (same m machine && same s slot) is
@@ -86,7 +82,6 @@ not-there true true none = cc
 not-there true false none = refl
 not-there false b none = refl
 
--- A command that doesn't handle the reel mounts it nowhere.
 untouched-mounts : (machine slot reel : Name) (command : Command) → open_by reel command ≡ None → mounts machine slot reel command ≡ false
 untouched-mounts machine slot reel (MaterialsLoaded m s r) none = not-there (same m machine && same s slot) (same r reel) none
 untouched-mounts machine slot reel (MaterialsSpliced m s r) none = not-there (same m machine && same s slot) (same r reel) none
@@ -134,7 +129,6 @@ loaded-step machine slot test of_load (MaterialsUnloaded m s) reels rest some th
     by false some = some
 loaded-step machine slot test of_load _ reels rest some there = or_right _ rest (there some)
 
--- A slot with a tape was loaded by an entry that passes each test of its loads.
 pub loaded-by : (H : History) (machine slot : Name) (test : Command → Bool) → ((r : Name) → test (MaterialsLoaded machine slot r) ≡ true)
     → is_none (first (tape_of H machine slot)) ≡ false → list_any (λ (e : Entry). test e.stamped.command) H ≡ true
 unfolding tape_of

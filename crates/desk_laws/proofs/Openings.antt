@@ -31,7 +31,6 @@ opened (Some earlier) minute = refl
 resting : (H : History) (r reel : Name) → same r reel ≡ true → is_mounted H r ≡ false → is_mounted H reel ≡ true → true ≡ false
 resting H r reel here rest mounted = sym mounted ∙ ap (is_mounted H) (sym (same-true r reel here)) ∙ rest
 
--- An accepted command leaves each mounted reel out, if mounted reels were out before.
 stays-out : (H : History) (minute : ℕ) (some : Bool) (live : Name → Name → Bool) (reel : Name) (command : Command) → command_refusal Two H minute command ≡ None
     → mounted_after some live reel command (is_mounted H reel) ≡ true → (is_mounted H reel ≡ true → is_some (out_since H reel) ≡ true)
     → is_some (since_after (open_by reel command) minute (out_since H reel)) ≡ true
@@ -79,7 +78,6 @@ mounted-out (e ∷ H) reel (next, judged) mounted =
 
 -- ---- exposure of a reel that is out
 
--- A reel that is out stays out after the last entry.
 out-at : (H : History) (reel : Name) (minute : ℕ) → AreBy H minute → is_some (out_since H reel) ≡ true → is_out_at H reel minute ≡ true
 out-at [] reel minute all out = cc
 out-at (e ∷ H) reel minute (first, all) out = by (open_by reel e.stamped.command) refl out (out-at H reel minute all)
@@ -128,7 +126,6 @@ receipt_of-by (e ∷ H) reel minute receipt (first, all) is = by (receipt_by ree
         omega (arith, same-one, told-is, first)
     by None says is before = before is
 
--- Exposure starts no later than the last entry takes effect.
 pub starts-by : (H : History) (reel : Name) (minute : ℕ) → AreBy H minute → exposure_starts H reel ≤ minute
 starts-by H reel minute all = by (last_bake H reel) refl
   where
@@ -148,7 +145,6 @@ out-goes-on H reel now minute all out le =
     let rest = count-one (is_out_at H reel) true now minute (λ t low high. out-at H reel t (by-later H now t low all) out) in
     omega (arith, parts, rest)
 
--- The exposure of a mounted reel grows every minute from the desk minute on.
 pub mounted-goes-on : (H : History) (reel : Name) (minute : ℕ) → IsJudged Two H → is_mounted H reel ≡ true → now_of H ≤ minute
     → exposure_of H reel minute ≡ exposure_of H reel (now_of H) + (minute - now_of H)
 mounted-goes-on H reel minute judged mounted le = out-goes-on H reel (now_of H) minute (by-desk_minute H) (mounted-out H reel judged mounted) le

@@ -41,7 +41,6 @@ pieces_picked-off r n purpose reel = by (nat_lt 0 n) refl
     by true is = zero-add _
     by false is = let none = ltb-false 0 n is in empty (same r reel) (omega (arith, none))
 
--- A fact about a pick of n pieces holds for the list made of it.
 pub all-off : (P : Pick → Type 0) (r : Name) (n : ℕ) (purpose : Purpose) → P (record { reel = r; quantity = n; purpose = purpose }) → AllByRecursion P (pieces_off r n purpose)
 all-off P r n purpose holds = by (nat_lt 0 n)
   where
@@ -49,7 +48,6 @@ all-off P r n purpose holds = by (nat_lt 0 n)
     by true = (holds, tt)
     by false = tt
 
--- A found element passes the test.
 pub find-passes : {X : Type 0} (p : X → Bool) (xs : List X) (x : X) → find p xs ≡ Some x → p x ≡ true
 find-passes p [] x is = cc
 find-passes p (y ∷ ys) x is = by (p y) refl is (find-passes p ys x)
@@ -60,7 +58,6 @@ find-passes p (y ∷ ys) x is = by (p y) refl is (find-passes p ys x)
 
 -- ---- installs
 
--- One more pick stays within a reel that has a piece left.
 one-within : (pieces : Name → ℕ) (purpose : Purpose) (before : List Pick) (reel : Name) (found : Option Name)
     → ((r : Name) → found ≡ Some r → nat_lt (pieces_picked before r) (pieces r) ≡ true) → pieces_picked before reel ≤ pieces reel
     → pieces_picked (before ++ option_to_list (option_map (λ r. record { reel = r; quantity = 1; purpose = purpose }) found)) reel ≤ pieces reel
@@ -86,7 +83,6 @@ picks-one slot_of tape pieces machine board before d reel within = by (slot_of d
         one-within pieces (Placed board d machine s) before reel (find (λ r. nat_lt (pieces_picked before r) (pieces r)) (tape s))
         (λ r found. find-passes (λ x. nat_lt (pieces_picked before x) (pieces x)) (tape s) r found) within
 
--- The picks of an install take at most the pieces of each reel, if earlier picks do.
 pub install-within : (slot_of : Name → Option Name) (tape : Name → List Name) (pieces : Name → ℕ) (machine board : Name) (before : List Pick) (ds : List Name) (reel : Name)
     → pieces_picked before reel ≤ pieces reel → pieces_picked (install_picks slot_of tape pieces machine board before ds) reel ≤ pieces reel
 unfolding install_picks
@@ -97,7 +93,6 @@ install-within slot_of tape pieces machine board before (d ∷ ds) reel within =
 
 -- ---- scraps
 
--- A scrap takes nothing from a reel that is not on the tape.
 scrap-absent : (pieces : Name → ℕ) (purpose : Purpose) (reels : List Name) (n : ℕ) (reel : Name) → AllByRecursion (λ y. same reel y ≡ false) reels
     → pieces_picked (scrap_picks pieces purpose reels n) reel ≡ 0
 scrap-absent pieces purpose [] n reel absent = refl
@@ -108,7 +103,6 @@ scrap-absent pieces purpose (r ∷ rs) n reel (differs, absent) =
     ∙ zero-add (pieces_picked (scrap_picks pieces purpose rs (n - pieces r)) reel)
     ∙ scrap-absent pieces purpose rs (n - pieces r) reel absent
 
--- The picks of a scrap take at most the pieces of a reel that is on the tape only once.
 pub scrap-within : (pieces : Name → ℕ) (purpose : Purpose) (reels : List Name) (n : ℕ) (reel : Name) → IsDistinct same reels
     → pieces_picked (scrap_picks pieces purpose reels n) reel ≤ pieces reel
 scrap-within pieces purpose [] n reel distinct = omega arith
@@ -138,7 +132,6 @@ pub record IsCountable (H : History) (seen : List Name) (row : CountRow) : Type 
   pub not_mounted : is_mounted H row.reel ≡ false
   pub spent : ((left_of H row.reel == 0) && nat_lt 0 row.quantity) ≡ false
 
--- Each row of an accepted count passes its tests.
 pub countable : (H : History) (seen : List Name) (row : CountRow) (rows : List CountRow) → counts_refusal Two H seen (row ∷ rows) ≡ None
     → IsCountable H seen row × (counts_refusal Two H (seen ++ row.reel ∷ []) rows ≡ None)
 countable H seen row rows none =
@@ -154,7 +147,6 @@ countable H seen row rows none =
         ∷ ((left_of H row.reel == 0) && nat_lt 0 row.quantity, CountAbove row.reel)
         ∷ []
 
--- No later row takes from a reel that was already counted.
 pub count-absent : (H : History) (pieces : Name → ℕ) (seen : List Name) (rows : List CountRow) (reel : Name) → counts_refusal Two H seen rows ≡ None
     → list_any (same reel) seen ≡ true → pieces_picked (count_picks pieces rows) reel ≡ 0
 count-absent H pieces seen [] reel none before = refl
@@ -181,7 +173,6 @@ pub record IsCounted (H : History) (rows : List CountRow) (reel : Name) : Type 0
 pub and-nothing : (n : ℕ) → n ≡ n + 0
 and-nothing n = omega arith
 
--- A count of a spent reel that isn't too high is 0.
 pub spent-none : (left counted : ℕ) → ((left == 0) && nat_lt 0 counted) ≡ false → left ≡ 0 → counted ≡ 0
 spent-none left counted test none = let few = ltb-false 0 counted (sym (ap (λ n. (n == 0) && nat_lt 0 counted) none) ∙ test) in omega (arith, few)
 
@@ -196,7 +187,6 @@ counted H seen (row ∷ rows) reel none = by (same row.reel reel) refl (both ∙
     whole : ℕ
     whole = pieces_picked (count_picks (left_of H) (row ∷ rows)) reel
 
-    -- The reel's later row, and the pieces that a row finds.
     later : Option CountRow
     later = find (λ r. same r.reel reel) rows
 

@@ -60,7 +60,6 @@ pick-alone H slot_of machine board before d judged = by (slot_of d)
         found slot (find (λ r. nat_lt (pieces_picked before r) (left_of H r)) (live_on H machine slot))
         (λ r is. find-there (λ x. nat_lt (pieces_picked before x) (left_of H x)) (live_on H machine slot) r is)
 
--- The same for several designators.
 install-alone : (H : History) (slot_of : Name → Option Name) (machine board : Name) (before : List Pick) (ds : List Name) → IsJudged Two H
     → AllByRecursion (IsOnItsSlot (live_on H)) before → AllByRecursion (IsOnItsSlot (live_on H)) (install_picks slot_of (live_on H machine) (left_of H) machine board before ds)
 unfolding install_picks

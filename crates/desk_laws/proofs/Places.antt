@@ -31,7 +31,6 @@ pub vacant-same : (H : History) (machine slot m s : Name) → (same m machine &&
 vacant-same H machine slot m s here =
     ap (λ x. is_vacant H x s) (same-true m machine (and_parts _ _ here).0) ∙ ap (λ x. is_vacant H machine x) (same-true s slot (and_parts _ _ here).1)
 
--- A reel can be joined to the tape of a slot that isn't vacant.
 pub joined : (H : History) (machine slot r : Name) → is_vacant H machine slot ≡ false → tape_with (tape_of H machine slot) r ≡ tape_of H machine slot ++ r ∷ []
 unfolding live_on
 joined H machine slot r some = by (tape_of H machine slot) some
@@ -67,7 +66,6 @@ untouched-unplaced (e ∷ H) reel (none, all) = ap (place_after reel e.stamped.c
 
 -- ---- reels with pieces left
 
--- An accepted command keeps a reel with pieces left only at its place.
 on-step : (H : History) (minute : ℕ) (machine slot reel : Name) (command : Command) → IsJudged Two H → command_refusal Two H minute command ≡ None
     → (receipt_by reel minute command ≡ None → nat_lt 0 (left_of H reel) ≡ true)
     → (nat_lt 0 (left_of H reel) ≡ true → IsOn machine slot reel (tape_of H machine slot) (place_of H reel))
@@ -99,7 +97,6 @@ on-step H minute machine slot reel (MaterialsUnloaded m s) judged accepted had o
     on-unload machine slot reel m s (tape_of H machine slot) (place_of H reel) (on (had refl))
 on-step H minute machine slot reel _ judged accepted had on = on (had refl)
 
--- A reel with pieces left is on the tape of a slot exactly if that is its place.
 pub placed : (H : History) (machine slot reel : Name) → IsJudged Two H → nat_lt 0 (left_of H reel) ≡ true → has (tape_of H machine slot) reel ≡ is_at machine slot (place_of H reel)
 unfolding tape_of place_of left_of
 placed [] machine slot reel judged some = cc

@@ -10,12 +10,10 @@ use Rattle.desk_types.specs.History.{History, IsPrefix}
 use Rattle.desk_types.specs.Outcome.{reply_to, after_command, replies_to, after_commands}
 use Rattle.desk_types.specs.Placements.{EntryTake, entry_takes, takes_of, placement_of, placements_of}
 
--- The second part of a run is answered from the history that the first part leaves.
 pub replies-append : (rules : Rules) (H : History) (first second : List Stamped) → replies_to rules H (first ++ second) ≡ replies_to rules H first ++ replies_to rules (after_commands rules H first) second
 replies-append rules H [] second = refl
 replies-append rules H (s ∷ ss) second = ap (λ replies. reply_to rules H s ∷ replies) (replies-append rules (after_command rules H s) ss second)
 
--- The history after both parts is that after the second, started from the first.
 pub after-append : (rules : Rules) (H : History) (first second : List Stamped) → after_commands rules H (first ++ second) ≡ after_commands rules (after_commands rules H first) second
 after-append rules H [] second = refl
 after-append rules H (s ∷ ss) second = after-append rules (after_command rules H s) ss second

@@ -31,7 +31,6 @@ counted-range reel (r ∷ rows) row ranges is = by (same r.reel reel) is (counte
         omega (arith, it, (All-head IsCountRow r rows ranges).quantity)
     by false is rest = rest is
 
--- A receipt or count states at most the greatest quantity.
 pub told-range : (reel : Name) (command : Command) (pieces : ℕ) → IsCommand command → pieces_by reel command ≡ Some pieces → pieces ≤ GREATEST_QUANTITY
 told-range reel (ReelReceived r part lot moisture quantity) pieces range is = by (same r reel) is
   where
@@ -46,7 +45,6 @@ told-range reel (CountsTaken counts) pieces range is = by (find (λ (row : Count
     by None few is = cc
 told-range reel _ pieces range is = cc
 
--- A count finds at most the greatest quantity.
 found_by-range : (left : ℕ) (reel : Name) (command : Command) → IsCommand command → found_by left reel command ≤ GREATEST_QUANTITY
 found_by-range left reel (CountsTaken counts) range = by (find (λ (row : CountRow). same row.reel reel) counts) (counted-range reel counts)
   where
@@ -58,7 +56,6 @@ found_by-range left reel _ range = omega arith
 
 -- ---- histories
 
--- A reel has at most the greatest quantity left.
 pub left-range : (H : History) (reel : Name) → IsJudged Two H → left_of H reel ≤ GREATEST_QUANTITY
 unfolding left_of
 left-range [] reel judged = omega arith
@@ -69,7 +66,6 @@ left-range (e ∷ H) reel (next, judged) = by (pieces_by reel e.stamped.command)
     by (Some pieces) is before = told-range reel e.stamped.command pieces next.in_range.stamped.command is
     by None is before = omega (arith, before)
 
--- Each entry finds at most the greatest quantity.
 pub found-range : (H : History) (reel : Name) → IsJudged Two H → found_of H reel ≤ GREATEST_QUANTITY * length H
 unfolding found_of
 found-range [] reel judged = omega arith
@@ -96,6 +92,5 @@ receipt-range (e ∷ H) reel (next, judged) = by (receipt_by reel e.effective e.
     by (Some receipt) is before = of e.stamped.command e.effective receipt next.in_range.stamped.command is
     by None is before = before
 
--- A reel's received pieces are within the greatest quantity for its receipt and each entry.
 pub received-range : (H : History) (reel : Name) → IsJudged Two H → received_of H reel ≤ GREATEST_QUANTITY * length H + GREATEST_QUANTITY
 received-range H reel judged = let first = receipt-range H reel judged in let more = found-range H reel judged in omega (arith, first, more)

@@ -23,7 +23,6 @@ use Rattle.desk_laws.proofs.Judgements.{or-none}
 
 -- ---- found pieces
 
--- An accepted row of a count is at most the remaining pieces.
 row-within : (H : History) (seen : List Name) (row : CountRow) → count_refusal One H seen row ≡ None → nat_lt (left_of H row.reel) row.quantity ≡ false
 row-within H seen row none = (none-holds tests none).1.1.1.0
   where
@@ -83,7 +82,6 @@ unfolding command_refusal
 commands-agree H minute (CountsTaken counts) other = absurd (other counts refl)
 commands-agree H minute _ other = refl
 
--- Both sets of rules refuse all commands except counts alike.
 pub refusals-agree : (H : History) (s : Stamped) → ((counts : List CountRow) → s.command ≢ CountsTaken counts) → refusal_of One H s ≡ refusal_of Two H s
 unfolding refusal_of
 refusals-agree H s other = ap (λ refusal. if is_too_far_ahead H s then Some TooFarAhead else refusal) (commands-agree H (effective_minute H s.minute) s.command other)

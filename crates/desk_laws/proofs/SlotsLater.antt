@@ -10,7 +10,6 @@ use Rattle.desk_types.proofs.Keys.{same-sym, same-true}
 use Rattle.desk_laws.specs.Place.{is_at}
 use Rattle.desk_laws.proofs.Mounts.{has}
 
--- After its slot is cleared, no reel has its place there.
 cleared : (machine slot : Name) (place : Option (Name × Name)) → is_at machine slot (if is_at machine slot place then None else place) ≡ false
 cleared machine slot None = refl
 cleared machine slot (Some q) = by (same q.0 machine && same q.1 slot) refl
@@ -19,7 +18,6 @@ cleared machine slot (Some q) = by (same q.0 machine && same q.1 slot) refl
     by true here = refl
     by false here = here
 
--- Clearing another slot keeps a place.
 uncleared : (machine slot m s : Name) (place : Option (Name × Name)) → (same m machine && same s slot) ≡ false
     → is_at machine slot (if is_at m s place then None else place) ≡ is_at machine slot place
 uncleared machine slot m s None other = refl

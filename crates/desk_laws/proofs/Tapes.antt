@@ -32,7 +32,6 @@ unmounted-nowhere H machine slot reel rests some = by (has (tape_of H machine sl
     by false off = off
     by true on = let mounted = live-mounted H machine slot reel (has-live_on H machine slot reel ∙ ap (λ b. b && has (tape_of H machine slot) reel) some ∙ on) in cc
 
--- Adding a new name keeps a list without duplicates.
 pub one-more : (names : List Name) (name : Name) → IsDistinct same names → has names name ≡ false → IsDistinct same (names ++ name ∷ [])
 unfolding IsDistinct
 one-more names name distinct away = distinct-join same same-sym names (name ∷ []) distinct (tt, tt) (away, tt)
@@ -41,7 +40,6 @@ tape_with-distinct : (reels : List Name) (reel : Name) → IsDistinct same reels
 tape_with-distinct [] reel distinct away = distinct
 tape_with-distinct (x ∷ xs) reel distinct away = one-more (x ∷ xs) reel distinct away
 
--- An accepted command keeps a tape without duplicates.
 distinct-step : (H : History) (minute : ℕ) (machine slot : Name) (command : Command) → command_refusal Two H minute command ≡ None
     → IsDistinct same (tape_of H machine slot) → IsDistinct same (tape_after machine slot command (tape_of H machine slot))
 unfolding command_refusal IsDistinct

@@ -16,7 +16,6 @@ pub pieces_picked-split : (picks : List Pick) (reel : Name)
 pieces_picked-split picks reel =
     sym (sum_by-filter_both (λ (p : Pick). is_placed p.purpose) (λ (p : Pick). not (is_placed p.purpose)) (λ p. refl) (λ (p : Pick). if same p.reel reel then p.quantity else 0) picks)
 
--- Filtered pieces of concatenated picks add up.
 pub pieces_picked-filter : (test : Pick → Bool) (before after : List Pick) (reel : Name)
     → pieces_picked (filter test (before ++ after)) reel ≡ pieces_picked (filter test before) reel + pieces_picked (filter test after) reel
 pieces_picked-filter test before after reel =

@@ -63,12 +63,10 @@ verified-by H minute machine slot reel (MaterialsSpliced m s r) none is =
     verified-same H minute machine slot reel m s r is (verified-mountable H minute m s r _ (mountable H minute m s r _ none))
 verified-by H minute machine slot reel _ none is = cc
 
--- An accepted load or splice verified its reel for the slot.
 pub mount-verified : (H : History) (e : Entry) (machine slot reel : Name) → IsNext Two H e → mounts machine slot reel e.stamped.command ≡ true
     → IsVerified H e.effective machine slot reel
 mount-verified H e machine slot reel next is = verified-by H e.effective machine slot reel e.stamped.command (next-accepted H e next) is
 
--- A reel was not expired when it was loaded or spliced.
 pub mounted-not_expired : (G H : History) (e : Entry) (machine slot reel : Name) → IsPrefix (e ∷ G) H → IsJudged Two H → mounts machine slot reel e.stamped.command ≡ true
     → is_expired G reel e.effective ≡ false
 mounted-not_expired G H e machine slot reel before judged is =

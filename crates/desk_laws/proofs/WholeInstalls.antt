@@ -50,7 +50,6 @@ spots-placed H e machine board place (d ∷ ds) (p ∷ ps) ((slot, is), all) =
 spots-placed H e machine board place [] (p ∷ ps) all = absurd all
 spots-placed H e machine board place (d ∷ ds) [] all = absurd all
 
--- An accepted install places one piece for each designator, in message order.
 pub install-whole : (H : History) (s : Stamped) (machine board : Name) (ds : List Name) → refusal_of Two H s ≡ None → s.command ≡ MaterialsInstalled machine board ds
     → (more : List Placement) × (placements_of (accept H s) ≡ placements_of H ++ more) × (map spot_of more ≡ spots_named machine board ds)
 unfolding takes_of
@@ -96,7 +95,6 @@ install-told H s machine board ds more minute none is placed =
 
 -- ---- scraps
 
--- A scrap takes nothing from spent reels.
 scrap-filter : (pieces : Name → ℕ) (purpose : Purpose) (reels : List Name) (n : ℕ)
     → scrap_picks pieces purpose (filter (λ r. nat_lt 0 (pieces r)) reels) n ≡ scrap_picks pieces purpose reels n
 scrap-filter pieces purpose [] n = refl
@@ -114,7 +112,6 @@ scrap-filter pieces purpose (r ∷ rs) n = by (nat_lt 0 (pieces r)) refl (scrap-
     by true some rest = ap (λ l. pieces_off r (min n (pieces r)) purpose ++ l) (rest (n - pieces r))
     by false none rest = rest n ∙ empty (pieces r) (let few = ltb-false 0 (pieces r) none in omega (arith, few))
 
--- A scrap takes the same from the live reels as from the tape.
 scrap-live : (H : History) (purpose : Purpose) (machine slot : Name) (n : ℕ)
     → scrap_picks (left_of H) purpose (live_on H machine slot) n ≡ scrap_picks (left_of H) purpose (tape_of H machine slot) n
 unfolding live_on
@@ -127,7 +124,6 @@ pieces-off r n purpose = by (nat_lt 0 n) refl
     by true is = zero-add n
     by false is = let none = ltb-false 0 n is in omega (arith, none)
 
--- A scrap takes the pieces asked for, as far as there are any.
 scrap-takes : (pieces : Name → ℕ) (purpose : Purpose) (reels : List Name) (n : ℕ) → pieces_of (scrap_picks pieces purpose reels n) ≡ min n (sum_by pieces reels)
 scrap-takes pieces purpose [] n = omega arith
 scrap-takes pieces purpose (r ∷ rs) n =
@@ -137,7 +133,6 @@ scrap-takes pieces purpose (r ∷ rs) n =
     let whole : sum_by pieces (r ∷ rs) ≡ 0 + pieces r + sum_by pieces rs = sum_by-append pieces (r ∷ []) rs in
     omega (arith, both, first, rest, whole)
 
--- An accepted scrap finds all its pieces.
 scrap-has : (H : History) (machine slot : Name) (n : ℕ) → scrap_refusal H machine slot n ≡ None → n ≤ sum_by (left_of H) (live_on H machine slot)
 unfolding scrap_refusal
 scrap-has H machine slot n none = ltb-false _ _ (none-holds tests none).1.0
@@ -154,7 +149,6 @@ scrap-exact H minute machine slot n none =
     let enough = scrap-has H machine slot n none in
     sym live ∙ all ∙ omega (arith, enough)
 
--- An accepted scrap takes exactly its quantity.
 pub scrap-whole : (H : History) (s : Stamped) (machine slot : Name) (n : ℕ) → refusal_of Two H s ≡ None → s.command ≡ MaterialsScrapped machine slot n
     → pieces_of (picks_of H s.command) ≡ n
 scrap-whole H s machine slot n none is =

@@ -19,7 +19,6 @@ use Rattle.desk_types.specs.Pieces.{left_of, is_mounted}
 use Rattle.desk_types.specs.Judged.{IsJudged}
 use Rattle.desk_types.specs.Refusals.{first_refusal, is_above, is_too_far_ahead, count_refusal, counts_refusal, command_refusal, refusal_of}
 
--- A count that rules One accept is not too high by rules Two.
 above-by-two : (left counted : ℕ) → nat_lt left counted ≡ false → is_above Two left counted ≡ false
 above-by-two left counted low = by (left == 0) refl
   where
@@ -27,7 +26,6 @@ above-by-two left counted low = by (left == 0) refl
     by false is = refl
     by true is = ap (λ n. nat_lt n counted) (sym (eqb-true left 0 is)) ∙ low
 
--- Tests still pass after their last one is replaced by one that refuses less often.
 last-test : (ts : List (Bool × Refusal)) (a b : Bool) (r : Refusal) → (a ≡ false → b ≡ false) → first_refusal (ts ++ (a, r) ∷ []) ≡ None
     → first_refusal (ts ++ (b, r) ∷ []) ≡ None
 last-test [] true b r less none = cc

@@ -30,7 +30,6 @@ pub a_count_rises_by_rules_two : replies_to Two [] counts ≡
 unfolding refusal_of command_refusal part_refusal definition_refusal sheet_refusal selection_refusal receipt_refusal tape_of left_of live_on
 a_count_rises_by_rules_two = refl
 
--- Under rules One no count exceeds the remaining pieces.
 pub no_count_rises_by_rules_one : replies_to One [] counts ≡
     base_replies ++ Accepted Plain ∷ Refused (CountAbove K1) ∷ Refused (CountAbove K1) ∷ Accepted (Taken 10) ∷ Refused (CountAbove K1) ∷ []
 unfolding refusal_of command_refusal part_refusal definition_refusal sheet_refusal selection_refusal receipt_refusal tape_of left_of live_on
@@ -50,7 +49,6 @@ pub found_pieces_count_as_received :
 unfolding refusal_of command_refusal part_refusal definition_refusal sheet_refusal selection_refusal receipt_refusal tape_of left_of live_on all_picks found_of
 found_pieces_count_as_received = (refl, refl, refl, refl)
 
--- Both sets of rules refuse to count a mounted reel.
 pub a_mounted_reel_is_not_counted : replies_to Two [] (base ++ said (
     received K1 P L1 10
     ∷ MaterialsLoaded M S1 K1

@@ -27,11 +27,9 @@ then-Equal Less = refl
 then-Equal Equal = refl
 then-Equal Greater = refl
 
--- One more base-256 digit matters only between equal numbers.
 one-more : (m n x y : ℕ) → x < 256 → y < 256 → nat_cmp (m * 256 + x) (n * 256 + y) ≡ ordering_then (nat_cmp m n) (nat_cmp x y)
 one-more m n x y p q = grind (arith, nat_tests)
 
--- Numbers with the same count of digits compare by their prefixes, then by the digits.
 spelt : (m n : ℕ) (xs ys : List ℕ) → length xs ≡ length ys → Bytes xs → Bytes ys
     → nat_cmp (big_endian m xs) (big_endian n ys) ≡ ordering_then (nat_cmp m n) (by_bytes xs ys)
 spelt m n [] [] e f g = then-Equal _
@@ -42,7 +40,6 @@ spelt m n (x ∷ xs) (y ∷ ys) e f g =
     ∙ ap (λ o. ordering_then o (by_bytes xs ys)) (one-more m n x y (f 0) (g 0))
     ∙ then-then (nat_cmp m n) (nat_cmp x y) (by_bytes xs ys)
 
--- Lists compare by their first parts, then by the rest.
 parted : (n : ℕ) (xs ys : List ℕ) → n ≤ length xs → n ≤ length ys
     → by_bytes xs ys ≡ ordering_then (by_bytes (take n xs) (take n ys)) (by_bytes (drop n xs) (drop n ys))
 parted zero xs ys p q = refl
@@ -64,7 +61,6 @@ same : (x : ℕ) → nat_cmp x x ≡ Equal
 same x = tied_itself nat_cmp_total x
 
 module _ (at : ℕ) (xs ys : List ℕ) (p : at + 8 ≤ length xs) (q : at + 8 ≤ length ys) (f : Bytes xs) (g : Bytes ys) where
-  -- The rest of both lists compares by its first words, then by the bytes after them.
   step : by_bytes (drop at xs) (drop at ys) ≡ ordering_then (nat_cmp (word_at xs at) (word_at ys at)) (by_bytes (drop (at + 8) xs) (drop (at + 8) ys))
   step =
       let k = length-drop at xs in
@@ -75,11 +71,9 @@ module _ (at : ℕ) (xs ys : List ℕ) (p : at + 8 ≤ length xs) (q : at + 8 �
       ∙ ap (λ o. ordering_then o (by_bytes (drop 8 (drop at xs)) (drop 8 (drop at ys)))) (sym (spelt 0 0 (take 8 (drop at xs)) (take 8 (drop at ys)) (omega (arith, k, l, m, n, p, q)) (small at xs f) (small at ys g)))
       ∙ (λ i. ordering_then (nat_cmp (word_at xs at) (word_at ys at)) (by_bytes (drop-drop 8 at xs i) (drop-drop 8 at ys i)))
 
-  -- Different words decide the order.
   pub apart : (x y : ℕ) → x ≡ word_at xs at → y ≡ word_at ys at → (x ≢ y) → by_bytes xs ys ≡ by_bytes (drop at xs) (drop at ys) → nat_cmp x y ≡ by_bytes xs ys
   apart x y a b n rest = sym (rest ∙ step ∙ (λ i. ordering_then (nat_cmp (sym a i) (sym b i)) (by_bytes (drop (at + 8) xs) (drop (at + 8) ys))) ∙ unlike x y _ n)
 
-  -- Equal words leave the order to the bytes after them.
   pub alike : (x y : ℕ) → x ≡ word_at xs at → y ≡ word_at ys at → x ≡ y → by_bytes xs ys ≡ by_bytes (drop at xs) (drop at ys)
       → by_bytes xs ys ≡ by_bytes (drop (at + 8) xs) (drop (at + 8) ys)
   alike x y a b e rest =
@@ -92,7 +86,6 @@ before y p = grind (arith, nat_tests)
 behind : (x : ℕ) → 0 < x → nat_cmp x 0 ≡ Greater
 behind x p = grind (arith, nat_tests)
 
--- Padding with zeros keeps the order of names without zeros.
 pub padding : (i j : ℕ) (u v : List ℕ) → length u + i ≡ length v + j → All (λ b. 0 < b) u → All (λ b. 0 < b) v
     → by_bytes u v ≡ by_bytes (u ++ replicate i 0) (v ++ replicate j 0)
 padding i j [] [] e f g =

@@ -19,13 +19,11 @@ by-then a b le = grind (arith, nat_tests)
 not-yet : (a b : ℕ) → b < a → nat_le a b ≡ false
 not-yet a b lt = grind (arith, nat_tests)
 
--- The entry changes nothing before it takes effect.
 pub is_out-before : (H : History) (e : Entry) (name : Name) (minute : ℕ) → minute < e.effective → is_out_at (e ∷ H) name minute ≡ is_out_at H name minute
 unfolding is_out_at
 is_out-before H e name minute lt =
     ap (λ b. unwrap_or (option_or (if b then open_by name e.stamped.command else None) (said_at H name minute)) false) (not-yet e.effective minute lt)
 
--- Once in effect, the entry decides whether the reel is out.
 pub is_out-after : (H : History) (e : Entry) (name : Name) (out : Bool) (minute : ℕ) → open_by name e.stamped.command ≡ Some out → e.effective ≤ minute
     → is_out_at (e ∷ H) name minute ≡ out
 unfolding is_out_at
@@ -33,7 +31,6 @@ is_out-after H e name out minute says le =
     ap (λ b. unwrap_or (option_or (if b then open_by name e.stamped.command else None) (said_at H name minute)) false) (by-then e.effective minute le)
     ∙ ap (λ o. unwrap_or (option_or o (said_at H name minute)) false) says
 
--- An entry that is no command on the reel changes nothing.
 pub is_out-untouched : (H : History) (e : Entry) (name : Name) (minute : ℕ) → open_by name e.stamped.command ≡ None
     → is_out_at (e ∷ H) name minute ≡ is_out_at H name minute
 unfolding is_out_at
@@ -43,7 +40,6 @@ is_out-untouched H e name minute none = by (nat_le e.effective minute)
     by true = ap (λ o. unwrap_or (option_or o (said_at H name minute)) false) none
     by false = refl
 
--- The exposure stays the same up to the entry's minute.
 pub exposure-before : (H : History) (e : Entry) (name : Name) → exposure_starts (e ∷ H) name ≡ exposure_starts H name
     → (minute : ℕ) → minute ≤ e.effective → exposure_of (e ∷ H) name minute ≡ exposure_of H name minute
 unfolding exposure_of
@@ -67,7 +63,6 @@ exposure-after H e name out says starts low minute le =
     p : ℕ → Bool
     p = is_out_at (e ∷ H) name
 
--- The exposure stays 0 after an entry that restarts it and leaves the reel in its bag.
 pub exposure-anew : (H : History) (e : Entry) (name : Name) → open_by name e.stamped.command ≡ Some false → exposure_starts (e ∷ H) name ≡ e.effective
     → (minute : ℕ) → exposure_of (e ∷ H) name minute ≡ 0
 unfolding exposure_of

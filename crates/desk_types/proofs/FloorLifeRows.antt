@@ -38,13 +38,11 @@ opened_and_loaded_at minute = base
     ∷ at minute (MaterialsLoaded M S1 K1)
     ∷ []
 
--- The load is refused at the minute when floor life ends.
 pub expired_at_the_very_minute : replies_to Two [] (opened_and_loaded_at 10080) ≡
     base_replies ++ Accepted Plain ∷ Accepted Plain ∷ Refused (Expired K1) ∷ []
 unfolding refusal_of command_refusal part_refusal definition_refusal sheet_refusal selection_refusal receipt_refusal opening_refusal mounting_refusal tape_of left_of live_on is_out_at exposure_of
 expired_at_the_very_minute = refl
 
--- One minute earlier, another desk accepts the same load.
 pub one_minute_is_left_before : replies_to Two [] (opened_and_loaded_at 10079) ≡
     base_replies ++ Accepted Plain ∷ Accepted Plain ∷ Accepted (MinutesLeft (Some 1)) ∷ []
 unfolding refusal_of command_refusal part_refusal definition_refusal sheet_refusal selection_refusal receipt_refusal opening_refusal mounting_refusal tape_of left_of live_on is_out_at exposure_of
@@ -87,7 +85,6 @@ pub sealed_minutes_do_not_count : replies_to Two [] (base
 unfolding refusal_of command_refusal part_refusal definition_refusal sheet_refusal selection_refusal receipt_refusal opening_refusal closing_refusal mounting_refusal tape_of left_of live_on is_out_at exposure_of
 sealed_minutes_do_not_count = refl
 
--- A reel opened and sealed within one minute loses no floor life.
 pub opening_and_sealing_in_one_minute_counts_none : replies_to Two [] (base
     ++ at 0 (received_at FiveA K1 10)
     ∷ at 50 (ReelOpened K1)

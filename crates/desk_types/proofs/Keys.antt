@@ -21,7 +21,6 @@ same-sym a b = (partial_equiv_from_equiv nat_list_eq_equiv).symm a b
 pub same-true : (a b : Name) → same a b ≡ true → a ≡ b
 same-true a b = (bytes_decides a b).0
 
--- A lookup finds exactly the same key.
 pub is_at-by_name : (k q : Name) → is_at (by_name k) q ≡ same k q
 is_at-by_name k q = sym (texts_ties k q)
 
@@ -36,7 +35,6 @@ is_at-by_pair k q =
     ∙ ap (λ t. t && is_eq (by_name k.1 q.1)) (is_at-by_name k.0 q.0)
     ∙ ap (λ t. same k.0 q.0 && t) (is_at-by_name k.1 q.1)
 
--- Equal tests accept the same lists.
 pub list_any-same : {X : Type 0} (s t : X → Bool) → ((x : X) → s x ≡ t x) → (xs : List X) → list_any s xs ≡ list_any t xs
 list_any-same s t agree xs = ap (λ test. list_any test xs) (λ j x. agree x j)
 
@@ -69,7 +67,6 @@ pub pair-written : {V X : Type 0} (old new : Name × Name → Option V) (k : Nam
     → ((q : Name × Name) → new q ≡ cond (is_at (by_pair k) q) w (old q)) → (a b : Name) → read (new (a, b)) ≡ cond (same_pair k (a, b)) (read w) (read (old (a, b)))
 pair-written old new k w read after a b = ap read (after (a, b)) ∙ cond-of read _ _ _ ∙ ap (λ t. cond t (read w) (read (old (a, b)))) (is_at-by_pair k (a, b))
 
--- Writing the stepped value equals applying the step to the old one.
 pub name-changed : {X : Type 0} (x y : X) (old : Name → X) (step : X → X) (k : Name) → old k ≡ x → step x ≡ y → (q : Name)
     → cond (same k q) y (old q) ≡ cond (same k q) (step (old q)) (old q)
 name-changed x y old step k was is q = by (same k q) refl

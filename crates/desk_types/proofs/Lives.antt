@@ -5,7 +5,6 @@ use Rattle.desk_types.specs.declared.view.Left.TheVariants.{Minutes, Unlimited, 
 use Rattle.desk_types.specs.contracts.view.LeftOrd.TheImpl.{ghosts}
 use Rattle.desk_types.specs.Free.{by_left}
 
--- The code's order equals the definition's.
 left-cmp : (a b : Left) → ghosts.cmp a b ≡ by_left a b
 left-cmp (Minutes a) (Minutes b) = refl
 left-cmp (Minutes a) Unlimited = refl

@@ -30,7 +30,6 @@ abbrev spliced_board_replies : List Reply
 spliced_board_replies = base_replies ++ Accepted Plain ∷ Accepted Plain ∷ Accepted (MinutesLeft None) ∷ Accepted (MinutesLeft None) ∷ Accepted Plain
     ∷ Accepted (Reels (K1 ∷ K1 ∷ K2 ∷ K2 ∷ K2 ∷ [])) ∷ []
 
--- During a board, each piece comes off the reel that is at the front for that piece.
 pub a_splice_in_mid_board : replies_to Two [] spliced_board ≡ spliced_board_replies
 unfolding refusal_of command_refusal part_refusal definition_refusal sheet_refusal selection_refusal receipt_refusal mounting_refusal tape_of left_of live_on start_refusal install_refusal install_picks
 a_splice_in_mid_board = refl
@@ -114,7 +113,6 @@ pub a_refused_count_takes_nothing :
 unfolding refusal_of command_refusal part_refusal definition_refusal sheet_refusal selection_refusal receipt_refusal mounting_refusal tape_of left_of live_on
 a_refused_count_takes_nothing = (refl, refl)
 
--- The second of two equal loads is refused. After an unload it is accepted.
 pub a_load_is_accepted_again_after_an_unload : replies_to Two [] (base ++ said (
     received K1 P L1 100
     ∷ MaterialsLoaded M S1 K1

@@ -25,13 +25,11 @@ not-at-all : {X Y : Type 0} (b : Bool) (x : X) (y : Y) → (if b then Some x els
 not-at-all true x y is = cc
 not-at-all false x y is = refl
 
--- A command that leaves the reel out of its bag is quiet.
 pub IsQuiet-open : (name : Name) (minute : ℕ) (command : Command) → open_by name command ≡ Some true → IsQuiet name minute command
 IsQuiet-open name minute (ReelReceived r part lot moisture quantity) is = in-bag (same r name) is
 IsQuiet-open name minute (ReelBaked r) is = in-bag (same r name) is
 IsQuiet-open name minute _ is = record { receipt = refl; bake = refl; baked = refl }
 
--- A command that does not handle the reel is quiet.
 pub IsQuiet-untouched : (name : Name) (minute : ℕ) (command : Command) → open_by name command ≡ None → IsQuiet name minute command
 IsQuiet-untouched name minute (ReelReceived r part lot moisture quantity) is = record {
   receipt = not-at-all (same r name) false (record { part = part; lot = lot; moisture = moisture; quantity = quantity; effective = minute }) is;

@@ -99,7 +99,6 @@ at minute command = record { uid = codes "u"; source = codes "S"; minute = minut
 abbrev pub said : List Command → List Stamped
 said commands = map (at 0) commands
 
--- A row of a sheet.
 abbrev pub sheet_row : Name → Name → List Name → SheetRow
 sheet_row slot part designators = record { slot = slot; part = part; designators = designators }
 
@@ -115,7 +114,6 @@ received reel part lot quantity = ReelReceived reel part lot (record { level = O
 abbrev pub received_at_six : ℕ → Name → Command
 received_at_six label reel = ReelReceived reel P L1 (record { level = Six; label = label }) 10
 
--- A row of a count.
 abbrev pub counted : Name → ℕ → CountRow
 counted reel quantity = record { reel = reel; quantity = quantity }
 
@@ -131,6 +129,5 @@ base = said (
     ∷ ProductSelected M PR
     ∷ [])
 
--- The replies to the setup.
 abbrev pub base_replies : List Reply
 base_replies = Accepted Plain ∷ Accepted Plain ∷ Accepted Plain ∷ Accepted Plain ∷ []

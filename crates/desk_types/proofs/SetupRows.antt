@@ -13,7 +13,6 @@ use Rattle.desk_types.specs.declared.rules.Rules.TheVariants.{Two}
 use Rattle.desk_types.specs.Outcome.{replies_to, after_commands}
 use Rattle.desk_types.proofs.RowsCommon.{P, Q, L1, PS, M, N, S1, K1, K2, R1, at, said, sheet_row, received, base, base_replies}
 
--- A reel with another part than the sheet's is refused at the slot.
 pub another_part_is_refused_at_its_slot : replies_to Two [] (base ++ said (
     received K1 Q L1 100
     ∷ MaterialsLoaded M S1 K1

@@ -136,7 +136,6 @@ reel_moved = said (
 abbrev after_the_move : History
 after_the_move = after_commands Two [] reel_moved
 
--- An unloaded reel can be loaded on another slot.
 pub a_reel_moves_to_another_slot : replies_to Two [] reel_moved ≡
     Accepted Plain ∷ Accepted Plain ∷ Accepted Plain ∷ Accepted Plain ∷ Accepted Plain ∷ Accepted Plain
     ∷ Accepted (MinutesLeft None) ∷ Accepted (MinutesLeft None) ∷ Accepted (MinutesLeft None) ∷ Accepted Plain ∷ Accepted (Reels (K1 ∷ []))
@@ -152,7 +151,6 @@ pub a_moved_reel_is_live_on_its_new_slot :
 unfolding refusal_of command_refusal part_refusal definition_refusal sheet_refusal selection_refusal receipt_refusal mounting_refusal tape_of left_of live_on start_refusal completion_refusal install_refusal install_picks unload_refusal
 a_moved_reel_is_live_on_its_new_slot = (refl, refl, refl)
 
--- A placement keeps its reel and slot, whatever is loaded later.
 pub a_placement_keeps_its_reel_and_slot : placements_of after_the_move ≡ piece 11 1 B1 R1 K1 L1 0 false ∷ []
 unfolding refusal_of command_refusal part_refusal definition_refusal sheet_refusal selection_refusal receipt_refusal mounting_refusal tape_of left_of live_on start_refusal completion_refusal install_refusal install_picks unload_refusal takes_of
 a_placement_keeps_its_reel_and_slot = refl

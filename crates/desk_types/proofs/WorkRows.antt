@@ -11,7 +11,6 @@ use Rattle.desk_types.specs.declared.rules.Rules.TheVariants.{Two}
 use Rattle.desk_types.specs.Outcome.{replies_to}
 use Rattle.desk_types.proofs.RowsCommon.{P, L1, PR, PS, M, S1, K1, B1, B2, R1, R2, R3, said, sheet_row, received, base, base_replies}
 
--- Work can't start while a slot of the sheet has no reel.
 pub work_needs_loaded_slots : replies_to Two [] (base ++ said (WorkStarted M B1 ∷ [])) ≡
     base_replies ++ Refused (SlotEmpty S1) ∷ []
 unfolding refusal_of command_refusal part_refusal definition_refusal sheet_refusal selection_refusal start_refusal tape_of live_on

@@ -27,18 +27,15 @@ use Rattle.feeder_state.specs.declared.desk.StateDesk.{StateDesk}
 use Rattle.feeder_state.proofs.RowReels.{mounts-row, row-left}
 use Rattle.feeder_state.proofs.TapeSteps.{all-kept}
 
--- Its minute is that at which its command takes effect.
 change-minute : (rules : Rules) (H : History) (s : Stamped) (change : Change) → IsChange rules H s change → change.minute ≡ effective_minute H s.minute
 change-minute rules H s change is = ap (λ (x : Change). x.minute) is.value
 
--- The list with its command is one that a desk can come to have.
 pub accepted-judged : (rules : Rules) (H : History) (s : Stamped) (change : Change) → IsJudged rules H → IsStamped s → IsMinute change.minute → IsChange rules H s change
     → IsJudged rules (accept H s)
 accepted-judged rules H s change judged in_range minute is =
     let at = change-minute rules H s change is in
     (record { in_range = record { stamped = in_range; effective = omega (arith, at, minute) }; number = refl; effective = refl; accepted = is.accepted }, judged)
 
--- Its command is noted with its takes.
 pub accepted-noted : (rules : Rules) (H : History) (s : Stamped) (change : Change) → IsJudged rules H → IsStamped s → IsMinute change.minute → IsChange rules H s change
     → IsNoted H (entry_of H s) s.command change.minute change.takes
 accepted-noted rules H s change judged in_range minute is =
@@ -50,32 +47,27 @@ accepted-noted rules H s change judged in_range minute is =
       takes_are = ap (λ (x : Change). x.takes) is.value ∙ ap (λ m. takes_by H m s.command) (sym at);
     }
 
--- Its minute is the desk minute from then on.
 pub accepted-minute : (rules : Rules) (H : History) (s : Stamped) (change : Change) → IsChange rules H s change → Some change.minute ≡ desk_minute (accept H s)
 accepted-minute rules H s change is =
     let at = change-minute rules H s change is in
     let greatest : change.minute ≡ max (effective_minute H s.minute) (now_of H) = omega (arith, at) in
     ap Some greatest
 
--- Where there is no desk minute, nothing is accepted.
 pub none-accepted : (H : History) → desk_minute H ≡ None → [] ≡ H
 none-accepted [] none = refl
 none-accepted (e ∷ H) none = cc
 
 -- ---- the facts of a state
 
--- The list is one that a desk of rules Two can come to have.
 pub state-two : (H : History) (desk : StateDesk) → IsState H desk → IsJudged Two H
 state-two H desk state = judged-by-two desk.rules H state.judged
 
--- The reels of its slots are the live ones.
 pub state-live : (H : History) (desk : StateDesk) (machine slot : Name) → IsState H desk
     → filter (λ reel. nat_lt 0 (left_of H reel)) (tape_at desk.floor.tapes machine slot) ≡ live_on H machine slot
 state-live H desk machine slot state =
     ap (filter (λ reel. nat_lt 0 (left_of H reel))) (state.floor.tapes machine slot)
     ∙ all-kept (λ reel. nat_lt 0 (left_of H reel)) (live_on H machine slot) (live-pieces H machine slot)
 
--- Its rows are those of the history.
 pub state-rows : (H : History) (desk : StateDesk) → IsState H desk → AreRows H desk.rows
 state-rows H desk state = record { judged = state-two H desk state; same = state.rows }
 

@@ -163,7 +163,6 @@ designators G H machine board ds a =
     ∙ designators-live H (slot_on H machine) (is_placed_on H board) machine board [] [] ds in
     λ j. if option_map_or (same board) (a.running j machine) false then refused j else Some (NotInWork board)
 
--- The refusal of a command that takes effect at the minute.
 command-alike : (rules : Rules) (G H : History) (minute : ℕ) (command : Command) → AreAlike G H → now_of H ≤ minute
     → command_refusal rules G minute command ≡ command_refusal rules H minute command
 unfolding command_refusal part_refusal alternate_refusal definition_refusal selection_refusal receipt_refusal opening_refusal closing_refusal unload_refusal scrap_refusal start_refusal completion_refusal
@@ -210,7 +209,6 @@ command-alike rules G H minute (MaterialsScrapped machine s quantity) a le = λ 
 command-alike rules G H minute (CountsTaken rows) a le = counts rules G H [] rows a
 command-alike rules G H minute ClockSet a le = refl
 
--- The minute at which a command takes effect, and its refusal.
 pub effective-alike : (G H : History) (s : Stamped) → AreAlike G H → effective_minute G s.minute ≡ effective_minute H s.minute
 effective-alike G H s a = λ j. max s.minute (unwrap_or (a.minute j) 0)
 

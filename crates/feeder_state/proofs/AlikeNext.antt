@@ -81,7 +81,6 @@ exposed-alike (Some true) anew at before other minute le alike = ap (λ n. n + (
 exposed-alike (Some false) true at before other minute le alike = refl
 exposed-alike (Some false) false at before other minute le alike = ap (λ n. n + 0) (alike at (omega arith))
 
--- A command that puts a reel into its bag.
 into-bag : (H : History) (e : Entry) (reel : Name) (minute : ℕ) (command : Command) → IsJudged Two (e ∷ H) → exposure_starts H reel ≤ e.effective → e.effective ≤ minute
     → e.stamped.command ≡ command → open_by reel command ≡ Some false → exposure_of (e ∷ H) reel minute ≡ exposed (Some false) (is_anew command) e.effective (exposure_of H reel) minute
 into-bag H e reel minute (ReelReceived r part lot moisture quantity) (next, judged) start le is says = exposure-anew H e reel (ap (open_by reel) is ∙ says) starts minute
@@ -183,7 +182,6 @@ alike-next G H s a of_G of_H = record {
 
 -- ---- whole runs
 
--- The desk minute is a minute.
 now-range : (rules : Rules) (H : History) → IsJudged rules H → now_of H ≤ GREATEST_MINUTE
 now-range rules [] judged = omega arith
 now-range rules (e ∷ H) (next, judged) = let before = now-range rules H judged in omega (arith, before, next.in_range.effective)

@@ -33,7 +33,6 @@ use Rattle.feeder_state.proofs.RowReels.{row-none, reels-row, row-left, mounts-r
 
 -- ---- one entry more
 
--- The reels that may be at rest after a command: with pieces left, and not mounted.
 step : (minute : ℕ) (reel : Name) (command : Command) (live : Name → Name → List Name) (left some mounted before : Bool) → left ≡ true
     → not (mounted_after left (λ m s. has (live m s) reel) reel command mounted) ≡ true → (receipt_by reel minute command ≡ None → some ≡ true)
     → ((some && not mounted) ≡ true → before ≡ true) → resting_after live reel command before ≡ true
@@ -68,7 +67,6 @@ step minute reel (CountsTaken counts) live left some mounted before has_left off
     was (and_from _ _ (had refl) (ap not (sym (and-true mounted)) ∙ ap (λ b. not (mounted && b)) (sym has_left) ∙ off))
 step minute reel _ live left some mounted before has_left off had was = was (and_from _ _ (had refl) off)
 
--- A reel that is at rest after an entry may be at rest by its command.
 pub rests-next : (H : History) (e : Entry) (reel : Name) (before : Bool) → IsJudged Two (e ∷ H) → (rests H reel ≡ true → before ≡ true) → rests (e ∷ H) reel ≡ true
     → resting_after (live_on H) reel e.stamped.command before ≡ true
 rests-next H e reel before judged was is =
@@ -82,11 +80,9 @@ kept live reel (MaterialsScrapped m s n) before may is = is
 kept live reel (CountsTaken counts) before may is = is
 kept live reel _ before may is = cc
 
--- A command that may take pieces puts no reel to rest.
 pub rests-taken : (H : History) (e : Entry) (reel : Name) → IsJudged Two (e ∷ H) → may_take e.stamped.command ≡ true → rests (e ∷ H) reel ≡ true → rests H reel ≡ true
 rests-taken H e reel judged may is = kept (live_on H) reel e.stamped.command (rests H reel) may (rests-next H e reel (rests H reel) judged (λ rest. rest) is)
 
--- A reel at rest has pieces left,
 pub rests-left : (H : History) (reel : Name) (left : ℕ) → left ≡ left_of H reel → rests H reel ≡ true → (left == 0) ≡ false
 rests-left H reel left is rest = by (left == 0) refl
   where
@@ -97,7 +93,6 @@ rests-left H reel left is rest = by (left == 0) refl
         cc
     by false some = some
 
--- And was received.
 pub rests-received : (H : History) (reel : Name) → IsJudged Two H → rests H reel ≡ true → is_some (receipt_of H reel) ≡ true
 rests-received H reel judged rest = by (receipt_of H reel) refl
   where
@@ -105,7 +100,6 @@ rests-received H reel judged rest = by (receipt_of H reel) refl
     by None none = let never = ap (λ n. nat_lt 0 n && not (is_mounted H reel)) (sym (unreceived-empty H reel judged none)) ∙ rest in cc
     by (Some receipt) says = refl
 
--- Removing a spent reel leaves the reels with pieces left unchanged.
 pub others-rest : (left : Name → ℕ) (spent r : Name) (new old : Bool) → (left spent == 0) ≡ true → (left r == 0) ≡ false → new ≡ cond (same spent r) false old → new ≡ old
 others-rest left spent r new old none some out = by (same spent r) refl out
   where
@@ -115,11 +109,9 @@ others-rest left spent r new old none some out = by (same spent r) refl out
 
 -- ---- reels that have rows
 
--- Whether a reel at rest of this name is among the rows.
 abbrev pub has_resting : KeptRows → Name → List (Name × ReelRow) → Bool
 has_resting rows r es = list_any (λ (e : Name × ReelRow). row_rests rows e.0 e.1 && same e.0 r) es
 
--- An entry found in a history is one of its entries.
 resting-there : (rows : KeptRows) (r : Name) (es : List (Name × ReelRow)) (row : ReelRow) → row_at by_name es r ≡ Some row → row_rests rows r row ≡ true → has_resting rows r es ≡ true
 resting-there rows r [] row found is = cc
 resting-there rows r (e ∷ es) row found is =
@@ -131,7 +123,6 @@ resting-there rows r (e ∷ es) row found is =
         ap (λ b. (b && true) || has_resting rows r es) (ap (λ n. row_rests rows n e.1) (same-true e.0 r here) ∙ ap (λ o. option_map_or (row_rests rows r) o true) found ∙ is)
     by false here found rest = ap (λ b. b || has_resting rows r es) (and-false (row_rests rows e.0 e.1)) ∙ rest found
 
--- A reel at rest is among the rows.
 pub rests-rows : (H : History) (rows : KeptRows) (reel : Name) (es : List (Name × ReelRow)) → AreRows H rows → ((r : Name) → row_at by_name es r ≡ (tables_in rows).reels r)
     → rests H reel ≡ true → has_resting rows reel es ≡ true
 rests-rows H rows reel es are lists rest = by ((tables_in rows).reels reel) refl
@@ -147,7 +138,6 @@ rests-rows H rows reel es are lists rest = by ((tables_in rows).reels reel) refl
 
 -- ---- names that are put in
 
--- One name more of a list.
 pub put-next : (names : List Name) (i : ℕ) (x r : Name) (first now new : Bool) → i < length names → x ≡ get_or names i x
     → now ≡ (has (take i names) r || first) → new ≡ (same x r || now) → new ≡ (has (take (i + 1) names) r || first)
 put-next names i x r first now new inside is so_far one =

@@ -21,19 +21,15 @@ use Rattle.feeder_state.specs.Rows.{AreRowsAt}
 
 -- ---- reels
 
--- The desk minute of the history.
 pub told-now : (H : History) (minute : ℕ) (rows : KeptRows) → AreRowsAt H (Some minute) rows → now_of H ≡ minute
 told-now H minute rows told = ap (λ o. unwrap_or o 0) (sym told.minute_is)
 
--- A reel that was not received has no view.
 pub absent-view : (H : History) (name : Name) → receipt_of H name ≡ None → reel_view H name ≡ None
 absent-view H name none = ap (option_map (view_of H name)) none
 
--- Nothing is left of it.
 pub absent-left : (H : History) (name : Name) → IsJudged Two H → receipt_of H name ≡ None → 0 ≡ left_of H name
 absent-left H name judged none = sym (unreceived-empty H name judged none)
 
--- And it is on no slot.
 pub absent-mounted : (H : History) (name : Name) → IsJudged Two H → receipt_of H name ≡ None → false ≡ is_mounted H name
 absent-mounted H name judged none =
     by (is_some (place_of H name)) ∙ ap (λ n. is_some (place_of H name) && nat_lt 0 n) (absent-left H name judged none) ∙ sym (mounted-is H name judged)
@@ -42,17 +38,11 @@ absent-mounted H name judged none =
     by true = refl
     by false = refl
 
--- ---- slots
-
--- Each reel of a tape was received.
 pub all-received : (H : History) (tape : List Name) (machine slot : Name) → IsJudged Two H → tape ≡ live_on H machine slot → All (λ name. is_some (receipt_of H name) ≡ true) tape
 all-received H tape machine slot judged is =
     subst (All (λ name. is_some (receipt_of H name) ≡ true)) (sym is)
     (All-from_any nat_list_eq_equiv (λ name. is_some (receipt_of H name) ≡ true) _ (λ name there. live-received H machine slot name judged there))
 
--- ---- free reels
-
--- Where nothing is accepted, no reel is free.
 pub none-free : (H : History) (part : Name) → desk_minute H ≡ None → [] ≡ free_reels H part
 none-free [] part none = refl
 none-free (e ∷ H) part none = cc

@@ -5,22 +5,18 @@ use Rattle.std.specs.BTreeMap.{is_at}
 use Rattle.desk_types.specs.Id.{Name, same, by_name}
 use Rattle.desk_types.proofs.Keys.{is_at-by_name, same-true}
 
--- A member after an insertion is the new name or an earlier member.
 cond-or : (b z : Bool) → cond b true z ≡ (b || z)
 cond-or true z = refl
 cond-or false z = refl
 
--- A set after one name more.
 pub put : (x q : Name) (new old : Bool) → new ≡ cond (is_at (by_name x) q) true old → new ≡ (same x q || old)
 put x q new old after = after ∙ cond-or (is_at (by_name x) q) old ∙ ap (λ b. b || old) (is_at-by_name x q)
 
--- Membership of a name after one name is inserted or removed.
 pub changed : {X : Type 0} (x q : Name) (new old value : X) → new ≡ cond (is_at (by_name x) q) value old → new ≡ cond (same x q) value old
 changed x q new old value after = after ∙ ap (λ b. cond b value old) (is_at-by_name x q)
 
 -- ---- values written by a command
 
--- The value after a command that writes one value under one name.
 pub says-over : {X : Type 0} (b : Bool) (value old : X) → cond b value old ≡ unwrap_or (cond b (Some value) None) old
 says-over true value old = refl
 says-over false value old = refl

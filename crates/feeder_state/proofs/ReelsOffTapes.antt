@@ -14,16 +14,13 @@ use Rattle.feeder_state.specs.Spending.{is_spent_by}
 
 -- ---- filters
 
--- What passes everywhere keeps all.
 pub filter-kept : (p : Name → Bool) → ((r : Name) → p r ≡ true) → (reels : List Name) → filter p reels ≡ reels
 filter-kept p passes [] = refl
 filter-kept p passes (x ∷ xs) = ap (λ b. cond b (x ∷ filter p xs) (filter p xs)) (passes x) ∙ ap (λ l. x ∷ l) (filter-kept p passes xs)
 
--- Tests that agree keep the same.
 pub filter-alike : (p q : Name → Bool) (reels : List Name) → ((r : Name) → p r ≡ q r) → filter p reels ≡ filter q reels
 filter-alike p q reels agree = ap (λ (test : Name → Bool). filter test reels) (λ j r. agree r j)
 
--- Two filters in turn keep the elements that pass both.
 pub filter-both : (p q : Name → Bool) (reels : List Name) → filter p (filter q reels) ≡ filter (λ r. q r && p r) reels
 filter-both p q [] = refl
 filter-both p q (x ∷ xs) = by (q x) (p x) refl (filter-both p q xs)
@@ -33,25 +30,21 @@ filter-both p q (x ∷ xs) = by (q x) (p x) refl (filter-both p q xs)
     by true c is rest = ap (λ l. cond (p x) (x ∷ l) l) rest
     by false c is rest = rest
 
--- A reel that is not among some reels.
 kept-others : (x : Name) (reels : List Name) → AllByRecursion (λ y. same x y ≡ false) reels → filter (λ r. not (same x r)) reels ≡ reels
 kept-others x [] apart = refl
 kept-others x (y ∷ ys) apart =
     ap (λ b. cond (not b) (y ∷ filter (λ r. not (same x r)) ys) (filter (λ r. not (same x r)) ys)) apart.0 ∙ ap (λ l. y ∷ l) (kept-others x ys apart.1)
 
--- If each of some reels occurs once, only the first is removed.
 pub drop-head : (x : Name) (reels : List Name) → IsDistinct same (x ∷ reels) → reels ≡ filter (λ r. not (same x r)) (x ∷ reels)
 drop-head x reels distinct =
     sym (ap (λ b. cond (not b) (x ∷ filter (λ r. not (same x r)) reels) (filter (λ r. not (same x r)) reels)) (same-refl x) ∙ kept-others x reels (IsDistinct-head same x reels distinct))
 
 -- ---- takes
 
--- A reel goes off one slot.
 pub drop-there : (here : Bool) (reel : Name) (old : List Name) → cond here (filter (λ r. not (same reel r)) old) old ≡ filter (λ r. not (here && same reel r)) old
 drop-there true reel old = refl
 drop-there false reel old = sym (filter-kept (λ r. true) (λ r. refl) old)
 
--- Nothing is removed from an empty slot.
 pub drop-absent : (machine slot reel : Name) (old : Name → Name → List Name) → old machine slot ≡ [] → (m s : Name)
     → old m s ≡ filter (λ r. not ((same machine m && same slot s) && same reel r)) (old m s)
 drop-absent machine slot reel old none m s = by (same machine m) (same slot s) refl refl
@@ -61,7 +54,6 @@ drop-absent machine slot reel old none m s = by (same machine m) (same slot s) r
     by true false one two = sym (filter-kept (λ r. true) (λ r. refl) (old m s))
     by false b one two = sym (filter-kept (λ r. true) (λ r. refl) (old m s))
 
--- A take that spends no reel removes none from its slot.
 pub unspent-stay : (left : Name → ℕ) (machine slot : Name) (t : Take) → (left t.reel == 0) ≡ false → (r : Name) → not (is_spent_by left machine slot r t) ≡ true
 unspent-stay left machine slot t some r = by (comes_off t.purpose machine slot) (same t.reel r) refl
   where
@@ -70,11 +62,9 @@ unspent-stay left machine slot t some r = by (comes_off t.purpose machine slot) 
     by true false one = refl
     by false b one = refl
 
--- Nor does a count.
 pub counted-stay : (left : Name → ℕ) (machine slot : Name) (t : Take) → t.purpose ≡ Counted → (r : Name) → not (is_spent_by left machine slot r t) ≡ true
 counted-stay left machine slot t is r = ap (λ p. not ((comes_off p machine slot && same t.reel r) && (left r == 0))) is
 
--- One take more.
 pub dropped-next : (left : Name → ℕ) (machine slot : Name) (takes : List Take) (i : ℕ) (t : Take) (first now next : List Name) → i < length takes → t ≡ get_or takes i t
     → now ≡ filter (λ r. not (list_any (is_spent_by left machine slot r) (take i takes))) first → next ≡ filter (λ r. not (is_spent_by left machine slot r t)) now
     → next ≡ filter (λ r. not (list_any (is_spent_by left machine slot r) (take (i + 1) takes))) first

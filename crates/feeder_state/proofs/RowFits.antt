@@ -45,12 +45,10 @@ times-fit row minute is = by row.open_since is
     )
     by None is = (λ other one. cc, λ none. leb-true row.used minute is)
 
--- A row that fits a reel passes the tests,
 pub fits-reel : (row : ReelRow) (found minute : ℕ) → IsFitting row minute → found ≤ row.received → is_reel found minute row ≡ true
 fits-reel row found minute fits few =
     and_from _ _ (and_from _ _ (and_from _ _ (le-leb row.label GREATEST_LABEL fits.label) (le-leb found row.received few)) (fits-balances row minute fits)) (fits-times row minute fits)
 
--- And a row that passes them fits.
 pub reel-fits : (row : ReelRow) (found minute : ℕ) → is_reel found minute row ≡ true → IsFitting row minute × (found ≤ row.received)
 reel-fits row found minute is =
     let all = and_parts _ _ is in

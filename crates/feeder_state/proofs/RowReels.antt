@@ -96,7 +96,6 @@ row-fits H name row minute judged is now =
           omega (arith, few, used, now);
     })
 
--- The found pieces of a row are among its received ones.
 pub found-fits : (H : History) (name : Name) (row : ReelRow) → reel_row H name ≡ Some row → found_of H name ≤ row.received
 found-fits H name row is =
     let of = row-of H name row is in
@@ -170,7 +169,6 @@ row-held H name row minute held judged is now made_of =
 
 -- ---- all reels
 
--- A reel without a row was not received.
 pub row-none : (H : History) (name : Name) → reel_row H name ≡ None → receipt_of H name ≡ None
 row-none H name none = by (receipt_of H name) none
   where
@@ -178,7 +176,6 @@ row-none H name none = by (receipt_of H name) none
     by None none = refl
     by (Some receipt) none = cc
 
--- A mounted reel has a row of `mount`.
 pub mounted-row : (H : History) (name : Name) → IsJudged Two H → is_some (mount_row H name) ≡ is_mounted H name
 mounted-row H name judged = by (is_mounted H name) refl
   where
@@ -205,7 +202,6 @@ module _ (H : History) (rows : KeptRows) (are : AreRows H rows) (name : Name) wh
       numbered None = refl
       numbered (Some row) = refl
 
-  -- The pieces left of a reel are those of its row.
   pub row-left : left_at rows name ≡ left_of H name
   row-left = ap (λ o. option_map_or (λ (r : ReelRow). r.remaining) o 0) reels-row ∙ by (receipt_of H name) refl
     where
@@ -213,7 +209,6 @@ module _ (H : History) (rows : KeptRows) (are : AreRows H rows) (name : Name) wh
       by None none = sym (unreceived-empty H name are.judged none)
       by (Some receipt) says = refl
 
--- A fact about a reel with its mount holds for the reel.
 pub held-reel : (H : History) (name : Name) (said : Option Reel) → IsHeldOf H name (with_mount H name said) → IsReelOf H name said
 held-reel H name None is_held = is_held
 held-reel H name (Some reel) is_held = (is_held.stands, is_held.by_now)

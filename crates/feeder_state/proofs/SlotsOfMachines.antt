@@ -31,11 +31,9 @@ use Rattle.feeder_state.proofs.NamesInOrder.{in_order-ordered, told-same}
 pub by_pair-total : IsTotalOrder by_pair
 by_pair-total = then_total (on_total (λ (k : Name × Name). k.0) nat_list_cmp_total) (on_total (λ (k : Name × Name). k.1) nat_list_cmp_total)
 
--- The slots of the machine among machines with slots.
 abbrev pub slots_among : Name → List (Name × Name) → List Name
 slots_among machine keys = filter_map (λ (k : Name × Name). if same k.0 machine then Some k.1 else None) keys
 
--- If the pairs are in order, so are the slots.
 slots-ordered : (machine : Name) (keys : List (Name × Name)) → IsStrictlySortedBy by_pair keys → IsStrictlySortedBy by_name (slots_among machine keys)
 unfolding IsStrictlySortedBy
 slots-ordered machine [] up = tt
@@ -62,7 +60,6 @@ slots-ordered machine (k ∷ ks) (before, up) = by (same k.0 machine) refl (slot
     by true here rest = (later here ks before, rest)
     by false away rest = rest
 
--- A slot of the machine is among them if something is found there.
 slot-there : {V : Type 0} (machine slot : Name) (entries : List ((Name × Name) × V))
     → has (slots_among machine (keys_of entries)) slot ≡ is_some (lookup (is_at (by_pair (machine, slot))) entries)
 slot-there machine slot [] = refl
@@ -84,7 +81,6 @@ slot-there machine slot (e ∷ entries) =
 
 -- ---- slots with live reels
 
--- Whether the slot has a live reel.
 abbrev is_taken : History → Name → Name → Bool
 is_taken H machine slot = is_some (first (live_on H machine slot))
 

@@ -10,7 +10,7 @@ use Rattle.feeder_state.specs.Floor.{IsFloor}
 use Rattle.feeder_state.specs.Setup.{IsSetup}
 use Rattle.feeder_state.specs.Work.{IsWork}
 
--- The list is one that a desk of these rules can come to have, and the minute, the rows, the sheets, the floor and the work are as it left them.
+-- A desk of these rules can come to have the list, which left the minute, the rows, the sheets, the floor and the work.
 pub record IsState (H : History) (desk : StateDesk) : Type 0 where
   pub judged : IsJudged desk.rules H
   pub minute : desk.minute ≡ desk_minute H

@@ -96,7 +96,6 @@ impl StateDesk {
         })
     }
 
-    /// The sheet of the selected product on the machine.
     #[tactic(auto, using(crate::proofs::AcceptedChanges::of_state))]
     fn sheet_on(&self, machine: &Id) -> Option<&Sheet>
         ensures { (H : History) → IsState H self.now → option_copied result ≡ sheet_on H machine.now }

@@ -72,7 +72,6 @@ impl Floor {
     }
 }
 
-/// Whether the command may take pieces.
 fn may_take(command: &Command) -> bool
     ensures { result ≡ may_take command.now }
 {

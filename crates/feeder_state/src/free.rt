@@ -37,7 +37,6 @@ fn is_free(alternates: &Alternates, part: &Id, held: &Held, left: Left) -> bool
         && is_usable(left)
 }
 
-/// Returns the turn of a received reel, if it is free for the part.
 fn turn_of(
     held: &Held,
     minute: Minute,
@@ -58,7 +57,6 @@ fn turn_of(
     Some((left, *name))
 }
 
-/// Returns the turn of the reel of this name, if it is free for the part.
 fn turn_at(
     rows: &RowSet,
     minute: Minute,
@@ -97,7 +95,6 @@ fn turns(
     Ok(turns)
 }
 
-/// Tells the reels of turns in their order.
 fn views_of(
     alloc: Global,
     rows: &RowSet,

@@ -28,7 +28,6 @@ pub fn is_at_rest(held: &Held) -> bool
     held.reel.remaining > 0 && !is_live(held)
 }
 
-/// Puts in the reels of a tape.
 fn put_tape(resting: &mut BTreeSet<Id>, tape: &Tape) -> Result<(), AllocError>
     ensures { (r : Name)
         → OnOk result (is_resting resting.new r ≡ (list_any (same r) tape.now || is_resting resting.old r)) }
@@ -39,7 +38,6 @@ fn put_tape(resting: &mut BTreeSet<Id>, tape: &Tape) -> Result<(), AllocError>
     Ok(())
 }
 
-/// Puts in the reels of a slot.
 fn put_slot(
     resting: &mut BTreeSet<Id>,
     tapes: &BTreeMap<(Id, Id), Tape>,
@@ -83,7 +81,6 @@ pub fn note_resting(
     Ok(())
 }
 
-/// Removes the reel if it has no pieces left.
 fn end_rest(rows: &RowSet, resting: &mut BTreeSet<Id>, reel: &Id)
     ensures { (r : Name) → (left_at rows.now r == 0) ≡ false → is_resting resting.new r ≡ is_resting resting.old r }
 {
@@ -92,7 +89,6 @@ fn end_rest(rows: &RowSet, resting: &mut BTreeSet<Id>, reel: &Id)
     }
 }
 
-/// Removes the reels of takes that have no pieces left. The others are unchanged.
 fn end_each(rows: &RowSet, resting: &mut BTreeSet<Id>, takes: &[Take])
     ensures { (r : Name) → (left_at rows.now r == 0) ≡ false → is_resting resting.new r ≡ is_resting resting.old r }
 {
@@ -110,7 +106,6 @@ pub fn end_rests(rows: &RowSet, resting: &mut BTreeSet<Id>, command: &Command, t
     }
 }
 
-/// The same of a reel's row.
 fn row_rests(rows: &RowSet, name: &Id, row: &ReelRow) -> bool
     ensures { result ≡ row_rests rows.now name.now row.now }
 {

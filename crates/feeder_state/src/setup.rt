@@ -68,7 +68,6 @@ impl Setup {
     }
 }
 
-/// Inserts the machine if the command gives it a sheet.
 fn note_machine(sheeted: &mut BTreeSet<Id>, command: &Command) -> Result<(), AllocError>
     ensures { (m : Name)
         → OnOk result (is_sheeted sheeted.new m ≡ (defines_on m command.now || is_sheeted sheeted.old m)) }
@@ -79,7 +78,6 @@ fn note_machine(sheeted: &mut BTreeSet<Id>, command: &Command) -> Result<(), All
     Ok(())
 }
 
-/// Puts a sheet in the place of the one before.
 fn put_sheet(
     sheets: &mut BTreeMap<(Id, Id), Sheet>,
     product: Id,

@@ -25,7 +25,6 @@ fn remove(tape: &mut VecDeque<Id>, reel: &Id)
     }
 }
 
-/// Takes a reel off a slot.
 fn drop_reel(tapes: &mut BTreeMap<(Id, Id), Tape>, machine: Id, slot: Id, reel: &Id)
     requires { IsDistinct same (tape_at tapes.old machine slot) }
     ensures { (m s : Name)
@@ -47,7 +46,6 @@ pub fn is_spent(rows: &RowSet, reel: &Id) -> bool
     }
 }
 
-/// Removes the reel of a take from its slot, if the take spent it.
 fn drop_spent(rows: &RowSet, tapes: &mut BTreeMap<(Id, Id), Tape>, take: &Take)
     requires { (m s : Name) → IsDistinct same (tape_at tapes.old m s) }
     ensures { (m s : Name)

@@ -24,7 +24,6 @@ pub fn is_live(held: &Held) -> bool
     held.on_slot && held.reel.remaining > 0
 }
 
-/// The received reel of this name, at the desk minute.
 fn view_of(held: &Held, minute: Minute, name: &Id) -> ReelView
     ensures { (H : History) → IsHeld H name.now held.now → now_of H ≡ minute → reel_view H name.now ≡ Some result }
 {
@@ -69,7 +68,6 @@ pub fn reel_view(rows: &RowSet, minute: Option<Minute>, name: &Id) -> Option<Ree
     }
 }
 
-/// A received reel in its position on a slot.
 fn mount_of(held: &Held, minute: Minute, slot: &Id, position: u64, name: &Id) -> Mount
     ensures { (H : History) → IsHeld H name.now held.now → now_of H ≡ minute
         → result ≡ mount_of H slot.now (position, name.now) }
@@ -106,8 +104,7 @@ fn put_tape(
     Ok(())
 }
 
-/// Tells the live reels of the machine's slots, slot after slot. It goes over the slots of all
-/// machines.
+/// Goes over the slots of all machines.
 fn put_slots(
     mounts: &mut Vec<Mount>,
     rows: &RowSet,

@@ -77,7 +77,6 @@ impl Work {
     }
 }
 
-/// The boards by machine after a command.
 fn note_running(running: &mut BTreeMap<Id, Id>, command: &Command) -> Result<(), AllocError>
     ensures { (m : Name)
         → OnOk result (running_at running.new m ≡ unwrap_or (work_by m command.now) (running_at running.old m)) }
@@ -94,7 +93,6 @@ fn note_running(running: &mut BTreeMap<Id, Id>, command: &Command) -> Result<(),
     Ok(())
 }
 
-/// Puts designators to a board.
 fn place(
     alloc: Global,
     placed: &mut BTreeMap<Id, Placed>,
@@ -117,7 +115,6 @@ fn place(
     Ok(())
 }
 
-/// Returns the placed designators after a command.
 fn note_placed(
     alloc: Global,
     placed: &mut BTreeMap<Id, Placed>,

@@ -120,7 +120,6 @@ pairs_listed = listed_keys by_pair pair_tied pair_same
 
 -- ---- mounted reels, in the order of their numbers
 
--- An entry without its number.
 abbrev pub unnumbered : (ℕ × Name) × MountRow → Name × MountRow
 unnumbered e = (e.0.1, e.1)
 

@@ -60,7 +60,6 @@ module _ {K R : Type 0} (has : K → Row → Bool) (columns : K → R → Row) (
       go true e more = more
       go false e more = (failed r e h.0, more)
 
-  -- With as many entries as rows, no row remains.
   covered : (es : List (K × R)) → AreApart es → (rows : List Row) → AreAlone has columns rows es → length es ≡ length rows → AllByRecursion (IsCovered es) rows
   covered [] new [] h n = tt
   covered [] new (r ∷ rs) h n = absurd (omega (arith, n))

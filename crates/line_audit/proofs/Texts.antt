@@ -31,7 +31,6 @@ use Rattle.line_audit.proofs.LookUpsByKey.{finds_alone}
 use Rattle.desk_types.specs.declared.rules.Rules.TheVariants.{One, Two}
 use Rattle.line_tables.specs.Line.Layout.{Indexed, Plain}
 
--- The column is the parameter.
 abbrev is_param : ℕ → ℕ → Term
 is_param at param = op2 (Compare Eq Binary) (col 1 at) (col 0 param)
 

@@ -61,7 +61,6 @@ pub fn audit<S: Alter>(
     }
 }
 
-/// Returns the first of these tables whose rows are not those of the set, if any.
 fn audit_tables<S: Alter>(
     alloc: Global,
     conn: &mut Connection<S>,
@@ -85,7 +84,6 @@ fn audit_tables<S: Alter>(
     Ok(None)
 }
 
-/// Returns whether the rows of the table are those of the set.
 fn is_same<S: Alter>(
     alloc: Global,
     conn: &mut Connection<S>,

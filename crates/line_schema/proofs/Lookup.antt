@@ -54,7 +54,6 @@ one_stood rules (e ∷ G) s row judged h = elim (cases_Bool (same e.stamped.uid 
       record { before = stood.before; entry = stood.entry; in_range = stood.in_range; uid = stood.uid; is = stood.is; answer = stepped e G s false not ∙ stood.answer }
 ]
 
--- The row that is found if the tables are those of the history.
 pub looked_up : (old : State) (greatest : _) (H : History) (s : Stamped) (o : Option Accepted) → (IsTrue old.is_open → Holds old.committed (ledger_tables greatest H))
     → Reads old (λ db. filter (has_uid s.uid) (accepted_in db) ≡ row_of o) → filter (has_uid s.uid) (rows_of H) ≡ row_of o
 looked_up old greatest H s o holds found = row_held old (ledger_tables greatest H) (holds found.was_open) (has_uid s.uid) o found

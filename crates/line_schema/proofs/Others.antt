@@ -12,15 +12,12 @@ use Rattle.line_tables.specs.Calls.{HasOthers, KeepsOthers, LeavesEdited}
 use Rattle.line_tables.proofs.Beside.{others_stay, others_stay_then}
 use Rattle.line_schema.specs.Frames.{LeavesOthers, LetsOthersBe}
 
--- Nothing was done.
 pub let_be : (s : State) → LetsOthersBe s s
 let_be s = record { was_open = λ clean is. is; rows = λ clean is. others_stay s.committed; crash = λ clean trees may. inl may }
 
--- The committed contents stay.
 kept_rows : (old new : Database) → new ≡ old → KeepsOthers old new
 kept_rows old new same = subst (KeepsOthers old) (sym same) (others_stay old)
 
--- A call only read.
 pub let_be_read : (old new : State) → (HasCleanDisk new → KeepsCommit old new) → Survives old new (λ _. ⊥) → LetsOthersBe old new
 let_be_read old new kept survives = record {
   was_open = λ clean is. (kept clean).was_open is;
@@ -31,7 +28,6 @@ let_be_read old new kept survives = record {
 pub let_be_reads : {S : Type 0} (g : Ghosts S) (old new : Held S) → ReadsOnly g old new → LetsOthersBe (state g old) (state g new)
 let_be_reads g old new reads = let_be_read (state g old) (state g new) reads.kept reads.survives
 
--- One call and then another.
 pub let_be_then : (old mid new : State) → (HasCleanDisk new → HasCleanDisk mid) → LetsOthersBe old mid → LetsOthersBe mid new → LetsOthersBe old new
 let_be_then old mid new early one two = record {
   was_open = λ clean is. one.was_open (early clean) (two.was_open clean is);

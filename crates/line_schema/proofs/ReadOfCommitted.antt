@@ -59,7 +59,6 @@ module _ (rules : Rules) (old : State) where
   pub other_version : (v : Version) (greatest : ℕ) → v.number ≢ pos (version_of rules) → IsGreatest v.greatest greatest → Reads old (λ db. IsVersionOf (version_in db) (Some v)) → IsFaultBy rules old (OtherVersion v.number)
   other_version v greatest other great r = let is = version_read old v v.number greatest refl great r in (other, record { was_open = is.was_open; are = λ schema. (greatest, is.are schema) })
 
-  -- A row of `version` without a greatest number of this version.
   pub version_fault : (v : Version) (o : Option Version) (r : Result ℕ OpenFault) → o ≡ Some v
       → IfErr r (λ f. ((f ≡ NotADesk) × ((greatest : ℕ) → IsGreatest v.greatest greatest → ⊥)) ⊎ ((f ≡ OtherVersion v.number) × (v.number ≢ pos (version_of rules)) × (greatest : ℕ) × IsGreatest v.greatest greatest))
       → Reads old (λ db. IsVersionOf (version_in db) o) → IfErr r (IsFaultBy rules old)
@@ -74,7 +73,6 @@ module _ (rules : Rules) (old mid : State) (greatest : ℕ) (kept : KeepsCommit 
   list_fault (replay.NotLawful n) h = (greatest, version, reads_back old mid _ kept h)
   list_fault replay.Unavailable h = tt
 
--- The other tables, compared with the expected rows.
 pub audited : (rules : Rules) (Before After : Type 0) (old mid last : State) (expected : Expected) (H : History) (verdict : Option StateTable) → (After → Before) → (After → KeepsCommit old mid) → (After → KeepsCommit mid last) → AreExpected Before mid.committed expected H
     → (After → (f : ℕ × ℕ → Option PlacementRow) (es : Pieces) → IsExpected last expected.placed.all expected.placed.count es f → Reads last (λ db. IsVerdict (state_tables rules) db (with_placements f (tables_in expected.rows)) verdict))
     → After → Reads old (λ db. IsVerdict (state_tables rules) db (state_of H) verdict)
@@ -107,14 +105,12 @@ opened_on F K Before After old mid rules desk expected count opened H early r li
   apart = apart;
 }
 
--- A table that differs.
 pub table_fault : {D : Type 0} (F : D → History → Type 0) (rules : Rules) (Before : Type 0) (old mid : State) (desk : D) (expected : Expected) (count greatest : ℕ) (H : History) (table : StateTable) → Before → IsReplayed F rules greatest Before mid desk expected count H → KeepsCommit old mid
     → Reads old (λ db. IsVersion db (pos (version_of rules)) greatest) → Reads old (λ db. IsVerdict (state_tables rules) db (state_of H) (Some table)) → IsFaultBy rules old (TableDiffers table)
 table_fault F rules Before old mid desk expected count greatest H table clean r kept version first =
     record { greatest = greatest; list = H; version = version; rows = reads_back old mid _ kept (r.rows clean); first = first }
 
--- The tables that were read are those of the history, if reads see the committed contents: their names show the
--- version.
+-- The names of the tables show the version.
 pub opened_holds : {D : Type 0} (F : D → History → Type 0) (K : D → Rules) (Clean : Type 0) (old : State) (rules : Rules) (opened : Opened D) (H : History) → IsOpened F K Clean old rules opened H → IsNamedBy rules old
     → (IsTrue old.is_open → old.now ≡ old.committed) → Clean → Reads old (λ db. HoldsBy rules db (ledger_tables opened.greatest H))
 opened_holds F K Clean old rules opened H o named settled clean =
@@ -132,13 +128,9 @@ opened_holds F K Clean old rules opened H o named settled clean =
           };
     }
 
--- The history is lawful.
 pub opened_lawful : {D : Type 0} (F : D → History → Type 0) (K : D → Rules) (Clean : Type 0) (old : State) (opened : Opened D) (H : History) → IsOpened F K Clean old Two opened H → Clean → IsTrue (is_ours old.committed.schema)
     → IsLawful Two opened.greatest H
 opened_lawful F K Clean old opened H o clean own = let ours = ours_is old.committed.schema own in ((o.rows clean).are (record { rules = Two; layout = ours.0; same = ours.1 })).lawful
 
--- ---- calls that only read, one after another
-
--- Four such calls.
 pub reads_all : {S : Type 0} (g : Ghosts S) (a b c d e : Held S) → ReadsOnly g a b → ReadsOnly g b c → ReadsOnly g c d → ReadsOnly g d e → ReadsOnly g a e
 reads_all g a b c d e one two three four = reads_then g a b e one (reads_then g b c e two (reads_then g c d e three four))

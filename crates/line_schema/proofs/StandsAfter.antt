@@ -40,22 +40,18 @@ use Rattle.line_schema.specs.Frames.{ReadsStore}
 use Rattle.trace_lists.specs.declared.lists.TraceLists.{TraceLists}
 use Rattle.trace_lists.specs.Lists.{IsListed}
 
--- A desk that may have judged it represents the history.
 pub judged_for : {D : Type 0} (F : D → History → Type 0) (K : D → Rules) (o : Option D) (H : History) (change : Change)
     → IsSomeAnd o (λ d. (G : History) → F d G → IsChange (K d) G change.stamped change) → IfSome o (λ d. F d H × (K d ≡ Two)) → IsChange Two H change.stamped change
 judged_for F K None H change h desk = absurd h
 judged_for F K (Some d) H change h desk = subst (λ (r : Rules). IsChange r H change.stamped change) desk.1 (h H desk.0)
 
--- The loaded desk represents the history.
 pub stood_for : {D : Type 0} (F : D → History → Type 0) (K : D → Rules) (o : Option D) (d : D) (H : History) → o ≡ Some d → IfSome o (λ d. F d H × (K d ≡ Two)) → F d H
 stood_for {D} F K o d H is desk = (subst (λ (o : Option D). IfSome o (λ d. F d H × (K d ≡ Two))) is desk).0
 
--- An empty list has no UniqueID twice.
 pub none_yet : IsDistinct same []
 unfolding IsDistinct
 none_yet = tt
 
--- A history with a new message is lawful.
 lawful_on : (greatest : _) (H : History) (s : Stamped) → IsLawful Two greatest H → IsJudged Two (accept H s) → earlier_answer H s ≡ None → length H < greatest → IsLawful Two greatest (accept H s)
 lawful_on greatest H s lawful judged none room = record {
   judged = judged;
@@ -63,14 +59,12 @@ lawful_on greatest H s lawful judged none room = record {
   numbers = omega (arith, room);
 }
 
--- The history after a command that makes a change.
 accepted_list : (rules : Rules) (H : History) (s : Stamped) (change : Change) → IsChange rules H s change → accept H change.stamped ≡ after_command rules H s
 accepted_list rules H s change is = ap (accept H) (stamped_is rules H s change is) ∙ sym (ap (λ o. option_map_or (λ _. H) o (accept H s)) is.accepted)
 
 pub first_as : (L : Kept) (s : Stamped) (change : Change) → IsChange Two L.history s change → earlier_answer L.history s ≡ None → earlier_answer L.history change.stamped ≡ None
 first_as L s change is none = subst (λ t. earlier_answer L.history t ≡ None) (sym (stamped_is Two L.history s change is)) none
 
--- The answer to a command that makes a change.
 pub answered_as : (H : History) (s : Stamped) (change : Change) (r : Result Answer Fault) → IsChange Two H s change → IfOk r (λ a. a ≡ judged_answer H change.stamped (Accepted change.detail)) → IfOk r (λ a. a ≡ judged_answer H s (reply_to Two H s))
 answered_as H s change (Ok a) is told = told ∙ ap (λ (c : Change). judged_answer H c.stamped (Accepted c.detail)) is.value ∙ sym (ap (λ o. judged_answer H s (option_map_or Refused o (Accepted (change_of H s).detail))) is.accepted)
 answered_as H s change (Err e) is told = tt
@@ -81,14 +75,12 @@ module _ {old new : State} (P : Trees → Type 0) (survives : Survives old new P
   pub clean_before : HasCleanDisk new → HasCleanDisk old
   clean_before clean = omega (arith, survives.clean, clean)
 
-  -- It stays open, or the disk fails.
   pub still_open : StaysOpen old → StaysOpen new
   still_open was clean = elim (was (clean_before clean)) [
     | inl was_open ↦ elim (survives.closes clean was_open) [ inl still ↦ inl still | inr more ↦ inr (omega (arith, more)) ]
     | inr failed ↦ inr (omega (arith, survives.counts, failed))
   ]
 
--- A fact that holds for any answer of the call.
 pub err_still : {A E : Type 0} {P : Type 0} (r : Result A E) → P → OnErr r P
 err_still (Ok a) p = tt
 err_still (Err e) p = p
@@ -112,7 +104,6 @@ module _ {S D : Type 0} (g : Ghosts S) (F : D → History → Type 0) (K : D →
     tables = λ clean own. absurd (true≢false (sym own));
   }
 
-  -- The desk and its trace indexes were rebuilt.
   pub remade : {P : Trees → Type 0} (old new : LineStore S D) (d : D) (l : TraceLists) (H : History) → new.greatest ≡ old.greatest → new.count ≡ length H → new.desk ≡ Some d → new.lists ≡ Some l → new.conn.in_transaction ≡ false
       → F d H → IsListed l H → K d ≡ Two → IsJudged Two H → Survives (state g old.conn) (state g new.conn) P
       → (L : Kept) → Stands g F K old L → length H ≤ L.greatest → Stands g F K new (record { greatest = L.greatest; history = H; own = false })
@@ -132,7 +123,6 @@ module _ {S D : Type 0} (g : Ghosts S) (F : D → History → Type 0) (K : D →
     tables = λ clean own. absurd (true≢false (sym own));
   }
 
-  -- The same for the history that the store represented.
   pub remade_same : {P : Trees → Type 0} (old new : LineStore S D) (d : D) (l : TraceLists) (L : Kept) → new.greatest ≡ old.greatest → new.count ≡ length L.history → new.desk ≡ Some d → new.lists ≡ Some l → new.conn.in_transaction ≡ false
       → F d L.history → IsListed l L.history → K d ≡ Two
       → Survives (state g old.conn) (state g new.conn) P → (HasCleanDisk (state g new.conn) → KeepsCommit (state g old.conn) (state g new.conn)) → Stands g F K old L → Stands g F K new L
@@ -173,7 +163,6 @@ module _ {S D : Type 0} (g : Ghosts S) (F : D → History → Type 0) (K : D →
     tables = λ clean own is_open. subst (λ (db : Database). Holds db (ledger_tables L.greatest L.history)) (sym ((kept clean).committed is_open)) (s.tables (clean_before P survives clean) own ((kept clean).was_open is_open));
   }
 
-  -- A change was committed.
   pub stands_on : {P : Trees → Type 0} (old new : LineStore S D) (L : Kept) (change : Change) (edits : List Edit) → Stands g F K old L → old.count < old.greatest
       → IsChange Two L.history change.stamped change → IsStamped change.stamped → IsMinute change.minute
       → new.count ≡ old.count + 1 → new.greatest ≡ old.greatest → new.conn.in_transaction ≡ false → IfSome new.desk (λ d. F d (accept L.history change.stamped) × (K d ≡ Two))
@@ -202,7 +191,6 @@ module _ {S D : Type 0} (g : Ghosts S) (F : D → History → Type 0) (K : D →
       judged : IsJudged Two (accept L.history change.stamped)
       judged = (next_is Two L.history change.stamped change stamped minute is, s.judged)
 
-  -- A call only read.
   pub read_on : {P : Trees → Type 0} (old new : LineStore S D) → new.greatest ≡ old.greatest → new.count ≡ old.count → new.desk ≡ old.desk → new.lists ≡ old.lists → (old.conn.in_transaction ≡ false → new.conn.in_transaction ≡ false)
       → Survives (state g old.conn) (state g new.conn) P → (HasCleanDisk (state g new.conn) → KeepsCommit (state g old.conn) (state g new.conn)) → (L : Kept) → Stands g F K old L → Stands g F K new L
   read_on {P} old new greatest count desk lists mode survives kept L s = record {
@@ -224,7 +212,6 @@ module _ {S D : Type 0} (g : Ghosts S) (F : D → History → Type 0) (K : D →
   pub reads_on : (old new : LineStore S D) → new.greatest ≡ old.greatest → new.count ≡ old.count → new.desk ≡ old.desk → new.lists ≡ old.lists → ReadsOnly g old.conn new.conn → ReadsStore g F K old new
   reads_on old new greatest count desk lists reads = record { stands = read_on old new greatest count desk lists reads.mode reads.survives reads.kept; desk = desk; reads = reads }
 
-  -- A repeated command, or one without room, leaves the history unchanged.
   pub stands_still : (store : LineStore S D) (L : Kept) (s : Stamped) → (is_some (earlier_answer L.history s) || is_full L.greatest L.history) ≡ true → Stands g F K store L → Stands g F K store (record L { history = command_after Two L.greatest L.history s })
   stands_still store L s settled stands = subst (λ H. Stands g F K store (record L { history = H })) (sym (ap (λ b. if b then L.history else after_command Two L.history s) settled)) stands
 
@@ -232,7 +219,6 @@ module _ {S D : Type 0} (g : Ghosts S) (F : D → History → Type 0) (K : D →
   pub tables_there : (store : LineStore S D) (L : Kept) → Stands g F K store L → ShowsTables g store L
   tables_there store L s clean own = elim (s.stays_open clean) [ inl is_open ↦ inl (s.tables clean own is_open) | inr failed ↦ inr failed ]
 
-  -- A call that may have accepted it.
   pub stands_either : (r : Result Answer Fault) (new : LineStore S D) (L M : Kept) → OnOk r (Stands g F K new M) → OnErr r (Stands g F K new L) → (N : Kept) × Stands g F K new N
   stands_either (Ok a) new L M ok err = (M, ok)
   stands_either (Err e) new L M ok err = (L, err)

@@ -15,12 +15,10 @@ use Rattle.line_traces.proofs.Minutes.{IsRowOf, list-held}
 use Rattle.line_schema.specs.declared.store.LineStore.{LineStore}
 use Rattle.line_schema.specs.Stands.{Kept, Stands}
 
--- The rows of `accepted` are those of the entries.
 rows-are : (H : History) → AllZip IsRowOf H (rows_of H)
 rows-are [] = tt
 rows-are (e ∷ H) = ((refl, refl), rows-are H)
 
--- A desk that represents the history by rules Two represents it.
 stands-so : {D : Type 0} (F : D → History → Type 0) (K : D → Rules) (desk : Option D) (H : History) → IfSome desk (λ d. F d H × (K d ≡ Two)) → IfSome desk (λ d. F d H)
 stands-so F K None H stands = stands
 stands-so F K (Some d) H stands = stands.0

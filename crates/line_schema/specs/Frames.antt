@@ -26,8 +26,8 @@ pub record MakesDesk {S D : Type 0} (g : Ghosts S) (StandsFor : D → History �
   pub stands : ForKept g StandsFor kept_rules old new (Stands g StandsFor kept_rules new)
   pub survives : Survives (state_of g old) (state_of g new) (λ _. ⊥)
 
--- A connection after a failed creation of tables. The committed contents stay, and no new transaction is open. A
--- crash leaves what it could leave before, or the tables of an empty history.
+-- A connection after a failed creation of tables. The committed contents stay, and no new transaction is open. A crash
+-- leaves the same as before, or the tables of an empty history.
 pub record LeavesUnmade {S : Type 0} (g : Ghosts S) (greatest : ℕ) (old new : Held S) : Type 0 where
   pub kept : HasCleanDisk (state g new) → KeepsCommit (state g old) (state g new)
   pub mode : old.in_transaction ≡ false → new.in_transaction ≡ false
@@ -39,7 +39,7 @@ pub record LeavesOthers (old : State) (trees : Trees) : Type 0 where
   pub rows : HasOthers old.committed trees
 
 -- Other people's tables behind ours, on an honest disk: while the connection is open their rows are unchanged. A crash
--- leaves what it could leave before, or trees with those rows.
+-- leaves the same as before, or trees with those rows.
 pub record LetsOthersBe (old new : State) : Type 0 where
   pub was_open : HasCleanDisk new → IsTrue new.is_open → IsTrue old.is_open
   pub rows : HasCleanDisk new → IsTrue new.is_open → KeepsOthers old.committed new.committed

@@ -80,7 +80,7 @@ IsToldBy rules old _ = ⊤
 abbrev pub IsToldOf : State → OpenFault → Type 0
 IsToldOf = IsToldBy Two
 
--- The history is lawful and its rows are present. Of the other tables, in their order, this is the first whose rows are
+-- The history is lawful and its rows are present. This is the first of the other tables, in their order, whose rows are
 -- not the history's.
 pub record IsTableFault (rules : Rules) (old : State) (table : StateTable) : Type 0 where
   pub greatest : ℕ
@@ -110,9 +110,9 @@ fault_text (TableDiffers table) = codes "TableDiffers " ++ name_of table
 fault_text NotBlank = codes "NotBlank"
 fault_text Unavailable = codes "Unavailable"
 
--- By these rules the desk represents a judged history of this length, within the greatest number, and the trace indexes
--- list it. On a clean disk, if the schema is ours, `version` has that greatest number, the history is lawful, its rows
--- are committed, the other tables are the history's, and their rowids are distinct.
+-- The desk represents a judged history of this length by these rules, within the greatest number, and the trace indexes
+-- list it. On a clean disk with our schema: `version` has that greatest number, the history is lawful, its rows are
+-- committed, the other tables are the history's, and their rowids are distinct.
 pub record IsOpened {D : Type 0} (StandsFor : D → History → Type 0) (kept_rules : D → Rules) (Clean : Type 0) (old : State) (by : Rules) (opened : Opened D) (H : History) : Type 0 where
   pub stands : StandsFor opened.desk H
   pub lists : IsListed opened.lists H

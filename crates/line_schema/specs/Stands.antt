@@ -98,13 +98,12 @@ pub record IsAcceptable (L : Kept) (s : Stamped) : Type 0 where
   pub room : length L.history < L.greatest
 
 -- The tables that a crash may leave after a new command. If it was accepted: only the tables with it. If it was not
--- answered: what it could leave before or, if the command is acceptable, those tables. Otherwise: what it could leave
--- before.
+-- answered: the earlier ones or, if the command is acceptable, those. Otherwise: the earlier ones.
 abbrev pub NewlyLeaves : Kept → Stamped → Answer → Type 0 → Trees → Type 0
 NewlyLeaves L s (Accepted n text) before trees = HoldsAt (ledger_tables L.greatest (accept L.history s)) trees
 NewlyLeaves L s Unavailable before trees = before ⊎ (IsAcceptable L s × HoldsAt (ledger_tables L.greatest (accept L.history s)) trees)
 NewlyLeaves L s _ before trees = before
 
--- After a repeated command a crash may leave what it could leave before.
+-- A repeated command does not change which tables a crash may leave.
 abbrev pub Leaves : Kept → Stamped → Answer → Type 0 → Trees → Type 0
 Leaves L s answer before trees = MatchBool (is_some (earlier_answer L.history s)) before (NewlyLeaves L s answer before trees)

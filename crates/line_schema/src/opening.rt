@@ -112,7 +112,6 @@ fn greatest_of(version: &Version, rules: Rules) -> Result<u32, OpenFault>
     Ok(greatest as u32)
 }
 
-/// Returns the version of the tables for these rules.
 fn number_of(rules: Rules) -> i64
     ensures { result ≡ pos (version_of rules) }
 {

@@ -194,7 +194,6 @@ impl<S: Alter, D: KeepsRows + Drop> LineStore<S, D> {
         self.remake()
     }
 
-    /// Rebuilds the desk and its trace indexes from the tables.
     fn remake(&mut self) -> Result<(), Unavailable>
         requires stands { (L : Kept) × Stands S.Store D.Stands D.kept_rules self.old L }
         ensures ok { OnOk result (IsTrue (has_desk self.new)) }

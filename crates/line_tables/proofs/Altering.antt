@@ -31,19 +31,15 @@ state_tables indexed = part ∷ alternate ∷ sheet_row ∷ selected ∷ reel �
 
 -- ---- the rows of one table
 
--- The rows in the table's own tree, by their columns.
 abbrev pub rows_at : Table → Database → List Row
 rows_at table db = map (columns table) (db.trees table.tree)
 
--- In this layout, the rows of `found` are in its tree.
 pub found_kept : (indexed : Layout) (db : Database) → db.schema ≡ schema_of Two indexed → kept_in found db ≡ db.trees (found_tree indexed)
 found_kept indexed db has = ap (λ n. db.trees n) (ap (tree_in found) has)
 
--- The rows without those that have a key.
 abbrev pub without : (Row → Bool) → List Row → List Row
 without has rows = filter (λ row. not (has row)) rows
 
--- The rows after this one replaced the row with its key.
 abbrev pub put_in : (Row → Bool) → Row → List Row → List Row
 put_in has row rows = row ∷ without has rows
 
@@ -60,7 +56,6 @@ pub record Steps (indexed : Layout) (table : Table) (old new : State) : Type 0 w
   pub sound : old.now.schema ≡ schema_of Two indexed → IsDatabase new.now
   pub others : old.now.schema ≡ schema_of Two indexed → AllByRecursion (λ t. t.tree ≢ table.tree → new.now.trees t.tree ≡ old.now.trees t.tree) (schema_tables Two indexed)
 
--- The rows of this table changed in this way.
 pub record Alters (indexed : Layout) (table : Table) (change : List Row → List Row) (old new : State) : Type 0 where
   pub steps : Steps indexed table old new
   pub rows : old.now.schema ≡ schema_of Two indexed → (rows : List Row) → IsKept table old.now rows → IsKept table new.now (change rows)
@@ -70,7 +65,6 @@ others_then : (tree : ℕ) (tables : List Table) (a b c : Trees) → AllByRecurs
 others_then tree [] a b c p q = tt
 others_then tree (t ∷ ts) a b c p q = (λ other. q.0 other ∙ p.0 other, others_then tree ts a b c p.1 q.1)
 
--- One change and then another of one table.
 pub alters_then : (indexed : Layout) (table : Table) (f g : List Row → List Row) (a b c : State) → Alters indexed table f a b → Alters indexed table g b c → Alters indexed table (λ rows. g (f rows)) a c
 alters_then indexed table f g a b c p q = record {
   steps = record {
@@ -98,7 +92,6 @@ other_found : (indexed : Layout) (tree : ℕ) → (not (21 == tree) && not (19 =
 other_found (Indexed others) tree h = other_tree 21 tree (and_parts _ _ h).0
 other_found (Plain others) tree h = other_tree 19 tree (and_parts _ _ h).1
 
--- The tree does not belong to `found` in either layout.
 pub far_from_found : (indexed : Layout) (tree : ℕ) → (not (tree == 21) && not (tree == 19)) ≡ true → not (tree == found_tree indexed) ≡ true
 far_from_found (Indexed others) tree h = (and_parts _ _ h).0
 far_from_found (Plain others) tree h = (and_parts _ _ h).1
@@ -124,7 +117,6 @@ pub record IsElsewhere (indexed : Layout) (tree : ℕ) (old new : Database) : Ty
 pub elsewhere : (indexed : Layout) (table : Table) (old new : State) → Steps indexed table old new → old.now.schema ≡ schema_of Two indexed → IsElsewhere indexed table.tree old.now new.now
 elsewhere indexed table old new step has = record { was = has; is = step.same has; others = step.others has }
 
--- So the rows of `found` stay.
 found_stays : (indexed : Layout) (tree : ℕ) (old new : Database) → IsElsewhere indexed tree old new → (not (21 == tree) && not (19 == tree)) ≡ true → kept_in found new ≡ kept_in found old
 found_stays indexed tree old new e h = found_kept indexed new e.is ∙ e.others.1.1.1.1.1.1.1.1.1.1.0 (other_found indexed tree h) ∙ sym (found_kept indexed old e.was)
 
@@ -157,7 +149,6 @@ module _ (indexed : Layout) (tree : ℕ) (old new : Database) (e : IsElsewhere i
   pub all_apart : AreAllApart old → AreAllApart new
   all_apart was = (still_apart part e.others.1.1.0 was.0, (still_apart alternate e.others.1.1.1.0 was.1.0, (still_apart sheet_row e.others.1.1.1.1.0 was.1.1.0, (still_apart selected e.others.1.1.1.1.1.0 was.1.1.1.0, (still_apart reel e.others.1.1.1.1.1.1.0 was.1.1.1.1.0, (still_apart mount e.others.1.1.1.1.1.1.1.0 was.1.1.1.1.1.0, (still_apart board e.others.1.1.1.1.1.1.1.1.0 was.1.1.1.1.1.1.0, (found_apart was.1.1.1.1.1.1.1.0, tt))))))))
 
--- The case in which the changed table is not one of these.
 pub all_apart_but : (indexed : Layout) (tree : ℕ) (old new : Database) → IsElsewhere indexed tree old new → list_all (λ (u : Table). not (u.tree == tree)) (found_by (Plain no_others) ∷ changed_tables) ≡ true → AreAllApart old → AreAllApart new
 all_apart_but indexed tree old new e none was =
     let m = and_parts _ _ none in
@@ -174,7 +165,6 @@ all_apart_but indexed tree old new e none was =
 
 -- ---- all tables
 
--- Only `accepted` gets a row.
 pub list_grows : (row : Row) (old new : Database) (t : Tables) → (was : Holds old t) → IsElsewhere was.indexed 1 old new → IsPermutation (rows_in accepted new) (row ∷ t.accepted) → Holds new (record t { accepted = row ∷ t.accepted })
 list_grows row old new t was e list =
     let k = others_hold was.indexed 1 old new t.state e was.state in
@@ -187,7 +177,6 @@ list_grows row old new t was e list =
       apart = all_apart_but was.indexed 1 old new e refl was.apart;
     }
 
--- Every table is empty but `version`.
 pub holds_blank : (indexed : Layout) (greatest : ℕ) (db : Database) → db.schema ≡ schema_of Two indexed → rows_in version db ≡ version_row Two greatest ∷ [] → AllByRecursion (λ u. db.trees u.tree ≡ []) (accepted ∷ state_tables indexed) → Holds db (blank greatest)
 unfolding takes_of found_of
 holds_blank indexed greatest db has one empty =
@@ -240,7 +229,6 @@ module _ (e : RowEdit) (table : Layout → Table) (old new : State) (sole : (ind
     };
   }
 
--- The same for a table whose rows have distinct rowids.
 pub alters_writes : (e : RowEdit) (table : Layout → Table) (change : List Row → List Row) (old new : State) → ((indexed : Layout) → (not (0 == (table indexed).tree) && (not (1 == (table indexed).tree) && is_low indexed (table indexed).tree)) ≡ true)
     → ((indexed : Layout) → old.now.schema ≡ schema_of Two indexed → AreAllApart old.now → AreApart (old.now.trees (table indexed).tree))
     → ((indexed : Layout) (t : StateTables) → IsElsewhere indexed (table indexed).tree old.now new.now → HoldsState old.now t → OthersHold (table indexed).tree new.now t → IsNewRow e t → IsPermutation (rows_at (table indexed) new.now) (change (rows_at (table indexed) old.now)) → HoldsState new.now (state_with e t))

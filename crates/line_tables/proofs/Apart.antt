@@ -98,7 +98,6 @@ module _ (m : Row → Bool) (rows : List Row) (h : AreApart rows) where
     ]
   ]
 
-  -- The result begins with the rowids of the rows that pass.
   pub taken : (show : Row → Row) → ((r : Row) → rowid (show r) ≡ rowid r) → (found : List Row) → IsPermutation (map show (filter m rows)) found → without_all rows (ids_of found) ≡ filter (λ r. not (m r)) rows
   taken show begins found same =
       without_all_is (ids_of found) rows ∙ filter_same_has _ _ rows (λ r there. ap not (any_map (λ y. id_in (rowid y)) (λ id. has_rowid id r) found

@@ -32,11 +32,9 @@ use Rattle.line_tables.proofs.Inserts.{went, same_value, concludes_as}
 use Rattle.line_tables.proofs.FindTexts.{rows_from}
 use Rattle.line_tables.proofs.Finds.{rows_answer, shown_is, whole}
 
--- The row passes the tests.
 abbrev pub passing : List Term → Row → Row → Bool
 passing tests params r = list_all (holds (params ∷ r ∷ [])) tests
 
--- The values shown for a row.
 abbrev pub shows_of : ℕ → List Term → List Term → Row → Row → Row
 shows_of tree tests project params r = (output (rows_from tree tests project) (params ∷ r ∷ [])).1
 
@@ -81,7 +79,6 @@ updates_as task q db done h =
     let is : done.trees ≡ next.0 = ap (λ (w : Written). w.trees) (same_value next.2) in
     (rows.0, rows.1, subst (λ t. Edited task.schema task.keys db (edit_of db task.table (ids_of rows.0) Given 1 rows.0) (Ok t)) (sym is) next.1, ap (λ (w : Written). w.rows) (same_value next.2))
 
--- The number of changed rows that the connection reports.
 told : (task : Task) (mode : Mode) (w : Written) (out : Tally × Database) → Concludes task mode None w (Ok out) → out.0.rows ≡ Some (length w.rows)
 told task mode w out h =
     let tested = went h in
@@ -121,7 +118,6 @@ module _ (sql : List ℕ) (params : Row) (old new : State) (schema : Schema) (ha
         others = subst (λ (t : Trees). AllByRecursion (λ u. u.tree ≢ table.tree → t u.tree ≡ db u.tree) schema.tables) (sym trees) step.tables;
       }
 
-  -- The same, with the number of rows found.
   pub update_does : command_of (understood schema sql) ≡ Update at query → (h : Changed schema table tests project params (renewed table) old new) × (count ≡ length h.found)
   update_does is =
       let w = runs_as sql params old new schema has (Update at query) is plain count ran in

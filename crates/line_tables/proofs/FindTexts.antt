@@ -33,7 +33,6 @@ IsSelectBy sql q names = (rules : Rules) (indexed : Layout) → IsSelectIn (sche
 abbrev pub IsSelect : List ℕ → Query → List (List ℕ) → Type 0
 IsSelect sql q names = IsSelectBy sql (λ _. q) names
 
--- The places of the columns of `accepted` in a stored row.
 abbrev pub accepted_places : List Term
 accepted_places = col 1 0 ∷ col 1 2 ∷ col 1 3 ∷ col 1 4 ∷ col 1 5 ∷ col 1 6 ∷ col 1 7 ∷ []
 
@@ -96,7 +95,6 @@ select_count = codes "SELECT count(*) FROM accepted"
 abbrev pub count_all : Grouping
 count_all = record { keys = []; collations = []; aggregates = record { op = by.CountRows; distinct = false; collation = Binary; argument = lit Null } ∷ []; having = [] }
 
--- The number of rows of a table.
 abbrev pub count_from : ℕ → Query
 count_from tree = record { from = inner tree end; filter = []; group = Some count_all; project = col 1 0 ∷ []; distinct = false; collations = []; order = []; limit = lit (Int (negsuc 0)); offset = lit (Int (pos 0)) }
 

@@ -24,7 +24,6 @@ use Rattle.line_tables.proofs.Altering.{without}
 
 -- ---- values that SQL considers equal
 
--- A value equals another that is neither less nor greater.
 tied : (v a : Value) → equal Binary v a ≡ true → value_cmp v a ≡ Equal
 unfolding binary
 tied v a e = go (is_null v || is_null a) (value_cmp v a) e
@@ -83,7 +82,6 @@ one_piece a b row p q =
     let y = and_parts _ _ q in
     ap₂ (λ (m n : ℕ). (m, n)) (one_int 0 a.0 b.0 row x.0 y.0) (one_int 1 a.1 b.1 row x.1 y.1)
 
--- Whether two keys are equal.
 abbrev pub same_pair : Name × Name → Name × Name → Bool
 same_pair a b = same a.0 b.0 && same a.1 b.1
 
@@ -132,7 +130,6 @@ all_filter P p (x ∷ xs) h = go (p x) (all_filter P p xs h.1)
     go true more = (h.0, more)
     go false more = more
 
--- A list of at most one row has one order.
 one_list : (xs : List Row) (o : Option Row) → IsPermutation xs (option_to_list o) → xs ≡ option_to_list o
 one_list [] None h = refl
 one_list (x ∷ xs) None h = absurd (omega (arith, length_permutation _ _ h))
@@ -147,7 +144,6 @@ none_out p (r ∷ rs) h = go (p r) h (none_out p rs)
     go false h more = ap (λ l. r ∷ l) (more h)
 
 module _ {K R : Type 0} (has : K → Row → Bool) (columns : K → R → Row) (one_key : (k l : K) (row : Row) → has k row ≡ true → has l row ≡ true → k ≡ l) (is : K → K → Bool) (tells : Tells is) where
-  -- The row that an edit puts at a key, if any.
   abbrev put_at : K → Option R → List Row
   put_at k o = option_to_list (option_map (columns k) o)
 
@@ -210,7 +206,6 @@ module _ {K R : Type 0} (has : K → Row → Bool) (columns : K → R → Row) (
       at_each l true e now = subst (λ m. filter (has m) (put_at k o ++ without (has k) rows) ≡ put_at m (g l)) (tells.one k l e) (at_own k o rows own ∙ ap (put_at k) (sym now))
       at_each l false e now = at_other k l e o rows own ∙ h.found l ∙ ap (put_at l) (sym now)
 
-  -- A row is added for a key that had no row.
   pub added : (k : K) (r : R) (rows news : List Row) (f g : K → Option R) → f k ≡ None → has k (columns k r) ≡ true → ((l : K) → g l ≡ (if is k l then Some r else f l)) → IsPermutation news (columns k r ∷ rows)
       → AreRows has columns rows f → AreRows has columns news g
   added k r rows news f g free own each same h =

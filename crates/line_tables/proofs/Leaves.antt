@@ -10,12 +10,10 @@ use Rattle.line_tables.specs.Rows.{Holds, HoldsBy, blank}
 use Rattle.line_tables.specs.Line.{no_schema}
 use Rattle.line_tables.specs.Calls.{HasOthers, KeepsOthers, Edits, Writes, Makes, Migrated, Migrates, LeavesEdited, LeavesBlank, LeavesMigrated}
 
--- A transaction that has just begun reads the committed contents.
 pub settled_migrates : {S : Type 0} (g : Ghosts S) (old last : Held S) → (IsTrue (state g old).is_open → (state g old).now ≡ (state g old).committed) → Migrates (state g (record old { in_transaction = true })) (state g last) → (after : Database) → after ≡ (state g last).now
     → Migrated (state g old).committed after
 settled_migrates g old last settled w after is = subst (λ (db : Database). Migrated db after) (settled w.was_open) (subst (Migrated (state g old).now) (sym is) w.done)
 
--- So it does after edits.
 pub settled_edits : {S : Type 0} (g : Ghosts S) (old last : Held S) (edits : List Edit) → (IsTrue (state g old).is_open → (state g old).now ≡ (state g old).committed) → Writes edits (state g (record old { in_transaction = true })) (state g last) → (after : Database) → after ≡ (state g last).now
     → Edits edits (state g old).committed after
 settled_edits g old last edits settled w after is = subst (λ (db : Database). Edits edits db after) (settled w.was_open) (subst (Edits edits (state g old).now) (sym is) w.done)
@@ -25,7 +23,6 @@ pub settled_others : {S : Type 0} (g : Ghosts S) (old last : Held S) (edits : Li
     → KeepsOthers (state g old).committed after
 settled_others g old last edits settled w after is = subst (λ (db : Database). KeepsOthers db after) (settled w.was_open) (subst (KeepsOthers (state g old).now) (sym is) w.others)
 
--- The tables of an empty history are the newly created ones.
 pub settled_makes : {S : Type 0} (g : Ghosts S) (old last : Held S) (greatest : ℕ) → Makes greatest (state g (record old { in_transaction = true })) (state g last) → (after : Database) → after ≡ (state g last).now → (state g old).now.schema ≡ no_schema → Holds after (blank greatest)
 settled_makes g old last greatest w after is has = subst (λ (db : Database). Holds db (blank greatest)) (sym is) (w.done has).1
 

@@ -33,14 +33,12 @@ use Rattle.line_tables.specs.Line.Layout.{Indexed, Plain}
 abbrev rest : Layout → List Table
 rest indexed = drop 1 (schema_tables One indexed)
 
--- A single row has a distinct rowid.
 apart_one : (r : Row) (n : ℤ) → column r 0 ≡ Int n → AreApart (r ∷ [])
 apart_one r n is = record {
   keyed = λ a there. elim there [ inl same ↦ subst (λ x. IsTrue (is_int (rowid x))) (sym same) (subst (λ v. IsTrue (is_int v)) (sym is) refl) | inr none ↦ absurd none ];
   apart = λ a b one other tie. elim one [ inl p ↦ elim other [ inl q ↦ p ∙ sym q | inr none ↦ absurd none ] | inr none ↦ absurd none ];
 }
 
--- Trees that stayed over two changes, the second of another tree.
 kept_on : (tree : ℕ) (tables more : List Table) (a b c : Trees) → list_all (λ u. not (u.tree == tree)) tables ≡ true → KeepsRows tables a b → AllByRecursion (λ u. u.tree ≢ tree → c u.tree ≡ b u.tree) (tables ++ more) → KeepsRows tables a c
 kept_on tree [] more a b c apart kept others = tt
 kept_on tree (u ∷ us) more a b c apart kept others = let is = and_parts _ _ apart in (others.0 (other_tree u.tree tree is.0) ∙ kept.0, kept_on tree us more a b c is.1 kept.1 others.1)

@@ -40,7 +40,6 @@ module _ {X : Type 0} (cmp : X → X → Ordering) (total : IsTotalOrder cmp) wh
   turned Equal h = refl
   turned Greater h = refl
 
-  -- The first element of a sorted list is not greater than any other.
   first_least : (x : X) (ys : List X) → IsSorted cmp (x ∷ ys) → AllByRecursion (AtMost x) ys
   first_least x [] sorted = tt
   first_least x (y ∷ ys) sorted =
@@ -126,7 +125,6 @@ one_summary order n is [] zip = absurd zip
 one_summary order n is (r ∷ s ∷ more) zip = absurd zip.1
 one_summary order n is (r ∷ []) zip = ap (λ x. x ∷ []) (zip.0.2 ∙ one_value order n is zip.0.0 zip.0.1)
 
--- All rows form one group, and its row is their count.
 summed : (all staged : List Env) → Summarizes count_all [] all staged → staged ≡ ([] ∷ (counted (length all) ∷ []) ∷ []) ∷ []
 summed all staged s =
     let order = s.grouping.0 in
@@ -148,7 +146,6 @@ count_is tree db shown a n is below =
     let row : ◌≡◌ {A = List Row} ((Int (pos n) ∷ []) ∷ []) ((counted (length all) ∷ []) ∷ []) = sym is ∙ a.shown ∙ ap (map (λ (o : Output). o.1)) ordered in
     not_most n (length all) 9223372036854775807 (same_number n _ row) below ∙ envs_length rows
 
--- The number of a table's rows is read if it is below the greatest count of SQL.
 pub finds_count : {S : Type 0} (g : Ghosts S) (sql : List ℕ) (tree : Schema → ℕ) (names : List (List ℕ)) → IsSelectBy sql (λ schema. count_from (tree schema)) names → (columns : Row → Row) (old : Held S) (rows : List Row) (n : ℕ) → Selects g sql [] old rows → rows ≡ (Int (pos n) ∷ []) ∷ []
     → n < 9223372036854775807 → Reads (state g old) (λ db. n ≡ length (map columns (db.trees (tree db.schema))))
 finds_count g sql tree names is columns old rows n h shown below = record {

@@ -32,7 +32,6 @@ same_itself gnil = refl
 same_itself (gnum n) = eq-eqb n n refl
 same_itself (gcons a b) = ap₂ (λ x y. x && y) (same_itself a) (same_itself b)
 
--- The test accepts the same schema, and no other.
 same_schema : (a b : Schema) → is_same_schema a b ≡ true → a ≡ b
 unfolding is_same_schema
 same_schema a b h = the_row.coded.inj a b (same_is _ _ h)

@@ -47,7 +47,6 @@ pub not_taken : (b : Bool) → (not b && true) ≡ true → b ≡ false
 not_taken true h = absurd (cc)
 not_taken false h = refl
 
--- A row with a free key is added.
 pub put_permutes : (rows : List Row) (new : Row) → is_taken rows new ≡ false → IsPermutation (put_row new rows) (new ∷ rows)
 put_permutes [] new h = IsPermutation-refl (new ∷ [])
 put_permutes (r ∷ rows) new h =
@@ -109,7 +108,6 @@ module _ (edits rest : List Edit) (n : ℕ) (old mid : Database) (was : Remain e
   both : take n rest ++ drop n rest ≡ rest
   both = take-append-drop n rest
 
-  -- The first of the remaining edits are made.
   pub remain_less : (new : Database) → Edits (take n rest) mid new → Remain edits (drop n rest) old new
   remain_less new step tables h fresh =
       let m = was tables h fresh in
@@ -117,7 +115,6 @@ module _ (edits rest : List Edit) (n : ℕ) (old mid : Database) (was : Remain e
       let next = step m.0 m.1 parts.0 in
       (after_edits (take n rest) m.0, next.1, parts.1, sym (fold-append with_edit m.0 (take n rest) (drop n rest)) ∙ ap (λ l. after_edits l m.0) both ∙ m.3, next.0 ∙ m.4)
 
-  -- The trees list the schema.
   pub sound_less : (sound : Type 0) → ((tables : Tables) → Holds mid tables → AreNew (take n rest) tables → sound) → (tables : Tables) → Holds old tables → AreNew edits tables → sound
   sound_less sound step tables h fresh =
       let m = was tables h fresh in

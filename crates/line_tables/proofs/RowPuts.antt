@@ -178,7 +178,6 @@ module _ (i : Layout) (table : Table) (at : ℕ) (key : Name) (rest : Row) (term
   abbrev values : Row
   values = Text key ∷ rest
 
-  -- The row with the key keeps its key and its rowid.
   renews : (r : Row) → passing key_tests values r ≡ true → IsTrue (is_int (rowid r))
       → let news = cast_row table (drop 1 (shows_of table.tree key_tests terms values r)) in IsTrue (is_int (rowid news)) × (columns table news ≡ values)
   renews r passes keyed =

@@ -24,7 +24,6 @@ IsDelete sql at tree tests = (indexed : Layout) → (command_of (understood (sch
 abbrev pub IsInsert : List ℕ → ℕ → List Term → ℕ → Type 0
 IsInsert sql at terms width = (indexed : Layout) → (command_of (understood (schema_of Two indexed) sql) ≡ Insert at (Values terms width)) × IsPlain (understood (schema_of Two indexed) sql)
 
--- The value at this place of a row is that of a parameter.
 abbrev pub is_param : ℕ → ℕ → Term
 is_param place param = op2 (Compare Eq Binary) (col 1 place) (col 0 param)
 
@@ -169,11 +168,10 @@ pub insert_placements_is : IsInsert insert_placements 9 placements_terms 9
 unfolding understood everything
 insert_placements_is indexed = (refl, (refl, refl))
 
--- The first value of the row is the first parameter.
 abbrev pub key_tests : List Term
 key_tests = is_param 1 0 ∷ []
 
--- The text changes the rows that pass that test to these terms, in the table at this place with this tree.
+-- The text changes the rows that have the first parameter as key to these terms, in the table with this tree.
 abbrev pub IsUpdate : List ℕ → ℕ → (Layout → ℕ) → List Term → Type 0
 IsUpdate sql at tree renewed = (indexed : Layout) → (command_of (understood (schema_of Two indexed) sql) ≡ Update at (record { lets = []; body = rows_from (tree indexed) key_tests renewed })) × IsPlain (understood (schema_of Two indexed) sql)
 

@@ -12,7 +12,6 @@ use Rattle.line_tables.specs.Line.{found, tree_in}
 use Rattle.line_tables.proofs.FindTexts.{IsSelect, IsSelectBy}
 use Rattle.line_tables.specs.Line.Layout.{Indexed, Plain}
 
--- All rowids of a table, sorted.
 abbrev pub rowids_from : ℕ → Query
 rowids_from tree = record { from = inner tree end; filter = []; group = None; project = col 1 0 ∷ []; distinct = false; collations = []; order = (col 1 0, ascending Binary) ∷ []; limit = lit (Int (negsuc 0)); offset = lit (Int (pos 0)) }
 

@@ -3,7 +3,6 @@ use Rattle.std.proofs.Common.{◌≡◌, ◌∙◌, ◌<◌, ◌-◌, ℕ, List,
 use Rattle.std.specs.List.{flat_map, join_with_byte}
 use Rattle.std.proofs.lemmas.List.{append-nil, take_all}
 
--- Each text after the first has the byte before it.
 join_flat : (c : ℕ) (x : List ℕ) (xs : List (List ℕ)) → join_with_byte c (x ∷ xs) ≡ x ++ flat_map (λ y. c ∷ y) xs
 join_flat c x [] = sym (append-nil x)
 join_flat c x (y ∷ ys) = ap (λ rest. x ++ c ∷ rest) (join_flat c y ys)

@@ -15,7 +15,8 @@ pub record ReadsOnly {S : Type 0} (g : Ghosts S) (old new : Held S) : Type 0 whe
   pub mode : old.in_transaction ≡ false → new.in_transaction ≡ false
   pub survives : Survives (state g old) (state g new) (λ _. ⊥)
 
--- A call inside a transaction. It leaves the connection, the committed contents and what a crash may leave unchanged.
+-- A call inside a transaction. It changes neither the connection, nor the committed contents, nor the possible results
+-- of a crash.
 pub record InTransaction {S : Type 0} (g : Ghosts S) (old new : Transaction S) : Type 0 where
   pub same_reference : new.conn.ghost_name ≡ old.conn.ghost_name
   pub kept : HasCleanDisk (state g new.conn.now) → KeepsCommit (state g old.conn.now) (state g new.conn.now)

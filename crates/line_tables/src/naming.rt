@@ -200,7 +200,6 @@ fn has_table(tables: &[Table], name: &str, columns: &[&str]) -> bool
     tables.iter().any(|table| is_named(table, name, columns))
 }
 
-/// Returns whether the table has this name and these columns.
 fn is_named(table: &Table, name: &str, columns: &[&str]) -> bool
     ensures { result ≡ (same_name table.now.name name.now && list_all
         (λ column. has_column table.now column.now) columns.now) }

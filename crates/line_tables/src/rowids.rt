@@ -30,7 +30,6 @@ pub fn are_apart<S: Alter>(conn: &mut Connection<S>, rules: Rules) -> Result<boo
     is_floor_apart(conn, rules)
 }
 
-/// The setup tables.
 fn is_setup_apart<S: Alter>(conn: &mut Connection<S>) -> Result<bool, Error>
     ensures found { HasCleanDisk (state S.Store conn.new)
         → IfOk result (λ apart. Reads (state S.Store conn.old) (AreApartWhere apart (take 4 changed_tables))) }
@@ -44,7 +43,6 @@ fn is_setup_apart<S: Alter>(conn: &mut Connection<S>) -> Result<bool, Error>
     Ok(are_true(part, alternate, sheet_row, selected))
 }
 
-/// The tables of reels, mounts, boards and found pieces.
 fn is_floor_apart<S: Alter>(conn: &mut Connection<S>, rules: Rules) -> Result<bool, Error>
     ensures found { HasCleanDisk (state S.Store conn.new)
         → IfOk result (λ apart. Reads (state S.Store conn.old) (AreApartWhere apart (drop 4 (changed_of rules)))) }
@@ -58,7 +56,6 @@ fn is_floor_apart<S: Alter>(conn: &mut Connection<S>, rules: Rules) -> Result<bo
     Ok(are_true(reel, mount, board, found))
 }
 
-/// The table of found pieces, if there is one.
 fn is_found_apart<S: Alter>(conn: &mut Connection<S>, rules: Rules) -> Result<bool, Error>
     ensures found { HasCleanDisk (state S.Store conn.new)
         → IfOk result (λ apart. IsFoundApartWhere rules apart (state S.Store conn.old)) }
@@ -70,7 +67,6 @@ fn is_found_apart<S: Alter>(conn: &mut Connection<S>, rules: Rules) -> Result<bo
     }
 }
 
-/// Returns whether the query shows increasing numbers.
 fn shows_rising<S: Alter>(conn: &mut Connection<S>, sql: &str) -> Result<bool, Error>
     ensures shown { HasCleanDisk (state S.Store conn.new) → IfOk result (Shows S.Store sql.now conn.old) }
     ensures reads { ReadsOnly S.Store conn.old conn.new }
@@ -80,7 +76,6 @@ fn shows_rising<S: Alter>(conn: &mut Connection<S>, sql: &str) -> Result<bool, E
     are_rising(rows.as_slice())
 }
 
-/// Returns whether each row is an integer above that of the row before.
 fn are_rising(rows: &[Row]) -> Result<bool, Error>
     ensures ok { IfOk result (λ rising. IsTrue rising ↔ AreRising rows.now) }
     ensures err { IfErr result (OnlyWhere (¬ AllByRecursion IsNumber rows.now)) }
@@ -96,14 +91,12 @@ fn are_rising(rows: &[Row]) -> Result<bool, Error>
     Ok(true)
 }
 
-/// Returns whether all four are true.
 fn are_true(a: bool, b: bool, c: bool, d: bool) -> bool
     ensures { result ≡ (a && (b && (c && (d && true)))) }
 {
     a && b && c && d
 }
 
-/// Returns whether the number is above the last one, if there is one.
 #[tactic(auto, using(crate::proofs::Rising::past_by, crate::proofs::Rising::less_by))]
 fn is_past(last: Option<i64>, number: i64) -> bool
     ensures { IsTrue result ↔ IsPast last number }

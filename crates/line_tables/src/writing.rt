@@ -98,7 +98,6 @@ fn put_first<S: Alter>(
     Ok(1)
 }
 
-/// The values of the first eight edits, where there are so many and each puts a placement.
 fn first_eight<'a>(alloc: Global, edits: &'a [RowEdit]) -> Result<Option<Vec<ValueRef<'a>>>, Error>
     ensures { IfOk result
         (λ found. IfSome found (λ values. 8 ≤ length edits.now

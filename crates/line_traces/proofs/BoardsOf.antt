@@ -64,7 +64,6 @@ module _ (lot : Name) where
       pair-one is_reel is_its shown_board (rows_in line.reel db) (piece_row p) (reel_columns known.reel) known.found
       ∙ ap (λ b. if b then shown_name p.board ∷ [] else []) (equal-text known.reel.lot lot ∙ ap (λ n. same n lot) known.lot)
 
-  -- The boards of all rows that pass are those of the pieces, in some order.
   all-listed : (db : Database) (H : History) → HoldsList db H → IsPermutation (pairing is_reel is_its shown_board (rows_in line.reel db) (rows_in line.placement db)) (map shown_name (names_of H))
   all-listed db H held =
       let by_row : Row → List Output = λ p. flat_map (λ r. paired is_reel is_its shown_board r p) (rows_in line.reel db) in

@@ -34,7 +34,6 @@ use Rattle.line_traces.proofs.StartedAndReceived.{board-started, receipt-lot}
 
 -- ---- every history
 
--- The trace reports every piece.
 only-there : {X : Type 0} (b : Bool) (x y : X) → ◌≡◌ {A = Option X} (if b then Some x else None) (Some y) → y ≡ x
 only-there true x y is = cc
 only-there false x y is = cc
@@ -62,12 +61,10 @@ rows-converse H board lot pieces boards told names =
 
 -- ---- a judged history
 
--- If nothing is refused, each test for a refusal has passed.
 has-held : {R : Type 0} (b : Bool) (rest : Option R) (refusal : R) → (if b then rest else Some refusal) ≡ None → b ≡ true
 has-held true rest refusal none = refl
 has-held false rest refusal none = cc
 
--- An accepted install is for the board in work on its machine.
 installed-on : (H : History) (machine board : Name) (ds : List Name) → install_refusal H machine board ds ≡ None → in_work_on H machine ≡ Some board
 unfolding install_refusal
 installed-on H machine board ds none = at (in_work_on H machine) (has-held (is_in_work_on H machine board) _ _ none)
@@ -76,11 +73,9 @@ installed-on H machine board ds none = at (in_work_on H machine) (has-held (is_i
     at None is = cc
     at (Some b) is = ap Some (sym (same-true board b is))
 
--- If an entry of a prefix does something, so does an entry of the history.
 later-any : (test : Entry → Bool) (G H : History) → IsPrefix G H → list_any test G ≡ true → list_any test H ≡ true
 later-any test G H before is = ap (list_any test) before.1 ∙ list_any-append test before.0 G ∙ or_right (list_any test before.0) _ is
 
--- The board of a piece was started, and its lot was received.
 known : (H : History) → IsJudged Two H → (p : Placement) → IsRightlyPlaced H p → (is_board H p.board ≡ true) × (is_lot H p.lot ≡ true)
 unfolding command_refusal
 known H judged p right =
@@ -94,7 +89,6 @@ known H judged p right =
       later-any (λ e. receives p.lot e.stamped.command) G H before (receipt-lot G p.reel p.lot right.receipt right.received (ap (λ n. same n p.lot) (sym right.lot) ∙ same-refl p.lot)),
     )
 
--- No unknown name passes a test for known names.
 none-named : (H : History) → IsJudged Two H → (name : Placement → Name) (knows : Name → Bool) → ((p : Placement) → IsRightlyPlaced H p → knows (name p) ≡ true) → (n : Name) → knows n ≡ false
     → filter (λ p. same (name p) n) (placements_of H) ≡ []
 none-named H judged name knows each n unknown =
@@ -107,7 +101,6 @@ none-named H judged name knows each n unknown =
         by true is = let one = ap knows (same-true (name p) n is) in let its = each p right in cc
         by false is = is
 
--- If nothing is missing, the report is complete.
 told-all : {X : Type 0} (b : Bool) (xs : List X) → (b ≡ false → xs ≡ []) → unwrap_or (if b then Some xs else None) [] ≡ xs
 told-all true xs none = refl
 told-all false xs none = sym (none refl)

@@ -95,14 +95,12 @@ module _ {X : Type 0} (cmp : X → X → Ordering) (P : X → Type 0) (test : X 
           sym (list_any-append test g.1 (flat_map members gs)
           ∙ ap (λ b. b || list_any test (flat_map members gs)) (none-alike g.0 g.1 first off (all-rest P g.1 (flat_map members gs) all).0 here)))
 
-  -- If some element passes, one of them is kept.
   pub one-kept : (all kept : List X) → AllByRecursion P all → IsDistinctOf cmp all kept → filter test kept ≡ (if list_any test all then x ∷ [] else [])
   one-kept all kept are (groups, parts, is) =
       ap (filter test) is
       ∙ firsts groups (recursion_from_All P _ (All-permutation P all _ parts.same (All-from_recursion P all are))) parts.alike parts.apart
       ∙ ap (λ b. if b then x ∷ [] else []) (sym (list_any-IsPermutation test all _ parts.same))
 
-  -- Only elements of the list are kept.
   pub all-kept : (all kept : List X) → AllByRecursion P all → IsDistinctOf cmp all kept → AllByRecursion P kept
   all-kept all kept are (groups, parts, is) =
       subst (AllByRecursion P) (sym is) (heads groups (recursion_from_All P _ (All-permutation P all _ parts.same (All-from_recursion P all are))))
@@ -113,7 +111,6 @@ module _ {X : Type 0} (cmp : X → X → Ordering) (P : X → Type 0) (test : X 
 
 -- ---- names
 
--- A shown name.
 abbrev pub shown_name : Name → Output
 shown_name name = (Text name ∷ [], Text name ∷ [])
 
@@ -124,7 +121,6 @@ by_shown = on (λ o. o.1) (collated_cmp (Binary ∷ []))
 pub by-shown : (a b : Name) → by_shown (shown_name a) (shown_name b) ≡ by_name a b
 by-shown a b = then-Equal (value_cmp (Text a) (Text b)) ∙ value_cmp-Text a b
 
--- The row shows this name.
 abbrev shows : Name → Output → Bool
 shows name o = has_text 0 name o.1
 
@@ -151,7 +147,6 @@ any-shown : (names : List Name) (name : Name) → list_any (shows name) (map sho
 any-shown [] name = refl
 any-shown (n ∷ names) name = ap₂ (λ a b. a || b) (equal-text n name ∙ same-sym n name) (any-shown names name)
 
--- The entries of a set.
 abbrev entries_of : List Name → List (Name × Unit {0})
 entries_of names = map (λ n. (n, tt)) names
 

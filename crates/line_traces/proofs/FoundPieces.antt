@@ -45,7 +45,6 @@ use Rattle.line_traces.proofs.Texts.{pieces_query, select_on, on_board, select_o
 
 -- ---- the shown values
 
--- The reel and the entry belong to the piece.
 abbrev pub is_reel : Row → Row → Bool
 is_reel piece reel = equal Binary (column reel 0) (column piece 6)
 
@@ -88,7 +87,6 @@ module _ (test : Term) where
   -- ---- the answer
 
   module _ (params : Row) (passes : Row → Row → Bool) (is : (r p a : Row) → holds (params ∷ r ∷ p ∷ a ∷ []) test ≡ passes (columns line.reel r) (columns line.placement p)) where
-    -- The values shown for all rows.
     shown-rows : (db : Database) (rows : List Row) (a : IsAnswer (pieces_query test) (overlay db.trees []) params rows)
         → a.kept ≡ join is_reel is_entry passes shown_of_rows (rows_in line.reel db) (rows_in line.placement db) (accepted_in db)
     shown-rows db rows a =
@@ -105,7 +103,6 @@ module _ (test : Term) where
           join-one is_reel is_entry passes shown_of_rows (rows_in line.reel db) (piece_row p) (accepted_in db) (reel_columns known.reel) known.entry known.found known.only
           ∙ rw (same p known.reel known.lot, known.part, known.lot, known.minute) refl
 
-      -- The rows are those of the wanted pieces, in their order.
       pub pieces-answer : (db : Database) (H : History) → HoldsList db H → (rows : List Row) → IsAnswer (pieces_query test) (overlay db.trees []) params rows → rows ≡ map placed_columns (pieces_where wanted H)
       pieces-answer db H held rows a =
           let q = pieces_query test in

@@ -72,7 +72,6 @@ module _ {K X R : Type 0} (cmp : K → K → Ordering) (has : K → R → Bool) 
       by true is none = cc
       by false is none = let yes = key.1 in cc
 
-  -- The rows are, in some order, those of the entries.
   pub rows-listed : (es : List (K × X)) (rows : List R) → IsStrictlySortedBy cmp (keys_of es) → AreFound es rows → AllByRecursion (λ row. (k : K) × IsTrue (has k row)) rows
       → IsPermutation rows (map (λ (e : K × X). columns e.0 e.1) es)
   unfolding IsStrictlySortedBy

@@ -35,7 +35,6 @@ pieces_names =
 abbrev pub select_on : List ℕ
 select_on = codes "SELECT p.number, p.place, p.board, p.designator, r.part, r.lot, p.reel, p.machine, p.slot, a.effective, p.overdue FROM reel r JOIN placement p ON r.reel = p.reel JOIN accepted a ON a.number = p.number WHERE p.board = ?1 ORDER BY p.number, p.place"
 
--- The piece is on the board.
 abbrev pub on_board : Term
 on_board = op2 (Compare Eq Binary) (col 2 3) (col 0 0)
 
@@ -46,7 +45,6 @@ select_on_is rules indexed = inl (refl, refl, (refl, refl))
 abbrev pub select_of_lot : List ℕ
 select_of_lot = codes "SELECT p.number, p.place, p.board, p.designator, r.part, r.lot, p.reel, p.machine, p.slot, a.effective, p.overdue FROM reel r JOIN placement p ON r.reel = p.reel JOIN accepted a ON a.number = p.number WHERE r.lot = ?1 ORDER BY p.number, p.place"
 
--- Its reel is of the lot.
 abbrev pub of_lot : Term
 of_lot = op2 (Compare Eq Binary) (col 1 3) (col 0 0)
 

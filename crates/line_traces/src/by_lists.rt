@@ -1,5 +1,4 @@
-//! The pieces of a board, of a lot, and of overdue reels. If the desk and its trace indexes are loaded, the indexes
-//! locate the rows, and each row is checked. Otherwise a query finds them.
+//! The pieces of the traces, by the trace indexes if they are loaded, or else by a query.
 
 ghost use Rattle.std.specs.Prelude.{◌≡◌, ◌++◌, IfOk, OnOk, map, option_copied};
 ghost use Rattle.sqlite.specs.State.{HasCleanDisk};
@@ -126,7 +125,6 @@ fn keys_of(alloc: Global, installs: &[Install]) -> Result<Vec<PieceKey>, AllocEr
     Ok(keys)
 }
 
-/// Adds the keys of an install's pieces.
 fn add_keys(keys: &mut Vec<PieceKey>, install: Install) -> Result<(), AllocError>
     ensures { OnOk result (map key_of keys.new.items ≡ map key_of keys.old.items ++ keys_of_install install) }
 {

@@ -18,7 +18,6 @@ use sqlite::types::{Type, ValueRef};
 use sqlite::{Error, Row};
 use std::alloc::Global;
 
-/// The name in a column.
 fn name(row: &Row, at: usize) -> Result<Id, Error>
     ensures ok { IfOk result (λ id. column row.now at ≡ Text id) }
     ensures err { IfErr result (λ _. (id : List ℕ) → IsId id → column row.now at ≢ Text id) }
@@ -32,7 +31,6 @@ fn name(row: &Row, at: usize) -> Result<Id, Error>
     Err(Error::InvalidColumnType(at, Type::of(value)))
 }
 
-/// The designator in a column.
 fn designator(row: &Row, at: usize) -> Result<Designator, Error>
     ensures ok { IfOk result (λ designator. column row.now at ≡ Text designator) }
     ensures err { IfErr result (λ _. (designator : List ℕ) → IsDesignator designator
@@ -47,7 +45,6 @@ fn designator(row: &Row, at: usize) -> Result<Designator, Error>
     Err(Error::InvalidColumnType(at, Type::of(value)))
 }
 
-/// The minute in a column.
 fn minute(row: &Row, at: usize) -> Result<Minute, Error>
     ensures ok { IfOk result (λ minute. column row.now at ≡ Int (pos minute)) }
     ensures err { IfErr result (OnlyWhere ((minute : ℕ) → IsMinute minute → column row.now at ≢ Int (pos minute))) }
@@ -58,7 +55,6 @@ fn minute(row: &Row, at: usize) -> Result<Minute, Error>
     }
 }
 
-/// The 1 or 0 in a column.
 fn yes_or_no(row: &Row, at: usize) -> Result<bool, Error>
     ensures ok { IfOk result (λ b. column row.now at ≡ Int (flag b)) }
     ensures err { IfErr result (OnlyWhere ((b : Bool) → column row.now at ≢ Int (flag b))) }

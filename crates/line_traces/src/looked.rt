@@ -36,7 +36,6 @@ fn ask<S: Alter>(conn: &mut Connection<S>) -> Result<(), Error>
     Ok(())
 }
 
-/// Returns the rowid that our files give a piece.
 fn rowid_of(piece: PieceKey) -> i64
     ensures { result ≡ pos (placement_id piece.number piece.place) }
 {
@@ -77,15 +76,13 @@ fn more_places(first: PieceKey, others: &[PieceKey]) -> usize
     others.len()
 }
 
-/// Returns whether the piece is the next one of the same message.
 fn is_next(last: PieceKey, piece: PieceKey) -> bool
     ensures { IsTrue result ↔ (piece.number ≡ last.number) × (piece.place ≡ last.place + 1) }
 {
     piece.number == last.number && piece.place > last.place && piece.place - last.place == 1
 }
 
-/// Returns the piece of a row of `placement` if the row has this number and place. Its part and lot are those of its
-/// reel, and its minute is that of its entry.
+/// Returns the piece of a row of `placement` if the row has this number and place. Its part and lot are its reel's.
 fn piece_of<D: Desk>(
     lists: &TraceLists,
     desk: &D,

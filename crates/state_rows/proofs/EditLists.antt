@@ -16,7 +16,6 @@ use Rattle.state_rows.specs.EditsOf.{taken_rows, put_rows}
 use Rattle.state_rows.specs.Kept.{without_number, unnumbered}
 use Rattle.state_rows.proofs.PlacementRows.{at_place-before}
 
--- Two sets of tables with the same rows.
 pub same-tables : (a b : Tables) → ((p : Name) → a.parts p ≡ b.parts p) → ((p q : Name) → a.alternates p q ≡ b.alternates p q)
     → ((p m : Name) (k : ℕ) → a.sheets p m k ≡ b.sheets p m k) → ((m : Name) → a.selected m ≡ b.selected m) → ((r : Name) → a.reels r ≡ b.reels r)
     → ((r : Name) → a.mounts r ≡ b.mounts r) → ((b' : Name) → a.boards b' ≡ b.boards b') → ((n k : ℕ) → a.placements n k ≡ b.placements n k) → ((r : Name) → a.found r ≡ b.found r) → a ≡ b
@@ -32,7 +31,6 @@ same-tables a b parts alternates sheets selected reels mounts boards placements 
   found = λ r. found r j;
 }
 
--- Edits one list after the other.
 pub with_edits-append : (xs ys : List RowEdit) (t : Tables) → with_edits (xs ++ ys) t ≡ with_edits ys (with_edits xs t)
 with_edits-append [] ys t = refl
 with_edits-append (x ∷ xs) ys t = with_edits-append xs ys (with_edit x t)
@@ -56,7 +54,6 @@ edit-unnumbered (PutMount row) t = ap (λ (f : Name → Option MountRow). record
     by false o = twice o
 edit-unnumbered x t = ap (λ (f : Name → Option MountRow). record (unnumbered (with_edit x t)) { mounts = f }) (λ j r. twice (t.mounts r) j)
 
--- Edits of tables that are the same without numbers leave such tables.
 pub edits-unnumbered : (xs : List RowEdit) (s t : Tables) → unnumbered s ≡ unnumbered t → unnumbered (with_edits xs s) ≡ unnumbered (with_edits xs t)
 edits-unnumbered [] s t is = is
 edits-unnumbered (x ∷ xs) s t is =
@@ -84,7 +81,6 @@ mounts-taken (x ∷ xs) t flip =
 -- ---- sheets
 
 module _ (product machine : Name) where
-  -- Whether the sheet is this one.
   abbrev is_sheet : Name → Name → Bool
   is_sheet p m = same product p && same machine m
 
@@ -126,7 +122,6 @@ module _ (product machine : Name) where
       one true false rest o = refl
       one false c rest o = refl
 
--- One more edit.
 pub edits-next : (edits : List RowEdit) (i : ℕ) (edit : RowEdit) (t : Tables) → i < length edits → edit ≡ get_or edits i edit
     → with_edits (take (i + 1) edits) t ≡ with_edit edit (with_edits (take i edits) t)
 edits-next edits i edit t inside is = ap (λ xs. with_edits xs t) (take-next edits i edit inside is) ∙ with_edits-append (take i edits) (edit ∷ []) t

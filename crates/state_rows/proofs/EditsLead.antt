@@ -83,7 +83,6 @@ tables-next H e judged =
 
 -- ---- commands that take nothing
 
--- A row whose pieces the command neither takes nor counts.
 untaken : (minute : ℕ) (reel : Name) (command : Command) (row : ReelRow) → pieces_by reel command ≡ None → ((left : ℕ) → found_by left reel command ≡ 0)
     → step_row minute [] reel command row
     ≡ record row {
@@ -97,12 +96,10 @@ untaken minute reel command row told finds =
     (add-zero row.placed) (add-zero row.scrapped)
     (ap (λ o. unwrap_or o (row.remaining - 0)) told ∙ (let is : row.remaining - 0 ≡ row.remaining = omega arith in is)) refl refl refl
 
--- A command that says nothing of the reel leaves its row.
 quiet : (H : History) (minute : ℕ) (command : Command) (r : Name) → open_by r command ≡ None → baked_by r command ≡ None → pieces_by r command ≡ None
     → ((left : ℕ) → found_by left r command ≡ 0) → reel_row H r ≡ option_map (step_row minute [] r command) (reel_row H r)
 quiet H minute command r out baked told finds = reels-took H minute [] command r (record { out = out; baked = baked; told = told; finds = finds })
 
--- No row of `placement` is put in.
 unplaced : (H : History) (number n k : ℕ) → placement_row H n k ≡ placement_by number [] n k (placement_row H n k)
 unplaced H number n k = by (number == n)
   where
@@ -110,7 +107,6 @@ unplaced H number n k = by (number == n)
     by true = refl
     by false = refl
 
--- A command that finds no piece of the reel leaves its found pieces unchanged.
 unfound : (H : History) (r : Name) (command : Command) → found_by (left_of H r) r command ≡ 0 → found_row H r ≡ found_after (left_of H r) r command (found_row H r)
 unfound H r command none = by (found_of H r == 0) refl
   where
@@ -122,7 +118,6 @@ unfound H r command none = by (found_of H r == 0) refl
 
 -- ---- reels
 
--- The edit of a received reel's row.
 reel-edited : (H : History) (reel : Name) (change : ReelRow → ReelRow) (t : Tables) → ((row : ReelRow) → (change row).reel ≡ row.reel)
     → with_edits (reel_edit change (reel_row H reel)) t
     ≡ record t { reels = λ q. if same reel q then option_or (option_map change (reel_row H reel)) (t.reels q) else t.reels q }
@@ -139,7 +134,6 @@ reel-edited H reel change t keeps = by (receipt_of H reel)
         ap (λ (f : Name → Option ReelRow). record t { reels = f })
         (λ j q. if same (keeps (columns_of (view_of H reel receipt)) j) q then Some (change (columns_of (view_of H reel receipt))) else t.reels q)
 
--- A changed row is the row after the command.
 changed : (H : History) (minute : ℕ) (reel q : Name) (command : Command) (change : ReelRow → ReelRow) (out : Bool) (baked : Option Bool)
     → open_by q command ≡ (if same reel q then Some out else None) → baked_by q command ≡ (if same reel q then baked else None)
     → pieces_by q command ≡ None → ((left : ℕ) → found_by left q command ≡ 0)
@@ -169,7 +163,6 @@ neither false = refl
 
 -- ---- boards and sheets
 
--- The row of a board that is started or completed.
 board-edited : (H : History) (board : Name) (machine product : Option Name) (t : Tables) → (p : Name) → product ≡ Some p
     → with_edits (board_edit board machine product) t
     ≡ record t { boards = λ b. if same board b then option_map (λ q. record { board = b; product = q; machine = machine }) product else t.boards b }
@@ -185,7 +178,6 @@ board-edited H board machine product t p is = ap (λ o. with_edits (board_edit b
         by true here = ap (λ x. Some (row x)) (same-true board b here)
         by false here = refl
 
--- The rows of a new sheet.
 sheet-edited : (H : History) (product machine : Name) (rows : List SheetRow) (p m : Name) (k : ℕ)
     → (if (same product p && same machine m)
     then option_or (at_place 1 rows k) (if ((same product p && same machine m) && is_some (at_place 1 (unwrap_or (sheet_of H product machine) []) k)) then None else sheet_row H p m k)
@@ -225,7 +217,6 @@ sheet-edited H product machine rows p m k = by (same product p && same machine m
 
 -- ---- mounts and receipts
 
--- The reel put onto a slot.
 put-row : (H : History) (number : ℕ) (machine slot reel r : Name)
     → (if same reel r then Some (record { since = number; machine = machine; slot = slot; reel = reel }) else mount_row H r)
     ≡ (if same reel r then Some (record { since = number; machine = machine; slot = slot; reel = r }) else mount_row H r)
@@ -256,7 +247,7 @@ received-row H minute reel part lot moisture quantity r = by (same reel r) refl
 
 -- ---- counts
 
--- A count leaves the rows of mounted reels unchanged, since it counts none of them.
+-- A count leaves mounted reels unchanged, since it counts none of them.
 counted-mount : (H : History) (minute : ℕ) (counts : List CountRow) → IsJudged Two H → command_refusal Two H minute (CountsTaken counts) ≡ None
     → (r : Name) → mount_row H r ≡ (if nat_lt 0 (left_after H (CountsTaken counts) r) then mount_row H r else None)
 unfolding command_refusal
@@ -273,7 +264,6 @@ counted-mount H minute counts judged accepted r = by (is_mounted H r) refl
         let some = (and_parts _ (some_left H r) (sym (mounted-is H r judged) ∙ mounted)).1 in
         sym (ap (λ n. if nat_lt 0 n then last_put H r else None) (uncounted-left H counts r absent) ∙ ap (λ b. if b then last_put H r else None) some)
 
--- A count places no piece.
 count-places : (H : History) (minute n k i : ℕ) (picks : List Pick) → AreUnplaced picks → option_and_then (placed_row n k) (at_place i (map (take_of H minute) picks) k) ≡ None
 count-places H minute n k i [] all = refl
 count-places H minute n k i (p ∷ ps) (first, all) = by (i == k) (count-places H minute n k (i + 1) ps all)
@@ -298,7 +288,6 @@ counted-places H minute number n k counts = by (number == n)
 
 -- ---- any command
 
--- A command that takes pieces and changes nothing else.
 lead-took : (H : History) (minute number : ℕ) (command : Command) (edits : List RowEdit) → IsJudged Two H
     → ((t : Tables) → with_edits edits t ≡ after_placing number (takes_by H minute command) (after_rows (picked_rows (reel_row H) (map pick_of (takes_by H minute command))) t))
     → ((p : Name) → is_part H p ≡ (defines p command || is_part H p)) → ((p q : Name) → is_alternate H p q ≡ (allows p q command || is_alternate H p q))

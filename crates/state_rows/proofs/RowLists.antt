@@ -63,7 +63,6 @@ module _ {K : Type 0} (cmp : K → K → Ordering) (is : K → K → Bool) (agre
       → ((q : K) → row_at cmp new q ≡ cond (is_at (cmp k) q) w (row_at cmp old q)) → (q : K) → row_at cmp new q ≡ cond (is k q) w (row_at cmp old q)
   row-written old new k w after q = after q ∙ ap (λ b. cond b w (row_at cmp old q)) (agree k q)
 
--- Keys of sets are found as their elements.
 pub key-among : (ks : List Name) (p : Name) → has_key by_name ks p ≡ is_among ks p
 key-among ks p = list_any-same (is_at (by_name p)) (same p) (is_at-by_name p) ks
 
@@ -160,7 +159,6 @@ module _ (s now : KeptRows) (is : s ≡ now) where
 
 -- ---- edits except those of placements
 
--- An edit of tables whose placements are kept.
 but-step : (e : RowEdit) (t kept : Tables) → but_placements (with_edit e (but_placements t kept)) kept ≡ but_placements (with_edit e t) kept
 but-step (PutPlacement row) t kept = refl
 but-step (TakeSheetRow product machine place) t kept = refl

@@ -77,7 +77,6 @@ bare-step H minute machine slot (MaterialsUnloaded m s) accepted none = by (same
     by false = refl
 bare-step H minute machine slot _ accepted none = refl
 
--- A machine that no sheet names has no tapes.
 pub no-tape : (H : History) (machine slot : Name) → IsJudged Two H → has_sheet H machine ≡ false → tape_of H machine slot ≡ []
 unfolding tape_of
 no-tape [] machine slot judged none = refl
@@ -88,7 +87,6 @@ no-tape (e ∷ H) machine slot (next, judged) none =
 
 -- ---- the reels of a slot
 
--- For the live reels of one slot.
 of-slot : (H : History) (slot s : Name) (reels : List Name) (n : ℕ)
     → filter_map (reel_on_slot slot) (map (mount_of H s) (enumerate_from n reels)) ≡ if same s slot then reels else []
 of-slot H slot s [] n = by (same s slot)
@@ -103,7 +101,6 @@ of-slot H slot s (r ∷ rs) n = by (same s slot) (of-slot H slot s rs (n + 1))
     by true rest = ap (λ l. r ∷ l) rest
     by false rest = rest
 
--- For those of several slots.
 of-slots : (H : History) (machine slot reel : Name) (slots : List Name)
     → has (filter_map (reel_on_slot slot) (flat_map (slot_mounts H machine) slots)) reel ≡ (has slots slot && has (live_on H machine slot) reel)
 of-slots H machine slot reel [] = refl

@@ -14,7 +14,6 @@ use crate::views::Views;
 use desk_types::{CountRow, ReelRow, ReelView, RowEdit};
 use std::alloc::{AllocError, Global};
 
-/// Returns the reel's row with this number of pieces counted.
 fn counted_row(view: &ReelView, pieces: u64) -> ReelRow
     requires { CountFits pieces view.now }
     ensures { result ≡ counted_row pieces (columns_of view.now) }
@@ -34,7 +33,6 @@ fn counted_row(view: &ReelView, pieces: u64) -> ReelRow
     }
 }
 
-/// Returns the edits of a reel with this number of pieces counted.
 fn note(edits: &mut Vec<RowEdit>, view: &ReelView, pieces: u64) -> Result<(), AllocError>
     requires { CountFits pieces view.now }
     ensures { OnOk result (edits.new.items ≡ edits.old.items ++ counted_edits pieces (Some view.now)) }
@@ -52,7 +50,6 @@ fn note(edits: &mut Vec<RowEdit>, view: &ReelView, pieces: u64) -> Result<(), Al
     Ok(())
 }
 
-/// The edits of one row of a count.
 fn count_row<D: Views>(edits: &mut Vec<RowEdit>, desk: &D, row: &CountRow) -> Result<(), AllocError>
     requires room { HasRoom D.Stands desk.now 1 }
     requires judged { (H : History) → D.Stands desk.now H → IsJudged Two H }

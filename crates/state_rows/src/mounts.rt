@@ -87,7 +87,6 @@ impl Clone for Mounts {
     }
 }
 
-/// Takes the reel's row out of both maps.
 fn take_both(
     by_reel: &mut BTreeMap<Id, MountRow>,
     by_since: &mut BTreeMap<(u64, Id), MountRow>,

@@ -55,7 +55,6 @@ fn opened_row(row: ReelRow, minute: Minute) -> ReelRow
     ReelRow { open_since, ..row }
 }
 
-/// The exposure at the minute.
 fn exposure_at(row: &ReelRow, minute: Minute) -> u64
     ensures { row.now.used + option_map_or (λ from. minute - from) row.now.open_since 0 < 2 ^ 64
         → result ≡ row.now.used + option_map_or (λ from. minute - from) row.now.open_since 0 }
@@ -68,7 +67,6 @@ fn exposure_at(row: &ReelRow, minute: Minute) -> u64
     }
 }
 
-/// The row of a reel that is put into its bag.
 fn sealed_row(row: ReelRow, minute: Minute) -> ReelRow
     ensures { row.used + option_map_or (λ from. minute - from) row.open_since 0 < 2 ^ 64
         → result ≡ sealed_row minute row }
@@ -81,7 +79,6 @@ fn sealed_row(row: ReelRow, minute: Minute) -> ReelRow
     }
 }
 
-/// The row of a baked reel.
 fn baked_row(row: ReelRow) -> ReelRow
     ensures { result ≡ baked_row row }
 {

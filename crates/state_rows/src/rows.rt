@@ -19,7 +19,6 @@ use crate::views::{DeskViews, Views};
 use desk_types::{Change, Command, Desk, Listing, Minute, MountRow, RowEdit, RowEdits, Take};
 use std::alloc::{AllocError, Global};
 
-/// One edit.
 fn one(alloc: Global, edit: RowEdit) -> Result<Vec<RowEdit>, AllocError>
     ensures { IfOk result (λ edits. edits.items ≡ edit ∷ []) }
 {
@@ -28,7 +27,6 @@ fn one(alloc: Global, edit: RowEdit) -> Result<Vec<RowEdit>, AllocError>
     Ok(edits)
 }
 
-/// The edits of a command that takes effect at the minute, with this number and these takes.
 fn edits_of<D: Views>(
     alloc: Global,
     desk: &D,
@@ -148,7 +146,7 @@ pub fn edits_for<D: Views>(
 
 /// Returns the edits that turn the state tables into those with the change, accepted under this number. Made one after
 /// another, they keep each table's keys and checks: rows are removed before others are inserted; a placement, a mount
-/// or a row of a sheet is inserted only if there is none; and the pieces in each new row add up.
+/// or a row of a sheet is inserted only if its key is free; and the pieces in each new row add up.
 pub fn rows_of<D: Desk>(
     alloc: Global,
     desk: &D,

@@ -92,7 +92,6 @@ impl RowSet {
         Ok(())
     }
 
-    /// Makes one edit, unless it is of `placement`.
     fn make_but_placement(&mut self, edit: &RowEdit) -> Result<(), AllocError>
         ensures { OnOk result
             (tables_in self.new ≡ but_placements (with_edit edit.now (tables_in self.old)) (tables_in self.old)) }
@@ -104,7 +103,6 @@ impl RowSet {
         Ok(())
     }
 
-    /// Makes one edit.
     fn make(&mut self, edit: &RowEdit) -> Result<(), AllocError>
         ensures { OnOk result (tables_in self.new ≡ with_edit edit.now (tables_in self.old)) }
     {
@@ -361,7 +359,6 @@ impl Clone for RowSet {
     }
 }
 
-/// Whether the edit is of `placement`.
 fn is_placement(edit: &RowEdit) -> bool
     ensures { result ≡ is_placement edit.now }
 {

@@ -9,7 +9,6 @@ use crate::views::Views;
 use desk_types::{Id, RowEdit, SheetRow};
 use std::alloc::{AllocError, Global};
 
-/// The rows of the sheet before are taken out.
 fn take_old(
     edits: &mut Vec<RowEdit>,
     product: &Id,
@@ -29,7 +28,6 @@ fn take_old(
     Ok(())
 }
 
-/// The rows of the sheet are put in.
 fn put_new(
     edits: &mut Vec<RowEdit>,
     product: &Id,

@@ -20,7 +20,6 @@ fn on_slot(slot: &Id, mount: &Mount) -> Option<Id>
     (mount.slot == *slot).then_some(mount.reel)
 }
 
-/// Takes the reel, if any, off its slot.
 fn take_if(edits: &mut Vec<RowEdit>, reel: Option<Id>) -> Result<(), AllocError>
     ensures { OnOk result (edits.new.items ≡ edits.old.items ++ map (λ r. TakeMount r) (option_to_list reel)) }
 {
@@ -33,7 +32,6 @@ fn take_if(edits: &mut Vec<RowEdit>, reel: Option<Id>) -> Result<(), AllocError>
     }
 }
 
-/// The reels on the slot are taken off it.
 fn take_mounts(edits: &mut Vec<RowEdit>, slot: &Id, mounts: &[Mount]) -> Result<(), AllocError>
     ensures { OnOk result
         (edits.new.items ≡ edits.old.items ++ map (λ r. TakeMount r) (filter_map (reel_on_slot slot.now) mounts.now)) }

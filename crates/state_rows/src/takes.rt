@@ -79,7 +79,6 @@ fn gather<D: Views>(
     Ok(rows)
 }
 
-/// Reels with nothing left are taken off their slots.
 fn take_off(edits: &mut Vec<RowEdit>, rows: &BTreeMap<Id, ReelRow>) -> Result<(), AllocError>
     ensures { OnOk result (edits.new.items ≡ edits.old.items ++ flat_map take_spent (values rows.now)) }
 {
@@ -89,7 +88,6 @@ fn take_off(edits: &mut Vec<RowEdit>, rows: &BTreeMap<Id, ReelRow>) -> Result<()
     Ok(())
 }
 
-/// A reel with nothing left is taken off its slot.
 fn take_if(edits: &mut Vec<RowEdit>, row: &ReelRow) -> Result<(), AllocError>
     ensures { OnOk result (edits.new.items ≡ edits.old.items ++ take_spent row.now) }
 {
@@ -100,7 +98,6 @@ fn take_if(edits: &mut Vec<RowEdit>, row: &ReelRow) -> Result<(), AllocError>
     Ok(())
 }
 
-/// The rows are put in the place of those before.
 fn put_all(edits: &mut Vec<RowEdit>, rows: &BTreeMap<Id, ReelRow>) -> Result<(), AllocError>
     ensures put { OnOk result (edits.new.items ≡ edits.old.items ++ map (λ row. PutReel row) (values rows.now)) }
     ensures ordered { IsStrictlySortedBy by_name (keys rows.now) }
@@ -111,7 +108,6 @@ fn put_all(edits: &mut Vec<RowEdit>, rows: &BTreeMap<Id, ReelRow>) -> Result<(),
     Ok(())
 }
 
-/// The row of a placed piece.
 fn placed_row(number: u64, place: u64, take: &Take) -> Option<PlacementRow>
     ensures { result ≡ placed_row number place take.now }
 {
@@ -135,7 +131,6 @@ fn placed_row(number: u64, place: u64, take: &Take) -> Option<PlacementRow>
     }
 }
 
-/// Puts the row, if any.
 fn place_if(edits: &mut Vec<RowEdit>, row: Option<PlacementRow>) -> Result<(), AllocError>
     ensures { OnOk result
         (edits.new.items ≡ edits.old.items ++ option_to_list (option_map (λ (r : PlacementRow). PutPlacement r) row)) }

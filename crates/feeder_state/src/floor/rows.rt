@@ -16,7 +16,6 @@ use state_rows::RowSet;
 use std::alloc::{AllocError, Global};
 use std::collections::{BTreeMap, VecDeque};
 
-/// Joins the reel of a row to its slot.
 fn join(
     alloc: Global,
     tapes: &mut BTreeMap<(Id, Id), Tape>,

@@ -18,7 +18,6 @@ use state_rows::RowSet;
 use std::alloc::{AllocError, Global};
 use std::collections::{BTreeMap, BTreeSet};
 
-/// The rows of each sheet, in the order of their places.
 fn sheet_rows(
     alloc: Global,
     rows: &RowSet,

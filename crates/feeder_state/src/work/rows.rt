@@ -31,7 +31,6 @@ pub fn running_of(alloc: Global, rows: &RowSet) -> Result<BTreeMap<Id, Id>, Allo
     Ok(running)
 }
 
-/// The designators that the rows place on each board.
 fn designators_of(
     alloc: Global,
     rows: &RowSet,

@@ -10,7 +10,6 @@ use Rattle.feeder_state.proofs.FloorTells.{told-now}
 use Rattle.feeder_state.proofs.views.put_tape.Goals.{in-Some+in_ok-push, in_default}
 use Rattle.feeder_state.proofs.views.put_tape.Goals as goal
 
--- The reel in this place of the tape was received.
 there : (H : History) (tape : List Name) (i : ℕ) (x : Name) → i < length tape → x ≡ get_or tape i x → All (λ name. is_some (receipt_of H name) ≡ true) tape → is_some (receipt_of H x) ≡ true
 there H tape i x inside is all = let received : Name → Type 0 = λ name. is_some (receipt_of H name) ≡ true in subst received (sym is) (All-get_or received tape i x inside all)
 
