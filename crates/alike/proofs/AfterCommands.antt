@@ -1,4 +1,4 @@
--- Two histories that agree but in what is past: whole runs of commands that name nothing past.
+-- Two histories that agree except for past boards and reels: runs of commands that name nothing past.
 use Rattle.std.proofs.Common.{◌≡◌, ◌≤◌, All, Bool, false, Option, Some, None, List, [], ◌∷◌, refl, sym, ap, ◌∙◌, arith}
 use Rattle.std.specs.Option.{option_map_or}
 use Rattle.std.proofs.lemmas.List.Elements.{All-head, All-tail}
@@ -20,7 +20,7 @@ use Rattle.alike.specs.Past.{boards_named, reels_named}
 use Rattle.alike.proofs.Agreeing.{Agree, effective-same, refusal-same, detail-same}
 use Rattle.alike.proofs.AgreeingNext.{agree-next}
 
--- the desk minute is a minute
+-- The desk minute is a minute.
 now-range : (rules : Rules) (H : History) → IsJudged rules H → now_of H ≤ GREATEST_MINUTE
 now-range rules [] judged = omega arith
 now-range rules (e ∷ H) (next, judged) = let before = now-range rules H judged in omega (arith, before, next.in_range.effective)
@@ -36,7 +36,7 @@ judged-accept rules H s judged range none = (
   judged,
 )
 
--- a history that a desk can come to have is one after a command
+-- A history that a desk can come to have is one after a command.
 pub judged-after : (rules : Rules) (H : History) (s : Stamped) → IsJudged rules H → IsStamped s → IsJudged rules (after_command rules H s)
 judged-after rules H s judged range = by (refusal_of rules H s) refl
   where
@@ -50,7 +50,7 @@ judged-run rules (s ∷ ss) H ranges judged =
     judged-run rules ss (after_command rules H s) (All-tail IsStamped s ss ranges) (judged-after rules H s judged (All-head IsStamped s ss ranges))
 
 module _ (past_board past_reel : Name → Bool) where
-  -- the command names nothing past
+  -- The command names nothing past.
   pub record NamesNew (command : Command) : Type 0 where
     pub boards : All (λ board. past_board board ≡ false) (boards_named command)
     pub reels : All (λ reel. past_reel reel ≡ false) (reels_named command)

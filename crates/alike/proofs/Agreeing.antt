@@ -1,4 +1,4 @@
--- Two histories that agree in all but what is past: they give the same answer to a command that names nothing past.
+-- Two histories that agree except for past boards and reels give the same answer to a command that names nothing past.
 use Rattle.std.proofs.Common.{◌≡◌, ℕ, ◌+◌, ◌-◌, ◌≤◌, max, nat_lt, All, Bool, true, false, not, Option, Some, None, List, [], ◌∷◌, ◌++◌, refl, sym, ap, ◌∙◌, arith}
 use Rattle.std.specs.Prelude.{if◌then◌else◌, ◌&&◌, ◌||◌, ◌==◌, is_some, is_none, nat_le, unwrap_or}
 use Rattle.std.specs.Option.{option_and_then, option_map, option_map_or, option_or}
@@ -32,22 +32,22 @@ use Rattle.desk_laws.proofs.Accepted.{mountable}
 use Rattle.desk_laws.proofs.Lives.{picks-live, designators-live, scrap-live}
 use Rattle.alike.specs.Past.{is_started, boards_named, reels_named}
 
--- what stays of a receipt: the part, the lot, and the moisture level with its label
+-- What stays of a receipt: the part, the lot, and the moisture level with its label.
 abbrev pub mark : Receipt → Name × (Name × LevelWithLabel)
 mark r = (r.part, (r.lot, r.moisture))
 
 abbrev pub marks_of : History → Name → Option (Name × (Name × LevelWithLabel))
 marks_of H reel = option_map mark (receipt_of H reel)
 
--- two histories have the same of a reel
+-- Two histories have the same of a reel.
 pub record IsSame (G H : History) (reel : Name) : Type 0 where
   pub marks : marks_of G reel ≡ marks_of H reel
   pub unbaked : is_unbaked G reel ≡ is_unbaked H reel
   pub out : is_some (out_since G reel) ≡ is_some (out_since H reel)
   pub minutes : is_unbaked G reel ≡ false → (minute : ℕ) → now_of G ≤ minute → minutes_left G reel minute ≡ minutes_left H reel minute
 
--- Two histories agree but in the boards and the reels that are past. A board that is past was started, and a reel that is past was
--- received and has no pieces left.
+-- Two histories agree except for past boards and reels. A past board was started, and a past reel was received and has
+-- no pieces left.
 pub record Agree (past_board past_reel : Name → Bool) (G H : History) : Type 0 where
   pub minute : desk_minute G ≡ desk_minute H
   pub parts : is_part G ≡ is_part H
@@ -65,7 +65,7 @@ pub record Agree (past_board past_reel : Name → Bool) (G H : History) : Type 0
   pub spent : (reel : Name) → past_reel reel ≡ true → (is_some (receipt_of G reel) ≡ true) × (left_of G reel ≡ 0)
   pub reels : (reel : Name) → past_reel reel ≡ false → IsSame G H reel
 
--- ---- what a mark says
+-- ---- marks
 
 pub marked : {X : Type 0} (f : Name × (Name × LevelWithLabel) → X) (d : X) (o : Option Receipt)
     → option_map_or (λ r. f (mark r)) o d ≡ option_map_or f (option_map mark o) d
@@ -89,7 +89,7 @@ known G H reel a = marked-some (receipt_of G reel) ∙ ap is_some a.marks ∙ sy
 none-left : (limit exposure : ℕ) → nat_le limit exposure ≡ (limit - exposure == 0)
 none-left limit exposure = grind (arith, nat_tests)
 
--- a reel is expired when it has no minutes left
+-- A reel is expired when it has no minutes left.
 expired-is : (H : History) (reel : Name) (minute : ℕ) → is_expired H reel minute ≡ option_map_or (λ left. left == 0) (minutes_left H reel minute) false
 expired-is H reel minute = by (floor_life H reel)
   where
@@ -103,12 +103,12 @@ expired : (G H : History) (reel : Name) (minute : ℕ) → IsSame G H reel → i
 expired G H reel minute a baked le =
     expired-is G reel minute ∙ ap (λ o. option_map_or (λ left. left == 0) o false) (a.minutes baked minute le) ∙ sym (expired-is H reel minute)
 
--- the refusal of the first test that holds, or else another
+-- The refusal of the first test that holds, or else another.
 abbrev tests-then : List (Bool × Refusal) → Option Refusal → Option Refusal
 tests-then [] rest = rest
 tests-then (t ∷ ts) rest = if t.0 then Some t.1 else tests-then ts rest
 
--- the tests of a reel's floor life: an unbaked reel is refused before its minutes matter
+-- The tests of a reel's floor life: an unbaked reel is refused before its minutes matter.
 life-tests : (G H : History) (reel : Name) (minute : ℕ) (not_baked expiry : Refusal) → IsSame G H reel → now_of G ≤ minute
     → first_refusal ((is_unbaked G reel, not_baked) ∷ (is_expired G reel minute, expiry) ∷ [])
     ≡ first_refusal ((is_unbaked H reel, not_baked) ∷ (is_expired H reel minute, expiry) ∷ [])
@@ -121,7 +121,7 @@ life-tests G H reel minute not_baked expiry a le = by (is_unbaked G reel) refl
     by true is = ap (λ b. tests b (is_expired G reel minute)) is ∙ sym (ap (λ b. tests b (is_expired H reel minute)) (sym a.unbaked ∙ is))
     by false is = λ j. tests (a.unbaked j) (expired G H reel minute a is le j)
 
--- the front of a slot has pieces left
+-- The front of a slot has pieces left.
 first-passes : (p : Name → Bool) (names : List Name) (x : Name) → first (filter (λ r. p r) names) ≡ Some x → p x ≡ true
 first-passes p [] x is = cc
 first-passes p (y ∷ names) x is = by (p y) refl (first-passes p names x) is
@@ -143,7 +143,7 @@ module _ (past_board past_reel : Name → Bool) where
   only : (past : Name → Bool) (name : Name) → AreNew past (name ∷ []) → past name ≡ false
   only past name all = All-head (λ x. past x ≡ false) name [] all
 
-  -- a reel with pieces left is not past
+  -- A reel with pieces left is not past.
   pub left-new : (G H : History) (reel : Name) → Agree past_board past_reel G H → nat_lt 0 (left_of G reel) ≡ true → past_reel reel ≡ false
   left-new G H reel a some = by (past_reel reel) refl
     where
@@ -295,7 +295,7 @@ module _ (past_board past_reel : Name → Bool) where
       ∙ ap (λ m. command_refusal rules H m s.command) (effective-same G H s a) in
       λ j. if option_map_or (λ desk. nat_lt (desk + FURTHEST_AHEAD) s.minute) (a.minute j) false && not (is_clock s.command) then Some TooFarAhead else own j
 
-  -- ---- what is taken and told
+  -- ---- takes and replies
 
   pub picks-same : (G H : History) (command : Command) → Agree past_board past_reel G H → picks_of G command ≡ picks_of H command
   picks-same G H (MaterialsInstalled machine board ds) a =

@@ -1,4 +1,4 @@
--- Two histories that agree but in what is past still agree after a command that both accept.
+-- Two histories that agree except for past boards and reels still agree after a command that both accept.
 use Rattle.std.proofs.Common.{◌≡◌, ℕ, ◌≤◌, ◌-◌, max, nat_lt, Bool, true, false, Option, Some, None, ◌∷◌, refl, sym, ap, ◌∙◌, arith}
 use Rattle.std.specs.Prelude.{◌||◌, is_some, unwrap_or}
 use Rattle.std.specs.Option.{option_and_then, option_map, option_or}
@@ -32,7 +32,7 @@ map-or : (said before : Option Receipt) → option_map mark (option_or said befo
 map-or None before = refl
 map-or (Some r) before = refl
 
--- a reel that is the same before
+-- A reel that is the same before.
 same-next : (G H : History) (s : Stamped) (reel : Name) → effective_minute G s.minute ≡ effective_minute H s.minute → IsSame G H reel
     → IsJudged Two (accept G s) → IsJudged Two (accept H s) → IsSame (accept G s) (accept H s) reel
 same-next G H s reel at a of_G of_H = record {
@@ -64,7 +64,7 @@ same-next G H s reel at a of_G of_H = record {
     life : floor_life (g ∷ G) reel ≡ floor_life (h ∷ H) reel
     life = life-marked (g ∷ G) reel ∙ ap (option_and_then (λ (m : Name × (Name × LevelWithLabel)). limit_of m.1.1.level m.1.1.label)) marks ∙ sym (life-marked (h ∷ H) reel)
 
-    -- a reel that waited for its bake is baked or received by the command, so its floor life is whole
+    -- A reel that waited for its bake is baked or received by the command, so its floor life is whole.
     remain : is_unbaked (g ∷ G) reel ≡ false → (minute : ℕ) → h.effective ≤ minute
         → remaining (open_by reel s.command) (is_anew s.command) h.effective (floor_life (h ∷ H) reel) (minutes_left G reel) minute
         ≡ remaining (open_by reel s.command) (is_anew s.command) h.effective (floor_life (h ∷ H) reel) (minutes_left H reel) minute

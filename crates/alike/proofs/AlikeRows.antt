@@ -24,7 +24,7 @@ use Rattle.alike.specs.Alike.{IsSameReel, AreAlike}
 
 -- ---- the two desks
 
--- H with these commands, each accepted
+-- H with these commands, each accepted.
 abbrev with : History → List Stamped → History
 with H [] = H
 with H (s ∷ ss) = with (accept H s) ss

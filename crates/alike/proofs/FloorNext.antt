@@ -32,20 +32,20 @@ last_bake-untouched [] name none = refl
 last_bake-untouched (e ∷ H) name (none, rest) =
     last_bake-quiet H e name (IsQuiet-untouched name e.effective e.stamped.command none) ∙ last_bake-untouched H name rest
 
--- whether exposure begins anew with the command, where it puts a reel into its bag
+-- Whether exposure begins anew with the command, where it puts a reel into its bag.
 abbrev pub is_anew : Command → Bool
 is_anew (ReelReceived reel part lot moisture quantity) = true
 is_anew (ReelBaked reel) = true
 is_anew _ = false
 
--- the exposure at a minute after a command that took effect at another, from the exposures before it
+-- The exposure at a minute after a command that took effect at another, from the exposures before it.
 abbrev exposed : Option Bool → Bool → ℕ → (ℕ → ℕ) → ℕ → ℕ
 exposed None anew at before minute = before minute
 exposed (Some true) anew at before minute = before at + (minute - at)
 exposed (Some false) true at before minute = 0
 exposed (Some false) false at before minute = before at + 0
 
--- a command that puts a reel into its bag
+-- A command that puts a reel into its bag.
 into-bag : (H : History) (e : Entry) (reel : Name) (minute : ℕ) (command : Command) → IsJudged Two (e ∷ H) → exposure_starts H reel ≤ e.effective → e.effective ≤ minute
     → e.stamped.command ≡ command → open_by reel command ≡ Some false → exposure_of (e ∷ H) reel minute ≡ exposed (Some false) (is_anew command) e.effective (exposure_of H reel) minute
 into-bag H e reel minute (ReelReceived r part lot moisture quantity) (next, judged) start le is says = exposure-anew H e reel (ap (open_by reel) is ∙ says) starts minute
@@ -90,7 +90,7 @@ exposure-next H e reel minute judged now le = by (open_by reel e.stamped.command
 
 -- ---- minutes left
 
--- the minutes left at a minute after a command that took effect at another, from the floor life after it and the minutes left before it
+-- The minutes left at a minute after a command that took effect at another, from the floor life after it and the minutes left before it.
 abbrev pub remaining : Option Bool → Bool → ℕ → Option ℕ → (ℕ → Option ℕ) → ℕ → Option ℕ
 remaining None anew at life before minute = before minute
 remaining (Some true) anew at life before minute = option_map (λ left. left - (minute - at)) (before at)
@@ -148,7 +148,7 @@ remaining-same (Some true) anew at life before other minute le alike = ap (optio
 remaining-same (Some false) true at life before other minute le alike = refl
 remaining-same (Some false) false at life before other minute le alike = alike at (omega arith)
 
--- the floor life by a mark
+-- The floor life by a mark.
 pub life-marked : (H : History) (reel : Name) → floor_life H reel ≡ option_and_then (λ (m : Name × (Name × LevelWithLabel)). limit_of m.1.1.level m.1.1.label) (marks_of H reel)
 life-marked H reel = by (receipt_of H reel)
   where
@@ -158,7 +158,7 @@ life-marked H reel = by (receipt_of H reel)
 
 -- ---- bakes
 
--- whether a reel with this mark waits for its bake after a command, by what the command says of a bake and whether it waited before
+-- Whether a reel with this mark waits for its bake after a command, by what the command says of a bake and whether it waited before.
 abbrev pub waiting : Option Bool → Option (Name × (Name × LevelWithLabel)) → Bool → Bool
 waiting None m before = before
 waiting (Some baked) m before = option_map_or (λ (m : Name × (Name × LevelWithLabel)). is_six m.1.1.level) m false && not baked
@@ -171,7 +171,7 @@ unreceived : (reel : Name) (at : ℕ) (command : Command) → baked_by reel comm
 unreceived reel at (ReelReceived r part lot moisture quantity) none = if-none (same r reel) false _ none
 unreceived reel at _ none = refl
 
--- what says whether a reel is baked puts it into its bag, and its exposure begins anew
+-- What says whether a reel is baked puts it into its bag, and its exposure begins anew.
 pub baked-anew : (reel : Name) (command : Command) (baked : Bool) → baked_by reel command ≡ Some baked → (open_by reel command ≡ Some false) × (is_anew command ≡ true)
 baked-anew reel (ReelReceived r part lot moisture quantity) baked says = (ap (λ b. if b then Some false else None) (if-some (same r reel) false baked says), refl)
 baked-anew reel (ReelBaked r) baked says = (ap (λ b. if b then Some false else None) (if-some (same r reel) true baked says), refl)

@@ -1,4 +1,4 @@
--- Alike histories agree but in what is past, and those that agree so are alike where no board is in work.
+-- Alike histories agree except for past boards and reels. Histories that agree so are alike if no board is in work.
 use Rattle.std.proofs.Common.{◌≡◌, ℕ, ◌-◌, ◌<◌, nat_lt, Bool, true, false, Contains, Option, Some, None, List, [], ◌∷◌, refl, sym, ap, ◌∙◌, subst, arith}
 use Rattle.std.specs.Prelude.{if◌then◌else◌, ◌&&◌, ◌||◌, ◌==◌, is_some, not}
 use Rattle.std.specs.Option.{option_and_then, option_map, option_map_or, option_or}
@@ -42,7 +42,7 @@ no-some : {X : Type 0} (o : Option X) → is_some o ≡ false → o ≡ None
 no-some None is = refl
 no-some (Some x) is = cc
 
--- a board that was not started has no product,
+-- A board that was not started has no product,
 unstarted-product : (H : History) (board : Name) → is_started H board ≡ false → product_of H board ≡ None
 unstarted-product [] board new = refl
 unstarted-product (e ∷ H) board new =
@@ -50,7 +50,7 @@ unstarted-product (e ∷ H) board new =
     ap (λ o. option_or o (option_and_then (selected_on H) (start_by board e.stamped.command))) (unstarted-product H board neither.1)
     ∙ ap (option_and_then (selected_on H)) (no-some (start_by board e.stamped.command) neither.0)
 
--- and one that was started has one
+-- And one that was started has one.
 if-is : {X : Type 0} (b : Bool) (x y : X) → (if b then Some x else None) ≡ Some y → x ≡ y
 if-is true x y is = cc
 if-is false x y is = cc
@@ -78,7 +78,7 @@ in-work-there H machine board is = by (in_work_on H machine) is
     by None is = cc
     by (Some b) is = ap (λ x. Some x) (sym (same-true board b is))
 
--- an accepted install is of a board in work,
+-- An accepted install is of a board in work,
 installed-in-work : (H : History) (machine board : Name) (ds : List Name) → install_refusal H machine board ds ≡ None → is_in_work_on H machine board ≡ true
 unfolding install_refusal
 installed-in-work H machine board ds none = by (is_in_work_on H machine board) none
@@ -88,7 +88,7 @@ installed-in-work H machine board ds none = by (is_in_work_on H machine board) n
     by true none = refl
     by false none = cc
 
--- no accepted command places a piece on a board without a product,
+-- No accepted command places a piece on a board without a product,
 places-none : (H : History) (minute : ℕ) (command : Command) (board d : Name) → IsJudged Two H → command_refusal Two H minute command ≡ None
     → product_of H board ≡ None → places board d command ≡ false
 unfolding command_refusal
@@ -102,7 +102,7 @@ places-none H minute (MaterialsInstalled machine b ds) board d judged none produ
         cc
 places-none H minute _ board d judged none product = refl
 
--- and none is placed on a board that was not started
+-- And none is placed on a board that was not started.
 unstarted-placed : (H : History) (board d : Name) → IsJudged Two H → is_started H board ≡ false → is_placed_on H board d ≡ false
 unstarted-placed [] board d judged new = refl
 unstarted-placed (e ∷ H) board d (next, judged) new =
@@ -111,7 +111,7 @@ unstarted-placed (e ∷ H) board d (next, judged) new =
     (places-none H e.effective e.stamped.command board d judged (next-accepted H e next) (unstarted-product H board neither.1))
     ∙ unstarted-placed H board d judged neither.1
 
--- where no board is in work on a machine, none is in work
+-- Where no board is in work on a machine, none is in work.
 idle-boards : (H : History) (board : Name) → IsIdle H → is_in_work H board ≡ false
 idle-boards H board idle = by (is_in_work H board) refl
   where
@@ -121,7 +121,7 @@ idle-boards H board idle = by (is_in_work H board) refl
 
 -- ---- reels
 
--- a reel that was not received
+-- A reel that was not received.
 out-untouched : (H : History) (reel : Name) → IsUntouched H reel → out_since H reel ≡ None
 out-untouched [] reel none = refl
 out-untouched (e ∷ H) reel (none, rest) = ap (λ o. since_after o e.effective (out_since H reel)) none ∙ out-untouched H reel rest
@@ -140,7 +140,7 @@ same-absent G H reel of_G of_H in_G in_H = record {
       ap (λ o. minutes_by o (exposure_of G reel minute)) in_G ∙ sym (ap (λ o. minutes_by o (exposure_of H reel minute)) in_H);
 }
 
--- the mark of a receipt is its part, its lot and its moisture level
+-- The mark of a receipt is its part, its lot and its moisture level.
 mark-of : (o p : Option Receipt) → option_map_or (λ (r : Receipt). r.part) o [] ≡ option_map_or (λ (r : Receipt). r.part) p []
     → option_map_or (λ (r : Receipt). r.lot) o [] ≡ option_map_or (λ (r : Receipt). r.lot) p []
     → option_map (λ (r : Receipt). r.moisture) o ≡ option_map (λ (r : Receipt). r.moisture) p → option_map mark o ≡ option_map mark p
@@ -198,7 +198,7 @@ agree-from G H of_G of_H a = record {
   reels = λ reel new. of-reel reel new (receipt_of G reel) refl;
 }
   where
-    -- a board that the old desk did not start, the new one did not
+    -- A board that the old desk did not start, the new one did not.
     new-board : (board : Name) → is_started G board ≡ false → is_started H board ≡ false
     new-board board new = by (is_started H board) refl
       where

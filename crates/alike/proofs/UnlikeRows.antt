@@ -22,11 +22,11 @@ use Rattle.desk_types.specs.Outcome.{replies_to, after_commands}
 use Rattle.desk_types.proofs.RowsCommon.{P, Q, L1, L2, PR, M, S1, S2, K1, K2, B1, R1, R2, at, said, sheet_row, received_at, received, received_at_six, base}
 use Rattle.alike.specs.Alike.{AreAlike}
 
--- the history of a desk that got these commands
+-- The history of a desk that got these commands.
 abbrev after : List Stamped → History
 after commands = after_commands Two [] commands
 
--- what the two desks of a case answer
+-- What the two desks of a case answer.
 abbrev answers : List Stamped → List Stamped → List Reply
 answers commands later = replies_to Two (after commands) later
 

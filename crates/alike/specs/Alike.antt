@@ -12,7 +12,7 @@ use Rattle.desk_types.specs.Work.{in_work_on}
 use Rattle.desk_types.specs.View.{part_of, lot_of}
 use Rattle.alike.specs.Past.{is_started}
 
--- no board is in work
+-- No board is in work.
 abbrev pub IsIdle : History → Type 0
 IsIdle H = (machine : Name) → in_work_on H machine ≡ None
 
@@ -30,19 +30,19 @@ pub record IsSameReel (H H' : History) (reel : Name) : Type 0 where
 -- The new desk, whose history is H', was begun as the old one, whose history is H, ended.
 pub record AreAlike (H H' : History) : Type 0 where
   pub minute : desk_minute H ≡ desk_minute H'
-  -- the setup
+  -- The setup.
   pub parts : (part : Name) → is_part H part ≡ is_part H' part
   pub alternates : (part alternate : Name) → is_alternate H part alternate ≡ is_alternate H' part alternate
   pub sheets : (product machine : Name) → sheet_of H product machine ≡ sheet_of H' product machine
   pub selections : (machine : Name) → selected_on H machine ≡ selected_on H' machine
-  -- the work
+  -- The work.
   pub old_idle : IsIdle H
   pub new_idle : IsIdle H'
-  -- the slots: the same live reels in the same order
+  -- The slots: the same live reels in the same order.
   pub slots : (machine slot : Name) → live_on H machine slot ≡ live_on H' machine slot
-  -- the reels
+  -- The reels.
   pub left : (reel : Name) → left_of H reel ≡ left_of H' reel
   pub reels : (reel : Name) → 0 < left_of H reel → IsSameReel H H' reel
-  -- the new desk knows no board and no reel that the old one doesn't
+  -- The new desk knows no board and no reel that the old one doesn't.
   pub boards_known : (board : Name) → is_started H' board ≡ true → is_started H board ≡ true
   pub reels_known : (reel : Name) → is_some (receipt_of H' reel) ≡ true → is_some (receipt_of H reel) ≡ true

@@ -11,22 +11,22 @@ use Rattle.desk_types.specs.Setup.{receipt_of}
 use Rattle.desk_types.specs.Pieces.{left_of}
 use Rattle.desk_types.specs.Work.{start_by}
 
--- whether work on the board was started, on any machine
+-- Whether work on the board was started, on any machine.
 abbrev pub is_started : History → Name → Bool
 is_started H board = list_any (λ (e : Entry). is_some (start_by board e.stamped.command)) H
 
--- whether the reel was received and has no pieces left
+-- Whether the reel was received and has no pieces left.
 abbrev pub is_spent : History → Name → Bool
 is_spent H reel = is_some (receipt_of H reel) && (left_of H reel == 0)
 
--- the boards that a command names
+-- The boards that a command names.
 abbrev pub boards_named : Command → List Name
 boards_named (WorkStarted machine board) = board ∷ []
 boards_named (WorkCompleted machine board) = board ∷ []
 boards_named (MaterialsInstalled machine board designators) = board ∷ []
 boards_named _ = []
 
--- the reels that a command names
+-- The reels that a command names.
 abbrev pub reels_named : Command → List Name
 reels_named (ReelReceived reel part lot moisture quantity) = reel ∷ []
 reels_named (ReelOpened reel) = reel ∷ []
@@ -37,7 +37,7 @@ reels_named (MaterialsSpliced machine slot reel) = reel ∷ []
 reels_named (CountsTaken counts) = map (λ (row : CountRow). row.reel) counts
 reels_named _ = []
 
--- the command names no board that was started in H, and no reel that is spent in H
+-- The command names no board that was started in H, and no reel that is spent in H.
 pub record NamesNothingPast (H : History) (command : Command) : Type 0 where
   pub boards : All (λ board. is_started H board ≡ false) (boards_named command)
   pub reels : All (λ reel. is_spent H reel ≡ false) (reels_named command)
