@@ -1,4 +1,4 @@
-//! The desk that keeps the current state: maps, and no list of commands.
+//! The desk that keeps the current state: rows and indexes, and no list of commands.
 #![tactic(auto)]
 
 mod desk;

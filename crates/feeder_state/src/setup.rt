@@ -1,4 +1,4 @@
-//! The setup: parts, alternates, sheets, and the product on each machine.
+//! The setup: the sheets with their look-ups.
 
 mod rows;
 

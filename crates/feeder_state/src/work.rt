@@ -1,4 +1,4 @@
-//! Boards in work, their products, and their placed designators.
+//! Boards in work, and their placed designators.
 
 mod rows;
 

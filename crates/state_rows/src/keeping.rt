@@ -4,7 +4,7 @@ use crate::set::RowSet;
 use desk_types::{Change, Desk, RowEdit};
 use std::alloc::AllocError;
 
-/// A desk that keeps the rows of its state tables, except those of `placement`.
+/// A desk that keeps the rows of its state tables. It adds no rows of `placement`.
 ///
 /// Whoever owns a desk and a database makes the edits of a command once, commits them, and then
 /// passes them to `settle_edits`. After `Desk::settle`, which gets no number, rows of `mount` may have
