@@ -49,8 +49,9 @@ class PartDefined(forms.Command):
 
 @dataclasses.dataclass(frozen=True)
 class AlternateAllowed(forms.Command):
-    """AlternateAllowed allows Alternate in place of PartNumber on every sheet. It works in this direction only, and not
-    through a third part. Refused for UnknownPart."""
+    """AlternateAllowed allows Alternate in place of PartNumber on every sheet. It works in this direction only.
+    Alternates don't chain: an alternate of Alternate is not thereby allowed in place of PartNumber. Refused for
+    UnknownPart."""
 
     part_number: str
     alternate: str
@@ -260,7 +261,7 @@ MESSAGES: Tuple[Type[forms.Command], ...] = (
 
 # What to do about a refusal, and about a fault.
 REFUSALS: Dict[str, str] = {
-    'IdReused': 'programmer: give each message a UniqueID of its own. A sender whose message had no answer over a roll-over asks once with ClockSet',
+    'IdReused': 'programmer: give each message a UniqueID of its own. If the message was sent before a roll-over and got no answer, send one ClockSet with its UniqueID, Source and TimeStamp: Accepted means that the archive has the message',
     'DeskFull': 'begin with a new desk (operations.md)',
     'TooFarAhead': "set the sender's clock right; if it is right and the line was idle, send ClockSet first",
     'PartExists': 'nothing',
@@ -284,14 +285,14 @@ REFUSALS: Dict[str, str] = {
     'OtherProduct': 'check its serial number, or select its product',
     'NotInWork': 'start it, or check its serial number',
     'DesignatorNotOnSheet': 'correct the sheet or the placement program',
-    'AlreadyPlaced': 'nothing, if it was reported twice: a repeat must keep its UniqueID',
-    'ReelShort': "report the load or the splice that the desk doesn't know, and send the message again; correct the number of a scrap",
+    'AlreadyPlaced': 'nothing, if the sender reported one placement in two messages. Its programmer has to correct that: a message sent again keeps its UniqueID',
+    'ReelShort': "for an install: report the load or the splice that the desk doesn't know of, and send the message again. For a scrap: correct its number",
     'ReelTwice': 'correct the counts',
     'CountAbove': 'check whether it is the right reel; if it is, receive the pieces as a new reel',
 }
 FAULTS: Dict[str, str] = {
     'LineTooLong': 'leave out the spaces; split the installs or the counts into several messages',
-    'NotJson': 'send one whole JSON object a line',
+    'NotJson': 'send one whole JSON object per line',
     'NotObject': 'the same',
     'EnvelopeMember': 'add or correct it',
     'BadTime': 'write it as 2026-03-02T06:00:00Z',

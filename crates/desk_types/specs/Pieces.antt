@@ -44,12 +44,12 @@ abbrev pub scrap_picks : (Name → ℕ) → Purpose → List Name → ℕ → Li
 scrap_picks pieces purpose [] n = []
 scrap_picks pieces purpose (r ∷ rs) n = pieces_off r (min n (pieces r)) purpose ++ scrap_picks pieces purpose rs (n - pieces r)
 
--- The pieces by which each counted reel exceeds its count.
+-- For each counted reel, the pieces that are missing at the count.
 abbrev pub count_picks : (Name → ℕ) → List CountRow → List Pick
 count_picks pieces [] = []
 count_picks pieces (row ∷ rows) = pieces_off row.reel (pieces row.reel - row.quantity) Counted ++ count_picks pieces rows
 
--- The command's picks after H, for these pieces on the reels.
+-- The command's picks after H, if `pieces` gives the pieces left on each reel.
 abbrev pub picks_from : (Name → ℕ) → History → Command → List Pick
 picks_from pieces H (MaterialsInstalled machine board designators) =
     install_picks (slot_on H machine) (tape_of H machine) pieces machine board [] designators
@@ -127,6 +127,7 @@ abbrev pub is_live_where_loaded : History → Name → Command → Bool
 is_live_where_loaded H reel (MaterialsLoaded m s r) = list_any (same reel) (live_on H m s)
 is_live_where_loaded H reel _ = false
 
--- Whether the reel is live on some slot (any slot with a tape was loaded by an entry).
+-- Whether the reel is live on some slot. Only slots that an entry loaded are tried, since no other
+-- slot has a tape.
 abbrev pub is_mounted : History → Name → Bool
 is_mounted H reel = list_any (λ (e : Entry). is_live_where_loaded H reel e.stamped.command) H

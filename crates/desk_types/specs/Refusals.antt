@@ -160,8 +160,8 @@ abbrev pub differ : Option Name → Option Name → Bool
 differ (Some a) (Some b) = not (same a b)
 differ _ _ = false
 
--- The refusal of a start of work. An earlier test excludes a board in work on this machine, so a
--- board in work is on another one.
+-- The refusal of a start of work. The test for MachineBusy excludes a board in work on this
+-- machine, so BoardBusy means that the board is in work on another one.
 unfoldable pub start_refusal : History → ℕ → Name → Name → Option Refusal
 start_refusal H minute machine board = option_or (first_refusal (
     (is_none (selected_on H machine), NoProduct machine)
@@ -201,7 +201,7 @@ install_refusal H machine board designators =
 -- ---- counts
 
 -- Whether a count is too high. Rules One refuse any count above the remaining pieces. Rules Two
--- allow it, because pieces can be found, except for a spent reel.
+-- refuse it for a spent reel only, because pieces can be found.
 abbrev pub is_above : Rules → (left counted : ℕ) → Bool
 is_above One left counted = nat_lt left counted
 is_above Two left counted = (left == 0) && nat_lt 0 counted
@@ -246,8 +246,8 @@ abbrev pub is_clock : Command → Bool
 is_clock ClockSet = true
 is_clock _ = false
 
--- Whether the command's minute is over two weeks ahead; the first command and a clock setting may
--- be.
+-- Whether the command's minute is more than two weeks after the desk minute. This is false for the
+-- first command and for a clock setting.
 abbrev pub is_too_far_ahead : History → Stamped → Bool
 is_too_far_ahead H s = option_map_or (λ desk. nat_lt (desk + FURTHEST_AHEAD) s.minute) (desk_minute H) false && not (is_clock s.command)
 
