@@ -26,11 +26,11 @@ ghost use Rattle.headline.specs.Calls.{AnswersByTheList, Call};
 ghost use Rattle.sqlite_wal.specs.Files.{image_at};
 
 use desk_file::{FileDesk, next_run_goes_on};
-use desk_types::Desk as AnyDesk;
 use feeder_state::StateDesk;
 use line_schema::LineStore;
 use sqlite::{FileFrom, FileStore, Files, Start};
 use sqlite_disk::Disk;
+use state_rows::KeepsRows;
 
 /// A law: runs one after another, each on the files that the previous one left, are equivalent to one run that makes
 /// all their calls. So every answer of every run is that of one list of accepted commands, which is lawful and
@@ -101,7 +101,7 @@ pub fn refused_runs_keep_lists<T: Start>(files: &Files<FileFrom<T>>)
 
 /// A law: after a kill between two calls, which drops the files without a close, they hold the tables of the desk's
 /// history.
-pub fn let_go<F: Disk + Drop, D: AnyDesk + Drop>(desk: LineStore<FileStore<F>, D>) -> Files<F>
+pub fn let_go<F: Disk + Drop, D: KeepsRows + Drop>(desk: LineStore<FileStore<F>, D>) -> Files<F>
     ensures left { Crashes D.Stands D.kept_rules desk result }
 {
     let conn = desk.into_connection();
