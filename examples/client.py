@@ -12,7 +12,7 @@ it is sent, and whatever ends the program, the next run sends the rest. A progra
 certificate is made like this one; tracedesk-send is the program for lines that are messages already.
 
 Exit status: 0 each message was taken; 1 some were not, and standard error says why; 2 bad command line, a board's name
-that no desk takes, or what sending again doesn't mend.
+that no desk takes, or what sending again doesn't mend; 5 an error of this program.
 """
 import argparse
 import pathlib
@@ -21,6 +21,7 @@ import sys
 HERE = pathlib.Path(__file__).resolve().parent
 sys.path[1:1] = [str(HERE.parent / "clients/python"), "/usr/bin/tracedesk-send"]  # the package lies in the repository, or in that file
 from tracedesk import Desk, NotTaken, Sender, Spool, SpoolError, WorkStarted, is_taken, why  # noqa: E402
+from tracedesk.console import ended, tell  # noqa: E402
 
 
 def main():
@@ -30,24 +31,20 @@ def main():
     reader.add_argument("machine", metavar="MACHINE")
     asked, refused = reader.parse_args(), 0
     spool = Spool(asked.spool) if asked.spool else None
-    with Desk(asked.url, patience=None, tell=lambda line: print(line, file=sys.stderr)) as desk:
+    with Desk(asked.url, patience=None, tell=tell) as desk:
         for line in sys.stdin:
             message = WorkStarted(machine=asked.machine, board=line.strip()).message(asked.machine)
             if spool:
                 spool.put(message)
             elif not is_taken(answer := desk.send(message)):
-                print(f"{line.strip()}: {why(answer)}", file=sys.stderr)
+                tell(f"{line.strip()}: {why(answer)}")
                 refused += 1
         if spool:
-            sender = Sender(spool, desk, tell=lambda line: print(line, file=sys.stderr))
+            sender = Sender(spool, desk, tell=tell)
             sender.run()
             refused = sender.aside
     return 1 if refused else 0
 
 
 if __name__ == "__main__":
-    try:
-        sys.exit(main())
-    except (NotTaken, SpoolError, ValueError, OSError) as fault:  # OutOfRange is a ValueError
-        print(f"{pathlib.Path(sys.argv[0]).name}: {fault}", file=sys.stderr)
-        sys.exit(2)
+    sys.exit(ended(main, {NotTaken: 2, SpoolError: 2, ValueError: 2, OSError: 2}))  # OutOfRange is a ValueError

@@ -7,6 +7,11 @@ import * as store from "./store.js";
 const FIRST_PAUSE = 250, LONGEST_PAUSE = 5000; // milliseconds
 const ANSWERED_BETWEEN_TIDYINGS = 50;
 
+/** Asks whether the desk's archive has this very message. Only after IdReused: any other desk would take it as a ClockSet. */
+function question(text) {
+  return JSON.stringify({ ...JSON.parse(text), MessageName: "TraceDesk.ClockSet", MessageBody: {} });
+}
+
 export class Outbox {
   /** `tell` is called with what changed: {answered: scan}, or {waiting: scans, problem}. */
   constructor(tell) {
@@ -90,23 +95,35 @@ export class Outbox {
   }
 
   async send(scan) {
-    for (let pause = FIRST_PAUSE; ; pause = Math.min(2 * pause, LONGEST_PAUSE)) {
-      const told = await desk.post(scan.text, scan.uid);
-      if (told.answer) {
-        await store.settle(scan, told.answer, told.status);
-        this.problem = null;
-        this.channel.postMessage({ answered: scan.uid });
-        this.tell({ answered: { ...scan, state: "answered", answer: told.answer, status: told.status } });
-        break;
+    let { answer, status } = await this.asked(scan.text, scan.uid);
+    if (answer.Refusal === "IdReused") { // the desk was begun anew, and its archive may have this scan
+      const known = await this.asked(question(scan.text), scan.uid);
+      if (known.answer.Answer === "Accepted") {
+        answer = { ...known.answer, Archived: true };
+        status = known.status;
       }
-      this.problem = told;
-      this.count();
-      await this.pause(Math.max(told.again ? pause : LONGEST_PAUSE, told.wait * 1000));
     }
+    await store.settle(scan, answer, status);
+    this.problem = null;
+    this.channel.postMessage({ answered: scan.uid });
+    this.tell({ answered: { ...scan, state: "answered", answer, status } });
     this.count();
     this.answered += 1;
     if (this.answered % ANSWERED_BETWEEN_TIDYINGS === 0) {
       await store.tidy();
+    }
+  }
+
+  /** Sends the same bytes until they are answered. */
+  async asked(text, uid) {
+    for (let pause = FIRST_PAUSE; ; pause = Math.min(2 * pause, LONGEST_PAUSE)) {
+      const told = await desk.post(text, uid);
+      if (told.answer) {
+        return told;
+      }
+      this.problem = told;
+      this.count();
+      await this.pause(Math.max(told.again ? pause : LONGEST_PAUSE, told.wait * 1000));
     }
   }
 }

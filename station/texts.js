@@ -81,6 +81,7 @@ export const TEXTS = {
     minutes: "floor life left: {life}",
     taken: "{taken} pieces taken off",
     number: "command {number} of the desk",
+    archived: "accepted by the desk before this one; its answer is in the archive",
     own: "{part}, lot {lot}",
     ownUnknown: "The desk did not tell the reel's part.",
     alternate: "The sheet of {product} ({source}) names {part} for this slot.",

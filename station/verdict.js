@@ -231,7 +231,7 @@ export class Verdict {
     const life = "MinutesLeft" in answer ? filled(texts.minutes, { life: lifeText(answer.MinutesLeft) }) : "Taken" in answer ? filled(texts.taken, { taken: piecesText(answer.Taken) }) : "";
     const more = el("div", { class: "more" }, this.more.get(scan.uid));
     const late = line("late", scan.isLate ? filled(texts.again, { time: clock.shown(scan.at) }) : "");
-    const parts = isGreen ? [line("where", whereOf(scan)), line("life", life), more, line("facts", `${whatOf(scan)} · ${filled(texts.number, { number: answer.Number })}`)]
+    const parts = isGreen ? [line("where", whereOf(scan)), line("life", life), more, line("facts", `${whatOf(scan)} · ${filled(answer.Archived ? texts.archived : texts.number, { number: answer.Number })}`)]
       : [el("h2", null, title), line("todo", todo), line("where", whereOf(scan)), more, line("facts", whatOf(scan))];
     return el("div", { class: `one ${kind}`, data: { scan: scan.uid } }, late, el("p", { class: "word" }, el("span", { class: "sign" }, isGreen ? "\u2713 " : "\u2717 "), word), parts);
   }

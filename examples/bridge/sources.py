@@ -246,7 +246,10 @@ class Queue:
     """A queue of a broker. `asked` has the words of the command line."""
 
     def __init__(self, bridge, asked):
-        import proton
+        try:
+            import proton
+        except ImportError as fault:
+            raise ImportError(f"{fault}: apt-get install python3-qpid-proton, and start this by /usr/bin/python3") from None
         self.proton, self.bridge, self.asked = proton, bridge, asked
         self.pause, self.why = FIRST_PAUSE, None
 

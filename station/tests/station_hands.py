@@ -140,8 +140,14 @@ def a_disk_that_fails_once(site):
         it.does("A/OPEN", "K-3", holds=("OPENED", "K-3"))
         it.script("window.stores.forEach((it) => it.close())")
         it.does("A/OPEN", "K-4", holds=("OPENED", "K-4"))
+        for is_kept in ("false", "true"):
+            it.go("scan")
+            if ("may throw kept scans away" in it.text("main")) != (is_kept == "false"):
+                raise Difference(f"a browser whose store is kept, {is_kept}: {it.text('main')}")
+            it.page.execute_cdp_cmd("Page.addScriptToEvaluateOnNewDocument", {"source": "navigator.storage.persist = async () => true"})
+            it.load()
         whole(site, it, 4)
-    return "4 scans over 3 faults of the disk, each acted once"
+    return "4 scans over 3 faults of the disk, each acted once; the screen Scan says whether the browser keeps them"
 
 
 def whether_it_may_send_is_asked_again(site):

@@ -5,6 +5,7 @@ import io
 import time
 
 from tracedesk_dev import shift
+import station_site
 from station_site import Difference
 
 WORDS = {"EMPTY": "EMPTY", "EXPIRED": "EXPIRED", "LOW": "LOW", "EXPIRES": "EXPIRES", "OTHER": "OTHER PART", "OFF": "NOT ON SHEET"}
@@ -74,7 +75,7 @@ def shown_tiles(operator):
 
 def agreed(what, differs, seconds=25):
     """Waits until nothing differs."""
-    end = time.monotonic() + seconds
+    end = time.monotonic() + seconds * station_site.slower
     while (wrong := differs()) and time.monotonic() < end:
         time.sleep(0.3)
     if wrong:

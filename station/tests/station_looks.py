@@ -1,11 +1,8 @@
 """How the station looks, and what it costs: contrast, sizes, the keyboard alone, printed codes; pictures; and figures."""
 import base64
 import contextlib
-import pathlib
-import re
 import shutil
 import subprocess
-import tempfile
 import time
 
 import station_flows

@@ -1,6 +1,8 @@
 """What holds of a scan wherever it is made and whatever fails then, and what ten stations cost: each flow on a desk of its own."""
 import concurrent.futures
 import re
+import subprocess
+import sys
 import time
 
 from station_costs import A_DAY, KITS, PERIODS, days, looked_together
@@ -213,6 +215,28 @@ def an_id_that_was_used_before(site):
     if answers != ["IdReused", "Accepted"]:
         raise Difference(f"{answers}")
     return "IdReused in words, and the scan behind it accepted"
+
+
+def a_scan_over_a_roll_over(site):
+    """The desk takes a scan, its answer is lost, and a new desk is begun: that scan is done, and the one behind it acts in the new desk."""
+    with Operator(site) as it:
+        it.ready()
+        site.stop_nginx()
+        it.scan("A/OPEN", "K-1", "A/OPEN", "K-2")
+        first = wait_for("both are kept", lambda: len(kept := it.scans()) == 2 and kept[0])
+        site.kill_desk()
+        site.feed([first["text"].encode()])
+        archive = (site.room / "desk").rename(site.room / "archive")
+        if (log := site.room / "desk-wal").exists():
+            log.rename(site.room / "archive-wal")
+        site.feed(subprocess.run([sys.executable, ROOT / "ops/begin", archive], check=True, capture_output=True).stdout.splitlines())
+        site.start_desk()
+        site.start_nginx()
+        answers = [scan["answer"] for scan in whole(site, it, 2)]
+        if [(told["Answer"], told.get("Archived")) for told in answers] != [("Accepted", True), ("Accepted", None)]:
+            raise Difference(f"{answers}")
+        wait_for("both are shown", lambda: "the desk before this one" in (text := it.text("verdict")) and "open K-2" in text)
+    return "the archive's scan is done and acts once; the one behind it accepted by the new desk"
 
 
 def a_kill_of_nginx_in_mid_scan(site):
@@ -428,5 +452,5 @@ def a_station_works(numbered):
         page.does(("S/M1/1", "S/M1/3", "S/M2/1", "S/M2/3")[number], f"T-{number}", holds=("LOADED",))
 
 
-FLOWS = [a_scan_whatever_has_the_focus, receive_keeps_what_it_has, each_refused_load_says_what_to_bring, an_id_that_was_used_before, a_kill_of_nginx_in_mid_scan, a_tone_for_each_verdict,
+FLOWS = [a_scan_whatever_has_the_focus, receive_keeps_what_it_has, each_refused_load_says_what_to_bring, an_id_that_was_used_before, a_scan_over_a_roll_over, a_kill_of_nginx_in_mid_scan, a_tone_for_each_verdict,
          each_form_by_the_keyboard, a_plants_own_texts, a_slow_desk_is_not_said_to_be_away, a_million_connections_last_thirty_days, ten_pages_that_scan_at_once]

@@ -1,13 +1,12 @@
 """The screens against the program's `report`: every state of a slot, a line of a plant's size, who gets which reel, and what is printed."""
 import base64
 import csv
-import importlib.machinery
-import importlib.util
 import io
 import json
 import shutil
 import subprocess
 
+from tracedesk_dev import layout
 import station_flows
 from station_line import line_is_as_reported, real_line, report, shown_rows, shown_tiles, slots_of, tiles_are_as_reported, view
 from station_site import ROOT, SETUP, Difference, Operator, wait_for
@@ -260,28 +259,22 @@ def a_trace_is_printed_whole(site):
 
 
 def the_operators_sheet_is_one_page(site):
-    """docs/station-operator.md as `make docs` and as the package has it, printed by a browser: one page of A4 that names each action and each state."""
+    """docs/station-operator.md as the package has it, printed by a browser: one page of A4 that names each action and each state."""
     if not shutil.which("pandoc"):
         return "SKIPPED: there is no pandoc here: apt-get install pandoc"
-    loader = importlib.machinery.SourceFileLoader("print_docs", str(ROOT / "dev/print-docs"))
-    printer = importlib.util.module_from_spec(importlib.util.spec_from_loader("print_docs", loader))
-    loader.exec_module(printer)
-    text = (ROOT / "docs/station-operator.md").read_text()
-    (site.room / "made.html").write_text(printer.page("Station", printer.pandoc(text)))
-    packaged = subprocess.run(["pandoc", "--from", "gfm", "--to", "html5", "--standalone", "--metadata", "pagetitle=Station", "--include-in-header", ROOT / "packaging/style.html"], input=text, capture_output=True, text=True, check=True)
-    (site.room / "packaged.html").write_text(packaged.stdout)
+    page = ROOT / "docs/station-operator.md"
+    text = page.read_text()
+    (site.room / "made.html").write_text(layout.html(page))
     with Operator(site) as it:
         names = it.script("return import('/station/words.js').then((it) => [it.TEXTS.actions, it.TEXTS.line.states, it.TEXTS.line.urgent, it.TEXTS.verdict])")
         codes = it.script("return import('/station/scan.js').then((it) => it.ACTIONS)")
-        pages = []
-        for name in ("made", "packaged"):
-            it.page.get((site.room / f"{name}.html").as_uri())
-            pages.append(printed(site, it, name))
+        it.page.get((site.room / "made.html").as_uri())
+        made = printed(site, it, "made")
     words = [names[0][code] for code in (*codes, "ENTER", "RECEIVE")] + [word for state, word in names[1].items() if state not in ("OK", "NOSHEET")] + [names[2]["BEHIND"], names[3]["refused"], names[3]["asked"]]
     lacking = [word for word in words if word not in " ".join(text.split())]
-    if any(len(it) != 1 or "At the line" not in it[0] for it in pages) or lacking:
-        raise Difference(f"{[len(it) for it in pages]} pages, without {lacking}")
-    return f"one page as `make docs` and as the package has it, with {len(words)} words of the screen"
+    if len(made) != 1 or "At the line" not in made[0] or lacking:
+        raise Difference(f"{len(made)} pages, without {lacking}")
+    return f"one page, with {len(words)} words of the screen"
 
 
 FLOWS = [every_state_of_a_slot, a_real_line_is_on_one_screen, who_gets_which_reel, a_changeover_of_two_machines, the_overdue_list, a_trace_is_printed_whole, the_operators_sheet_is_one_page]

@@ -15,21 +15,19 @@ import tempfile
 import time
 import uuid
 
+from tracedesk_dev.trial import Difference, wanting
+
 ROOT = pathlib.Path(__file__).resolve().parents[2]
 PEOPLE = {"op": "senders", "office": "readers"}  # their passwords are their names
 CERTIFICATES = {"m2": "sender", "auditor": "reader"}
 SETUP = {"title": "Line 1", "machines": [{"machine": "M1", "product": "CTRL-A"}, {"machine": "M2", "product": "CTRL-A"}], "boards": 50, "expires": 60}
 PATIENCE = 90  # seconds: of a machine that has much to do
-
-
-class Difference(Exception):
-    """What was wanted, and what came."""
+slower = 1  # each wait takes so many times as long: station-test --slower
 
 
 def missing():
     """The packages of Debian that are wanting here, or none."""
-    wanted = {"chromium": "chromium", "chromedriver": "chromium-driver", "nginx": "nginx-light", "openssl": "openssl"}
-    found = [package for command, package in wanted.items() if shutil.which(command, path=os.environ["PATH"] + ":/usr/sbin") is None]
+    found = wanting({"chromium": "chromium", "chromedriver": "chromium-driver", "nginx": "nginx-light", "openssl": "openssl"})
     try:
         import selenium  # noqa: F401
     except ImportError:
@@ -39,14 +37,15 @@ def missing():
 
 def wait_for(what, holds, seconds=PATIENCE):
     """What `holds` gives once it is true."""
-    end = time.monotonic() + seconds
+    end, pause = time.monotonic() + seconds * slower, 0.02
     while True:
         with contextlib.suppress(OSError, http.client.HTTPException):
             if it := holds():
                 return it
         if time.monotonic() > end:
-            raise Difference(f"after {seconds} seconds: not {what}")
-        time.sleep(0.02)
+            raise Difference(f"after {seconds * slower} seconds: not {what}")
+        time.sleep(pause)
+        pause = min(1.2 * pause, 0.25)
 
 
 def free_ports(count):
@@ -238,7 +237,9 @@ def browser(room, name, size=(1920, 1080)):
         options.add_argument(it)
     options.set_capability("goog:loggingPrefs", {"browser": "ALL"})
     options.accept_insecure_certs = True
-    return webdriver.Chrome(service=Service(shutil.which("chromedriver"), log_path=os.devnull), options=options)
+    page = webdriver.Chrome(service=Service(shutil.which("chromedriver"), log_path=os.devnull), options=options)
+    page.set_script_timeout(PATIENCE * slower)
+    return page
 
 
 def why_no_browser():

@@ -192,6 +192,13 @@ class Spools(unittest.TestCase):
         with one.held(), self.assertRaises(spool.SpoolError), two.held():
             pass
 
+    def test_a_look_that_fails_ends_no_follower(self):
+        told, looks = [], [MemoryError("no memory"), None, OSError("no disk"), None, Ended]
+        follower = sender.Folder(spool.Spool(self.folder), self.out, told.append)
+        with mock.patch.object(follower, "look", side_effect=looks), mock.patch("time.sleep"), self.assertRaises(Ended):
+            follower.run()
+        self.assertEqual([it.split(".")[0] for it in told], ["no memory", "no disk"])
+
     def test_a_line_longer_than_memory_should_hold_is_read_in_pieces(self):
         place, size = self.out / "1.jsonl", 3 * forms.LONGEST_MESSAGE
         place.write_bytes(b"a\n" + b"x" * size + b"\nb\n \n" + b"y" * size)

@@ -20,6 +20,6 @@ from .spool import Spool, SpoolError
 from .words import *  # noqa: F401,F403
 from .words import MESSAGES
 
-__version__ = "0.2.0"
+__version__ = "0.3.0"
 __all__ = ["Accepted", "Answer", "Command", "Desk", "Faulty", "Folder", "GivenUp", "Ignored", "Lines", "Meaning", "Message", "NotFound", "NotTaken", "NotThere", "OutOfRange", "Refused", "Sender",
            "Spool", "SpoolError", "Stopped", "Unavailable", "Verdict", "is_taken", "trust_of", "verdict", "why", "CountRow", "SheetRow", *(it.__name__ for it in MESSAGES)]

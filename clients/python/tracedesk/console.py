@@ -1,11 +1,12 @@
-"""How a program reports: news on standard error, results on standard output. Neither ends a program when its reader is gone."""
+"""How a program reports: news on standard error, results on standard output, and its status. A reader that is gone ends no program."""
 from __future__ import annotations
 
 import os
 import pathlib
 import sys
 import time
-from typing import Callable, TypeVar
+import traceback
+from typing import Callable, Mapping, Type, TypeVar
 
 NAME = pathlib.Path(sys.argv[0]).name
 PAUSE_OF_A_FAULT, NEWS_OF_A_FAULT = 5.0, 60.0  # seconds between two tries, and between two reports of them
@@ -34,6 +35,18 @@ def silence(number: int) -> None:
     nowhere = os.open(os.devnull, os.O_WRONLY)
     os.dup2(nowhere, number)
     os.close(nowhere)
+
+
+def ended(call: Callable[[], int], statuses: Mapping[Type[Exception], int]) -> int:
+    """Runs a program, and returns its status: of a fault the one given for its kind, else 5 with the place in the program."""
+    try:
+        return call()
+    except KeyboardInterrupt:
+        return 130
+    except Exception as fault:
+        found = next((it for kind, it in statuses.items() if isinstance(fault, kind)), 5)
+        tell(traceback.format_exc() if found == 5 else fault)
+        return found
 
 
 def patiently(call: Callable[[], Found], news: Callable[[str], None] = tell) -> Found:

@@ -132,7 +132,7 @@ class Desk:
             pause = min(2 * pause, LONGEST_PAUSE)
             while (now := time.monotonic()) < until:
                 if end is not None and now >= end:
-                    raise GivenUp(f"no answer for {self.patience:.0f} seconds, the last time: {why}")
+                    raise GivenUp(f"given up: no answer for {self.patience:.0f} seconds, the last time: {why}")
                 if now >= news or wait > FIRST_NEWS and news == begun + FIRST_NEWS:
                     self.tell(f"no answer for {now - begun:.0f} seconds, the last time: {why}")
                     news = now + NEWS

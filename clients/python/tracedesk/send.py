@@ -61,16 +61,14 @@ from __future__ import annotations
 import argparse
 import contextlib
 import datetime
-import fcntl
 import os
 import pathlib
 import re
 import sys
-import traceback
 from typing import BinaryIO, Iterator, List, Optional
 
 from . import answers, desk, sender, spool
-from .console import NAME, say, tell
+from .console import NAME, ended, say, tell
 
 RATE = 40.0  # messages a second of one spool
 TIME = re.compile(r"\d{4}-\d\d-\d\d[Tt]\d\d:\d\d.*")
@@ -87,10 +85,7 @@ class BadFile(Exception):
 def held(path: str) -> Iterator[BinaryIO]:
     """A file of answers, which one sender has at a time; it is made if there is none."""
     with open(path, "a+b") as file:
-        try:
-            fcntl.flock(file, fcntl.LOCK_EX | fcntl.LOCK_NB)
-        except BlockingIOError:
-            raise BadFile("another sender has it: end that one, or name another file for answers") from None
+        spool.lock_alone(file.fileno(), path, "sender has it: end that one, or name another file for answers")
         yield file
 
 
@@ -272,25 +267,7 @@ def run(asked: argparse.Namespace) -> int:
 
 def main() -> int:
     asked = words()
-    try:
-        return run(asked)
-    except sender.Stopped as answer:
-        tell(answer)
-        return 1
-    except desk.GivenUp as why:
-        tell(f"given up: {why}")
-        return 3
-    except desk.NotTaken as why:
-        tell(why)
-        return 4
-    except (spool.SpoolError, OSError, UnicodeError, ValueError) as fault:
-        tell(fault)
-        return 2
-    except KeyboardInterrupt:
-        return 130
-    except Exception:
-        tell(traceback.format_exc())
-        return 5
+    return ended(lambda: run(asked), {sender.Stopped: 1, spool.SpoolError: 2, OSError: 2, ValueError: 2, desk.GivenUp: 3, desk.NotTaken: 4})
 
 
 if __name__ == "__main__":

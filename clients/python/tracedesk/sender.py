@@ -2,7 +2,6 @@
 from __future__ import annotations
 
 import contextlib
-import fcntl
 import os
 import pathlib
 import threading
@@ -12,7 +11,7 @@ from typing import BinaryIO, Callable, Iterator, Optional
 from . import answers, forms
 from .console import NEWS_OF_A_FAULT, patiently
 from .desk import Desk
-from .spool import Spool, SpoolError, files_in, lines_of
+from .spool import Spool, files_in, lines_of, lock_alone
 
 LOOK = 0.2  # seconds between two looks at a folder
 BEGUN = ".tracedesk-send.taking"  # the file of a followed folder that is taken in: no machine writes one of this name
@@ -147,10 +146,7 @@ class Folder(Follower):
         handle = os.open(self.folder, os.O_RDONLY | os.O_DIRECTORY)
         try:
             with contextlib.suppress(OSError):  # some network folders know no locks
-                try:
-                    fcntl.flock(handle, fcntl.LOCK_EX | fcntl.LOCK_NB)
-                except BlockingIOError:
-                    raise SpoolError(f"{self.folder}: another sender follows this folder: end that one, or name another folder") from None
+                lock_alone(handle, self.folder, "sender follows this folder: end that one, or name another folder")
             yield
         finally:
             os.close(handle)

@@ -59,6 +59,14 @@ def write_synced(path: pathlib.Path, text: Union[bytes, Iterable[bytes]]) -> Non
         raise
 
 
+def lock_alone(handle: int, place: object, why: str) -> None:
+    """Locks an open file or folder; a SpoolError if another process has it."""
+    try:
+        fcntl.flock(handle, fcntl.LOCK_EX | fcntl.LOCK_NB)
+    except BlockingIOError:
+        raise SpoolError(f"{place}: another {why}") from None
+
+
 def spelled(number: int) -> str:
     return f"{number:012}"
 
@@ -211,7 +219,7 @@ class Spool:
         """Held by the one that sends. What a killed run left between an answer and what follows of it is made good first."""
         handle = os.open(self.folder / ".sending", os.O_RDWR | os.O_CREAT, 0o600)
         try:
-            fcntl.flock(handle, fcntl.LOCK_EX | fcntl.LOCK_NB)
+            lock_alone(handle, self.folder, "sender has this spool: end that one, or name another spool")
             self.state = self.read_state()
             self.move_back()
             number, answer = self.last_answer(self.state["Answers"], mends=True)
@@ -227,8 +235,6 @@ class Spool:
                 self.write_state(Runs=self.is_unanswered)
                 raise
             self.write_state(Runs=self.is_unanswered)
-        except BlockingIOError:
-            raise SpoolError(f"{self.folder}: another sender has this spool: end that one, or name another spool") from None
         finally:
             os.close(handle)
 

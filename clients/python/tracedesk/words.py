@@ -49,8 +49,9 @@ class PartDefined(forms.Command):
 
 @dataclasses.dataclass(frozen=True)
 class AlternateAllowed(forms.Command):
-    """AlternateAllowed lets Alternate stand where a sheet says PartNumber. It holds in this direction alone, and not
-    through a third part. Refused for UnknownPart."""
+    """AlternateAllowed allows Alternate in place of PartNumber on every sheet. It works in this direction only.
+    Alternates don't chain: an alternate of Alternate is not thereby allowed in place of PartNumber. Refused for
+    UnknownPart."""
 
     part_number: str
     alternate: str
@@ -60,8 +61,8 @@ class AlternateAllowed(forms.Command):
 
 @dataclasses.dataclass(frozen=True)
 class SheetDefined(forms.Command):
-    """SheetDefined says for a product on a machine which part each slot feeds, and to which designators. A new sheet
-    takes the place of the old one whole. Refused for MachineBusy, SlotTwice, DesignatorTwice, UnknownPart."""
+    """SheetDefined defines, for a product on a machine, the part that each slot feeds and its designators. A new sheet
+    replaces the old one completely. Refused for MachineBusy, SlotTwice, DesignatorTwice, UnknownPart."""
 
     product: str
     machine: str
@@ -72,8 +73,8 @@ class SheetDefined(forms.Command):
 
 @dataclasses.dataclass(frozen=True)
 class ProductSelected(forms.Command):
-    """ProductSelected says what a machine makes from now on. The machine's sheet is that of this product. Refused for
-    UnknownSheet, MachineBusy."""
+    """ProductSelected selects the product that a machine makes from now on, and so its sheet. Refused for UnknownSheet,
+    MachineBusy."""
 
     machine: str
     product: str
@@ -83,7 +84,7 @@ class ProductSelected(forms.Command):
 
 @dataclasses.dataclass(frozen=True)
 class ReelReceived(forms.Command):
-    """ReelReceived brings in a reel, sealed in its bag. Trays and tubes are reels too. Refused for UnknownPart,
+    """ReelReceived receives a reel, sealed in its bag. Trays and tubes are reels too. Refused for UnknownPart,
     ReelExists."""
 
     reel: str
@@ -105,8 +106,8 @@ class ReelReceived(forms.Command):
 
 @dataclasses.dataclass(frozen=True)
 class ReelOpened(forms.Command):
-    """ReelOpened takes a reel out of its bag: from now on its floor life runs. A reel that is open may be opened again:
-    it has been out since the first time. Refused for UnknownReel."""
+    """ReelOpened takes a reel out of its bag: its floor life runs from now on. An open reel may be opened again; its
+    floor life goes on. Refused for UnknownReel."""
 
     reel: str
     WORD: ClassVar[str] = 'ReelOpened'
@@ -115,8 +116,8 @@ class ReelOpened(forms.Command):
 
 @dataclasses.dataclass(frozen=True)
 class ReelSealed(forms.Command):
-    """ReelSealed puts a reel back into its bag: its floor life stands still, and the minutes so far stay counted.
-    Refused for UnknownReel, ReelMounted."""
+    """ReelSealed puts a reel back into its bag: its floor life stops, and the minutes so far stay counted. Refused for
+    UnknownReel, ReelMounted."""
 
     reel: str
     WORD: ClassVar[str] = 'ReelSealed'
@@ -125,7 +126,7 @@ class ReelSealed(forms.Command):
 
 @dataclasses.dataclass(frozen=True)
 class ReelBaked(forms.Command):
-    """ReelBaked gives a reel its whole floor life again and leaves it sealed. Refused for UnknownReel, ReelMounted."""
+    """ReelBaked gives a reel its whole floor life again, and leaves it sealed. Refused for UnknownReel, ReelMounted."""
 
     reel: str
     WORD: ClassVar[str] = 'ReelBaked'
@@ -134,8 +135,8 @@ class ReelBaked(forms.Command):
 
 @dataclasses.dataclass(frozen=True)
 class MaterialsLoaded(forms.Command):
-    """MaterialsLoaded puts a reel on an empty slot and opens it. MinutesLeft is what is left of its floor life, null at
-    level 1. Accepted tells MinutesLeft. Refused for NoProduct, SlotNotOnSheet, SlotTaken, UnknownReel, ReelMounted,
+    """MaterialsLoaded puts a reel on an empty slot and opens it. MinutesLeft is its remaining floor life, null at level
+    1. Accepted tells MinutesLeft. Refused for NoProduct, SlotNotOnSheet, SlotTaken, UnknownReel, ReelMounted,
     ReelEmpty, WrongPart, NotBaked, Expired."""
 
     machine: str
@@ -169,8 +170,9 @@ class MaterialsUnloaded(forms.Command):
 
 @dataclasses.dataclass(frozen=True)
 class WorkStarted(forms.Command):
-    """WorkStarted asks whether a board may be begun. The reel in front of each slot of the sheet has to be an allowed
-    one, and not expired. Refused for NoProduct, MachineBusy, BoardBusy, OtherProduct, SlotEmpty, WrongPart, Expired."""
+    """WorkStarted asks whether a board may be started. The front reel of each slot of the sheet must be of an allowed
+    part, and not expired. Refused for NoProduct, MachineBusy, BoardBusy, OtherProduct, SlotEmpty, WrongPart,
+    Expired."""
 
     machine: str
     board: str
@@ -190,9 +192,9 @@ class WorkCompleted(forms.Command):
 
 @dataclasses.dataclass(frozen=True)
 class MaterialsInstalled(forms.Command):
-    """MaterialsInstalled says which designators were placed. Each takes one piece off the reel that is then in front of
-    its slot. Reels names the reel of each piece, in the order of the designators. An install on an expired reel is
-    accepted, since the pieces are on the board, and kept as overdue. Accepted tells Reels. Refused for NotInWork,
+    """MaterialsInstalled reports the designators that were placed. Each takes one piece off the reel feeding its slot
+    at that moment. Reels names the reel of each piece, in the order of the designators. Pieces of an expired reel are
+    accepted, since they are on the board, and recorded as overdue. Accepted tells Reels. Refused for NotInWork,
     DesignatorNotOnSheet, DesignatorTwice, AlreadyPlaced, ReelShort."""
 
     machine: str
@@ -208,7 +210,7 @@ class MaterialsInstalled(forms.Command):
 
 @dataclasses.dataclass(frozen=True)
 class MaterialsScrapped(forms.Command):
-    """MaterialsScrapped takes pieces off a slot that are on no board. Taken is their number. Accepted tells Taken.
+    """MaterialsScrapped reports pieces of a slot that were thrown away. Taken is their number. Accepted tells Taken.
     Refused for SlotEmpty, ReelShort."""
 
     machine: str
@@ -220,10 +222,9 @@ class MaterialsScrapped(forms.Command):
 
 @dataclasses.dataclass(frozen=True)
 class CountsTaken(forms.Command):
-    """CountsTaken says how many pieces were counted on reels that are on no slot. What a reel has above its count is
-    taken off as scrapped, and Taken is the sum of that. A count may also say more than is left, since pieces are found:
-    they count as received, and add nothing to Taken. It may not where nothing is left: such a reel stays spent.
-    Accepted tells Taken. Refused for UnknownReel, ReelTwice, ReelMounted, CountAbove."""
+    """CountsTaken reports counted pieces of reels that are on no slot. Missing pieces are taken off as scrapped, and
+    Taken is their sum. Extra pieces count as received, and add nothing to Taken. A reel without pieces stays spent, and
+    may only be counted as 0. Accepted tells Taken. Refused for UnknownReel, ReelTwice, ReelMounted, CountAbove."""
 
     counts: Sequence[CountRow]
     WORD: ClassVar[str] = 'CountsTaken'
@@ -232,7 +233,7 @@ class CountsTaken(forms.Command):
 
 @dataclasses.dataclass(frozen=True)
 class ClockSet(forms.Command):
-    """ClockSet moves the desk's time, as far as its time stamp says."""
+    """ClockSet moves the desk's time forward to its time stamp."""
 
     WORD: ClassVar[str] = 'ClockSet'
     MEMBERS: ClassVar[forms.Members] = ()
@@ -260,19 +261,19 @@ MESSAGES: Tuple[Type[forms.Command], ...] = (
 
 # What to do about a refusal, and about a fault.
 REFUSALS: Dict[str, str] = {
-    'IdReused': 'programmer: give each message a UniqueID of its own. A sender whose message had no answer over a roll-over asks once with ClockSet',
+    'IdReused': 'programmer: give each message a UniqueID of its own. If the message was sent before a roll-over and got no answer, send one ClockSet with its UniqueID, Source and TimeStamp: Accepted means that the archive has the message',
     'DeskFull': 'begin with a new desk (operations.md)',
-    'TooFarAhead': "set the sender's clock right; if it is right and the line stood still, send ClockSet first",
+    'TooFarAhead': "set the sender's clock right; if it is right and the line was idle, send ClockSet first",
     'PartExists': 'nothing',
     'UnknownPart': 'correct the part number, or define the part',
-    'ReelExists': 'look whether its label was scanned twice; each reel needs a name of its own',
+    'ReelExists': 'check whether its label was scanned twice; each reel needs a name of its own',
     'UnknownReel': 'scan it again, or receive it',
     'UnknownSheet': 'select another product, or define the sheet',
     'MachineBusy': 'complete that board',
     'SlotTwice': 'correct the sheet',
     'DesignatorTwice': 'correct the sheet or the install',
     'NoProduct': 'select one',
-    'SlotNotOnSheet': 'look which slot was meant, and which product is selected',
+    'SlotNotOnSheet': 'check which slot was meant, and which product is selected',
     'SlotTaken': 'splice the reel, or unload the slot first',
     'SlotEmpty': 'load one',
     'ReelMounted': 'unload that slot first',
@@ -281,22 +282,22 @@ REFUSALS: Dict[str, str] = {
     'NotBaked': 'bake it',
     'Expired': 'take another reel; bake this one, off the machine',
     'BoardBusy': 'complete it there',
-    'OtherProduct': 'look at its serial number, or select its product',
-    'NotInWork': 'start it, or look at its serial number',
+    'OtherProduct': 'check its serial number, or select its product',
+    'NotInWork': 'start it, or check its serial number',
     'DesignatorNotOnSheet': 'correct the sheet or the placement program',
-    'AlreadyPlaced': 'nothing, if it was told twice: a repeat must keep its UniqueID',
-    'ReelShort': "tell of the load or the splice that the desk doesn't know, and send the message again; correct the number of a scrap",
+    'AlreadyPlaced': 'nothing, if the sender reported one placement in two messages. Its programmer has to correct that: a message sent again keeps its UniqueID',
+    'ReelShort': "for an install: report the load or the splice that the desk doesn't know of, and send the message again. For a scrap: correct its number",
     'ReelTwice': 'correct the counts',
-    'CountAbove': 'look whether it is the right reel; if it is, receive the pieces as a new reel',
+    'CountAbove': 'check whether it is the right reel; if it is, receive the pieces as a new reel',
 }
 FAULTS: Dict[str, str] = {
-    'LineTooLong': 'leave out the spaces; tell of the installs or the counts in several messages',
-    'NotJson': 'send one whole JSON object a line',
+    'LineTooLong': 'leave out the spaces; split the installs or the counts into several messages',
+    'NotJson': 'send one whole JSON object per line',
     'NotObject': 'the same',
     'EnvelopeMember': 'add or correct it',
     'BadTime': 'write it as 2026-03-02T06:00:00Z',
-    'BodyMember': 'add or correct it; numbers are whole, and no texts',
-    'OverLimit': 'correct the number; tell of the installs or the counts in several messages',
+    'BodyMember': 'add or correct it; numbers are whole, and not texts',
+    'OverLimit': 'correct the number; split the installs or the counts into several messages',
 }
 
 # What a status says to a sender: an answer of this kind, once more, or stop and tell a person why.

@@ -1,4 +1,4 @@
--- The numbers of the profile, computed.
+-- Worked cases of the profile's limits.
 use Rattle.std.specs.Prelude.{◌≡◌, pos, length, Some, Ok, Err, refl}
 use Rattle.serde_json.specs.Read.{max_depth}
 use Rattle.desk_types.specs.declared.limits.TheConstants.{GREATEST_LABEL, GREATEST_QUANTITY}
@@ -11,7 +11,7 @@ use Rattle.cfx_profile.specs.Word.{words}
 pub seventeen_words : length words ≡ 17
 seventeen_words = refl
 
--- arrays and objects in one another, the envelope counted
+-- The nesting depth of arrays and objects, including the envelope.
 pub deepest : max_depth ≡ 127
 deepest = refl
 

@@ -1,9 +1,8 @@
--- Faults that are handed on.
+-- Faults passed on by callers.
 use Rattle.std.proofs.Common.{◌≡◌, ◌≢◌, ◌∙◌, sym, ap, Result, Ok, Err}
 use Rattle.std.specs.Result.{IsErrAnd}
 use Rattle.cfx_profile.specs.Fault.{IsSaidBut}
 
--- a fault that is said is the answer
 pub IsSaid-fault : {X F : Type 0} {want : F} (said answer : Result X F) (fault : F)
     → (fault ≢ want → said ≡ Err fault) → IsErrAnd answer (λ e. e ≡ fault) → IsSaidBut want said answer
 IsSaid-fault said (Ok x) fault is handed = absurd handed

@@ -9,31 +9,26 @@ use Rattle.cfx_profile.specs.Lists.{items_list, some_items, items_in, each}
 use Rattle.cfx_profile.specs.Member.{member_text}
 use Rattle.cfx_profile.proofs.Readings.{first_of_each, both, both-nothing, both-first}
 
--- the items of an array that was made of a list are that list
 pub items_list-of : (ds : List Data) → items_list (items_of ds) ≡ ds
 items_list-of [] = refl
 items_list-of (d ∷ ds) = ap (λ r. d ∷ r) (items_list-of ds)
 
--- a member that is an array is judged by its length
 pub items_in-of : (m : Member) (body : Data) (ds : List Data)
     → option_and_then as_array (get (member_text m) body) ≡ Some (items_of ds) → items_in m body ≡ some_items m ds
 unfolding items_in
 items_in-of m body ds is = rw (is, items_list-of ds) refl
 
--- what is read goes on where the first list ends
 each-append : {X : Type 0} (reading : Data → Result X MessageFault) (ds es : List Data)
     → each reading (ds ++ es) ≡ both (each reading ds) (each reading es)
 unfolding first_of_each
 each-append reading [] es = both-nothing (each reading es)
 each-append reading (d ∷ ds) es = ap (first_of_each (reading d)) (each-append reading ds es) ∙ both-first (reading d) (each reading ds) (each reading es)
 
--- one more item
 pub each-more : {X : Type 0} (reading : Data → Result X MessageFault) (ds : List Data) (d : Data) (xs : List X) (x : X)
     → each reading ds ≡ Ok xs → reading d ≡ Ok x → each reading (ds ++ d ∷ []) ≡ Ok (xs ++ x ∷ [])
 unfolding both
 each-more reading ds d xs x before here = rw (each-append reading ds (d ∷ []), before, here) refl
 
--- the first item at fault
 pub each-fault : {X : Type 0} (reading : Data → Result X MessageFault) (ds : List Data) (d : Data) (later : List Data) (xs : List X) (fault : MessageFault)
     → each reading ds ≡ Ok xs → reading d ≡ Err fault → each reading (ds ++ d ∷ later) ≡ Err fault
 unfolding both
@@ -48,7 +43,6 @@ length-first (Ok x) (Ok ys) xs n is count =
     let whole : x ∷ ys ≡ xs = cc in
     ap length (sym whole) ∙ ap suc (count ys refl)
 
--- each item gives one element
 pub length-each : {X : Type 0} (reading : Data → Result X MessageFault) (ds : List Data) (xs : List X)
     → each reading ds ≡ Ok xs → length xs ≡ length ds
 unfolding first_of_each

@@ -1,4 +1,4 @@
--- Whether bytes are a name, as a test and as a fact.
+-- Names as a test and as a fact.
 use Rattle.std.proofs.Common.{arith, ◌≡◌, refl, ℕ, ◌≤◌, true, false, Option, Some, None, SomeIff, List, All}
 use Rattle.std.specs.List.{list_all}
 use Rattle.std.proofs.lemmas.Bool.Decides.{nat_tests}
@@ -38,7 +38,6 @@ IsId-from_is_id bytes is =
       no_space_last = grind (arith, nat_tests);
     }
 
--- reading an id gives the name that the text is
 pub id_of-read : (read : Option Name) (bytes : List ℕ) → SomeIff read (IsId bytes) bytes → read ≡ id_of bytes
 unfolding id_of
 id_of-read (Some name) bytes is = let test = is_id-from_IsId bytes is.0 in let same = is.1 in grind arith
@@ -60,7 +59,6 @@ IsDesignator-from_is_designator bytes is =
       marks = AllPass-from_list_all is_designator_byte bytes all;
     }
 
--- reading a designator gives the name that the text is
 pub designator_of-read : (read : Option Name) (bytes : List ℕ) → SomeIff read (IsDesignator bytes) bytes → read ≡ designator_of bytes
 unfolding designator_of
 designator_of-read (Some name) bytes is = let test = is_designator-from_IsDesignator bytes is.0 in let same = is.1 in grind arith

@@ -1,15 +1,13 @@
--- Lists whose elements are read one after the other, up to the first fault.
+-- Reading the elements of a list up to the first fault.
 use Rattle.std.proofs.Common.{◌≡◌, refl, List, [], ◌∷◌, ◌++◌, Result, Ok, Err}
 use Rattle.cfx_profile.specs.Fault.{◌>>=◌}
 
--- an element before the others
 unfoldable pub first_of_each : {X F : Type 0} → Result X F → Result (List X) F → Result (List X) F
 first_of_each first rest = do
   x ← first
   xs ← rest
   Ok (x ∷ xs)
 
--- what is read of two lists, one after the other
 unfoldable pub both : {X F : Type 0} → Result (List X) F → Result (List X) F → Result (List X) F
 both first second = do
   xs ← first

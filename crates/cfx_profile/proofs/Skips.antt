@@ -1,4 +1,4 @@
--- What a message says depends on the members that are looked at, and on no other.
+-- The content of a message only depends on the members that are read.
 use Rattle.std.proofs.Common.{◌≡◌, ◌∙◌, refl, sym, ap, ℕ, suc, cond, Bool, true, false, Option, Some, None, ok_or, Result, Ok, Err, List, [], ◌∷◌, length, inl, inr}
 use Rattle.std.specs.Prelude.{nat_le, ◌==◌}
 use Rattle.serde_json.specs.Data.{Data, Members, object}
@@ -50,7 +50,6 @@ list_skips : {X : Type 0} (reading : Data → Result X MessageFault) (m : Member
 unfolding list_in items_in
 list_skips reading m a b same = rw same refl
 
--- what follows from a value that was read
 then_same : {X Y : Type 0} (r : Result X MessageFault) (f g : X → Result Y MessageFault) → ((x : X) → r ≡ Ok x → f x ≡ g x) → (r >>= f) ≡ (r >>= g)
 then_same (Ok x) f g same = same x refl
 then_same (Err fault) f g same = refl
@@ -70,7 +69,6 @@ each_skips reading ms (a ∷ ds) (b ∷ es) row h = rw (row a b h.0, each_skips 
 each_skips reading ms [] (b ∷ es) row h = absurd h
 each_skips reading ms (a ∷ ds) [] row h = absurd h
 
--- a length that is judged before the elements are read
 judged_first : {X Y : Type 0} (is_none fits : Bool) (x : X) (f : X → Result Y MessageFault) (none over : MessageFault)
     → (cond is_none (Err none) (cond fits (Ok x) (Err over)) >>= f) ≡ cond is_none (Err none) (cond fits (f x) (Err over))
 judged_first true fits x f none over = refl
@@ -154,7 +152,6 @@ under_skips name (Some w) a b h = rw (stamped_skips w a b h.0 h.1) refl
 abbrev named : Option (List ℕ) → Result (List ℕ) MessageFault
 named found = ok_or found (EnvelopeMember MessageName)
 
--- what a name says
 named_skips : (found : Option (List ℕ)) (a b : Data) → ((name : List ℕ) → found ≡ Some name → EnvelopesAgree (word_of name) a b)
     → (named found >>= λ name. said_under name (word_of name) a) ≡ (named found >>= λ name. said_under name (word_of name) b)
 named_skips None a b h = refl

@@ -1,5 +1,5 @@
--- The profile: the seventeen messages, and for each the members of its body in the order in which they are read, with their forms. Each is
--- required, and every other member is skipped, whatever its value. The first member that is bad decides.
+-- The profile: for each message, its body's members with their forms, in reading order. All are
+-- required, and any other member is skipped. The first bad member decides.
 use Rattle.std.specs.Prelude.{Result, Ok}
 use Rattle.serde_json.specs.Data.{Data}
 use Rattle.desk_types.specs.declared.command.Command.{Command}
@@ -14,7 +14,7 @@ use Rattle.cfx_profile.specs.Fault.{◌>>=◌}
 use Rattle.cfx_profile.specs.Forms.{id_in, designator_in, quantity_in, counted_in, level_in, label_in}
 use Rattle.cfx_profile.specs.Lists.{list_in, row_in}
 
--- a row of a sheet
+-- A sheet's row.
 unfoldable pub sheet_row_in : Data → Result SheetRow MessageFault
 sheet_row_in item = do
   row ← row_in Rows item
@@ -23,7 +23,7 @@ sheet_row_in item = do
   designators ← list_in designator_in Designators row
   Ok (record { slot = slot; part = part; designators = designators })
 
--- a row of a count
+-- A count's row.
 unfoldable pub count_row_in : Data → Result CountRow MessageFault
 count_row_in item = do
   row ← row_in Counts item
@@ -31,29 +31,25 @@ count_row_in item = do
   quantity ← counted_in Quantity row
   Ok (record { reel = reel; quantity = quantity })
 
--- the command that the body of a message says, or the first fault
+-- The command in a message's body, or its first fault.
 unfoldable pub command_in : Word → Data → Result Command MessageFault
--- a part
 command_in word.PartDefined body = do
   part ← id_in PartNumber body
   Ok (command.PartDefined part)
--- a part that may stand for another
 command_in word.AlternateAllowed body = do
   part ← id_in PartNumber body
   alternate ← id_in Alternate body
   Ok (command.AlternateAllowed part alternate)
--- a sheet of rows
 command_in word.SheetDefined body = do
   product ← id_in Product body
   machine ← id_in Machine body
   rows ← list_in sheet_row_in Rows body
   Ok (command.SheetDefined product machine rows)
--- what a machine makes
 command_in word.ProductSelected body = do
   machine ← id_in Machine body
   product ← id_in Product body
   Ok (command.ProductSelected machine product)
--- a receipt; LabelMinutes is looked at only at level 6
+-- LabelMinutes is only read at level 6.
 command_in word.ReelReceived body = do
   reel ← id_in Reel body
   part ← id_in PartNumber body
@@ -62,60 +58,49 @@ command_in word.ReelReceived body = do
   quantity ← quantity_in Quantity body
   label ← label_in level LabelMinutes body
   Ok (command.ReelReceived reel part lot (record { level = level; label = label }) quantity)
--- a reel out of its bag
 command_in word.ReelOpened body = do
   reel ← id_in Reel body
   Ok (command.ReelOpened reel)
--- a reel back in its bag
 command_in word.ReelSealed body = do
   reel ← id_in Reel body
   Ok (command.ReelSealed reel)
--- a bake
 command_in word.ReelBaked body = do
   reel ← id_in Reel body
   Ok (command.ReelBaked reel)
--- a reel on an empty slot
 command_in word.MaterialsLoaded body = do
   machine ← id_in Machine body
   slot ← id_in Slot body
   reel ← id_in Reel body
   Ok (command.MaterialsLoaded machine slot reel)
--- a reel at the end of a slot's tape
 command_in word.MaterialsSpliced body = do
   machine ← id_in Machine body
   slot ← id_in Slot body
   reel ← id_in Reel body
   Ok (command.MaterialsSpliced machine slot reel)
--- a tape that is taken off
 command_in word.MaterialsUnloaded body = do
   machine ← id_in Machine body
   slot ← id_in Slot body
   Ok (command.MaterialsUnloaded machine slot)
--- a board that comes into work
 command_in word.WorkStarted body = do
   machine ← id_in Machine body
   board ← id_in Board body
   Ok (command.WorkStarted machine board)
--- a board that is done
 command_in word.WorkCompleted body = do
   machine ← id_in Machine body
   board ← id_in Board body
   Ok (command.WorkCompleted machine board)
--- pieces that were placed
 command_in word.MaterialsInstalled body = do
   machine ← id_in Machine body
   board ← id_in Board body
   designators ← list_in designator_in Designators body
   Ok (command.MaterialsInstalled machine board designators)
--- pieces that were thrown away
 command_in word.MaterialsScrapped body = do
   machine ← id_in Machine body
   slot ← id_in Slot body
   quantity ← quantity_in Quantity body
   Ok (command.MaterialsScrapped machine slot quantity)
--- pieces that were counted
 command_in word.CountsTaken body = do
   counts ← list_in count_row_in Counts body
   Ok (command.CountsTaken counts)
--- a clock, which says no more than its time
+-- A clock's message has no members.
 command_in word.ClockSet body = Ok command.ClockSet

@@ -1,9 +1,8 @@
--- The members of messages that are read, by their keys.
+-- The members that are read, by key.
 use Rattle.std.specs.Prelude.{ℕ, List, codes}
 use Rattle.cfx_profile.specs.declared.member.Member.{Member}
 use Rattle.cfx_profile.specs.declared.member.Member.TheVariants.{MessageName, UniqueId, Source, TimeStamp, MessageBody, PartNumber, Alternate, Product, Machine, Rows, Slot, Designators, Reel, Lot, Level, Quantity, LabelMinutes, Board, Counts}
 
--- the key of a member
 abbrev pub member_text : Member → List ℕ
 member_text MessageName = codes "MessageName"
 member_text UniqueId = codes "UniqueID"

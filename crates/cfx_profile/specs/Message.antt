@@ -1,4 +1,4 @@
--- What the bytes of a message say.
+-- The content of a message's bytes.
 use Rattle.std.specs.Prelude.{if◌then◌else◌, Option, Some, None, option_and_then, option_map, ok_or, Result, Ok, ℕ, List}
 use Rattle.std.specs.Str.{is_utf8}
 use Rattle.serde_json.specs.Data.{Data}
@@ -20,33 +20,30 @@ use Rattle.cfx_profile.specs.Member.{member_text}
 use Rattle.cfx_profile.specs.Minute.{minute_of}
 use Rattle.cfx_profile.specs.Word.{word_of}
 
--- the JSON value that the bytes spell, where they are UTF-8
+-- The bytes' JSON value, if they are UTF-8.
 unfoldable pub value_of : List ℕ → Option Data
 value_of bytes = if is_utf8 bytes then read bytes else None
 
--- the value, where it is an object
+-- The value, if it is an object.
 abbrev pub object_of : Data → Option Data
 object_of d = option_map (λ _. d) (as_object d)
 
 -- ---- the envelope
 
--- a text
 unfoldable pub envelope_text : Member → Data → Result (List ℕ) MessageFault
 envelope_text m envelope = ok_or (text_at m envelope) (EnvelopeMember m)
 
--- an id
 unfoldable pub envelope_id : Member → Data → Result Name MessageFault
 envelope_id m envelope = ok_or (id_at m envelope) (EnvelopeMember m)
 
--- an object
 unfoldable pub envelope_object : Member → Data → Result Data MessageFault
 envelope_object m envelope = ok_or (option_and_then object_of (get (member_text m) envelope)) (EnvelopeMember m)
 
--- the minute of a time text
+-- The minute of a time text.
 unfoldable pub minute_in : List ℕ → Result ℕ MessageFault
 minute_in time = ok_or (minute_of time) BadTime
 
--- what an envelope of one of the seventeen messages says
+-- The content of an envelope with one of our messages.
 unfoldable pub stamped_in : Word → Data → Result Stamped MessageFault
 stamped_in word envelope = do
   uid ← envelope_id UniqueId envelope
@@ -59,14 +56,14 @@ stamped_in word envelope = do
 
 -- ---- messages
 
--- a message of another name is ignored, whatever else it has
+-- A message with another name is ignored, whatever else it has.
 abbrev pub said_under : List ℕ → Option Word → Data → Result Said MessageFault
 said_under name None envelope = Ok (Ignored name)
 said_under name (Some word) envelope = do
   stamped ← stamped_in word envelope
   Ok (Asked stamped)
 
--- what the bytes of a message say, or the first fault
+-- The content of the bytes, or the first fault.
 unfoldable pub said_in : List ℕ → Result Said MessageFault
 said_in bytes = do
   value ← ok_or (value_of bytes) NotJson

@@ -1,4 +1,5 @@
--- Which members are looked at. Every other member is skipped, whatever its value: that is a law, proved of what a message says.
+-- The members that are read. All others are skipped, whatever their values: this is a law about the
+-- content of a message.
 use Rattle.std.specs.Prelude.{◌≡◌, ◌⊎◌, ⊤, ℕ, Option, Some, None, Ok, List, [], ◌∷◌}
 use Rattle.serde_json.specs.Data.{Data, Items, Members, array, object}
 use Rattle.serde_json.specs.Find.{get}
@@ -15,29 +16,29 @@ use Rattle.cfx_profile.specs.Word.{word_of}
 
 -- ---- members
 
--- two values have the same of a member, or neither has it
+-- Two values have the same member, or both lack it.
 abbrev pub SameOf : Member → Data → Data → Type 0
 SameOf m a b = get (member_text m) a ≡ get (member_text m) b
 
--- so of each of these members
+-- The same for each of these members.
 abbrev pub AgreeOn : List Member → Data → Data → Type 0
 AgreeOn [] a b = ⊤
 AgreeOn (m ∷ ms) a b = SameOf m a b × AgreeOn ms a b
 
 -- ---- rows
 
--- two rows are the same, or objects that agree on these members
+-- Two rows are the same, or objects that agree on these members.
 abbrev pub RowsAgree : List Member → Data → Data → Type 0
 RowsAgree ms a b = (a ≡ b) ⊎ ((p : Members) × (q : Members) × (a ≡ object p) × (b ≡ object q) × AgreeOn ms (object p) (object q))
 
--- as many rows, and each agrees
+-- Equally many rows, and each pair agrees.
 abbrev pub AllRowsAgree : List Member → List Data → List Data → Type 0
 AllRowsAgree ms [] [] = ⊤
 AllRowsAgree ms (a ∷ ds) (b ∷ es) = RowsAgree ms a b × AllRowsAgree ms ds es
 AllRowsAgree ms [] (b ∷ es) = ⊥
 AllRowsAgree ms (a ∷ ds) [] = ⊥
 
--- the member is the same, or a list of rows that agree
+-- The member is the same, or a list of rows that agree.
 abbrev pub ListsAgree : List Member → Member → Data → Data → Type 0
 ListsAgree ms m a b =
     SameOf m a b
@@ -45,11 +46,11 @@ ListsAgree ms m a b =
 
 -- ---- bodies
 
--- the label is looked at only at level 6
+-- The label is only read at level 6.
 abbrev pub LabelsAgree : Data → Data → Type 0
 LabelsAgree a b = level_in Level a ≡ Ok Six → SameOf LabelMinutes a b
 
--- two bodies agree on the members of a message, and their rows on those of a row
+-- Two bodies agree on a message's members, and their rows on a row's members.
 abbrev pub BodiesAgree : Word → Data → Data → Type 0
 BodiesAgree word.PartDefined a b = AgreeOn (PartNumber ∷ []) a b
 BodiesAgree word.AlternateAllowed a b = AgreeOn (PartNumber ∷ Alternate ∷ []) a b
@@ -71,19 +72,19 @@ BodiesAgree word.ClockSet a b = ⊤
 
 -- ---- messages
 
--- two envelopes have the same body, or bodies that agree for the word
+-- Two envelopes have the same body, or bodies that agree for the message.
 abbrev pub BodiesAgreeIn : Word → Data → Data → Type 0
 BodiesAgreeIn w a b =
     SameOf MessageBody a b
     ⊎ ((p : Members) × (q : Members) × (get (member_text MessageBody) a ≡ Some (object p)) × (get (member_text MessageBody) b ≡ Some (object q))
     × BodiesAgree w (object p) (object q))
 
--- of a message of another name nothing else is looked at
+-- Nothing else is read in a message with another name.
 abbrev pub EnvelopesAgree : Option Word → Data → Data → Type 0
 EnvelopesAgree None a b = ⊤
 EnvelopesAgree (Some w) a b = AgreeOn (UniqueId ∷ Source ∷ TimeStamp ∷ []) a b × BodiesAgreeIn w a b
 
--- messages that are objects of the same name, and agree on what is looked at under that name, say the same
+-- Two objects with the same name that agree on the members read under it have the same content.
 abbrev pub OthersAreSkipped : Type 0
 OthersAreSkipped =
     (bytes others : List ℕ) (a b : Members) → value_of bytes ≡ Some (object a) → value_of others ≡ Some (object b)

@@ -1,10 +1,10 @@
--- The seventeen messages of this project's profile, by their names.
+-- The messages of this project's profile, by name.
 use Rattle.std.specs.Prelude.{ℕ, List, [], ◌∷◌, Option, codes, find}
 use Rattle.desk_types.specs.Id.{same}
 use Rattle.cfx_profile.specs.declared.word.Word.{Word}
 use Rattle.cfx_profile.specs.declared.word.Word.TheVariants.{PartDefined, AlternateAllowed, SheetDefined, ProductSelected, ReelReceived, ReelOpened, ReelSealed, ReelBaked, MaterialsLoaded, MaterialsSpliced, MaterialsUnloaded, WorkStarted, WorkCompleted, MaterialsInstalled, MaterialsScrapped, CountsTaken, ClockSet}
 
--- the name of its messages
+-- The message's name.
 unfoldable pub message_name : Word → List ℕ
 message_name PartDefined = codes "TraceDesk.PartDefined"
 message_name AlternateAllowed = codes "TraceDesk.AlternateAllowed"
@@ -27,6 +27,6 @@ message_name ClockSet = codes "TraceDesk.ClockSet"
 abbrev pub words : List Word
 words = PartDefined ∷ AlternateAllowed ∷ SheetDefined ∷ ProductSelected ∷ ReelReceived ∷ ReelOpened ∷ ReelSealed ∷ ReelBaked ∷ MaterialsLoaded ∷ MaterialsSpliced ∷ MaterialsUnloaded ∷ WorkStarted ∷ WorkCompleted ∷ MaterialsInstalled ∷ MaterialsScrapped ∷ CountsTaken ∷ ClockSet ∷ []
 
--- the message that a name names, byte by byte; any other name is none of ours
+-- The message with this name, byte by byte, or none.
 unfoldable pub word_of : List ℕ → Option Word
 word_of name = find (λ word. same (message_name word) name) words

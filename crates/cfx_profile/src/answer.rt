@@ -1,4 +1,4 @@
-//! The answers to messages that are no commands.
+//! Answers to messages that aren't commands.
 
 ghost use Rattle.std.specs.Prelude.{◌≡◌, IsUtf8, IfOk, codes, false};
 ghost use Rattle.std.specs.Str.Lossy.{utf8_lossy};
@@ -14,7 +14,8 @@ use serde_json::{Value, json};
 use std::alloc::{AllocError, Global};
 
 impl MessageFault {
-    /// The text of the answer to the fault, as `{"Answer":"Faulty","Fault":"NotJson"}`.
+    /// Returns the text of the answer to the fault, such as
+    /// `{"Answer":"Faulty","Fault":"NotJson"}`.
     #[tactic(auto, unfolding(crate::specs::Answer::fault_text))]
     pub fn write_text(&self, alloc: Global) -> Result<Text, AllocError>
         ensures { IfOk result (λ text. text ≡ fault_text self.now) }
@@ -39,10 +40,9 @@ impl MessageFault {
     }
 }
 
-/// The text of the answer to a message of another name.
+/// Returns the text of the answer to a message with another name.
 ///
-/// The name is text where `read_message` gave it. In bytes that are no UTF-8, U+FFFD stands for
-/// each part that is none.
+/// Names from `read_message` are UTF-8. In any other bytes, U+FFFD replaces each part that is not.
 #[tactic(auto, unfolding(crate::specs::Answer::ignored_text))]
 pub fn ignored_text(alloc: Global, name: &Text) -> Result<Text, AllocError>
     ensures text { IfOk result (λ text. IsUtf8 name.now → text ≡ ignored_text name.now) }
@@ -53,7 +53,7 @@ pub fn ignored_text(alloc: Global, name: &Text) -> Result<Text, AllocError>
     compact(alloc, &answer)
 }
 
-/// The text of the answer where memory was refused: `{"Answer":"Unavailable"}`. Takes no memory.
+/// Returns the text of the answer when out of memory, `{"Answer":"Unavailable"}`. Takes no memory.
 pub fn unavailable_text() -> &'static str
     ensures { result.now ≡ unavailable_text }
 {

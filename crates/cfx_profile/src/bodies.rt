@@ -1,4 +1,4 @@
-//! The bodies of the seventeen messages. Each function reads the members of one body in their order.
+//! The bodies of messages. Each function reads the members of one body in order.
 
 ghost use Rattle.std.specs.Prelude.{◌≡◌};
 ghost use Rattle.serde_json.specs.View.{view};
@@ -14,7 +14,7 @@ use desk_types::{Command, CountRow, Moisture, SheetRow};
 use serde_json::Value;
 use std::alloc::Global;
 
-/// The command that the body of a message says.
+/// Reads the command in a message's body.
 pub fn command_in(alloc: Global, word: Word, body: &Value) -> Result<Command, MessageFault>
     ensures { IsSaid (command_in word (view body.now)) result }
 {

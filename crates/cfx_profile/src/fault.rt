@@ -1,30 +1,29 @@
-//! Why a message is not read.
+//! Faults of messages.
 
 use crate::member::Member;
 use std::alloc::AllocError;
 
-/// Why a message is not read: the first of these that applies. Whether a member of the body is bad
-/// or above its limit is decided by the first member that is either.
+/// Why a message can't be read: the first of these that applies. The body's first member that is
+/// bad or over its limit decides between those two.
 #[derive(Clone, Copy, Debug, PartialEq, Eq)]
 pub enum MessageFault {
-    /// The bytes are no JSON text in UTF-8, or nest deeper than 127 levels, or have a number or an
-    /// escape that has no value.
+    /// The bytes aren't JSON in UTF-8, nest deeper than 127 levels, or have a number or escape
+    /// without a value.
     NotJson,
-    /// The text is no object.
+    /// The value is not an object.
     NotObject,
-    /// The member of the envelope is absent or not of its form.
+    /// The envelope's member is absent or has another form.
     EnvelopeMember(Member),
-    /// The time names no minute from 1970 to 9999.
+    /// The time has no minute from 1970 to 9999.
     BadTime,
-    /// The member of the body is absent or not of its form.
+    /// The body's member is absent or has another form.
     BodyMember(Member),
-    /// The member of the body is a number or a list above its limit.
+    /// The body's member is a number or list over its limit.
     OverLimit(Member),
-    /// Memory was refused. This may come in the place of any other answer.
+    /// There was too little memory. This can replace any other result.
     NoMemory,
 }
 
-/// Where memory is refused while a message is read, the message is not read.
 impl From<AllocError> for MessageFault {
     ghost use Rattle.std.specs.Prelude.{◌≡◌};
     ghost use Rattle.cfx_profile.specs.declared.fault.MessageFault.TheVariants.{NoMemory};

@@ -1,4 +1,4 @@
-//! Readers of single members. Each looks at one member of a JSON object and at no other.
+//! Readers of single members of a JSON object.
 
 ghost use Rattle.std.specs.Prelude.{◌≡◌, option_map, IfOk};
 ghost use Rattle.serde_json.specs.View.{view};
@@ -10,28 +10,25 @@ use crate::member::Member;
 use desk_types::{CountedQuantity, Designator, GREATEST_LABEL, Id, Level, Quantity};
 use serde_json::Value;
 
-/// The member, where it is a text.
 pub fn text_at(object: &Value, member: Member) -> Option<&str>
     ensures { option_map (λ s. s.now) result ≡ text_at member (view object.now) }
 {
     object.get(member.as_str()).and_then(Value::as_str)
 }
 
-/// The id that a text is.
 fn id_of(text: &str) -> Option<Id>
     ensures { result ≡ id_of text.now }
 {
     Id::read(text.as_bytes())
 }
 
-/// The member, where it is a text that is an id.
+/// Returns the member if it is a text with an id.
 pub fn id_at(object: &Value, member: Member) -> Option<Id>
     ensures { result ≡ id_at member (view object.now) }
 {
     text_at(object, member).and_then(id_of)
 }
 
-/// An id of the body.
 #[tactic(auto, unfolding(crate::specs::Forms::id_in))]
 pub fn id_in(body: &Value, member: Member) -> Result<Id, MessageFault>
     ensures { result ≡ id_in member (view body.now) }
@@ -39,7 +36,6 @@ pub fn id_in(body: &Value, member: Member) -> Result<Id, MessageFault>
     id_at(body, member).ok_or(MessageFault::BodyMember(member))
 }
 
-/// A whole number of the body that is below 2^64.
 #[tactic(auto, unfolding(crate::specs::Forms::number_in))]
 fn number_in(body: &Value, member: Member) -> Result<u64, MessageFault>
     ensures { result ≡ number_in member (view body.now) }
@@ -49,7 +45,7 @@ fn number_in(body: &Value, member: Member) -> Result<u64, MessageFault>
         .ok_or(MessageFault::BodyMember(member))
 }
 
-/// 1 to 10,000,000 pieces.
+/// Reads 1 to 10,000,000 pieces.
 #[tactic(auto, unfolding(crate::specs::Forms::quantity_in))]
 pub fn quantity_in(body: &Value, member: Member) -> Result<Quantity, MessageFault>
     ensures { result ≡ quantity_in member (view body.now) }
@@ -61,7 +57,7 @@ pub fn quantity_in(body: &Value, member: Member) -> Result<Quantity, MessageFaul
     Quantity::new(pieces).ok_or(MessageFault::OverLimit(member))
 }
 
-/// 0 to 10,000,000 pieces.
+/// Reads 0 to 10,000,000 pieces.
 #[tactic(auto, unfolding(crate::specs::Forms::counted_in))]
 pub fn counted_in(row: &Value, member: Member) -> Result<CountedQuantity, MessageFault>
     ensures { result ≡ counted_in member (view row.now) }
@@ -70,7 +66,7 @@ pub fn counted_in(row: &Value, member: Member) -> Result<CountedQuantity, Messag
     CountedQuantity::new(pieces).ok_or(MessageFault::OverLimit(member))
 }
 
-/// One of the eight moisture levels.
+/// Reads a moisture level.
 #[tactic(auto, unfolding(crate::specs::Forms::level_in))]
 pub fn level_in(body: &Value, member: Member) -> Result<Level, MessageFault>
     ensures { result ≡ level_in member (view body.now) }
@@ -80,7 +76,7 @@ pub fn level_in(body: &Value, member: Member) -> Result<Level, MessageFault>
         .ok_or(MessageFault::BodyMember(member))
 }
 
-/// The minutes of a label. They are looked at only at level 6, and 0 stands for them at the others.
+/// Reads the minutes on the label at level 6, or returns 0 at any other.
 #[tactic(auto, unfolding(crate::specs::Forms::label_in))]
 pub fn label_in(body: &Value, level: Level, member: Member) -> Result<u64, MessageFault>
     ensures value { result ≡ label_in level member (view body.now) }
@@ -100,14 +96,13 @@ pub fn label_in(body: &Value, level: Level, member: Member) -> Result<u64, Messa
     Ok(minutes)
 }
 
-/// The designator that a text is.
 fn designator_of(text: &str) -> Option<Designator>
     ensures { result ≡ designator_of text.now }
 {
     Designator::read(text.as_bytes())
 }
 
-/// A designator, as it stands in a list.
+/// Reads a designator in a list.
 #[tactic(auto, unfolding(crate::specs::Forms::designator_in))]
 pub fn designator_in(item: &Value) -> Result<Designator, MessageFault>
     ensures { result ≡ designator_in (view item.now) }

@@ -1,8 +1,8 @@
-//! Reading messages: what the bytes of one message say.
+//! Reading a message from its bytes.
 //!
-//! A message is a JSON object (RFC 8259), an envelope after IPC-CFX. Five of its members are read.
-//! The names of the messages and their bodies are this project's own profile, which stands in
-//! `specs/Bodies.antt` on one page.
+//! A message is a JSON object (RFC 8259) with an envelope after IPC-CFX; five members of the
+//! envelope are read. The names of messages and their bodies are this project's own profile: see
+//! `specs/Bodies.antt`.
 #![tactic(auto)]
 
 mod answer;

@@ -21,12 +21,11 @@ pub trait Element: Drop + Sized {
 
     ghost said: { Data → Result Self MessageFault };
 
-    /// The element that an item is.
+    /// Reads the element from an item.
     fn read(alloc: Global, item: &Value) -> Result<Self, MessageFault>
         ensures { IsSaid (said (view item.now)) result };
 }
 
-/// The items of a list: 1 to 5,000.
 #[tactic(auto, unfolding(crate::specs::Lists::items_in))]
 fn items_in(body: &Value, member: Member) -> Result<&[Value], MessageFault>
     ensures ok { IfOk result (λ items. items_in member (view body.now) ≡ Ok (map view items.now)) }
@@ -52,7 +51,6 @@ fn put<T: Drop>(found: &mut Vec<T>, element: T) -> Result<(), AllocError>
     Ok(())
 }
 
-/// What each item is read as, in order.
 fn each<T: Element>(alloc: Global, items: &[Value]) -> Result<Listing<T>, MessageFault>
     ensures { IsSaid (each T.said (map view items.now)) result }
 {
@@ -64,7 +62,6 @@ fn each<T: Element>(alloc: Global, items: &[Value]) -> Result<Listing<T>, Messag
     Ok(Listing::new(found))
 }
 
-/// A list of the body.
 #[tactic(auto, unfolding(crate::specs::Lists::list_in))]
 pub fn list_in<T: Element>(
     alloc: Global,
@@ -81,7 +78,7 @@ pub fn list_in<T: Element>(
     }
 }
 
-/// An item of a list of rows, which is an object.
+/// Returns an item of a list of rows, which is an object.
 #[tactic(auto, unfolding(crate::specs::Lists::row_in))]
 pub fn row_in(item: &Value, member: Member) -> Result<&Value, MessageFault>
     ensures ok { IfOk result (λ row. row_in member (view item.now) ≡ Ok (view row.now)) }

@@ -1,4 +1,4 @@
-//! The members of messages that are read.
+//! The members that are read.
 
 ghost use Rattle.std.specs.Prelude.{◌≡◌};
 ghost use Rattle.cfx_profile.specs.Member.{member_text};
@@ -6,15 +6,15 @@ ghost use Rattle.cfx_profile.specs.Member.{member_text};
 /// A member of an envelope, of a body or of a row in a body.
 #[derive(Clone, Copy, Debug, PartialEq, Eq)]
 pub enum Member {
-    /// Of the envelope: which message it is.
+    /// Envelope: the kind of message.
     MessageName,
-    /// Of the envelope: the name of this one message.
+    /// Envelope: the id of this message.
     UniqueId,
-    /// Of the envelope: who sent it.
+    /// Envelope: the sender.
     Source,
-    /// Of the envelope: when it was sent, by the sender's clock.
+    /// Envelope: the time by the sender's clock.
     TimeStamp,
-    /// Of the envelope: what it says.
+    /// Envelope: the content.
     MessageBody,
     PartNumber,
     Alternate,
@@ -33,7 +33,7 @@ pub enum Member {
 }
 
 impl Member {
-    /// The member's key.
+    /// Returns the member's key.
     pub fn as_str(self) -> &'static str
         ensures { result.now ≡ member_text self }
     {

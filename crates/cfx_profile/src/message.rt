@@ -17,21 +17,20 @@ use serde_json::Value;
 use serde_json::error::Category;
 use std::alloc::Global;
 
-/// What a message says.
+/// The content of a message.
 #[derive(Debug, PartialEq, Eq, Drop)]
 pub enum Said {
-    /// A message of this name, which is none of the seventeen. Nothing else of it is looked at.
+    /// A message with another name. Nothing else is read in it.
     Ignored(Text),
-    /// A command, with its UniqueID, its source and its own minute.
+    /// A command, with its UniqueID, source and minute.
     Asked(Stamped),
 }
 
-/// What the bytes of one message say.
+/// Reads a message from its bytes, a JSON object (RFC 8259) in UTF-8.
 ///
-/// The bytes are a JSON object (RFC 8259) in UTF-8. The envelope's members are looked at in the
-/// order `MessageName`, `UniqueID`, `Source`, `TimeStamp`, `MessageBody`, then the time is read, and
-/// then the members of the body in their order; the first that is bad decides. Of a key that comes
-/// twice the last value counts. Every other member is skipped, whatever its value.
+/// The envelope's members are read in the order `MessageName`, `UniqueID`, `Source`, `TimeStamp`,
+/// `MessageBody`, then the time, then the body's members; the first bad one decides. If a key is
+/// repeated, its last value counts. Every other member is skipped.
 #[tactic(auto, unfolding(crate::specs::Message::said_in))]
 pub fn read_message(alloc: Global, bytes: &[u8]) -> Result<Said, MessageFault>
     ensures said { IsSaid (said_in bytes.now) result }
@@ -48,7 +47,6 @@ pub fn read_message(alloc: Global, bytes: &[u8]) -> Result<Said, MessageFault>
     }
 }
 
-/// The JSON value that the bytes spell.
 #[tactic(auto, unfolding(crate::specs::Message::value_of))]
 fn value_of(alloc: Global, bytes: &[u8]) -> Result<Value, MessageFault>
     ensures ok { IfOk result (λ value. value_of bytes.now ≡ Some (view value)) }
@@ -62,7 +60,6 @@ fn value_of(alloc: Global, bytes: &[u8]) -> Result<Value, MessageFault>
     }
 }
 
-/// A command with its envelope.
 #[tactic(auto, unfolding(crate::specs::Message::stamped_in))]
 fn stamped_in(alloc: Global, word: Word, envelope: &Value) -> Result<Stamped, MessageFault>
     ensures { IsSaid (stamped_in word (view envelope.now)) result }
@@ -107,7 +104,6 @@ fn envelope_object(envelope: &Value, member: Member) -> Result<&Value, MessageFa
     }
 }
 
-/// The minute of a time text.
 #[tactic(auto, unfolding(crate::specs::Message::minute_in, crate::specs::Minute::minute_said))]
 fn minute_in(time: &str) -> Result<Minute, MessageFault>
     ensures { result ≡ minute_in time.now }

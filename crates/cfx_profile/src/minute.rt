@@ -1,4 +1,4 @@
-//! The minute of a time.
+//! The minute of a time text.
 
 ghost use Rattle.std.specs.Prelude.{◌≡◌, ◌≤◌, IfSome};
 ghost use Rattle.jiff.specs.Words.{epoch_day};
@@ -8,21 +8,20 @@ use desk_types::Minute;
 use jiff::Timestamp;
 use jiff::civil::DateTime;
 
-/// Why a time is not read.
+/// Why a time can't be read.
 #[derive(Clone, Copy, Debug, PartialEq, Eq)]
 pub enum MinuteFault {
-    /// The text is no time, or its time is before 1970.
+    /// The text is not a time, or its time is before 1970.
     BadTime,
-    /// Memory was refused. Reading a time takes no memory today, so this is not answered.
+    /// There was too little memory. Reading a time takes none today, so this is not returned.
     NoMemory,
 }
 
-/// The minute of a time text: whole minutes since 1970-01-01T00:00Z, rounded down.
+/// Reads a time in whole minutes since 1970-01-01T00:00Z, rounded down.
 ///
-/// The text is an instant with `Z` or an offset, as RFC 3339 has it and as `jiff` reads it: up to
-/// 9999-12-30T22:00:00.999999999Z. A text that is no such instant is a date, with or without a time
-/// of day, in UTC; an offset or a zone in it is dropped. An instant before 1970 is a fault, and is
-/// not read as a date.
+/// An instant has `Z` or an offset (RFC 3339, as read by `jiff`) and is at most
+/// 9999-12-30T22:00:00.999999999Z. Any other text is a UTC date with an optional time of day, and
+/// an offset or zone in it is dropped. An instant before 1970 is a fault and is not read as a date.
 #[tactic(auto, unfolding(crate::specs::Minute::minute_said))]
 pub fn read_minute(text: &str) -> Result<Minute, MinuteFault>
     ensures { result ≡ minute_said text.now }

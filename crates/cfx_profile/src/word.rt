@@ -5,7 +5,7 @@ ghost use Rattle.cfx_profile.specs.declared.word.Word.{Word};
 ghost use Rattle.desk_types.specs.Id.{same};
 ghost use Rattle.cfx_profile.specs.Word.{message_name, word_of};
 
-/// Which of the seventeen messages it is.
+/// The kind of message.
 #[derive(Clone, Copy, Debug, PartialEq, Eq)]
 pub enum Word {
     PartDefined,
@@ -27,7 +27,6 @@ pub enum Word {
     ClockSet,
 }
 
-/// All seventeen.
 const WORDS: [Word; 17] = [
     Word::PartDefined,
     Word::AlternateAllowed,
@@ -49,7 +48,7 @@ const WORDS: [Word; 17] = [
 ];
 
 impl Word {
-    /// The word of a message of this name, where it is one of the seventeen.
+    /// Returns the kind of message with this name, if there is one.
     #[tactic(auto, unfolding(crate::specs::Word::word_of))]
     pub fn read(name: &str) -> Option<Word>
         ensures { result ≡ word_of name.now }
@@ -57,7 +56,7 @@ impl Word {
         first_named(&WORDS, name).copied()
     }
 
-    /// The name of its messages.
+    /// Returns the message's name.
     #[tactic(auto, unfolding(crate::specs::Word::message_name))]
     pub fn message_name(self) -> &'static str
         ensures { result.now ≡ message_name self }
@@ -84,12 +83,11 @@ impl Word {
     }
 }
 
-/// A law: the name of each word's messages is read as that word. It does nothing when it runs.
+/// A law: reading a kind's name gives that kind. It does nothing at run time.
 pub fn words_are_read()
     ensures { (word : Word) → word_of (message_name word) ≡ Some word }
 {}
 
-/// The first of some words with messages of this name.
 fn first_named<'a>(words: &'a [Word], name: &str) -> Option<&'a Word>
     ensures { option_map (λ word. word.now) result ≡ find (λ word. same (message_name word) name.now) words.now }
 {

@@ -1,4 +1,4 @@
--- A message that comes for the first time.
+-- A message that is sent for the first time.
 use Rattle.std.proofs.Common.{◌≡◌, ◌∙◌, Bool, true, false, cond, List, [], ◌∷◌, refl, Option, Some, None, map}
 use Rattle.std.specs.List.{AllByRecursion}
 use Rattle.desk_types.specs.declared.command.Entry.{Entry}
@@ -8,7 +8,6 @@ use Rattle.desk_types.specs.Id.{Name, same}
 use Rattle.desk_types.proofs.Keys.{same-sym}
 use Rattle.desk_answers.specs.Commands.{answer_under, earlier_answer}
 
--- no entry has its UniqueID
 pub first-uid : (H : History) (s : Stamped) → earlier_answer H s ≡ None → AllByRecursion (λ uid. same s.uid uid ≡ false) (map (λ (e : Entry). e.stamped.uid) H)
 first-uid [] s none = tt
 first-uid (e ∷ H) s none = by (same e.stamped.uid s.uid) refl none (first-uid H s)

@@ -1,4 +1,4 @@
--- Refused commands leave the list as it was.
+-- A refused command leaves the history unchanged.
 use Rattle.std.proofs.Common.{◌≡◌, ℕ, Bool, true, false, cond, is_some, Option, Some, None, unwrap_or, refl, sym, ap}
 use Rattle.std.specs.Prelude.{◌||◌}
 use Rattle.std.specs.Option.{option_map_or}
@@ -15,7 +15,6 @@ use Rattle.desk_answers.specs.declared.answer.Answer.TheVariants.{Accepted, Refu
 use Rattle.desk_answers.specs.Commands.{earlier_answer, is_full, judged_answer, command_answer, command_after, is_refused}
 use Rattle.desk_answers.specs.Ledger.{Ledger, IsAnswer, ledger_after}
 
--- by the answer that came before, whether the desk is full, and the refusal
 by_cases : (H grown : History) (s : Stamped) (detail : Detail) (earlier : Option Answer) (full : Bool) (refusal : Option Refusal)
     → is_refused (unwrap_or earlier (cond full DeskFull (judged_answer H s (option_map_or reply.Refused refusal (reply.Accepted detail))))) ≡ true
     → cond (is_some earlier || full) H (option_map_or (λ _. H) refusal grown) ≡ H
@@ -24,12 +23,10 @@ by_cases H grown s detail None true refusal e = refl
 by_cases H grown s detail None false (Some refusal) e = refl
 by_cases H grown s detail None false None e = absurd (cc)
 
--- where the answer of the definition is refused, the list stays
 pub refused_stays : (rules : Rules) (greatest : ℕ) (H : History) (s : Stamped) → is_refused (command_answer rules greatest H s) ≡ true → command_after rules greatest H s ≡ H
 refused_stays rules greatest H s =
     by_cases H (accept H s) s (change_of H s).detail (earlier_answer H s) (is_full greatest H) (refusal_of rules H s)
 
--- so it does after a refused answer, Unavailable too
 pub refused_leaves : (L : Ledger) (s : Stamped) (answer : Answer) → IsAnswer L s answer → is_refused answer ≡ true → ledger_after L s answer ≡ L
 refused_leaves L s (Accepted number text) e refused = absurd (cc)
 refused_leaves L s (Refused refusal) e refused = ap (λ H. record L { history = H }) (refused_stays L.rules L.greatest L.history s (ap is_refused (sym e)))

@@ -1,4 +1,4 @@
--- Messages that pass `==` are equal.
+-- Messages that compare equal by `==` are equal.
 use Rattle.std.proofs.Common.{◌≡◌, ◌∙◌, ◌==◌, Bool, true, false, List, [], ◌∷◌, refl, ap, sym}
 use Rattle.std.specs.Prelude.{◌&&◌}
 use Rattle.std.specs.Cmp.Lexicographic.{pointwise}
@@ -25,7 +25,6 @@ both : (x y : Bool) → (x && y) ≡ true → (x ≡ true) × (y ≡ true)
 both true y e = (refl, e)
 both false y e = absurd (false≢true e)
 
--- lists whose elements pass are equal
 lists_same : {X : Type 0} (eq : X → X → Bool) → ((a b : X) → eq a b ≡ true → a ≡ b) → (xs ys : List X) → pointwise eq xs ys ≡ true → xs ≡ ys
 lists_same eq told [] [] e = refl
 lists_same eq told [] (y ∷ ys) e = absurd (false≢true e)

@@ -1,8 +1,9 @@
--- Whether a message came before.
+-- Repeated messages.
 use Rattle.std.specs.Prelude.{Bool}
 use Rattle.desk_types.specs.contracts.command.StampedPartialEq.TheImpl.{ghosts as derived}
 use Rattle.desk_types.specs.declared.command.Stamped.{Stamped}
 
--- whether two messages are one: `==` of `Stamped`, which compares the UniqueIDs, the sources, the own minutes and the commands, field by field
+-- Whether two messages are the same: `==` of `Stamped` compares UniqueID, source, minute and
+-- command.
 abbrev pub is_same : Stamped → Stamped → Bool
 is_same first again = derived.eq first again

@@ -1,4 +1,5 @@
--- The answers to commands: one compact JSON object each, its members in byte order of their names.
+-- Answers to commands. Each is one compact JSON object with its members in byte order of their
+-- names.
 use Rattle.std.specs.Prelude.{ℕ, List, map, Option, Some, None, codes}
 use Rattle.serde_json.specs.Data.{Data, null, number, unsigned, string, array, object, member, no_members}
 use Rattle.serde_json.specs.View.{items_of}
@@ -11,12 +12,12 @@ use Rattle.desk_types.specs.Id.{Name}
 
 -- ---- accepted commands
 
--- minutes, or null where there is no limit
+-- Minutes, or null without a limit.
 abbrev pub minutes : Option ℕ → Data
 minutes None = null
 minutes (Some n) = number (unsigned n)
 
--- the command with this UniqueID has this number; what more is told depends on the command
+-- The command with this UniqueID has this number, with details that depend on the command.
 abbrev pub accepted_object : ℕ → Name → Detail → Data
 accepted_object n uid Plain =
     object (member (codes "Answer") (string (codes "Accepted"))
@@ -38,13 +39,13 @@ accepted_object n uid (Taken pieces) =
     (member (codes "Taken") (number (unsigned pieces))
     (member (codes "UniqueID") (string uid) no_members))))
 
--- the text of the answer to an accepted command
+-- The text of the answer to an accepted command.
 unfoldable pub accepted_text : ℕ → Name → Detail → List ℕ
 accepted_text n uid detail = compact_text (accepted_object n uid detail)
 
 -- ---- refused commands
 
--- the word of a refusal
+-- The name of a refusal.
 abbrev pub refusal_word : Refusal → List ℕ
 refusal_word TooFarAhead = codes "TooFarAhead"
 refusal_word (PartExists part) = codes "PartExists"
@@ -73,7 +74,7 @@ refusal_word (ReelShort place) = codes "ReelShort"
 refusal_word (ReelTwice reel) = codes "ReelTwice"
 refusal_word (CountAbove reel) = codes "CountAbove"
 
--- what is at fault; of a time too far ahead nothing more is told
+-- The name at fault, if the refusal has one.
 abbrev pub place_of : Refusal → Option Name
 place_of TooFarAhead = None
 place_of (PartExists part) = Some part
@@ -102,7 +103,7 @@ place_of (ReelShort place) = Some place
 place_of (ReelTwice reel) = Some reel
 place_of (CountAbove reel) = Some reel
 
--- the command is refused by this word, at this place
+-- The command is refused with this word, at this place.
 abbrev pub refused_object : List ℕ → Option Name → Name → Data
 refused_object word None uid =
     object (member (codes "Answer") (string (codes "Refused"))
@@ -114,7 +115,7 @@ refused_object word (Some place) uid =
     (member (codes "Refusal") (string word)
     (member (codes "UniqueID") (string uid) no_members))))
 
--- the UniqueID was used by another message, whose command has this number
+-- Another message used the UniqueID; its command has this number.
 abbrev pub id_reused_object : ℕ → Name → Data
 id_reused_object n uid =
     object (member (codes "Answer") (string (codes "Refused"))
@@ -122,11 +123,10 @@ id_reused_object n uid =
     (member (codes "Refusal") (string (codes "IdReused"))
     (member (codes "UniqueID") (string uid) no_members))))
 
--- as many commands are accepted as the desk may number
+-- The desk has no free number.
 abbrev pub desk_full_object : Name → Data
 desk_full_object uid = refused_object (codes "DeskFull") None uid
 
--- the texts of the answers to refused commands
 unfoldable pub refused_text : Refusal → Name → List ℕ
 refused_text refusal uid = compact_text (refused_object (refusal_word refusal) (place_of refusal) uid)
 

@@ -1,4 +1,4 @@
-//! What a command is answered.
+//! Answers to commands.
 
 ghost use Rattle.std.specs.Prelude.{◌≡◌, ℕ, false, List, map, Ok, IfOk};
 ghost use Rattle.serde_json.specs.Data.{array, string};
@@ -13,24 +13,25 @@ use desk_types::{Detail, Id, Listing, Refusal, Text};
 use serde_json::{Value, json};
 use std::alloc::{AllocError, Global};
 
-/// What a command is answered.
+/// The answer to a command.
 #[derive(Debug, PartialEq, Eq, Drop)]
 pub enum Answer {
-    /// Accepted, now or before: its number, and the text of its first answer.
+    /// Accepted, now or earlier, with its number and the text of its first answer.
     Accepted(u64, Text),
-    /// Refused, and it may be sent again.
+    /// Refused; the message can be sent again.
     Refused(Refusal),
-    /// Its UniqueID is that of another message, whose command has this number.
+    /// Another message has the same UniqueID; its command has this number.
     IdReused(u64),
-    /// As many commands are accepted as the desk may number.
+    /// The desk has no number left.
     DeskFull,
-    /// Memory was refused, or a database failed that keeps the list. The list is as before, and it
-    /// may be sent again.
+    /// Out of memory, or the storage failed. The history is unchanged, and the message can be sent
+    /// again.
     Unavailable,
 }
 
 impl Answer {
-    /// The text of the answer to the message with this UniqueID. Of `Accepted` it takes no memory.
+    /// Returns the text of the answer to the message with this UniqueID. Takes no memory for
+    /// `Accepted`.
     pub fn into_text(self, alloc: Global, uid: &Id) -> Result<Text, AllocError>
         ensures accepted { (number : ℕ) (text : List ℕ) → self ≡ Answer.Accepted number text → result ≡ Ok text }
         ensures text { IfOk result (λ text. text ≡ answer_text uid.now self) }
@@ -46,7 +47,7 @@ impl Answer {
         }
     }
 
-    /// Whether it counts as refused: every answer but `Accepted` does.
+    /// Returns whether the answer counts as refused: all except `Accepted` do.
     pub fn is_refused(&self) -> bool
         ensures { result ≡ is_refused self.now }
     {
@@ -54,7 +55,7 @@ impl Answer {
     }
 }
 
-/// The text of the answer to a command that has this number.
+/// Returns the text of the answer to an accepted command with this number.
 #[tactic(auto, unfolding(crate::specs::Texts::accepted_text))]
 pub fn accepted_text(
     alloc: Global,
@@ -167,7 +168,6 @@ fn id_reused_object(alloc: Global, number: u64, uid: &str) -> Result<Value, Allo
     json!(in alloc; {"Answer": "Refused", "Number": number, "Refusal": "IdReused", "UniqueID": uid})
 }
 
-/// The word of a refusal.
 fn word(refusal: &Refusal) -> &'static str
     ensures { result.now ≡ refusal_word refusal.now }
 {
@@ -201,7 +201,6 @@ fn word(refusal: &Refusal) -> &'static str
     }
 }
 
-/// What a refusal names.
 fn place(refusal: &Refusal) -> Option<Id>
     ensures { result ≡ place_of refusal.now }
 {

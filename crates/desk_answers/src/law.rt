@@ -1,11 +1,10 @@
-//! A law over the sameness of messages. It is for proofs, and does nothing when it runs.
+//! A law about repeated messages. It is for proofs and does nothing at run time.
 
 ghost use Rattle.std.specs.Prelude.{◌≡◌, ◌↔◌, IsTrue};
 ghost use Rattle.desk_types.specs.declared.command.Stamped.{Stamped};
 ghost use Rattle.desk_answers.specs.Repeats.{is_same};
 
-/// A message came before exactly where it is equal to the one that did: `==` of `Stamped`, by which a
-/// repeat is known, compares nothing less and nothing more than all of its fields.
+/// Two messages count as the same exactly if all their fields are equal.
 pub fn same_messages_are_equal()
     ensures { (first again : Stamped) → IsTrue (is_same first again) ↔ (first ≡ again) }
 {}

@@ -1,5 +1,5 @@
-//! What a command is answered: by its judgement, or by the command that was accepted before under
-//! its UniqueID, with a number and as a text.
+//! Answers to commands, with a number and as a text: from judging the command, or from an earlier
+//! command with the same UniqueID.
 #![tactic(auto)]
 
 mod answer;

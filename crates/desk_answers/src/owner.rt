@@ -1,24 +1,24 @@
-//! What owns the list of a line.
+//! The owner of a line's history.
 
 use crate::answer::Answer;
 use desk_types::Stamped;
 
-/// What answers the commands of one line, and keeps those that it accepted.
+/// Answers the commands of one line and stores those that it accepts.
 pub trait Owner {
     ghost use Rattle.desk_types.specs.Judged.{IsLawful};
     ghost use Rattle.desk_answers.specs.Ledger.{Ledger, IsAnswer, ledger_after};
 
-    /// The rules, the greatest number and the list for which it stands.
+    /// The rules, the greatest number and the history that the owner represents.
     ghost Stands: { Self → Ledger → Type 0 };
 
-    /// What is asked at each call, and holds again after it.
+    /// The condition that each call requires and restores.
     ghost Ready: { Self → Type 0 };
 
-    /// What it keeps the list in told the truth so far, as an honest disk does.
+    /// The owner's storage has not lied so far, like an honest disk.
     ghost Trusts: { Self → Type 0 };
 
-    /// Answers a command. A message that was accepted before gets its first answer again and changes
-    /// nothing. After Unavailable it may be sent again.
+    /// Answers a command. A message accepted before gets its first answer again and changes
+    /// nothing. After Unavailable it can be sent again.
     fn command(&mut self, stamped: &Stamped) -> Answer
         requires ready { Ready self.old }
         ensures ready { Ready self.new }
@@ -27,7 +27,7 @@ pub trait Owner {
         ensures stands { (L : Ledger) → Stands self.old L → Trusts self.new
             → Stands self.new (ledger_after L stamped.now result) };
 
-    /// A law, without code: the list is one that an owner of its rules and numbers can come to have.
+    /// A law, without code: an owner with these rules and numbers can reach this history.
     fn is_lawful(&self)
         ensures { (L : Ledger) → Stands self.now L → Trusts self.now → IsLawful L.rules L.greatest L.history };
 }

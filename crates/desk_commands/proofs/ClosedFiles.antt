@@ -1,4 +1,4 @@
--- What a command left open, and what the closed files hold of it.
+-- The files that a command left open, after they are closed.
 use Rattle.std.specs.Prelude.{⊤, MatchOption}
 use Rattle.std.proofs.Common.{◌≡◌, ◌⊎◌, ℕ, true, Option, Some, None, IsTrue, length, refl, sym, subst, inl, inr}
 use Rattle.sqlite_disk.specs.declared.Disk as disk
@@ -28,7 +28,6 @@ use Rattle.desk_commands.specs.Runs.{Audits, Migrates, Refuses, RefusesToMigrate
 use Rattle.desk_commands.specs.Closed.{Close, whole, failed, ClosesLeft, HoldsFound, IsRefusedTo, AuditsTo, MigratesTo, RefusesTo, RefusesToMigrateTo, RunsTo}
 
 module _ {T D : Type 0} {g : disk.Ghosts D} (first : start.Ghosts T) where
-  -- a desk that ran to some list
   pub runs_to : (how : Close) (left : Left D g) (files : Option (Files D)) (make : Option ℕ) (Fact : Ledger → History → Type 0) → ClosesLeft how left files
       → RunsOn first make left Fact → RunsTo how first g files make Fact
   runs_to how Nothing files make Fact closed runs = absurd runs
@@ -45,14 +44,12 @@ module _ {T D : Type 0} {g : disk.Ghosts D} (first : start.Ghosts T) where
   runs_to how (Migrated conn) files make Fact closed runs = absurd runs
   runs_to how (Refused r) files make Fact closed runs = absurd runs
 
-  -- one that was audited
   pub audits_to : (how : Close) (left : Left D g) (files : Option (Files D)) (count : ℕ) → ClosesLeft how left files → Audits first left count → AuditsTo how first g files count
   audits_to how Nothing files count closed audits = absurd audits
   audits_to how (Desk d) files count closed audits = runs_to how (Desk d) files None (λ G H. (H ≡ G.history) × (count ≡ length H)) closed audits.1
   audits_to how (Migrated conn) files count closed audits = absurd audits
   audits_to how (Refused r) files count closed audits = absurd audits
 
-  -- files that were migrated
   pub migrates_to : (how : Close) (left : Left D g) (files : Option (Files D)) → ClosesLeft how left files → Migrates first left → MigratesTo how first g files
   migrates_to how Nothing files closed migrates = absurd migrates
   migrates_to how (Desk d) files closed migrates = absurd migrates
@@ -66,8 +63,6 @@ module _ {T D : Type 0} {g : disk.Ghosts D} (first : start.Ghosts T) where
       (greatest, H, was, tt)
   migrates_to failed (Migrated conn) None closed migrates = absurd closed
   migrates_to how (Refused r) files closed migrates = absurd migrates
-
-  -- ---- files that were refused
 
   holds_found : (conn : Held (FileStore D g)) (f : Files D) (image : Image) → IsCopied conn f
       → (HasCleanDisk (file_state conn) → IsTrue (file_state conn).is_open → IsFoundIn image (file_state conn).committed) → HoldsFound whole g f image

@@ -13,7 +13,7 @@ use Rattle.feeder_state.specs.declared.desk.StateDesk.{StateDesk}
 use Rattle.feeder_state.specs.contracts.desk.StateDeskDesk.TheImpl.{ghosts as state}
 use Rattle.line_schema.specs.declared.store.LineStore.{LineStore}
 use Rattle.line_schema.specs.Stands.{Kept, Stands, state_of}
-use Rattle.desk_file.specs.Files.{Begins, HasLineAlone}
+use Rattle.desk_file.specs.Files.{Begins, HasOursFirst}
 use Rattle.desk_runs.specs.Runs.{StaysSame}
 use Rattle.http_answers.specs.declared.gateway.Gateway.{Gateway}
 use Rattle.gateway_http.specs.declared.store.ReportedStore.{ReportedStore}
@@ -21,14 +21,13 @@ use Rattle.gateway_http.specs.Stores.{store_in}
 use Rattle.desk_commands.specs.declared.left.Left.TheVariants.{Desk}
 use Rattle.desk_commands.specs.Runs.{Audits, RunsOn}
 
--- the store of a file stands for the list by rules Two, its tables being its own
+-- The store of a file represents the history by rules Two, with its own tables.
 abbrev pub IsKept : {D : Type 0} {g : disk.Ghosts D} → LineStore (FileStore D g) StateDesk → Ledger → Type 0
 IsKept store G = (G.rules ≡ Two) × Stands over_files state.Stands state.kept_rules store (record { greatest = G.greatest; history = G.history; own = true })
 
--- it was opened with a list, and went on from that
 pub runs_on : {T D : Type 0} {g : disk.Ghosts D} (first : start.Ghosts T) (make : Option ℕ) (old new : LineStore (FileStore D g) StateDesk) (Fact : Ledger → History → Type 0)
     → (HasCleanDisk (state_of over_files new) → HasCleanDisk (state_of over_files old))
-    → (HasCleanDisk (state_of over_files old) → HasLineAlone (image_at first) → (greatest : ℕ) × (H : History) × Begins (image_at first) make greatest H
+    → (HasCleanDisk (state_of over_files old) → HasOursFirst (image_at first) → (greatest : ℕ) × (H : History) × Begins (image_at first) make greatest H
     × Stands over_files state.Stands state.kept_rules old (record { greatest = greatest; history = H; own = true }))
     → ForLists IsKept (λ store. HasCleanDisk (state_of over_files store)) old new Fact → RunsOn first make (Desk new) Fact
 runs_on first make old new Fact trusts begins goes clean alone =
@@ -36,19 +35,17 @@ runs_on first make old new Fact trusts begins goes clean alone =
     let after = goes (record { rules = Two; greatest = b.0; history = b.1 }) (refl, b.3) clean in
     (b.0, b.1, b.2, b.3.lawful (trusts clean) refl, after.0, after.1.1, after.2)
 
--- it was opened with a list, and let be
 pub stays : {T D : Type 0} {g : disk.Ghosts D} (first : start.Ghosts T) (make : Option ℕ) (old new : LineStore (FileStore D g) StateDesk) → new ≡ old
-    → (HasCleanDisk (state_of over_files old) → HasLineAlone (image_at first) → (greatest : ℕ) × (H : History) × Begins (image_at first) make greatest H
+    → (HasCleanDisk (state_of over_files old) → HasOursFirst (image_at first) → (greatest : ℕ) × (H : History) × Begins (image_at first) make greatest H
     × Stands over_files state.Stands state.kept_rules old (record { greatest = greatest; history = H; own = true }))
     → RunsOn first make (Desk new) StaysSame
 stays first make old new same begins =
     subst (λ (store : LineStore (FileStore _ _) StateDesk). RunsOn first make (Desk store) StaysSame) (sym same)
     (runs_on first make old old StaysSame (λ clean. clean) begins (λ G stands clean. (G.history, stands, refl)))
 
--- it was opened with a list, and counted
 pub audits : {T D : Type 0} {g : disk.Ghosts D} (first : start.Ghosts T) (store : LineStore (FileStore D g) StateDesk) (count : ℕ)
     → (L : Kept) × Stands over_files state.Stands state.kept_rules store L
-    → (HasCleanDisk (state_of over_files store) → HasLineAlone (image_at first) → (greatest : ℕ) × (H : History) × Begins (image_at first) None greatest H
+    → (HasCleanDisk (state_of over_files store) → HasOursFirst (image_at first) → (greatest : ℕ) × (H : History) × Begins (image_at first) None greatest H
     × Stands over_files state.Stands state.kept_rules store (record { greatest = greatest; history = H; own = true }))
     → ((L : Kept) → Stands over_files state.Stands state.kept_rules store L → count ≡ length L.history) → Audits first (Desk store) count
 audits first store count stands begins counts = (
@@ -58,30 +55,26 @@ audits first store count stands begins counts = (
       (b.0, b.1, b.2, b.3.lawful clean refl, b.1, b.3, (refl, counts (record { greatest = b.0; history = b.1; own = true }) b.3)),
 )
 
--- a store behind a gateway stands as it did
 pub stands_behind : {D : Type 0} {g : disk.Ghosts D} (store : LineStore (FileStore D g) StateDesk) (gateway : Gateway (ReportedStore (FileStore D g) StateDesk)) → store_in gateway ≡ store
     → (L : Kept) × Stands over_files state.Stands state.kept_rules store L → (L : Kept) × Stands over_files state.Stands state.kept_rules (store_in gateway) L
 stands_behind store gateway same stands = (stands.0, subst (λ (d : LineStore (FileStore _ _) StateDesk). Stands over_files state.Stands state.kept_rules d stands.0) (sym same) stands.1)
 
--- it was opened with a list, and went on from that behind a gateway
 pub runs_behind : {T D : Type 0} {g : disk.Ghosts D} (first : start.Ghosts T) (make : Option ℕ) (store last : LineStore (FileStore D g) StateDesk) (old new : Gateway (ReportedStore (FileStore D g) StateDesk))
     (Fact : Ledger → History → Type 0) → store_in old ≡ store → last ≡ store_in new
     → (HasCleanDisk (state_of over_files (store_in new)) → HasCleanDisk (state_of over_files (store_in old)))
-    → (HasCleanDisk (state_of over_files store) → HasLineAlone (image_at first) → (greatest : ℕ) × (H : History) × Begins (image_at first) make greatest H
+    → (HasCleanDisk (state_of over_files store) → HasOursFirst (image_at first) → (greatest : ℕ) × (H : History) × Begins (image_at first) make greatest H
     × Stands over_files state.Stands state.kept_rules store (record { greatest = greatest; history = H; own = true }))
     → ForLists IsKept (λ store. HasCleanDisk (state_of over_files store)) (store_in old) (store_in new) Fact → RunsOn first make (Desk last) Fact
 runs_behind first make store last old new Fact before after trusts begins goes =
-    let begun = subst (λ (d : LineStore (FileStore _ _) StateDesk). HasCleanDisk (state_of over_files d) → HasLineAlone (image_at first) → (greatest : ℕ) × (H : History) × Begins (image_at first) make greatest H
+    let begun = subst (λ (d : LineStore (FileStore _ _) StateDesk). HasCleanDisk (state_of over_files d) → HasOursFirst (image_at first) → (greatest : ℕ) × (H : History) × Begins (image_at first) make greatest H
     × Stands over_files state.Stands state.kept_rules d (record { greatest = greatest; history = H; own = true })) (sym before) begins in
     subst (λ (d : LineStore (FileStore _ _) StateDesk). RunsOn first make (Desk d) Fact) (sym after) (runs_on first make (store_in old) (store_in new) Fact trusts begun goes)
 
--- an exit status of an open desk is not that of a refused one
 pub never_refused : {A : Type 0} (status : ℕ) → (status ≡ 0) ⊎ (status ≡ 1) ⊎ (status ≡ 4) → status ≡ 3 → A
 never_refused status (inl done) is = absurd (omega (arith, done, is))
 never_refused status (inr (inl refused)) is = absurd (omega (arith, refused, is))
 never_refused status (inr (inr failed)) is = absurd (omega (arith, failed, is))
 
--- and it is one of all
 pub ends_so : (status : ℕ) → (status ≡ 0) ⊎ (status ≡ 1) ⊎ (status ≡ 4) → (status ≡ 0) ⊎ (status ≡ 1) ⊎ (status ≡ 3) ⊎ (status ≡ 4)
 ends_so status (inl done) = inl done
 ends_so status (inr (inl refused)) = inr (inl refused)

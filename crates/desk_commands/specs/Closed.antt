@@ -1,4 +1,4 @@
--- What a run on a desk did, said of the files that it closed.
+-- The effect of a run on the files that it closed.
 use Rattle.std.specs.Prelude.{◌≡◌, ◌≢◌, ◌⊎◌, ⊤, ℕ, Option, None, IsSomeAnd, MatchOption, length}
 use Rattle.sqlite_disk.specs.declared.Disk as disk
 use Rattle.sqlite_disk.specs.declared.Files.{Files}
@@ -24,76 +24,77 @@ use Rattle.line_schema.specs.declared.fault.OpenFault.{OpenFault}
 use Rattle.line_schema.specs.declared.fault.OpenFault.TheVariants.{NotADesk, NotBlank, Unavailable}
 use Rattle.line_schema.specs.declared.store.LineStore.{LineStore}
 use Rattle.line_schema.specs.Stands.{conn_of}
-use Rattle.desk_file.specs.Files.{Begins, Closes, Copies, HasLineAlone, IsFoundIn, IsOfOne, IsWhole, KeepsTables, Leaves}
+use Rattle.desk_file.specs.Files.{Begins, Closes, Copies, HasOursFirst, IsFoundIn, IsOfOne, IsWhole, KeepsTables, Leaves}
 use Rattle.desk_file.specs.Refused.{IsFaultFor, IsFaultIn}
 use Rattle.desk_commands.specs.declared.left.Left.{Left}
 use Rattle.desk_commands.specs.declared.left.Left.TheVariants.{Nothing, Desk, Migrated, Refused}
 
--- ---- how files were closed
+-- ---- how files are closed
 
--- whole, or a close failed and let them be
+-- The files were closed completely, or a close failed and left them.
 pub data Close : Type 0 where
   whole : Close
   failed : Close
 
--- what the files read as now, or what a crash leaves of them
+-- The current contents of the files, or those that a crash leaves.
 abbrev pub MayRead : {D : Type 0} → disk.Ghosts D → Files D → Image → Type 0
 MayRead g files image = (image ≡ image_of g files) ⊎ outcomes g files.log files.db image
 
--- the connection was closed so
+-- The connection was closed in this way.
 abbrev pub ClosesConn : {D : Type 0} {g : disk.Ghosts D} → Close → Held (FileStore D g) → Files D → Type 0
 ClosesConn whole conn files = KeepsTables conn files × Copies conn files
 ClosesConn failed conn files = Leaves conn files
 
--- so was a desk
+-- A desk was closed in this way.
 abbrev pub ClosesDesk : {D : Type 0} {g : disk.Ghosts D} → Close → LineStore (FileStore D g) StateDesk → Files D → Type 0
 ClosesDesk whole desk files = Closes state.Stands state.kept_rules desk files × Copies (conn_of desk) files
 ClosesDesk failed desk files = Leaves (conn_of desk) files
 
--- and what a command left: of nothing, and of files that were never opened, there are none
+-- So were the files that a command left, if it opened any.
 abbrev pub ClosesLeft : {D : Type 0} {g : disk.Ghosts D} → Close → Left D g → Option (Files D) → Type 0
 ClosesLeft how Nothing files = files ≡ None
 ClosesLeft how (Desk desk) files = IsSomeAnd files (ClosesDesk how desk)
 ClosesLeft how (Migrated conn) files = IsSomeAnd files (ClosesConn how conn)
 ClosesLeft how (Refused r) files = MatchOption r.file (files ≡ None) (λ conn. IsSomeAnd files (ClosesConn how conn))
 
--- ---- what they hold
+-- ---- contents of the files
 
--- files that were closed whole hold these tables, whole by themselves, also after a crash
+-- Files that were closed completely hold these tables without a log, even after a crash.
 abbrev pub HoldsTables : {D : Type 0} → Close → disk.Ghosts D → Files D → Tables → Type 0
 HoldsTables whole g files tables = (image : Image) → MayRead g files image → IsWhole tables image
 HoldsTables failed g files tables = ⊤
 
--- they hold the database that an open of the first files finds
+-- They hold the database that an open of the first files finds.
 abbrev pub HoldsFound : {D : Type 0} → Close → disk.Ghosts D → Files D → Image → Type 0
 HoldsFound whole g files first = (db : Database) × IsFoundIn first db × ((image : Image) → MayRead g files image → HoldsAlone image db.trees)
 HoldsFound failed g files first = ⊤
 
--- ---- what was done
+-- ---- effect of the run
 
--- What holds of the list with which a run began, where its files told the truth to the end and no other table was beside the desk's: that list is lawful, the fact tells the list after it, which is lawful and consistent, and the files hold the tables of that one.
+-- Honest files that held only the desk's tables led the run from their history to one that the fact gives, and hold the
+-- tables of that one.
 abbrev pub RunsTo : {T D : Type 0} → Close → start.Ghosts T → disk.Ghosts D → Option (Files D) → Option ℕ → (Ledger → History → Type 0) → Type 0
-RunsTo how first g files make Fact = IsSomeAnd files (λ f. AreClean g f.log f.db → HasLineAlone (image_at first)
+RunsTo how first g files make Fact = IsSomeAnd files (λ f. AreClean g f.log f.db → HasOursFirst (image_at first)
     → (greatest : ℕ) × (H : History) × Begins (image_at first) make greatest H × IsLawful Two greatest H
     × (H' : History) × IsLawful Two greatest H' × IsConsistent H' × HoldsTables how g f (ledger_tables greatest H')
     × Fact (record { rules = Two; greatest = greatest; history = H }) H')
 
--- an audit found so many commands
+-- An audit found this number of commands.
 abbrev pub AuditsTo : {T D : Type 0} → Close → start.Ghosts T → disk.Ghosts D → Option (Files D) → ℕ → Type 0
 AuditsTo how first g files count = RunsTo how first g files None (λ G H. (H ≡ G.history) × (count ≡ length H))
 
--- files that held the tables of a list by version 1 hold them by version 2
+-- Files that held the tables of a history by version 1 hold them by version 2.
 abbrev pub MigratesTo : {T D : Type 0} → Close → start.Ghosts T → disk.Ghosts D → Option (Files D) → Type 0
-MigratesTo how first g files = IsSomeAnd files (λ f. AreClean g f.log f.db → HasLineAlone (image_at first)
+MigratesTo how first g files = IsSomeAnd files (λ f. AreClean g f.log f.db → HasOursFirst (image_at first)
     → (greatest : ℕ) × (H : History) × IsOfOne (image_at first) greatest H × HoldsTables how g f (ledger_tables greatest H))
 
--- The files were refused for this fault. Where they told the truth to the end, it stands in what they held, and they hold that still. Where none was opened it is Unavailable, or NotADesk where none may be made.
+-- The files were refused for this fault. If they never lied, the fault is in their contents, which are unchanged.
 abbrev pub IsRefusedTo : {T D : Type 0} → Close → start.Ghosts T → disk.Ghosts D → Option (Files D) → (OpenFault → Type 0) → Type 0 → OpenFault → Type 0
 IsRefusedTo how first g files StandsIn MakesNone fault =
     MatchOption files ((fault ≡ Unavailable) ⊎ ((fault ≡ NotADesk) × MakesNone)) (λ f. AreClean g f.log f.db → StandsIn fault × HoldsFound how g f (image_at first))
     × (MakesNone → fault ≢ NotBlank)
 
--- by a run that may make a desk up to this number, or by a migration
+-- The same for a run that may make a desk up to this number, or for a migration.
 abbrev pub RefusesTo : {T D : Type 0} → Close → start.Ghosts T → disk.Ghosts D → Option (Files D) → Option ℕ → OpenFault → Type 0
 RefusesTo how first g files make = IsRefusedTo how first g files (IsFaultFor (image_at first) make) (make ≡ None)
 

@@ -29,7 +29,7 @@ use sqlite::{FileFrom, Start};
 use std::alloc::Global;
 use std::io::{Read, Write};
 
-/// Answers the lines of the input by a new desk in memory: the exit status.
+/// Answers the lines of the input by a new desk in memory. Returns the exit status.
 pub fn feed_in_memory<R: Read, W: Write, E: Write>(
     alloc: Global,
     greatest: u32,
@@ -70,8 +70,8 @@ pub fn feed_in_memory<R: Read, W: Write, E: Write>(
     }
 }
 
-/// Answers the lines of the input by the desk in a file, which is made where there is none: the exit
-/// status, and the desk or the file that was refused.
+/// Answers the lines of the input by the desk in a file, which is made if missing. Returns the exit status, and the
+/// desk or the refused file.
 pub fn feed_in_file<T: Start, R: Read, W: Write, E: Write>(
     rt: &HostRuntime,
     file: &str,
@@ -120,7 +120,7 @@ pub fn feed_in_file<T: Start, R: Read, W: Write, E: Write>(
     }
 }
 
-/// Answers an import by the desk in a file: the exit status, and the desk or the file that was refused.
+/// Answers an import by the desk in a file. Returns the exit status, and the desk or the refused file.
 pub fn import_in_file<T: Start, F: Folder, W: Write, E: Write>(
     rt: &HostRuntime,
     file: &str,

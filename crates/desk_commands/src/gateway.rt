@@ -27,8 +27,8 @@ use http_routes::RouteTable;
 use sqlite::{FileFrom, Start};
 use std::io::Write;
 
-/// Serves so many connections on a port by the desk in a file, which is made where there is none: the
-/// exit status, and the desk or the file that was refused.
+/// Serves this number of connections on a port by the desk in a file, which is made if missing. Returns the exit
+/// status, and the desk or the refused file.
 pub fn serve_in_file<T: Start, C: Clients, W: Write, E: Write>(
     rt: &HostRuntime,
     file: &str,
@@ -84,8 +84,8 @@ pub fn serve_in_file<T: Start, C: Clients, W: Write, E: Write>(
     }
 }
 
-/// Tells what a GET of a target is answered by the desk in a file: the exit status, and the desk or the
-/// file that was refused.
+/// Prints the answer to a GET of a target by the desk in a file. Returns the exit status, and the desk or the refused
+/// file.
 pub fn report_in_file<T: Start, W: Write, E: Write>(
     rt: &HostRuntime,
     file: &str,

@@ -1,4 +1,4 @@
-//! What a command leaves open.
+//! The files that a command leaves open.
 
 use desk_file::Refusal;
 use feeder_state::StateDesk;
@@ -6,7 +6,7 @@ use line_schema::LineStore;
 use sqlite::{Connection, FileStore};
 use sqlite_disk::Disk;
 
-/// What is still to be closed after a command.
+/// The connection to close after a command.
 pub enum Left<D: Disk + Drop> {
     /// Nothing was opened.
     Nothing,

@@ -1,8 +1,7 @@
 //! The commands of the program, each on a desk in memory or in a file.
 //!
-//! `specs/Runs.antt` has what holds of the list with which a run on a file begins, and
-//! `specs/Closed.antt` what holds of it once the files are closed. What a command does at the open desk
-//! is of `desk_runs`.
+//! `specs/Runs.antt` relates a run to its initial history, and `specs/Closed.antt` does so once the files are closed.
+//! The work of a command at the open desk is in `desk_runs`.
 #![tactic(auto)]
 
 mod exchange;

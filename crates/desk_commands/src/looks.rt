@@ -18,8 +18,8 @@ use feeder_state::StateDesk;
 use sqlite::{FileFrom, Start};
 use std::io::Write;
 
-/// Opens the desk in a file, each of whose commands is judged again, and tells how many they are: the
-/// exit status, and the desk or the file that was refused.
+/// Opens the desk in a file, judges each command again, and prints their number. Returns the exit status, and the desk
+/// or the refused file.
 pub fn audit_file<T: Start, W: Write, E: Write>(
     rt: &HostRuntime,
     file: &str,
@@ -57,8 +57,8 @@ pub fn audit_file<T: Start, W: Write, E: Write>(
     }
 }
 
-/// Makes the file of version 1 at a path one of version 2, and tells so: the exit status, and the
-/// file, migrated or refused.
+/// Migrates the file at a path from version 1 to version 2, and says so. Returns the exit status, and the file,
+/// migrated or refused.
 pub fn migrate_file<T: Start, W: Write, E: Write>(
     rt: &HostRuntime,
     file: &str,

@@ -11,7 +11,7 @@ use line_schema::OpenFault;
 use std::alloc::Global;
 use std::io::Write;
 
-/// Tells why the desk's file was refused, or Unavailable where memory is.
+/// Prints why the desk's file was refused, or Unavailable if memory is refused.
 pub fn tell_refusal<E: Write>(alloc: Global, fault: &OpenFault, errors: &mut Wire<E>) -> u8
     requires error_failures { failures_of errors.old < 2 ^ 63 }
     ensures status { result ≡ 3 }

@@ -1,4 +1,4 @@
--- Lines that are answered one after another.
+-- Lines answered one after another.
 use Rattle.std.proofs.Common.{◌≡◌, ◌∙◌, ◌+◌, ℕ, Bool, true, false, cond, List, [], ◌∷◌, ◌++◌, sym, ap, refl, subst, Option, append-nil, length, length-append, take, arith, count_by, Result, Err, Some, ◌<◌, ◌≤◌, ◌-◌, ◌==◌, get_or}
 use Rattle.std.specs.List.{flat_map}
 use Rattle.std.proofs.lemmas.Bool.{lt-ltb}
@@ -19,7 +19,6 @@ use Rattle.desk_feed.specs.Lines.{is_empty, without_return}
 use Rattle.desk_feed.specs.Messages.{answer_to, list_after}
 use Rattle.desk_feed.specs.Stream.{Answered, line_answer, line_after, answers_to, after_lines, sent_line}
 
--- whether an answer counts as refused
 abbrev pub is_refused : Told → Bool
 is_refused told = told.refused
 
@@ -27,7 +26,6 @@ one_counted : (b : Bool) (n m : ℕ) (told : Told) → told.refused ≡ b → m 
 one_counted true n m told e h = grind (arith, common_steps, e, h)
 one_counted false n m told e h = grind (arith, common_steps, e, h)
 
--- one line was answered
 pub one_answered : (rules : Rules) (greatest : ℕ) (mark : Bool) (H H' : History) (line : List ℕ) (out out' : Option (List ℕ)) (s s' : Served) (told : Told)
     → told ≡ line_answer rules greatest mark H line → H' ≡ line_after rules greatest mark H line → Appends out out' (sent_line told)
     → s'.answered ≡ s.answered + 1 → s'.refused ≡ cond told.refused (s.refused + 1) s.refused
@@ -64,7 +62,6 @@ count_by-append : (p : Told → Bool) (xs ys : List Told) → count_by p (xs ++ 
 count_by-append p [] ys = grind (arith, common_steps)
 count_by-append p (x ∷ xs) ys = grind (arith, common_steps, count_by-append p xs ys)
 
--- lines, and then more, were answered
 pub answered_more : (rules : Rules) (greatest : ℕ) (ls ks : List (List ℕ)) (ms ns : List Bool) (H₀ H₁ H₂ : History) (out₀ out₁ out₂ : Option (List ℕ)) (s₀ s₁ s₂ : Served)
     → Answered rules greatest ls ms H₀ out₀ s₀ H₁ out₁ s₁ → Answered rules greatest ks ns H₁ out₁ s₁ H₂ out₂ s₂
     → Answered rules greatest (ls ++ ks) (ms ++ ns) H₀ out₀ s₀ H₂ out₂ s₂
@@ -80,11 +77,10 @@ answered_more rules greatest ls ks ms ns H₀ H₁ H₂ out₀ out₁ out₂ s�
       refused = omega (arith, a.refused, b.refused, ap (count_by is_refused) all, count_by-append is_refused (answers_to rules greatest ms H₀ ls) (answers_to rules greatest ns H₁ ks));
     }
 
--- a fault's count is the one that it was made with
 pub same_write : (a b : Served) → ◌≡◌ {A = Result Served ServeFault} (Err (Write a)) (Err (Write b)) → a ≡ b
 same_write a b e = cc
 
--- ---- a line that is too long
+-- ---- a line over the limit
 
 if_true : {A : Type 0} (b : Bool) (x y : A) → b ≡ true → x ≡ cond b x y
 if_true true x y e = refl
@@ -94,14 +90,12 @@ one_line : (line : List ℕ) → 0 < length line → cond (is_empty line) [] (li
 one_line [] long = absurd (omega arith)
 one_line (b ∷ line) long = refl
 
--- it is told so, and the list stays
 pub told_too_long : (rules : Rules) (greatest : ℕ) (H : History) (raw : List ℕ) → LONGEST_INPUT < length (without_return raw) → AnswersRaw rules greatest H raw (Some TooLong) H
 told_too_long rules greatest H raw long =
     let line = without_return raw in
     let is_long = lt-ltb LONGEST_INPUT (length line) long in
     (false, one_line line (omega arith), if_true _ _ (answer_to rules greatest H line) is_long, if_true _ _ (list_after rules greatest H line) is_long)
 
--- without the carriage return it is at most one byte shorter
 pub one_shorter : (raw : List ℕ) → length raw ≤ length (without_return raw) + 1
 one_shorter raw = by (get_or raw (length raw - 1) 0 == 13)
   where

@@ -1,4 +1,4 @@
--- The numbers of the crate, computed.
+-- Worked cases of the crate's limits.
 use Rattle.std.specs.Prelude.{◌≡◌, refl}
 use Rattle.desk_feed.specs.declared.taking.TheConstants.{LONGEST_RAW}
 

@@ -14,11 +14,10 @@ kept : (b : Bool) (x : List ℕ) (xs : List (List ℕ)) → cond (not b) (x ∷ 
 kept true x xs = refl
 kept false x xs = refl
 
--- of the pieces between line feeds
+-- The lines among the pieces between line feeds.
 abbrev pub lines_among : List (List ℕ) → List (List ℕ)
 lines_among pieces = filter (λ line. not (is_empty line)) (map without_return pieces)
 
--- the first line, and then the others
 pub lines_of-more : (raw rest : List ℕ) → HasNoFeed raw → lines_of (raw ++ 10 ∷ rest) ≡ lines_in raw ++ lines_of rest
 lines_of-more raw rest h =
     ap lines_among (slice_split_at is_feed raw 10 rest h refl) ∙ kept (is_empty (without_return raw)) (without_return raw) (lines_of rest)
@@ -27,7 +26,6 @@ pub lines_of-last : (raw : List ℕ) → HasNoFeed raw → lines_of raw ≡ line
 lines_of-last raw h =
     ap lines_among (slice_split_none is_feed raw h) ∙ kept (is_empty (without_return raw)) (without_return raw) [] ∙ append-nil (lines_in raw)
 
--- one more line is gone
 pub lines_go : (a b c : Option (List ℕ)) (lines : List (List ℕ)) (raw : List ℕ) → LinesGone a lines b → TakesLine b raw false c → LinesGone a (lines ++ lines_in raw) c
 lines_go None b c lines raw p q = tt
 lines_go (Some xs) None c lines raw p q = absurd p
@@ -36,7 +34,6 @@ lines_go (Some xs) (Some ys) (Some zs) lines raw p q =
     let e : ys ≡ raw ++ 10 ∷ zs = q.1 ∙ append_assoc raw (10 ∷ []) zs in
     p ∙ ap (λ l. lines ++ l) (ap lines_of e ∙ lines_of-more raw zs q.0) ∙ sym (append_assoc lines (lines_in raw) (lines_of zs))
 
--- the last line is gone
 pub last_goes : (a b c : Option (List ℕ)) (lines : List (List ℕ)) (raw : List ℕ) → LinesGone a lines b → TakesLine b raw true c → IfSome a (λ bytes. lines ++ lines_in raw ≡ lines_of bytes)
 last_goes None b c lines raw p q = tt
 last_goes (Some xs) None c lines raw p q = absurd p
@@ -45,7 +42,6 @@ last_goes (Some xs) (Some ys) (Some zs) lines raw p q =
     let e : ys ≡ raw = q.1 ∙ ap (λ l. raw ++ l) q.2 ∙ append-nil raw in
     sym (p ∙ ap (λ l. lines ++ l) (ap lines_of e ∙ lines_of-last raw q.0))
 
--- the lines that are gone come first
 pub gone_first : (a b : Option (List ℕ)) (lines : List (List ℕ)) → LinesGone a lines b → IfSome a (λ bytes. IsFront lines (lines_of bytes))
 gone_first None b lines p = tt
 gone_first (Some xs) None lines p = absurd p
@@ -55,7 +51,6 @@ whole_first : (a : Option (List ℕ)) (lines : List (List ℕ)) → IfSome a (λ
 whole_first None lines p = tt
 whole_first (Some xs) lines p = ([], sym p ∙ sym (append-nil lines))
 
--- so does the next one
 pub next_first : (a b c : Option (List ℕ)) (lines : List (List ℕ)) (raw line : List ℕ) (last : Bool) → LinesGone a lines b → TakesLine b raw last c → lines_in raw ≡ line ∷ []
     → IfSome a (λ bytes. IsFront (lines ++ line ∷ []) (lines_of bytes))
 next_first a b c lines raw line true p q e =
@@ -63,12 +58,10 @@ next_first a b c lines raw line true p q e =
 next_first a b c lines raw line false p q e =
     subst (λ l. IfSome a (λ bytes. IsFront (lines ++ l) (lines_of bytes))) e (gone_first a c (lines ++ lines_in raw) (lines_go a b c lines raw p q))
 
--- at the start none is gone
 pub start_gone : (a : Option (List ℕ)) → LinesGone a [] a
 start_gone None = tt
 start_gone (Some xs) = refl
 
--- where nothing is left to give, the reader is at its end
 pub end_behind : (xs : List ℕ) (known : Option (List ℕ)) → IsAtEnd (prepend_known xs known) → IsAtEnd known
 end_behind xs None p = tt
 end_behind [] (Some ys) p = p
@@ -89,7 +82,7 @@ ended_lines-none rest h =
     let n : count_by is_feed rest ≡ 0 = omega (arith, ap length (slice_split_none is_feed rest h), length-slice_split is_feed rest) in
     ap (λ k. lines_among (take k (slice_split is_feed rest))) n
 
--- so many lines are gone, each with its line feed
+-- This many lines are taken, each with its line feed.
 abbrev pub EndsGone : Option (List ℕ) → ℕ → Option (List ℕ) → Type 0
 EndsGone old count new = (gone : List ℕ) × Consumes old new gone × ((more : List ℕ) → length (ended_lines (gone ++ more)) ≡ count + length (ended_lines more))
 

@@ -1,4 +1,4 @@
--- An owner of a list whose lines are answered one after another.
+-- An owner whose lines are answered one after another.
 use Rattle.std.proofs.Common.{◌≡◌, ℕ, List, [], ◌∷◌, ◌++◌, Option, IfSome, sym, subst}
 use Rattle.std.proofs.KnownBytes.{Appends-nil}
 use Rattle.desk_answers.specs.Ledger.{Ledger, ForLists}
@@ -9,11 +9,11 @@ use Rattle.served.specs.Counts.{none_served}
 use Rattle.desk_feed.specs.Stream.{IsFront, AnsweredInto}
 use Rattle.desk_feed.proofs.AnsweredLines.{none_answered, answered_more}
 
--- the lines were answered
+-- The lines were answered.
 abbrev pub Goes : {S : Type 0} → (S → Ledger → Type 0) → (S → Type 0) → List (List ℕ) → S → Option (List ℕ) → Served → S → Option (List ℕ) → Served → Type 0
 Goes Stands Trusts lines old out s new out' s' = ForLists Stands Trusts old new (λ G H. Serves G.rules G.greatest lines G.history out s H out' s')
 
--- one more was, and only the first bytes of its answer went out
+-- One more line was answered, and part of its answer was sent.
 abbrev pub Stops : {S : Type 0} → (S → Ledger → Type 0) → (S → Type 0) → List (List ℕ) → S → Option (List ℕ) → Served → S → Option (List ℕ) → Served → Type 0
 Stops Stands Trusts lines old out s new out' s' = ForLists Stands Trusts old new (λ G H. Breaks G.rules G.greatest lines G.history out s H out' s')
 

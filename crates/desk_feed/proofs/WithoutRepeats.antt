@@ -1,4 +1,5 @@
--- A law of inputs: where no line is answered Unavailable, the list after an input is the list after that input without its repeats.
+-- A law of inputs: if no line is answered Unavailable, removing the repeats keeps the final
+-- history.
 use Rattle.std.proofs.Common.{◌≡◌, ◌∙◌, ◌||◌, ℕ, List, [], ◌∷◌, length, Bool, true, false, if◌then◌else◌, nat_lt, Option, Some, None, is_some, Result, Ok, Err, refl, sym, ap}
 use Rattle.cfx_profile.specs.declared.fault.MessageFault.{MessageFault}
 use Rattle.cfx_profile.specs.declared.message.Said.{Said}
@@ -28,7 +29,6 @@ short_leaves : (long again : Bool) (H after : History) → (if long then false e
 short_leaves true again H after is leaves = refl
 short_leaves false again H after is leaves = leaves is
 
--- a repeat leaves the list
 pub repeat_leaves : (rules : Rules) (greatest : ℕ) (H : History) (line : List ℕ) → is_repeat H line ≡ true → line_after rules greatest false H line ≡ H
 repeat_leaves rules greatest H line again =
     short_leaves (nat_lt LONGEST_INPUT (length line)) (repeats H (said_in line)) H (list_after rules greatest H line) again (heard_leaves rules greatest H (said_in line))
@@ -39,7 +39,6 @@ line_more : (rules : Rules) (greatest : ℕ) (H after : History) (line : List �
 line_more rules greatest H after line lines fewer more true is leaves same rest = ap (λ (G : History). after_all rules greatest G lines) (leaves refl) ∙ same
 line_more rules greatest H after line lines fewer more false is leaves same rest = rest ∙ ap (λ (G : History). after_all rules greatest G more) (sym is)
 
--- the law
 pub repeats_leave_the_list : (rules : Rules) (greatest : ℕ) (H : History) (lines : List (List ℕ)) → after_all rules greatest H lines ≡ after_all rules greatest H (without_repeats rules greatest H lines)
 repeats_leave_the_list rules greatest H [] = refl
 repeats_leave_the_list rules greatest H (line ∷ lines) =

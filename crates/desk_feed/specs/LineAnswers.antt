@@ -1,4 +1,4 @@
--- What one piece between line feeds is answered.
+-- The answer to one piece between line feeds.
 use Rattle.std.specs.Prelude.{◌≡◌, Bool, true, List, [], ◌∷◌, ℕ, Option, Some, None}
 use Rattle.cfx_profile.specs.Answer.{unavailable_text}
 use Rattle.desk_types.specs.declared.rules.Rules.{Rules}
@@ -11,23 +11,23 @@ use Rattle.desk_feed.specs.Lines.{lines_in, without_return}
 use Rattle.served.specs.Sent.{SendsFront}
 use Rattle.desk_feed.specs.Stream.{Answered, sent_line, line_answer, line_after, too_long_text}
 
--- what is told, with the texts that are not made but fixed
+-- The answer's text, including fixed texts.
 abbrev pub line_told : LineAnswer → Told
 line_told (Made told) = told
 line_told TooLong = record { text = too_long_text; refused = true }
 line_told Unavailable = record { text = unavailable_text; refused = true }
 
--- the piece is no line and has no answer, or is one and has its answer
+-- The piece is not a line and has no answer, or it is one and has its answer.
 abbrev pub AnswersRaw : Rules → ℕ → History → List ℕ → Option LineAnswer → History → Type 0
 AnswersRaw rules greatest H raw None H' = (lines_in raw ≡ []) × (H' ≡ H)
 AnswersRaw rules greatest H raw (Some answer) H' = (mark : Bool) × (lines_in raw ≡ without_return raw ∷ [])
     × (line_told answer ≡ line_answer rules greatest mark H (without_return raw)) × (H' ≡ line_after rules greatest mark H (without_return raw))
 
--- the lines of a piece, at most one, were answered
+-- The lines of a piece, at most one, were answered.
 abbrev pub Serves : Rules → ℕ → List (List ℕ) → History → Option (List ℕ) → Served → History → Option (List ℕ) → Served → Type 0
 Serves rules greatest lines H out s H' out' s' = (marks : List Bool) × Answered rules greatest lines marks H out s H' out' s'
 
--- the piece is a line, and only the first bytes of its answer went out
+-- The piece is a line, and only the first bytes of its answer were sent.
 abbrev pub Breaks : Rules → ℕ → List (List ℕ) → History → Option (List ℕ) → Served → History → Option (List ℕ) → Served → Type 0
 Breaks rules greatest lines H out s H' out' s' = (mark : Bool) × (line : List ℕ) × (lines ≡ line ∷ []) × (s' ≡ s)
     × (H' ≡ line_after rules greatest mark H line) × SendsFront out out' (sent_line (line_answer rules greatest mark H line))

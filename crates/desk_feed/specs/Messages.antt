@@ -1,4 +1,4 @@
--- What a message is answered by the list of the commands accepted before it, and the list after it.
+-- The answer to a message and the history after it, given the commands accepted before.
 use Rattle.std.specs.Prelude.{ℕ, List, true, false, Result, Ok, Err}
 use Rattle.desk_types.specs.declared.rules.Rules.{Rules}
 use Rattle.desk_types.specs.declared.command.Stamped.{Stamped}
@@ -11,26 +11,26 @@ use Rattle.cfx_profile.specs.Message.{said_in}
 use Rattle.desk_feed.specs.declared.message.Told.{Told}
 use Rattle.desk_answers.specs.Commands.{command_answer, command_after, answer_text, is_refused}
 
--- the answer to a command: every answer but Accepted counts as refused
+-- The answer to a command; all except Accepted count as refused.
 abbrev pub answer_asked : Rules → ℕ → History → Stamped → Told
 answer_asked rules greatest H s = record { text = answer_text s.uid (command_answer rules greatest H s); refused = is_refused (command_answer rules greatest H s) }
 
--- the answer to what a message says: Faulty and refused commands count as refused, Ignored does not
+-- The answer to a message's content; faults and refusals count as refused, Ignored doesn't.
 abbrev pub answer_heard : Rules → ℕ → History → Result Said MessageFault → Told
 answer_heard rules greatest H (Ok (Ignored name)) = record { text = ignored_text name; refused = false }
 answer_heard rules greatest H (Ok (Asked s)) = answer_asked rules greatest H s
 answer_heard rules greatest H (Err fault) = record { text = fault_text fault; refused = true }
 
--- the list after what a message says: only a command changes it
+-- The history after a message's content, changed only by commands.
 abbrev pub after_heard : Rules → ℕ → History → Result Said MessageFault → History
 after_heard rules greatest H (Ok (Ignored name)) = H
 after_heard rules greatest H (Ok (Asked s)) = command_after rules greatest H s
 after_heard rules greatest H (Err fault) = H
 
--- the answer to the bytes of a message after H, by the rules, where the desk numbers its commands up to the greatest
+-- The answer to the bytes of a message after H, for these rules and greatest number.
 abbrev pub answer_to : Rules → ℕ → History → List ℕ → Told
 answer_to rules greatest H bytes = answer_heard rules greatest H (said_in bytes)
 
--- the list after them
+-- The history after the bytes of a message.
 abbrev pub list_after : Rules → ℕ → History → List ℕ → History
 list_after rules greatest H bytes = after_heard rules greatest H (said_in bytes)

@@ -1,4 +1,4 @@
--- What the lines of an input are answered.
+-- The answers to the lines of an input.
 use Rattle.std.specs.Prelude.{◌≡◌, ℕ, ◌+◌, Bool, true, false, nat_lt, List, [], ◌∷◌, ◌++◌, length, Option, IfSome, count_by, codes, if◌then◌else◌}
 use Rattle.std.specs.List.{flat_map}
 use Rattle.std.specs.Io.KnownBytes.{Appends, Consumes}
@@ -18,43 +18,44 @@ use Rattle.served.specs.Sent.{SendsFront}
 
 -- ---- one line
 
--- the text of the answer to a line that is too long
+-- The text of the answer to a line over the limit.
 abbrev pub too_long_text : List ℕ
 too_long_text = compact_text (faulty (codes "LineTooLong"))
 
--- the answer to a line after H: Unavailable where it is marked, LineTooLong where it is longer than the longest line, and else as the message that it is
+-- The answer to a line after H: Unavailable if marked, LineTooLong over the limit, or else the
+-- message's answer.
 abbrev pub line_answer : Rules → ℕ → Bool → History → List ℕ → Told
 line_answer rules greatest true H line = record { text = unavailable_text; refused = true }
 line_answer rules greatest false H line = if nat_lt LONGEST_INPUT (length line) then record { text = too_long_text; refused = true } else answer_to rules greatest H line
 
--- the list after the line: only a message changes it
+-- The history after the line, changed only by messages.
 abbrev pub line_after : Rules → ℕ → Bool → History → List ℕ → History
 line_after rules greatest true H line = H
 line_after rules greatest false H line = if nat_lt LONGEST_INPUT (length line) then H else list_after rules greatest H line
 
--- ---- lines one after the other
+-- ---- several lines
 
--- Each line has a mark: whether it was answered Unavailable.
+-- A line's mark is whether it was answered Unavailable.
 
--- the answers to the lines, each by the list before it
+-- The answers to the lines, each from the history before it.
 abbrev pub answers_to : Rules → ℕ → List Bool → History → List (List ℕ) → List Told
 answers_to rules greatest [] H lines = []
 answers_to rules greatest (m ∷ ms) H [] = []
 answers_to rules greatest (m ∷ ms) H (line ∷ lines) = line_answer rules greatest m H line ∷ answers_to rules greatest ms (line_after rules greatest m H line) lines
 
--- the list after them all
+-- The history after the lines.
 abbrev pub after_lines : Rules → ℕ → List Bool → History → List (List ℕ) → History
 after_lines rules greatest [] H lines = H
 after_lines rules greatest (m ∷ ms) H [] = H
 after_lines rules greatest (m ∷ ms) H (line ∷ lines) = after_lines rules greatest ms (line_after rules greatest m H line) lines
 
--- an answer as it goes out: its text and a line feed
+-- The answer's text with a line feed.
 abbrev pub sent_line : Told → List ℕ
 sent_line told = told.text ++ 10 ∷ []
 
 -- ---- a run
 
--- the lines were answered, each as its mark says: so many bytes went out, so the list went on, and so many were counted
+-- The lines were answered according to their marks, with this output, history and counts.
 pub record Answered (rules : Rules) (greatest : ℕ) (lines : List (List ℕ)) (marks : List Bool) (H : History) (out : Option (List ℕ)) (before : Served) (H' : History) (out' : Option (List ℕ)) (after : Served) : Type 0 where
   pub each : length marks ≡ length lines
   pub bytes : Appends out out' (flat_map sent_line (answers_to rules greatest marks H lines))
@@ -62,37 +63,39 @@ pub record Answered (rules : Rules) (greatest : ℕ) (lines : List (List ℕ)) (
   pub answered : after.answered ≡ before.answered + length lines
   pub refused : after.refused ≡ before.refused + count_by (λ (told : Told). told.refused) (answers_to rules greatest marks H lines)
 
--- the first lines of a list
+-- The first lines of a list.
 abbrev pub IsFront : List (List ℕ) → List (List ℕ) → Type 0
 IsFront lines all = (rest : List (List ℕ)) × (all ≡ lines ++ rest)
 
--- all lines of the reader's bytes, where they are known, were answered
+-- All lines of the reader's bytes, if known, were answered.
 abbrev pub AnsweredAll : Rules → ℕ → Option (List ℕ) → History → Option (List ℕ) → History → Option (List ℕ) → Served → Type 0
 AnsweredAll rules greatest input H out H' out' served = (lines : List (List ℕ)) × (marks : List Bool)
     × IfSome input (λ bytes. lines ≡ lines_of bytes) × Answered rules greatest lines marks H out none_served H' out' served
 
--- the first lines of them were answered, each whole, and nothing else went out
+-- The first lines were answered, each whole, and nothing else was sent.
 abbrev pub AnsweredFront : Rules → ℕ → Option (List ℕ) → History → Option (List ℕ) → History → Option (List ℕ) → Served → Type 0
 AnsweredFront rules greatest input H out H' out' served = (lines : List (List ℕ)) × (marks : List Bool)
     × IfSome input (λ bytes. IsFront lines (lines_of bytes)) × Answered rules greatest lines marks H out none_served H' out' served
 
--- the first lines of them were answered, each whole; then one more was answered, and of that answer only the first bytes went out
+-- The first lines were answered, each whole, then the first bytes of one more answer were sent.
 abbrev pub AnsweredInto : Rules → ℕ → Option (List ℕ) → History → Option (List ℕ) → History → Option (List ℕ) → Served → Type 0
 AnsweredInto rules greatest input H out H' out' served = (lines : List (List ℕ)) × (marks : List Bool) × (line : List ℕ) × (mark : Bool) × (H₁ : History) × (out₁ : Option (List ℕ))
     × IfSome input (λ bytes. IsFront (lines ++ line ∷ []) (lines_of bytes)) × Answered rules greatest lines marks H out none_served H₁ out₁ served
     × (H' ≡ line_after rules greatest mark H₁ line) × SendsFront out₁ out' (sent_line (line_answer rules greatest mark H₁ line))
 
--- what was answered before a fault: after a failed read, or as many reads as may be, the first lines alone; after a failed write one more in part
+-- The answers before a fault: the first lines and, after a failed write, the first bytes of one
+-- more answer.
 abbrev pub AnsweredUpTo : Rules → ℕ → Option (List ℕ) → History → Option (List ℕ) → History → Option (List ℕ) → ServeFault → Type 0
 AnsweredUpTo rules greatest input H out H' out' (Read served) = AnsweredFront rules greatest input H out H' out' served
 AnsweredUpTo rules greatest input H out H' out' (TooManyReads served) = AnsweredFront rules greatest input H out H' out' served
 AnsweredUpTo rules greatest input H out H' out' (Write served) = AnsweredInto rules greatest input H out H' out' served
 
--- as many lines were answered as there are line feeds behind a line in what was read
+-- Every line with its line feed in the bytes read was answered.
 abbrev pub AnswersEnded : Option (List ℕ) → Option (List ℕ) → Served → Type 0
 AnswersEnded input input' served = (bytes : List ℕ) × Consumes input input' bytes × (served.answered ≡ length (ended_lines bytes))
 
--- after a failed read, or as many reads as may be, no line whose line feed was read is left without its answer
+-- After a failed read or at the read limit, every line with its line feed in the bytes read was
+-- answered.
 abbrev pub LeavesNone : Option (List ℕ) → Option (List ℕ) → ServeFault → Type 0
 LeavesNone input input' (Read served) = AnswersEnded input input' served
 LeavesNone input input' (TooManyReads served) = AnswersEnded input input' served

@@ -1,4 +1,4 @@
--- What is taken of a reader's bytes as a line.
+-- Taking a line from a reader's bytes.
 use Rattle.std.specs.Prelude.{◌≡◌, ℕ, ◌<◌, ◌≤◌, Bool, true, false, All, List, [], ◌∷◌, ◌++◌, length, take, get_or, Option, Some, None}
 use Rattle.std.specs.Io.KnownBytes.{Consumes, IsAtEnd}
 use Rattle.desk_feed.specs.Lines.{is_feed, is_empty, without_return, lines_of}
@@ -9,24 +9,24 @@ use Rattle.desk_feed.specs.declared.taking.RawLine.TheVariants.{Whole, Over, NoM
 abbrev pub HasNoFeed : List ℕ → Type 0
 HasNoFeed bytes = All (λ b. is_feed b ≡ false) bytes
 
--- where the first line feed is
+-- The place of the first line feed.
 abbrev pub IsFirstFeed : List ℕ → Option ℕ → Type 0
 IsFirstFeed block None = HasNoFeed block
 IsFirstFeed block (Some n) = (n < length block) × HasNoFeed (take n block) × (get_or block n 0 ≡ 10)
 
--- what is kept of these bytes of a line
+-- The stored part of a line with these bytes.
 abbrev pub HoldsLine : RawLine → List ℕ → Type 0
 HoldsLine (Whole kept) raw = (kept.items ≡ raw) × (length raw ≤ LONGEST_RAW)
 HoldsLine Over raw = LONGEST_RAW < length raw
 HoldsLine NoMemory raw = (0 < length raw) × (is_empty (without_return raw) ≡ false)
 HoldsLine NoMemoryReturn raw = (0 < length raw) × (is_empty (without_return raw) ≡ true)
 
--- these bytes went out, as the last ones to the end, and else with the line feed that ends them
+-- These bytes were taken: with their line feed, or up to the end of input.
 abbrev pub TakesLine : Option (List ℕ) → List ℕ → Bool → Option (List ℕ) → Type 0
 TakesLine old raw true new = HasNoFeed raw × Consumes old new raw × IsAtEnd new
 TakesLine old raw false new = HasNoFeed raw × Consumes old new (raw ++ 10 ∷ [])
 
--- of a reader's known bytes these lines are gone
+-- These lines were taken from the reader's bytes, if known.
 abbrev pub LinesGone : Option (List ℕ) → List (List ℕ) → Option (List ℕ) → Type 0
 LinesGone None lines new = Unit {0}
 LinesGone (Some before) lines None = ⊥

@@ -1,4 +1,4 @@
-//! Lines in, answers out.
+//! Answering lines of input.
 
 ghost use Rattle.std.specs.Prelude.{◌≡◌, ◌+◌, ◌^◌, ◌<◌, ◌≤◌, ℕ, List, length, IfOk, IfErr, OnOk, OnErr, Err};
 ghost use Rattle.std.specs.Io.KnownBytes.{IsAtEnd};
@@ -20,13 +20,12 @@ use served::{Block, ReadFault, ServeFault, Served, WriteFailed, send_line};
 use std::alloc::Global;
 use std::io::{Read, Write};
 
-/// Answers the lines of an input, each before the next line is read.
+/// Answers the lines of an input, each before reading the next.
 ///
-/// A line ends at a line feed or at the end of input, and one carriage return before that is
-/// dropped. An empty line is skipped. A line of more than 1,048,576 bytes is answered LineTooLong
-/// and skipped to its end; one in whose reading memory is refused is skipped and answered
-/// Unavailable. Each other line is a message, answered as the list says for which `owner` stands, so
-/// long as what it keeps that list in told the truth.
+/// A line ends at a line feed or at the end of input, without a carriage return before it. Empty
+/// lines are skipped. A line over 1,048,576 bytes is skipped to its end and answered LineTooLong; a
+/// line that runs out of memory while being read is skipped and answered Unavailable. Any other
+/// line is a message, answered from the owner's history, provided that its storage has not lied.
 pub fn feed<R: Read, W: Write, L: Owner>(
     alloc: Global,
     input: &mut Wire<R>,
@@ -86,7 +85,6 @@ pub fn feed<R: Read, W: Write, L: Owner>(
     }
 }
 
-/// Answers what is kept of one line, and writes the answer.
 fn serve_line<W: Write, L: Owner>(
     alloc: Global,
     output: &mut Wire<W>,

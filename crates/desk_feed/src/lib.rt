@@ -1,8 +1,8 @@
-//! Lines in, answers out: over any reader, any writer and any owner of a list, as a store in memory or
-//! in a file.
+//! Answering lines of input, for any reader, writer and owner of a history, such as a store in
+//! memory or in a file.
 //!
-//! `feed` takes the lines by `take_line`, `answer_message` asks the owner, and `send_line` of `served`
-//! writes the answer. What all of them answer is defined in `specs/`.
+//! `feed` takes lines by `take_line`, asks the owner by `answer_message`, and writes answers by
+//! `send_line` of `served`. `specs/` defines the answers.
 #![tactic(auto)]
 
 mod feeding;

@@ -1,4 +1,4 @@
-//! What one line is answered.
+//! The answer to one line.
 
 ghost use Rattle.std.specs.Prelude.{◌≡◌, ◌∷◌, [], ℕ, List, MatchOption};
 ghost use Rattle.desk_types.specs.History.{History};
@@ -15,19 +15,19 @@ use desk_answers::Owner;
 use desk_types::LONGEST_INPUT;
 use std::alloc::Global;
 
-/// What one line is answered.
+/// The answer to one line.
 #[derive(Drop)]
 pub enum LineAnswer {
-    /// The answer to the message in it.
+    /// The answer to the line's message.
     Made(Told),
-    /// The line is longer than the longest line.
+    /// The line is over the limit.
     TooLong,
-    /// Memory was refused.
+    /// Out of memory.
     Unavailable,
 }
 
 impl LineAnswer {
-    /// The text of the answer. Takes no memory.
+    /// Returns the text of the answer. Takes no memory.
     pub fn text(&self) -> &[u8]
         ensures { result.now ≡ (line_told self.now).text }
     {
@@ -38,7 +38,7 @@ impl LineAnswer {
         }
     }
 
-    /// Whether it counts as refused.
+    /// Returns whether the answer counts as refused.
     pub fn is_refused(&self) -> bool
         ensures { result ≡ (line_told self.now).refused }
     {
@@ -49,14 +49,13 @@ impl LineAnswer {
     }
 }
 
-/// The text of the answer to a line that is too long. Takes no memory.
 fn too_long_text() -> &'static str
     ensures { result.now ≡ too_long_text }
 {
     "{\"Answer\":\"Faulty\",\"Fault\":\"LineTooLong\"}"
 }
 
-/// Answers what is kept of a line; an empty line has no answer.
+/// Answers a line, or returns none if it is empty.
 pub fn answer_line<L: Owner>(alloc: Global, owner: &mut L, raw: RawLine) -> Option<LineAnswer>
     requires ready { L.Ready owner.old }
     ensures ready { L.Ready owner.new }

@@ -1,4 +1,4 @@
-//! What a message is answered.
+//! The answer to a message.
 
 ghost use Rattle.std.specs.Prelude.{◌≡◌, IfOk, OnOk, OnErr};
 ghost use Rattle.desk_answers.specs.Commands.{command_after};
@@ -10,14 +10,14 @@ use desk_answers::{Answer, Owner};
 use desk_types::{Stamped, Text};
 use std::alloc::{AllocError, Global};
 
-/// The text of an answer, and whether it counts as refused: all but Accepted and Ignored do.
+/// The text of an answer, and whether it counts as refused: all except Accepted and Ignored do.
 #[derive(Debug, PartialEq, Eq, Drop)]
 pub struct Told {
     pub text: Text,
     pub refused: bool,
 }
 
-/// Answers the bytes of one message. Where memory is refused, the list is as before.
+/// Answers the bytes of one message. Out of memory leaves the history unchanged.
 pub fn answer_message<L: Owner>(
     alloc: Global,
     owner: &mut L,
@@ -46,7 +46,7 @@ pub fn answer_message<L: Owner>(
     }
 }
 
-/// Answers a command. Where memory is refused, the list is as before.
+/// Answers a command. Out of memory leaves the history unchanged.
 #[tactic(auto, using(desk_answers::proofs::Refusing::refused_leaves))]
 pub fn answer_command<L: Owner>(
     alloc: Global,

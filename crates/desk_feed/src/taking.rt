@@ -1,4 +1,4 @@
-//! Lines from a reader, out of the blocks that it gives.
+//! Taking lines from a reader's blocks.
 
 ghost use Rattle.std.specs.Prelude.{◌≡◌, ◌+◌, ◌<◌, ◌≤◌, ◌++◌, ℕ, List, length, true, false, IfOk, OnOk, OnErr, Ok};
 ghost use Rattle.std.specs.Io.KnownBytes.{Consumes, Keeps, IsAtEnd};
@@ -13,31 +13,31 @@ use served::{Block, ReadFault};
 use std::alloc::Global;
 use std::io::Read;
 
-/// The most bytes that are kept of a line: with its carriage return.
+/// The most bytes stored of a line, including its carriage return.
 pub const LONGEST_RAW: usize = LONGEST_INPUT + 1;
 
-/// What is kept of a line, without the line feed that ends it.
+/// The stored part of a line, without its line feed.
 #[derive(Drop)]
 pub enum RawLine {
     /// All its bytes.
     Whole(Vec<u8>),
-    /// It is longer than a line with its carriage return may be.
+    /// The line is over the limit.
     Over,
-    /// Memory was refused for it.
+    /// There was too little memory for the line.
     NoMemory,
-    /// Memory was refused for it, and it is a carriage return alone: an empty line.
+    /// There was too little memory, but the line is only a carriage return, so it is empty.
     NoMemoryReturn,
 }
 
-/// A line, and whether it is what stands after the last line feed.
+/// A line, and whether it comes after the last line feed.
 #[derive(Drop)]
 pub struct Taken {
     pub line: RawLine,
     pub last: bool,
 }
 
-/// Takes the next line. A line of which not all can be kept is read to its end all the same,
-/// and takes no more memory.
+/// Takes the next line. A line that can't be stored whole is still read to its end, without more
+/// memory.
 pub fn take_line<R: Read>(
     alloc: Global,
     block: &mut Block,
@@ -75,7 +75,7 @@ pub fn take_line<R: Read>(
     Ok(Taken { line, last: true })
 }
 
-/// Sees to it that there is a byte to give, by one read at most; false at the end.
+/// Reads at most once, so that a byte is pending. Returns false at the end.
 fn ready<R: Read>(block: &mut Block, wire: &mut Wire<R>, most_reads: u64) -> Result<bool, ReadFault>
     requires valid { IsBlock block.old }
     requires reads { MayRead most_reads wire.old }
@@ -99,14 +99,12 @@ fn ready<R: Read>(block: &mut Block, wire: &mut Wire<R>, most_reads: u64) -> Res
     Ok(true)
 }
 
-/// Where the first line feed is.
 fn first_feed(block: &[u8]) -> Option<usize>
     ensures { IsFirstFeed block.now result }
 {
     block.iter().position(|b| *b == b'\n')
 }
 
-/// The line with more bytes at its end.
 fn extend_line(line: RawLine, piece: &[u8]) -> RawLine
     ensures { (raw : List ℕ) → HoldsLine line raw → HoldsLine result (raw ++ piece.now) }
 {
@@ -133,7 +131,7 @@ fn extend_line(line: RawLine, piece: &[u8]) -> RawLine
     }
 }
 
-/// Drops one carriage return at the end.
+/// Returns the line without a carriage return at its end.
 pub fn without_return(raw: &[u8]) -> &[u8]
     ensures { result.now ≡ without_return raw.now }
 {

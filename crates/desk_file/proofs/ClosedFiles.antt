@@ -1,4 +1,4 @@
--- What a close leaves of a desk's files.
+-- A desk's files after a close.
 use Rattle.std.proofs.Common.{◌≡◌, ◌⊎◌, ◌∙◌, IsTrue, refl, sym, subst, inl, inr, arith}
 use Rattle.sqlite_disk.specs.declared.Disk as disk
 use Rattle.sqlite_disk.specs.declared.Files.{Files}
@@ -27,20 +27,17 @@ alone_in : {D : Type 0} {g : disk.Ghosts D} (conn : Held (FileStore D g)) (files
 alone_in conn files image copied (inl seen) = subst (λ (i : Image). HoldsAlone i (file_state conn).committed.trees) (sym seen) copied.seen
 alone_in conn files image copied (inr left) = copied.left image left
 
--- the files of a connection
 pub keeps : {D : Type 0} {g : disk.Ghosts D} (conn : Held (FileStore D g)) (files : Files D) → IsLive (file_state conn) → (AreClean g files.log files.db → IsCopied conn files) → KeepsTables conn files
 keeps conn files live copied tables holds clean image left =
     let c = copied clean in
     ((file_state conn).committed.trees, ((file_state conn).committed, holds c.was_clean c.was_open, (live c.was_open).1, refl), alone_in conn files image c left)
 
--- honest files of a store that closed nothing, of a connection that was quiet until then
 pub leaves : {D : Type 0} {g : disk.Ghosts D} (conn : Held (FileStore D g)) (last : FileStore D g) (files : Files D) → (files.log, files.db) ≡ store_files last → IsClosed conn last → Leaves conn files
 leaves {g = g} conn last files same closed clean =
     let sure = subst (λ p. AreClean g p.0 p.1) same clean in
     let none : IsClean (view last) = no_doubt _ (clean_is last.pool ∙ sure) in
     omega (arith, closed.quiet.clean, none)
 
--- so do those of the connection that the store gave back
 pub closes : {D E : Type 0} {g : disk.Ghosts D} (StandsFor : E → History → Type 0) (kept_rules : E → Rules) (desk : LineStore (FileStore D g) E) (conn : Held (FileStore D g)) (files : Files D)
     → conn ≡ conn_of desk → KeepsTables conn files → Closes StandsFor kept_rules desk files
 closes StandsFor kept_rules desk conn files same kept L stands own clean image left =

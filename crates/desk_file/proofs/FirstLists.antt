@@ -1,4 +1,4 @@
--- The list with which a run on the files begins.
+-- The initial history of a run on the files.
 use Rattle.std.proofs.Common.{◌≡◌, ◌∙◌, ℕ, [], Bool, true, false, true≢false, Option, Some, None, refl, sym, ap, inl, inr}
 use Rattle.std.proofs.Math.Logic.{∥∥₁_elim}
 use Rattle.std.specs.List.{list_any}
@@ -26,24 +26,20 @@ use Rattle.line_rows.specs.Rows.{rows_of, ledger_tables}
 use Rattle.line_schema.specs.Opening.{IsNamed, IsNamedBy}
 use Rattle.line_schema.specs.Versions.{IsMigrated}
 use Rattle.small_pages.specs.Found.{FindsAs}
-use Rattle.desk_file.specs.Files.{IsFoundIn, IsOfOne, HasLineAlone, FindsNoTable, Begins}
+use Rattle.desk_file.specs.Files.{IsFoundIn, IsOfOne, HasOursFirst, FindsNoTable, Begins}
 
--- the tables of each version have our names
 named_by : (rules : Rules) (indexed : Layout) → list_any has_name (schema_of rules indexed).tables ≡ true
 unfolding same_name
 named_by rules indexed = refl
 
 module _ (image : Image) (s : State) (finds : FindsAs image s) (opens : Opens s) (live : IsLive s) where
-  -- what is committed is what the files hold
   pub found : IsFoundIn image s.committed
   found = record { sound = (live opens.is_open).1; reads = finds.reads; same = finds.holds }
 
-  -- files with the tables of a line have some table
   not_bare : (rules : Rules) → IsNamedBy rules s → s.committed.schema ≡ no_schema → ⊥
   not_bare rules named none = true≢false (sym named.0 ∙ ap (λ (x : Schema). list_any is_version x.tables) (ap (λ (db : Database). db.schema) opens.clean ∙ none))
 
-  -- a new desk, in files with none of its tables
-  pub made_begins : (greatest : ℕ) → list_any has_name s.now.schema.tables ≡ false → HasLineAlone image → Begins image (Some greatest) greatest [] × (is_blank s.now.schema ≡ true)
+  pub made_begins : (greatest : ℕ) → list_any has_name s.now.schema.tables ≡ false → HasOursFirst image → Begins image (Some greatest) greatest [] × (is_blank s.now.schema ≡ true)
   made_begins greatest nameless alone =
       let seen : s.now.schema ≡ s.committed.schema = ap (λ (db : Database). db.schema) opens.clean in
       elim (alone s.committed found) [
@@ -51,12 +47,10 @@ module _ (image : Image) (s : State) (finds : FindsAs image s) (opens : Opens s)
         | inr none ↦ (inr ((s.committed, found, none), refl, refl), is_blank_of s.now.schema (seen ∙ none))
       ]
 
-  -- what was made is alone, in files with no table
   pub no_table : FindsNoTable image → is_blank s.now.schema ≡ true
   no_table none = is_blank_of s.now.schema (ap (λ (db : Database). db.schema) opens.clean ∙ none s.committed found)
 
-  -- the desk that was read
-  pub opened_begins : (make : Option ℕ) (greatest : ℕ) (H : History) → IsNamed s → Reads s (λ db. Holds db (ledger_tables greatest H)) → HasLineAlone image
+  pub opened_begins : (make : Option ℕ) (greatest : ℕ) (H : History) → IsNamed s → Reads s (λ db. Holds db (ledger_tables greatest H)) → HasOursFirst image
       → Begins image make greatest H × (is_ours s.committed.schema ≡ true)
   opened_begins make greatest H named reads alone =
       elim (alone s.committed found) [
@@ -64,8 +58,7 @@ module _ (image : Image) (s : State) (finds : FindsAs image s) (opens : Opens s)
         | inr none ↦ absurd (not_bare Two named none)
       ]
 
-  -- the desk of version 1 that was migrated
-  pub migrates : (new : State) (greatest : ℕ) (H : History) (n : ℕ) → IsNamedBy One s → IsMigrated s new greatest H n → HasLineAlone image
+  pub migrates : (new : State) (greatest : ℕ) (H : History) (n : ℕ) → IsNamedBy One s → IsMigrated s new greatest H n → HasOursFirst image
       → IsOfOne image greatest H × Holds new.committed (ledger_tables greatest H) × ((trees : Trees) → new.may_leave trees → HoldsAt (ledger_tables greatest H) trees)
   migrates new greatest H n named m alone =
       elim (alone s.committed found) [
@@ -74,14 +67,12 @@ module _ (image : Image) (s : State) (finds : FindsAs image s) (opens : Opens s)
       ]
 
 module _ (image : Image) (trees : Trees) (t : Tables) (holds : ∥ HoldsDatabase image trees ∥₁) (tables : HoldsAt t trees) where
-  -- whatever an open finds has these tables
   pub held : (db : Database) → IsFoundIn image db → Holds db t
   held db f = held_at t trees tables db f.sound (∥∥₁_elim holds (Trees-set _ _) (f.same trees))
 
-  pub line_alone : HasLineAlone image
-  line_alone db f = let tables = held db f in inl (record { rules = Two; layout = tables.indexed; same = tables.schema })
+  pub ours_first : HasOursFirst image
+  ours_first db f = let tables = held db f in inl (record { rules = Two; layout = tables.indexed; same = tables.schema })
 
--- and a run begins with their list
 pub same_list : (image : Image) (trees : Trees) (greatest : ℕ) (H : History) → ((G H : History) → IsJudged Two G → IsJudged Two H → IsPermutation (rows_of G) (rows_of H) → G ≡ H)
     → ∥ HoldsDatabase image trees ∥₁ → HoldsAt (ledger_tables greatest H) trees → IsJudged Two H
     → (make : Option ℕ) (next : ℕ) (H' : History) → Begins image make next H' → IsJudged Two H' → (next ≡ greatest) × (H' ≡ H)
@@ -94,12 +85,10 @@ same_list image trees greatest H tell holds tables judged make next H' (inr (non
     let was = held image trees (ledger_tables greatest H) holds tables none.0 none.1 in
     absurd (true≢false (sym (named_by Two was.indexed) ∙ ap (λ (x : Schema). list_any has_name x.tables) (sym was.schema ∙ none.2)))
 
--- with no table nothing is read
 pub reads_none : (image : Image) (greatest : ℕ) (H : History) → Begins image None greatest H → FindsNoTable image → ⊥
 reads_none image greatest H (inl has) none = true≢false (sym (named_by Two has.2.indexed) ∙ ap (λ (x : Schema). list_any has_name x.tables) (sym has.2.schema ∙ none has.0 has.1))
 reads_none image greatest H (inr (bare, made, empty)) none = absurd (cc)
 
--- a run that may make no desk begins as one that may
 pub begins_any : (image : Image) (make : Option ℕ) (greatest : ℕ) (H : History) → Begins image None greatest H → Begins image make greatest H
 begins_any image make greatest H (inl has) = inl has
 begins_any image make greatest H (inr (none, made, empty)) = absurd (cc)

@@ -63,7 +63,7 @@ module _ (rules : Rules) (s : State) (opens : Opens s) where
   told_at NotBlank is = tt
   told_at Unavailable is = tt
 
--- ---- what is handed back
+-- ---- the returned connection
 
 module _ {D : Type 0} {g : disk.Ghosts D} (image : Image) (first last : Held (FileStore D g)) (Leaves : State → Trees → Type 0) (opened : HasCleanDisk (file_state first) → IsOpened first)
     (finds : HasCleanDisk (file_state first) → FindsAs image (file_state first)) (kept : HasCleanDisk (file_state last) → KeepsCommit (file_state first) (file_state last))
@@ -71,14 +71,12 @@ module _ {D : Type 0} {g : disk.Ghosts D} (image : Image) (first last : Held (Fi
   clean_before : HasCleanDisk (file_state last) → HasCleanDisk (file_state first)
   clean_before clean = omega (arith, survives.clean, clean)
 
-  -- what is found in the files
   found_first : HasCleanDisk (file_state last) → IsFoundIn image (file_state first).committed
   found_first clean =
       let before = clean_before clean in
       let at = opened before in
       found image (file_state first) (finds before) at.0 at.1
 
-  -- the connection was refused
   pub refused : (StandsIn : OpenFault → Type 0) (MakesNone : Type 0) (fault : OpenFault) → (HasCleanDisk (file_state last) → StandsIn fault) → (MakesNone → fault ≢ NotBlank)
       → IsRefused image StandsIn Leaves MakesNone (record { fault = fault; file = Some last })
   refused StandsIn MakesNone fault stands never = record {
@@ -89,14 +87,12 @@ module _ {D : Type 0} {g : disk.Ghosts D} (image : Image) (first last : Held (Fi
     never = never;
   }
 
-  -- by the fault of its tables
   pub fault_in : (rules : Rules) (fault : OpenFault) → (HasCleanDisk (file_state last) → IsFaultBy rules (file_state first) fault) → IsToldBy rules (file_state first) fault
       → HasCleanDisk (file_state last) → IsFaultIn image rules fault
   fault_in rules fault is told clean =
       let at = opened (clean_before clean) in
       ((file_state first).committed, found_first clean, fault_at rules (file_state first) at.0 fault (is clean), told_at rules (file_state first) at.0 fault told)
 
-  -- since no desk can be made in it
   pub unmade : (greatest : ℕ) (fault : OpenFault) → (fault ≡ Unavailable) ⊎ ((fault ≡ NotBlank) × (list_any has_name (file_state first).now.schema.tables ≡ true))
       → HasCleanDisk (file_state last) → IsFaultFor image (Some greatest) fault
   unmade greatest fault (inl is) clean = inl (
@@ -111,7 +107,6 @@ module _ {D : Type 0} {g : disk.Ghosts D} (image : Image) (first last : Held (Fi
 
 -- ---- by a run
 
--- what leaves nothing beside leaves no more than a run that may make a desk
 survives_made : (old new : State) (make : Option ℕ) → Survives old new (λ _. ⊥) → Survives old new (LeavesMade make old)
 survives_made old new make s = record {
   clean = s.clean;
@@ -125,7 +120,6 @@ survives_made old new make s = record {
 since_made : {D : Type 0} {g : disk.Ghosts D} (image : Image) (make : Option ℕ) (first last : Held (FileStore D g)) → IsUnchangedSince image (λ _ _. ⊥) first last → IsUnchangedSince image (LeavesMade make) first last
 since_made image make first last u = record { opened = u.opened; kept = u.kept; survives = survives_made (file_state first) (file_state last) make u.survives }
 
--- an open refused the files, whatever desk may be made
 refuses_so : {D : Type 0} {g : disk.Ghosts D} (image : Image) (make : Option ℕ) (fault : OpenFault) (file : Option (Held (FileStore D g))) → fault ≢ NotBlank
     → IsRefused image (IsFaultIn image Two) (λ _ _. ⊥) ⊥ (record { fault = fault; file = file }) → RefusesRun image make (record { fault = fault; file = file })
 refuses_so image make fault None never is = record {

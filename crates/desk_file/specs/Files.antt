@@ -1,4 +1,4 @@
--- With which list a run begins, by what its files held.
+-- The initial history of a run, by the contents of its files.
 use Rattle.std.specs.Prelude.{◌≡◌, ◌⊎◌, ℕ, IsTrue, [], Option, Some}
 use Rattle.sqlite_disk.specs.declared.Disk as disk
 use Rattle.sqlite_disk.specs.declared.Files.{Files}
@@ -23,61 +23,66 @@ use Rattle.line_rows.specs.Rows.{ledger_tables}
 use Rattle.line_schema.specs.declared.store.LineStore.{LineStore}
 use Rattle.line_schema.specs.Stands.{Kept, Stands}
 
--- an open of the files finds this database, whose trees list its schema: the one that the files hold or, where they hold nothing, an empty one
+-- An open of the files finds this database, whose trees list its schema: that of the files, or an empty one if they
+-- hold nothing.
 pub record IsFoundIn (image : Image) (db : Database) : Type 0 where
   pub sound : IsDatabase db
   pub reads : AreReadIn image db.trees
   pub same : (trees : Trees) → HoldsDatabase image trees → db.trees ≡ trees
 
--- the files hold the tables of a line, of version 1 with none beside them, or of version 2 with none before them and none that refers to them, or no table at all
-abbrev pub HasLineAlone : Image → Type 0
-HasLineAlone image = (db : Database) → IsFoundIn image db → IsOurs db.schema ⊎ (db.schema ≡ no_schema)
+-- Any open of the files finds no table at all, or the tables of a line. Those of version 1 are alone. Those of version
+-- 2 come first, and no other table refers to them.
+abbrev pub HasOursFirst : Image → Type 0
+HasOursFirst image = (db : Database) → IsFoundIn image db → IsOurs db.schema ⊎ (db.schema ≡ no_schema)
 
--- the files hold these tables, by version 2
+-- The files hold these tables, by version 2.
 abbrev pub HasTables : Image → Tables → Type 0
 HasTables image tables = (db : Database) × IsFoundIn image db × Holds db tables
 
--- the files hold no table
+-- The files hold no table.
 abbrev pub HasNoTable : Image → Type 0
 HasNoTable image = (db : Database) × IsFoundIn image db × (db.schema ≡ no_schema)
 
--- whatever an open of the files finds has no table
+-- Any open of the files finds no table.
 abbrev pub FindsNoTable : Image → Type 0
 FindsNoTable image = (db : Database) → IsFoundIn image db → db.schema ≡ no_schema
 
--- A run on the files begins with the greatest number and the list whose tables they hold by version 2. Where they hold no table, and a desk may be made, it begins with an empty list and the greatest number that is asked for.
+-- A run on the files begins with the greatest number and the history whose tables they hold by version 2. If they hold
+-- no table and a desk may be made, it begins with an empty history and the requested greatest number.
 abbrev pub Begins : Image → Option ℕ → ℕ → History → Type 0
 Begins image make greatest H = HasTables image (ledger_tables greatest H) ⊎ (HasNoTable image × (make ≡ Some greatest) × (H ≡ []))
 
--- the files hold the tables of this list by version 1, and it is lawful by the rules of both versions
+-- The files hold the tables of this history by version 1, and it is lawful by the rules of both versions.
 pub record IsOfOne (image : Image) (greatest : ℕ) (H : History) : Type 0 where
   pub tables : (db : Database) × IsFoundIn image db × HoldsBy One db (ledger_tables greatest H)
   pub by_one : IsLawful One greatest H
   pub by_two : IsLawful Two greatest H
 
--- The files held the tables of a list by version 1, which is lawful by the rules of both versions. The connection holds its tables by version 2, and a crash leaves these alone.
+-- The files held the tables of a history by version 1. The connection holds its tables by version 2, and a crash leaves
+-- only these.
 abbrev pub MigratedFrom : {D : Type 0} {g : disk.Ghosts D} → Image → Held (FileStore D g) → Type 0
 MigratedFrom image conn = (greatest : ℕ) × (H : History) × IsOfOne image greatest H × Holds (file_state conn).committed (ledger_tables greatest H)
     × ((trees : Trees) → (file_state conn).may_leave trees → HoldsAt (ledger_tables greatest H) trees)
 
--- the two files hold these tables, and so does the database file with no log
+-- The two files hold these tables, and so does the database file without its log.
 abbrev pub IsWhole : Tables → Image → Type 0
 IsWhole tables image = (trees : Trees) × HoldsAt tables trees × HoldsAlone image trees
 
--- the connection was closed, and its last commit is in these files, where the disk told the truth to the end
+-- The connection was closed, and its last commit is in these files if the disk never lied.
 abbrev pub Copies : {D : Type 0} {g : disk.Ghosts D} → Held (FileStore D g) → Files D → Type 0
 Copies {g = g} conn files = AreClean g files.log files.db → IsCopied conn files
 
--- the connection could not be closed, and left these files: where they are honest its disk was
+-- The connection could not be closed, and left these files. If they are honest, its disk was.
 abbrev pub Leaves : {D : Type 0} {g : disk.Ghosts D} → Held (FileStore D g) → Files D → Type 0
 Leaves {g = g} conn files = AreClean g files.log files.db → HasCleanDisk (file_state conn)
 
--- The files of a connection hold whatever tables it held, where it was sound and open: as they read now and, whatever a crash leaves of them, then too. That is, where the disk told the truth to the end.
+-- The files of a connection hold whatever tables it held, now and after any crash, if it was sound and open and the
+-- disk never lied.
 abbrev pub KeepsTables : {D : Type 0} {g : disk.Ghosts D} → Held (FileStore D g) → Files D → Type 0
 KeepsTables {g = g} conn files = (tables : Tables) → (HasCleanDisk (file_state conn) → IsTrue (file_state conn).is_open → Holds (file_state conn).committed tables) → AreClean g files.log files.db
     → (image : Image) → (image ≡ image_of g files) ⊎ outcomes g files.log files.db image → IsWhole tables image
 
--- The files of a desk that stood for a list, its tables being its own, hold the tables of that list: as they read now and, whatever a crash leaves of them, then too. That is, where the disk told the truth to the end.
+-- The files of a desk with its own tables hold those of its history, now and after any crash, if the disk never lied.
 abbrev pub Closes : {D E : Type 0} {g : disk.Ghosts D} → (E → History → Type 0) → (E → Rules) → LineStore (FileStore D g) E → Files D → Type 0
 Closes {g = g} StandsFor kept_rules desk files = (L : Kept) → Stands over_files StandsFor kept_rules desk L → IsTrue L.own → AreClean g files.log files.db
     → (image : Image) → (image ≡ image_of g files) ⊎ outcomes g files.log files.db image → IsWhole (ledger_tables L.greatest L.history) image

@@ -1,4 +1,4 @@
--- Why files are refused, and what is left of them then.
+-- Why files are refused, and their contents afterwards.
 use Rattle.std.specs.Prelude.{◌≡◌, ◌≢◌, ◌⊎◌, ⊤, ℕ, pos, true, false, [], Option, None, IfSome, IsSome, IsSomeAnd, IsTrue}
 use Rattle.std.specs.List.{list_any}
 use Rattle.sqlite_disk.specs.declared.Disk as disk
@@ -22,7 +22,7 @@ use Rattle.desk_file.specs.Files.{IsFoundIn}
 
 -- ---- the fault
 
--- an open connection over this database, outside of a transaction
+-- An open connection over this database, outside of a transaction.
 abbrev pub idle_state : Database → State
 idle_state db = record {
   now = db;
@@ -40,27 +40,30 @@ idle_state db = record {
   IsShielded = ⊤;
 }
 
--- the fault stands in a database that an open of the files finds, where they were to keep a desk of the version that goes with the rules
+-- The fault is in a database that an open of the files finds, as a desk of the version of these rules.
 abbrev pub IsFaultIn : Image → Rules → OpenFault → Type 0
 IsFaultIn image rules fault = (db : Database) × IsFoundIn image db × IsFaultBy rules (idle_state db) fault × IsToldBy rules (idle_state db) fault
 
--- the files hold a table of one of our names
+-- The files hold a table with one of our names.
 abbrev pub HasOurName : Image → Type 0
 HasOurName image = (db : Database) × IsFoundIn image db × (list_any has_name db.schema.tables ≡ true)
 
--- why a run refuses the files: the fault of a desk of version 2; or a desk was to be made in them, and a table of one of our names is there
+-- Why a run refuses the files: the fault of a desk of version 2, or a table with one of our names in files in which to
+-- make a desk.
 abbrev pub IsFaultFor : Image → Option ℕ → OpenFault → Type 0
 IsFaultFor image make fault = IsFaultIn image Two fault ⊎ (IsSome make × (fault ≡ NotBlank) × HasOurName image)
 
 -- ---- the files
 
--- An open of the files made the connection `first`, and it has become `last`. Nothing was committed, and a crash leaves what it left of `first` or, beside, this.
+-- An open of the files made the connection `first`, which became `last`. Nothing was committed, and a crash leaves what
+-- it left of `first`, or this.
 pub record IsUnchangedSince {D : Type 0} {g : disk.Ghosts D} (image : Image) (Leaves : State → Trees → Type 0) (first last : Held (FileStore D g)) : Type 0 where
   pub opened : HasCleanDisk (file_state first) → IsOpened first × FindsAs image (file_state first)
   pub kept : HasCleanDisk (file_state last) → KeepsCommit (file_state first) (file_state last)
   pub survives : Survives (file_state first) (file_state last) (Leaves (file_state first))
 
--- The files were refused. With no connection to them the fault is Unavailable, or NotADesk where none may be made. Else, where the disk told the truth, it stands in what they held, and what the connection has committed is that. A fault is never NotBlank where no desk may be made.
+-- The files were refused. If the disk did not lie, the fault is in their contents, which are those that the connection
+-- has committed. Without a connection it is Unavailable, or NotADesk if none may be made.
 pub record IsRefused {D : Type 0} {g : disk.Ghosts D} (image : Image) (StandsIn : OpenFault → Type 0) (Leaves : State → Trees → Type 0) (MakesNone : Type 0) (r : Refusal D g) : Type 0 where
   pub unopened : r.file ≡ None → (r.fault ≡ Unavailable) ⊎ ((r.fault ≡ NotADesk) × MakesNone)
   pub fault : IfSome r.file (λ conn. HasCleanDisk (file_state conn) → StandsIn r.fault)
@@ -68,14 +71,14 @@ pub record IsRefused {D : Type 0} {g : disk.Ghosts D} (image : Image) (StandsIn 
   pub since : IfSome r.file (λ conn. (first : Held (FileStore D g)) × IsUnchangedSince image Leaves first conn)
   pub never : MakesNone → r.fault ≢ NotBlank
 
--- what a crash may leave beside of a run that may make a desk: the tables of an empty list
+-- The tables that a crash may also leave of a run that may make a desk: those of an empty history.
 abbrev pub LeavesMade : Option ℕ → State → Trees → Type 0
 LeavesMade make s trees = IsSomeAnd make (λ greatest. LeavesBlank greatest s trees)
 
--- a run refused them that may make a desk up to this number
+-- A run that may make a desk up to this number refused them.
 abbrev pub RefusesRun : {D : Type 0} {g : disk.Ghosts D} → Image → Option ℕ → Refusal D g → Type 0
 RefusesRun image make = IsRefused image (IsFaultFor image make) (LeavesMade make) (make ≡ None)
 
--- a migration refused them, by rules One: a crash may leave the desk by version 2 all the same
+-- A migration refused them, by rules One. A crash may still leave the desk by version 2.
 abbrev pub RefusesMigration : {D : Type 0} {g : disk.Ghosts D} → Image → Refusal D g → Type 0
 RefusesMigration image = IsRefused image (IsFaultIn image One) LeavesMigrated ⊤

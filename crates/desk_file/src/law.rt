@@ -10,16 +10,15 @@ ghost use Rattle.desk_types.specs.History.{History};
 ghost use Rattle.desk_types.specs.Judged.{IsJudged};
 ghost use Rattle.line_tables.specs.Rows.{Holds, HoldsAt};
 ghost use Rattle.line_rows.specs.Rows.{ledger_tables};
-ghost use Rattle.desk_file.specs.Files.{Begins, HasLineAlone, IsFoundIn};
+ghost use Rattle.desk_file.specs.Files.{Begins, HasOursFirst, IsFoundIn};
 
 use line_rows::rows_tell_lists_apart;
 
-/// A law: where the files hold the tables of a judged list, as `close_desk` leaves them, each run on
-/// them begins with that list and its greatest number, whatever greatest number is asked for. It is
-/// for proofs, and does nothing when it runs.
+/// A law: each run on files that hold the tables of a judged history begins with that history and its greatest number,
+/// whatever greatest number is requested. It serves proofs and does nothing when it runs.
 pub fn next_run_goes_on()
-    ensures alone { (image : Image) (trees : Trees) (greatest : ℕ) (H : History) → ∥ HoldsDatabase image trees ∥₁
-        → HoldsAt (ledger_tables greatest H) trees → HasLineAlone image }
+    ensures ours_first { (image : Image) (trees : Trees) (greatest : ℕ) (H : History) → ∥ HoldsDatabase image trees ∥₁
+        → HoldsAt (ledger_tables greatest H) trees → HasOursFirst image }
     ensures held { (image : Image) (trees : Trees) (greatest : ℕ) (H : History) → ∥ HoldsDatabase image trees ∥₁
         → HoldsAt (ledger_tables greatest H) trees
         → (db : Database) → IsFoundIn image db → Holds db (ledger_tables greatest H) }

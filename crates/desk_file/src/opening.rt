@@ -1,4 +1,4 @@
-//! The file of a desk: it is made, opened, migrated and closed.
+//! A desk's file: making, opening, migrating and closing it.
 
 ghost use Rattle.std.specs.Prelude.{◌≡◌, ◌≢◌, ◌≤◌, ◌==◌, [], true, false, Some, None, IfOk, IfErr, IfNone, IfSome};
 ghost use Rattle.std.specs.Fs.{IsFile, file_type, metadata_len};
@@ -13,28 +13,27 @@ ghost use Rattle.sqlite_trees.specs.Tree.{Trees};
 ghost use Rattle.line_tables.specs.Rows.{HoldsAt, blank};
 ghost use Rattle.line_schema.specs.declared.fault.OpenFault.TheVariants as Fault;
 ghost use Rattle.line_schema.specs.Stands.{Kept, Stands, conn_of, state_of};
-ghost use Rattle.desk_file.specs.Files.{Begins, Closes, Copies, FindsNoTable, HasLineAlone, KeepsTables, Leaves, MigratedFrom};
+ghost use Rattle.desk_file.specs.Files.{Begins, Closes, Copies, FindsNoTable, HasOursFirst, KeepsTables, Leaves, MigratedFrom};
 ghost use Rattle.desk_file.specs.Refused.{IsFaultFor, IsFaultIn, IsRefused, LeavesMade, RefusesMigration, RefusesRun};
 
 use crate::refusal::Refusal;
-use desk_types::Desk;
 use line_schema::{LineStore, OpenFault};
 use sqlite::{Connection, FileFrom, FileStore, Files, Start};
+use state_rows::KeepsRows;
 use std::fs;
 use std::fs::Metadata;
 use std::io::ErrorKind;
 
-/// The store of a desk in a file, of which `T` says what it held as it was opened.
+/// The store of a desk in a file. `T` is the contents of the file when it was opened.
 pub type FileDesk<T, D> = LineStore<FileStore<FileFrom<T>>, D>;
 
 /// The connection to the file of a desk.
 pub type DeskFile<T> = Connection<FileStore<FileFrom<T>>>;
 
-/// The desk that the file at a path keeps. Where there is no file, or one of no bytes, a desk of an
-/// empty list is made in it if `make` says up to which number, from 1 to 1,000,000,000; else it is
-/// NotADesk. What is no regular file, or can't be opened, is Unavailable. A file that is refused comes
-/// back, unchanged.
-pub fn open_desk<T: Start, D: Desk + Drop>(
+/// Opens the desk in the file at a path. If the file is missing or empty, a desk with an empty history is made if
+/// `make` gives its greatest number, from 1 to 1,000,000,000; otherwise the fault is NotADesk. A path that is no
+/// regular file, or can't be opened, is Unavailable. A refused file is returned unchanged.
+pub fn open_desk<T: Start, D: KeepsRows + Drop>(
     rt: &HostRuntime,
     path: &str,
     start: T,
@@ -43,7 +42,7 @@ pub fn open_desk<T: Start, D: Desk + Drop>(
     requires range { IfSome make (λ greatest. (1 ≤ greatest) × (greatest ≤ MOST_ENTRIES)) }
     ensures stands { IfOk result (λ store. (L : Kept) × Stands over_files D.Stands D.kept_rules store L) }
     ensures refused { IfErr result (RefusesRun (image_at T.Start) make) }
-    ensures begins { IfOk result (λ store. HasCleanDisk (state_of over_files store) → HasLineAlone (image_at T.Start)
+    ensures begins { IfOk result (λ store. HasCleanDisk (state_of over_files store) → HasOursFirst (image_at T.Start)
         → (greatest : _) × (H : History) × Begins (image_at T.Start) make greatest H
         × Stands over_files D.Stands D.kept_rules store (record { greatest = greatest; history = H; own = true })) }
     ensures alone { IfOk result (λ store. HasCleanDisk (state_of over_files store) → FindsNoTable (image_at T.Start)
@@ -61,16 +60,15 @@ pub fn open_desk<T: Start, D: Desk + Drop>(
     }
 }
 
-/// Makes the file at a path, which keeps a desk in the tables of version 1, one of version 2: each of
-/// its commands is judged again by rules One, and its tables are compared, before it is written to.
-/// Where there is no file, or one of no bytes, it is NotADesk, and none is made. A file that is refused
-/// comes back, unchanged; after Unavailable a crash may leave it of version 2.
-pub fn migrate_desk<T: Start, D: Desk + Drop>(
+/// Migrates the desk's file at a path from version 1 to version 2. First each command is judged again by rules One, and
+/// the tables are compared. A missing or empty file is NotADesk, and none is made. A refused file is returned
+/// unchanged. After Unavailable a crash may leave it in version 2.
+pub fn migrate_desk<T: Start, D: KeepsRows + Drop>(
     rt: &HostRuntime,
     path: &str,
     start: T,
 ) -> Result<DeskFile<T>, Refusal<FileFrom<T>>>
-    ensures migrated { IfOk result (λ conn. HasCleanDisk (file_state conn) → HasLineAlone (image_at T.Start)
+    ensures migrated { IfOk result (λ conn. HasCleanDisk (file_state conn) → HasOursFirst (image_at T.Start)
         → MigratedFrom (image_at T.Start) conn) }
     ensures refused { IfErr result (RefusesMigration (image_at T.Start)) }
 {
@@ -90,9 +88,9 @@ pub fn migrate_desk<T: Start, D: Desk + Drop>(
     }
 }
 
-/// Closes the file of a desk: what was committed is in it then, without its log. The files come back
-/// for clauses to name, those too that could not be closed; they go where they are dropped.
-pub fn close_desk<T: Start, D: Desk + Drop>(
+/// Closes a desk's file. All commits are then in it, without its log. The files are returned even if they could not be
+/// closed; the caller drops them.
+pub fn close_desk<T: Start, D: KeepsRows + Drop>(
     desk: FileDesk<T, D>,
 ) -> Result<Files<FileFrom<T>>, (OpenFault, Files<FileFrom<T>>)>
     ensures whole { IfOk result (Closes D.Stands D.kept_rules desk) }
@@ -104,7 +102,7 @@ pub fn close_desk<T: Start, D: Desk + Drop>(
     close_file(conn)
 }
 
-/// Closes the file of a desk by its connection, as `close_desk` does.
+/// Closes a desk's file by its connection, like `close_desk`.
 pub fn close_file<T: Start>(
     conn: DeskFile<T>,
 ) -> Result<Files<FileFrom<T>>, (OpenFault, Files<FileFrom<T>>)>
@@ -120,7 +118,7 @@ pub fn close_file<T: Start>(
     }
 }
 
-/// Whether there is no file at the path, or one of no bytes.
+/// Returns whether the path has no file, or an empty one.
 fn is_blank<T: Start>(rt: &HostRuntime, path: &str) -> Result<bool, Refusal<FileFrom<T>>>
     ensures { IfErr result (λ r. r ≡ record { fault = Fault.Unavailable; file = None }) }
 {
@@ -134,7 +132,7 @@ fn is_blank<T: Start>(rt: &HostRuntime, path: &str) -> Result<bool, Refusal<File
     }
 }
 
-/// Whether a file has no byte, and nothing of what is no regular file.
+/// Returns whether a file is empty. A path that is no regular file is not.
 fn has_no_byte(found: &Metadata) -> Option<bool>
     ensures none { IfNone result (¬ IsFile (file_type found.now)) }
     ensures some { IfSome result (λ blank. IsFile (file_type found.now) × (blank ≡ (metadata_len found.now == 0))) }
@@ -146,7 +144,6 @@ fn has_no_byte(found: &Metadata) -> Option<bool>
     }
 }
 
-/// A file to which no connection could be made.
 fn no_connection<T: Start>() -> Refusal<FileFrom<T>>
     ensures { result ≡ record { fault = Fault.Unavailable; file = None } }
 {
@@ -156,8 +153,8 @@ fn no_connection<T: Start>() -> Refusal<FileFrom<T>>
     }
 }
 
-/// A desk of an empty list in the file, which is made where it is missing.
-fn new_desk<T: Start, D: Desk + Drop>(
+/// Makes a desk with an empty history in the file, which is made if missing.
+fn new_desk<T: Start, D: KeepsRows + Drop>(
     rt: &HostRuntime,
     path: &str,
     start: T,
@@ -167,7 +164,7 @@ fn new_desk<T: Start, D: Desk + Drop>(
     requires most { greatest ≤ MOST_ENTRIES }
     ensures refused { IfErr result (RefusesRun (image_at T.Start) (Some greatest)) }
     ensures stands { IfOk result (λ store. (L : Kept) × Stands over_files D.Stands D.kept_rules store L) }
-    ensures begins { IfOk result (λ store. HasCleanDisk (state_of over_files store) → HasLineAlone (image_at T.Start)
+    ensures begins { IfOk result (λ store. HasCleanDisk (state_of over_files store) → HasOursFirst (image_at T.Start)
         → Begins (image_at T.Start) (Some greatest) greatest []
         × Stands over_files D.Stands D.kept_rules store (record { greatest = greatest; history = []; own = true })) }
     ensures alone { IfOk result (λ store. HasCleanDisk (state_of over_files store) → FindsNoTable (image_at T.Start)
@@ -183,14 +180,13 @@ fn new_desk<T: Start, D: Desk + Drop>(
     }
 }
 
-/// The desk that the file keeps.
-fn kept_desk<T: Start, D: Desk + Drop>(
+fn kept_desk<T: Start, D: KeepsRows + Drop>(
     rt: &HostRuntime,
     path: &str,
     start: T,
 ) -> Result<FileDesk<T, D>, Refusal<FileFrom<T>>>
     ensures stands { IfOk result (λ store. (L : Kept) × Stands over_files D.Stands D.kept_rules store L) }
-    ensures begins { IfOk result (λ store. HasCleanDisk (state_of over_files store) → HasLineAlone (image_at T.Start)
+    ensures begins { IfOk result (λ store. HasCleanDisk (state_of over_files store) → HasOursFirst (image_at T.Start)
         → (greatest : _) × (H : History) × Begins (image_at T.Start) None greatest H
         × Stands over_files D.Stands D.kept_rules store (record { greatest = greatest; history = H; own = true })) }
     ensures refused { IfErr result (IsRefused (image_at T.Start) (IsFaultIn (image_at T.Start) Two) (λ _ _. ⊥) ⊥) }
@@ -206,7 +202,7 @@ fn kept_desk<T: Start, D: Desk + Drop>(
     }
 }
 
-/// A connection to the file, which is made where it is missing.
+/// Connects to the file, which is made if missing.
 fn connect<T: Start>(
     rt: &HostRuntime,
     path: &str,

@@ -1,11 +1,10 @@
-//! The file of a desk that was refused.
+//! A desk's file that was refused.
 
 use line_schema::OpenFault;
 use sqlite::{Connection, FileStore};
 use sqlite_disk::Disk;
 
-/// Why the file of a desk was refused, and the connection to it, where one was made. It is still to be
-/// closed.
+/// Why the desk's file was refused, and the connection to it, if any, which the caller closes.
 pub struct Refusal<D: Disk + Drop> {
     pub fault: OpenFault,
     pub file: Option<Connection<FileStore<D>>>,

@@ -18,13 +18,12 @@ use Rattle.desk_import.specs.declared.options.Import.{Import}
 use Rattle.desk_import.specs.Folder.{IsRead}
 use Rattle.desk_import.specs.Import.{rows_said, stamped_by, command_said, IsSaidBy}
 
--- ---- what is read
+-- ---- reading
 
 known_front : (file : Option (List ℕ)) (bytes : List ℕ) → IfSome (option_map (take (suc LONGEST_INPUT)) file) (λ xs. bytes ≡ xs) → IsRead file bytes
 known_front None bytes all = tt
 known_front (Some xs) bytes all = all
 
--- what the reader of the first bytes of a file gave to its end is read
 pub is_read : {R : Type 0} (remaining : R → Option (List ℕ)) (t : Take R) (opened : R) (file : Option (List ℕ)) (old new : List ℕ)
     → take_limit t ≡ suc LONGEST_INPUT → take_inner t ≡ opened → remaining opened ≡ file → old ≡ []
     → IfSome (take_remaining remaining t) (λ xs. new ≡ old ++ xs) → IsRead file new
@@ -34,7 +33,7 @@ is_read remaining t opened file old new limit inner is empty gave =
     let all : IfSome (take_remaining remaining t) (λ xs. new ≡ xs) = subst (λ (l : List ℕ). IfSome (take_remaining remaining t) (λ xs. new ≡ l ++ xs)) empty gave in
     known_front file new (subst (λ (o : Option (List ℕ)). IfSome o (λ xs. new ≡ xs)) first all)
 
--- ---- what it says
+-- ---- content
 
 over : {X : Type 0} (is_header : Record → Bool) (reading : ℕ → Record → Result X ImportFault) (bytes : List ℕ) → nat_le (length bytes) LONGEST_INPUT ≡ false
     → file_rows is_header reading bytes ≡ Err OverLimit
@@ -58,7 +57,6 @@ unfolding command_said
 front_command import all =
     ap (λ (r : Result Command ImportFault). r >>= (λ command. Ok (stamped_by import command))) (front_rows import.content all (nat_le (length all) LONGEST_INPUT) refl)
 
--- the bytes that are read say what the whole file says
 pub said_by_all : (import : Import) (file : Option (List ℕ)) (bytes : List ℕ) → IsRead file bytes → IsSaidBy import file (command_said import bytes)
 said_by_all import None bytes is = tt
 said_by_all import (Some all) bytes is = ap (command_said import) is ∙ front_command import all

@@ -1,4 +1,4 @@
--- What is read of a file.
+-- Reading the bytes of a file.
 use Rattle.std.specs.Prelude.{◌≡◌, ℕ, suc, List, take, Option, IfSome}
 use Rattle.std.specs.declared.io.ErrorKind.{ErrorKind}
 use Rattle.std.specs.declared.io.ErrorKind.TheVariants.{OutOfMemory}
@@ -6,11 +6,11 @@ use Rattle.desk_import.specs.declared.reading.Unread.{Unread}
 use Rattle.desk_import.specs.declared.reading.Unread.TheVariants.{Failed, NoMemory}
 use Rattle.desk_types.specs.declared.limits.TheConstants.{LONGEST_INPUT}
 
--- the first 1,048,577 bytes of the file, where it is known: one more than it may have
+-- The file's first 1,048,577 bytes, if known: one more than the limit.
 abbrev pub IsRead : Option (List ℕ) → List ℕ → Type 0
 IsRead file bytes = IfSome file (λ all. bytes ≡ take (suc LONGEST_INPUT) all)
 
--- why a file is not read, by the kind of the error: memory was refused, or it can't be opened or read
+-- Why a file can't be read: out of memory, or opening or reading failed.
 abbrev pub unread_by : ErrorKind → Unread
 unread_by OutOfMemory = NoMemory
 unread_by kind = Failed

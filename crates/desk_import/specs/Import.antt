@@ -1,4 +1,4 @@
--- What an import is answered, and the list after it.
+-- The answer to an import and the history after it.
 use Rattle.std.specs.Prelude.{◌≡◌, ℕ, Bool, true, false, List, Option, IfSome, Result, Ok, Err}
 use Rattle.std.specs.Io.KnownBytes.{Appends}
 use Rattle.cfx_profile.specs.Answer.{unavailable_text}
@@ -19,54 +19,54 @@ use Rattle.desk_import.specs.declared.options.Content.{Content}
 use Rattle.desk_import.specs.declared.options.Content.TheVariants.{Sheet, Counts}
 use Rattle.desk_import.specs.declared.options.Import.{Import}
 
--- ---- what is said
+-- ---- content
 
--- what the rows of a file say: the sheet of the product on the machine, or the count
+-- The command of a file's rows: a product's sheet on a machine, or a count.
 abbrev pub rows_said : Content → List ℕ → Result Command ImportFault
 rows_said (Sheet product machine) bytes = setup_said product machine bytes
 rows_said Counts bytes = counts_said bytes
 
--- the command under the UniqueID, the source and the minute of the import
+-- The command with the import's UniqueID, source and minute.
 abbrev pub stamped_by : Import → Command → Stamped
 stamped_by import command = record { uid = import.uid; source = import.source; minute = import.minute; command = command }
 
--- the one command of an import and the bytes of its file, or the first fault of the file
+-- The import's command from the file's bytes, or the first fault.
 unfoldable pub command_said : Import → List ℕ → Result Stamped ImportFault
 command_said import bytes = do
   command ← rows_said import.content bytes
   Ok (stamped_by import command)
 
--- that is said by the whole file, where it is known
+-- The result is that of the whole file, if known.
 abbrev pub IsSaidBy : Import → Option (List ℕ) → Result Stamped ImportFault → Type 0
 IsSaidBy import file said = IfSome file (λ all. said ≡ command_said import all)
 
--- ---- what it is answered
+-- ---- answers
 
--- the answer to what is said, by the list of a desk: Faulty, or that of the command
+-- The answer from a ledger: Faulty, or the command's.
 abbrev pub answer_said : Ledger → Result Stamped ImportFault → Told
 answer_said G (Ok s) = answer_asked G.rules G.greatest G.history s
 answer_said G (Err fault) = record { text = fault_text fault; refused = true }
 
--- the list after it: a file with a fault leaves it as it was
+-- The history after it, unchanged by a faulty file.
 abbrev pub after_said : Ledger → Result Stamped ImportFault → History
 after_said G (Ok s) = command_after G.rules G.greatest G.history s
 after_said G (Err fault) = G.history
 
--- the answer that goes out: Unavailable where it is marked so
+-- The answer that is sent: Unavailable if marked.
 abbrev pub import_answer : Bool → Ledger → Result Stamped ImportFault → Told
 import_answer true G said = record { text = unavailable_text; refused = true }
 import_answer false G said = answer_said G said
 
--- the list after that answer: Unavailable leaves it as it was
+-- The history after that answer, unchanged by Unavailable.
 abbrev pub import_after : Bool → Ledger → Result Stamped ImportFault → History
 import_after true G said = G.history
 import_after false G said = after_said G said
 
--- what is said was answered: the answer's line went out whole, the list went on, and the answer counts as refused or doesn't
+-- The answer was sent whole with its line feed, with this history and refusal.
 abbrev pub IsAnswered : Result Stamped ImportFault → Option (List ℕ) → Option (List ℕ) → Bool → Ledger → History → Type 0
 IsAnswered said out out' refused G H = (mark : Bool) × (H ≡ import_after mark G said)
     × Appends out out' (sent_line (import_answer mark G said)) × (refused ≡ (import_answer mark G said).refused)
 
--- it was answered, and only the first bytes of the line went out
+-- Only the first bytes of the answer were sent.
 abbrev pub IsCutOff : Result Stamped ImportFault → Option (List ℕ) → Option (List ℕ) → Ledger → History → Type 0
 IsCutOff said out out' G H = (mark : Bool) × (H ≡ import_after mark G said) × SendsFront out out' (sent_line (import_answer mark G said))

@@ -1,4 +1,4 @@
--- What the options of an import say, judged in their order: an import, or the first option that can't be read.
+-- Reading the options of an import in order: the import, or the first bad option.
 use Rattle.std.specs.Prelude.{ℕ, List, Result, Ok, ok_or}
 use Rattle.cfx_profile.specs.Fault.{◌>>=◌}
 use Rattle.cfx_profile.specs.Forms.{id_of}
@@ -9,15 +9,14 @@ use Rattle.desk_import.specs.declared.options.BadOption.TheVariants as bad
 use Rattle.desk_import.specs.declared.options.Content.TheVariants.{Sheet, Counts}
 use Rattle.desk_import.specs.declared.options.Import.{Import}
 
--- the id that the text of an option is
+-- The option's text as an id.
 abbrev pub id_in : List ℕ → BadOption → Result Name BadOption
 id_in text option = ok_or (id_of text) option
 
--- the minute of the option `time`, as of a message's TimeStamp
+-- The minute of the option `time`, in the form of a message's TimeStamp.
 abbrev pub time_in : List ℕ → Result ℕ BadOption
 time_in text = ok_or (minute_of text) bad.Time
 
--- the import of a count file
 unfoldable pub counts_import : List ℕ → List ℕ → List ℕ → Result Import BadOption
 counts_import id source time = do
   uid ← id_in id bad.Id
@@ -25,7 +24,7 @@ counts_import id source time = do
   minute ← time_in time
   Ok (record { uid = uid; source = sender; minute = minute; content = Counts })
 
--- the import of a setup file: the sheet of this product on this machine
+-- The import of a setup file: this product's sheet on this machine.
 unfoldable pub setup_import : List ℕ → List ℕ → List ℕ → List ℕ → List ℕ → Result Import BadOption
 setup_import id source time product machine = do
   stamp ← counts_import id source time

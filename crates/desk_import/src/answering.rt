@@ -1,4 +1,4 @@
-//! What an import is answered.
+//! Answers to imports.
 
 ghost use Rattle.std.specs.Prelude.{◌≡◌, ◌+◌, ◌^◌, ◌<◌, IfOk, OnOk, OnErr};
 ghost use Rattle.desk_types.specs.Wire.{inner_of, failures_of};
@@ -14,8 +14,8 @@ use served::{WriteFailed, send_line};
 use std::alloc::{AllocError, Global};
 use std::io::Write;
 
-/// Answers the command of an import and the bytes of its file. Where memory is refused, the list is
-/// as before.
+/// Answers the command of an import with its file's bytes. Out of memory leaves the history
+/// unchanged.
 pub fn answer_import<L: Owner>(
     alloc: Global,
     owner: &mut L,
@@ -41,7 +41,7 @@ pub fn answer_import<L: Owner>(
     }
 }
 
-/// Answers an import, and writes the answer's line: whether it counts as refused.
+/// Answers an import, writes the answer, and returns whether it counts as refused.
 pub fn serve_import<W: Write, L: Owner>(
     alloc: Global,
     output: &mut Wire<W>,

@@ -1,8 +1,8 @@
-//! Setup files and count files at a desk: each is one command, of the options and of what its file
-//! says, and has one answer.
+//! Imports of setup and count files. An import is one command, from options and a file, with one
+//! answer.
 //!
 //! `setup_import` and `counts_import` read the options, `read_file` the bytes, and `serve_import`
-//! answers. `specs/Import.antt` is the page that says what options and bytes make together.
+//! answers. `specs/Import.antt` defines the command that options and bytes give.
 #![tactic(auto)]
 
 mod answering;

@@ -1,4 +1,4 @@
-//! What the options of an import say.
+//! The options of an import.
 
 ghost use Rattle.std.specs.Prelude.{◌≡◌, ok_or};
 ghost use Rattle.cfx_profile.specs.Forms.{id_of};
@@ -11,21 +11,16 @@ use desk_types::{Id, Minute, Stamped};
 use imports::{ImportFault, read_counts, read_setup};
 use std::alloc::Global;
 
-/// What the rows of a file are.
+/// The kind of rows in a file.
 #[derive(Clone, Copy)]
 pub enum Content {
-    /// The sheet of a product on a machine.
-    Sheet {
-        /// The product.
-        product: Id,
-        /// The machine.
-        machine: Id,
-    },
+    /// A product's sheet on a machine.
+    Sheet { product: Id, machine: Id },
     /// A count of reels.
     Counts,
 }
 
-/// A command of which a file is still to say the rows.
+/// A command except for its rows, which come from the file.
 #[derive(Clone, Copy)]
 pub struct Import {
     pub uid: Id,
@@ -34,7 +29,7 @@ pub struct Import {
     pub content: Content,
 }
 
-/// The first option that can't be read.
+/// The first bad option.
 #[derive(Clone, Copy, Debug, PartialEq, Eq)]
 pub enum BadOption {
     Id,
@@ -45,7 +40,7 @@ pub enum BadOption {
 }
 
 impl Import {
-    /// The command with the rows that a file of these bytes says.
+    /// Returns the command with the rows in the file's bytes.
     #[tactic(auto, unfolding(crate::specs::Import::command_said))]
     pub fn command(&self, alloc: Global, bytes: &[u8]) -> Result<Stamped, ImportFault>
         ensures { IsSaid (command_said self.now bytes.now) result }
@@ -63,7 +58,7 @@ impl Import {
     }
 }
 
-/// The import of a setup file.
+/// Returns the import of a setup file.
 #[tactic(auto, unfolding(crate::specs::Options::setup_import))]
 pub fn setup_import(
     id: &str,
@@ -82,7 +77,7 @@ pub fn setup_import(
     Ok(Import { content, ..stamp })
 }
 
-/// The import of a count file.
+/// Returns the import of a count file.
 #[tactic(auto, unfolding(crate::specs::Options::counts_import))]
 pub fn counts_import(id: &str, source: &str, time: &str) -> Result<Import, BadOption>
     ensures { result ≡ counts_import id.now source.now time.now }
@@ -95,14 +90,12 @@ pub fn counts_import(id: &str, source: &str, time: &str) -> Result<Import, BadOp
     })
 }
 
-/// The id that the text of an option is.
 fn id_in(text: &str, option: BadOption) -> Result<Id, BadOption>
     ensures { result ≡ id_in text.now option }
 {
     Id::read(text.as_bytes()).ok_or(option)
 }
 
-/// The minute of the option `time`.
 #[tactic(auto, unfolding(cfx_profile::specs::Minute::minute_said))]
 fn time_in(text: &str) -> Result<Minute, BadOption>
     ensures { result ≡ time_in text.now }

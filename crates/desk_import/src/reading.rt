@@ -1,4 +1,4 @@
-//! The bytes of the file of an import.
+//! Reading the file of an import.
 
 ghost use Rattle.std.specs.Prelude.{IfOk};
 ghost use Rattle.desk_import.specs.Folder.{IsRead};
@@ -8,33 +8,33 @@ use std::alloc::Global;
 use std::io;
 use std::io::{ErrorKind, Read};
 
-/// The most bytes that are read of a file: one more than it may have.
+/// The most bytes read from a file: one more than the limit.
 const MOST_READ: u64 = LONGEST_INPUT as u64 + 1;
 
-/// Where files are read from.
+/// A folder of files.
 pub trait Folder {
     ghost use Rattle.std.specs.Prelude.{◌≡◌, ℕ, List, Option, IfOk, IfErr};
     ghost use Rattle.desk_import.specs.Folder.{IsRead};
     ghost use Rattle.desk_import.specs.declared.reading.Unread.TheVariants.{Failed};
 
-    /// What the file at a path holds, where that is known.
+    /// The content of the file at a path, if known.
     ghost holds: { Self → List ℕ → Option (List ℕ) };
 
-    /// Whether the file at a path may fail to be opened or read.
+    /// Whether opening or reading the file at a path may fail.
     ghost may_fail: { Self → List ℕ → Type 0 };
 
-    /// Reads the file at a path, as far as it may be long and one byte further.
+    /// Reads the file at a path, up to one byte over the limit.
     fn read(&self, alloc: Global, path: &str) -> Result<Vec<u8>, Unread>
         ensures bytes { IfOk result (λ bytes. IsRead (holds self.now path.now) bytes.items) }
         ensures failed { IfErr result (λ unread. unread ≡ Failed → may_fail self.now path.now) };
 }
 
-/// Why a file is not read.
+/// Why a file can't be read.
 #[derive(Clone, Copy, Debug, PartialEq, Eq)]
 pub enum Unread {
-    /// It can't be opened or read.
+    /// Opening or reading failed.
     Failed,
-    /// Memory was refused.
+    /// There was too little memory.
     NoMemory,
 }
 
@@ -54,7 +54,7 @@ impl From<io::Error> for Unread {
     }
 }
 
-/// Reads an open file, as far as it may be long and one byte further.
+/// Reads an open file, up to one byte over the limit.
 pub fn read_file<R: Read + Drop>(alloc: Global, file: R) -> Result<Vec<u8>, Unread>
     ensures { IfOk result (λ bytes. IsRead (R.remaining file) bytes.items) }
 {

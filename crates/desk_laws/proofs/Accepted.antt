@@ -1,4 +1,4 @@
--- What an accepted command says of its tests.
+-- The tests that an accepted command passed.
 use Rattle.std.proofs.Common.{◌≡◌, ℕ, Bool, true, false, Option, Some, None, List, [], ◌∷◌, refl, sym, ap, ◌∙◌}
 use Rattle.std.specs.Prelude.{if◌then◌else◌, not, is_some, is_none, ◌==◌}
 use Rattle.std.specs.List.{AllByRecursion}
@@ -22,7 +22,6 @@ use Rattle.desk_types.proofs.Tests.{if-some}
 
 -- ---- tests
 
--- where the first test gives nothing, no test holds
 pub none-holds : (ts : List (Bool × Refusal)) → first_refusal ts ≡ None → AllByRecursion (λ (t : Bool × Refusal). t.0 ≡ false) ts
 none-holds [] none = tt
 none-holds ((true, refusal) ∷ ts) none = cc
@@ -32,23 +31,20 @@ if-none : {X : Type 0} (b : Bool) (x : X) (o : Option X) → (if b then Some x e
 if-none true x o none = cc
 if-none false x o none = (refl, none)
 
--- an accepted command has no refusal of its own
 pub command-accepted : (H : History) (s : Stamped) → refusal_of Two H s ≡ None → command_refusal Two H (effective_minute H s.minute) s.command ≡ None
 unfolding refusal_of
 command-accepted H s none = (if-none (is_too_far_ahead H s) TooFarAhead _ none).1
 
--- the next entry has none at its minute
 pub next-accepted : (H : History) (e : Entry) → IsNext Two H e → command_refusal Two H e.effective e.stamped.command ≡ None
 next-accepted H e next = ap (λ m. command_refusal Two H m e.stamped.command) next.effective ∙ command-accepted H e.stamped next.accepted
 
 -- ---- reels
 
--- the reel was received and is on no slot
 pub record IsAtRest (H : History) (reel : Name) : Type 0 where
   pub received : is_none (receipt_of H reel) ≡ false
   pub not_mounted : is_mounted H reel ≡ false
 
--- the reel may be mounted at the minute: the tests of a load or a splice
+-- The tests of a load or splice at the minute.
 pub record IsMountable (H : History) (minute : ℕ) (machine slot reel : Name) (slot_test : Bool) : Type 0 where
   pub selected : is_none (selected_on H machine) ≡ false
   pub on_sheet : is_none (row_on H machine slot) ≡ false
@@ -60,31 +56,26 @@ pub record IsMountable (H : History) (minute : ℕ) (machine slot reel : Name) (
   pub baked : is_unbaked H reel ≡ false
   pub not_expired : is_expired H reel minute ≡ false
 
--- the part is there and the reel was not received
 pub record IsReceivable (H : History) (reel part : Name) : Type 0 where
   pub known : not (is_part H part) ≡ false
   pub new : is_some (receipt_of H reel) ≡ false
 
--- what an accepted receipt says
 pub receivable : (H : History) (reel part : Name) → receipt_refusal H reel part ≡ None → IsReceivable H reel part
 unfolding receipt_refusal
 receivable H reel part none =
     let all = none-holds ((not (is_part H part), UnknownPart part) ∷ (is_some (receipt_of H reel), ReelExists reel) ∷ []) none in
     record { known = all.0; new = all.1.0 }
 
--- what an accepted open says
 pub openable : (H : History) (reel : Name) → opening_refusal H reel ≡ None → is_none (receipt_of H reel) ≡ false
 unfolding opening_refusal
 openable H reel none = (none-holds ((is_none (receipt_of H reel), UnknownReel reel) ∷ []) none).0
 
--- what an accepted seal or bake says
 pub at-rest : (H : History) (reel : Name) → closing_refusal H reel ≡ None → IsAtRest H reel
 unfolding closing_refusal
 at-rest H reel none =
     let all = none-holds ((is_none (receipt_of H reel), UnknownReel reel) ∷ (is_mounted H reel, ReelMounted reel) ∷ []) none in
     record { received = all.0; not_mounted = all.1.0 }
 
--- what an accepted load or splice says
 pub mountable : (H : History) (minute : ℕ) (machine slot reel : Name) (slot_test : Bool × Refusal) → mounting_refusal H minute machine slot reel slot_test ≡ None
     → IsMountable H minute machine slot reel slot_test.0
 unfolding mounting_refusal
@@ -115,7 +106,7 @@ mountable H minute machine slot reel slot_test none =
         ∷ (is_expired H reel minute, Expired reel)
         ∷ []
 
--- ---- receipts of handled reels
+-- ---- handled reels are received reels
 
 not-some : {X : Type 0} (o : Option X) → is_some o ≡ false → o ≡ None
 not-some None is = refl
@@ -125,12 +116,11 @@ not-both : {X Y P : Type 0} (b : Bool) (x : X) (y z : Y) → (if b then Some x e
 not-both true x y z none is = cc
 not-both false x y z none is = cc
 
--- a command on the reel r says something of the reel `name`, so they are one, and that of r was received
+-- A command on reel r that concerns `name` is on the same reel.
 received-too : {X : Type 0} (H : History) (r name : Name) (x y : X) → (if same r name then Some x else None) ≡ Some y → is_none (receipt_of H r) ≡ false
     → is_none (receipt_of H name) ≡ false
 received-too H r name x y says received = sym (ap (λ n. is_none (receipt_of H n)) (same-true r name (if-some (same r name) x y says))) ∙ received
 
--- an accepted command that handles a reel, and is not its receipt, is on a reel that was received
 pub handled-by : (H : History) (minute : ℕ) (name : Name) (command : Command) (out : Bool) → command_refusal Two H minute command ≡ None
     → receipt_by name minute command ≡ None → open_by name command ≡ Some out → is_none (receipt_of H name) ≡ false
 unfolding command_refusal
@@ -145,12 +135,10 @@ handled-by H minute name (MaterialsSpliced machine slot r) out accepted none say
     received-too H r name true out says (mountable H minute machine slot r _ accepted).received
 handled-by H minute name _ out accepted none says = cc
 
--- An entry that handles a reel, and is not its receipt, comes after its receipt.
 pub handled-received : (H : History) (e : Entry) (name : Name) (out : Bool) → IsNext Two H e → receipt_by name e.effective e.stamped.command ≡ None
     → open_by name e.stamped.command ≡ Some out → receipt_of H name ≡ None → ⊥
 handled-received H e name out next none says unknown = cc (handled-by H e.effective name e.stamped.command out (next-accepted H e next) none says)
 
--- a command that receives a reel, accepted, is on a reel that was not received
 pub received-by : (H : History) (minute : ℕ) (name : Name) (command : Command) (receipt : Receipt) → command_refusal Two H minute command ≡ None
     → receipt_by name minute command ≡ Some receipt → receipt_of H name ≡ None
 unfolding command_refusal
@@ -158,7 +146,6 @@ received-by H minute name (ReelReceived r part lot moisture quantity) receipt ac
     sym (ap (receipt_of H) (same-true r name (if-some (same r name) _ receipt is))) ∙ not-some (receipt_of H r) (receivable H r part accepted).new
 received-by H minute name _ receipt accepted is = cc
 
--- A reel is received once: an entry that receives it comes where it was not received.
 pub received-once : (H : History) (e : Entry) (name : Name) (receipt : Receipt) → IsNext Two H e → receipt_by name e.effective e.stamped.command ≡ Some receipt
     → receipt_of H name ≡ None
 received-once H e name receipt next is = received-by H e.effective name e.stamped.command receipt (next-accepted H e next) is

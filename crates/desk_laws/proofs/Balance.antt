@@ -1,4 +1,4 @@
--- What is left of a reel: what was received, less what was placed and what was scrapped.
+-- The balance of a reel: received pieces are placed, scrapped or remaining.
 use Rattle.std.proofs.Common.{◌≡◌, ℕ, ◌+◌, ◌-◌, ◌≤◌, Bool, true, false, Option, Some, None, [], ◌∷◌, refl, ap, unwrap_or, arith, nat_lt, sym, ◌∙◌}
 use Rattle.std.specs.Prelude.{if◌then◌else◌}
 use Rattle.std.specs.Option.{option_map_or, option_or}
@@ -24,15 +24,14 @@ use Rattle.desk_laws.proofs.Totals.{pieces_picked-split}
 
 -- ---- one command
 
--- what an accepted command does to one reel that it does not receive: it takes no more than the reel has, leaves the rest and what it
--- finds, and finds nothing on a spent reel
+-- A command takes no more than the reel has, leaves the rest with any found pieces, and finds none
+-- on a spent reel.
 pub record IsTaken (H : History) (command : Command) (reel : Name) : Type 0 where
   pub within : pieces_picked (picks_of H command) reel ≤ left_of H reel
   pub rest : unwrap_or (pieces_by reel command) (left_of H reel - pieces_picked (picks_of H command) reel)
       ≡ left_of H reel - pieces_picked (picks_of H command) reel + found_by (left_of H reel) reel command
   pub spent : left_of H reel ≡ 0 → found_by (left_of H reel) reel command ≡ 0
 
--- An accepted command does so.
 taken-by : (H : History) (minute : ℕ) (command : Command) (reel : Name) → IsJudged Two H → command_refusal Two H minute command ≡ None
     → receipt_by reel minute command ≡ None → IsTaken H command reel
 unfolding command_refusal
@@ -52,18 +51,16 @@ taken-by H minute (CountsTaken counts) reel judged accepted other =
     let said = counted H [] counts reel accepted in record { within = said.within; rest = said.told; spent = said.spent }
 taken-by H minute _ reel judged accepted other = record { within = omega arith; rest = and-nothing _; spent = λ empty. refl }
 
--- The next entry takes of a reel, that it does not receive, no more than it has left.
+-- The next entry takes at most the remaining pieces of a reel that it doesn't receive.
 pub picks-within : (H : History) (e : Entry) (reel : Name) → IsJudged Two (e ∷ H) → receipt_by reel e.effective e.stamped.command ≡ None
     → pieces_picked (picks_of H e.stamped.command) reel ≤ left_of H reel
 picks-within H e reel (next, judged) other = (taken-by H e.effective e.stamped.command reel judged (next-accepted H e next) other).within
 
--- What the next entry leaves of a reel, that it does not receive, is what was left less what it takes, and what it finds.
 pub left-next : (H : History) (e : Entry) (reel : Name) → IsJudged Two (e ∷ H) → receipt_by reel e.effective e.stamped.command ≡ None
     → left_of (e ∷ H) reel ≡ left_of H reel - pieces_picked (picks_of H e.stamped.command) reel + found_by (left_of H reel) reel e.stamped.command
 unfolding left_of
 left-next H e reel (next, judged) other = (taken-by H e.effective e.stamped.command reel judged (next-accepted H e next) other).rest
 
--- A spent reel stays spent, but where it is received.
 pub spent-next : (H : History) (e : Entry) (reel : Name) → IsJudged Two (e ∷ H) → receipt_by reel e.effective e.stamped.command ≡ None → left_of H reel ≡ 0
     → left_of (e ∷ H) reel ≡ 0
 spent-next H e reel (next, judged) other empty =
@@ -71,7 +68,6 @@ spent-next H e reel (next, judged) other empty =
     let nothing = (taken-by H e.effective e.stamped.command reel judged (next-accepted H e next) other).spent empty in
     omega (arith, is, nothing, empty)
 
--- A reel that has pieces left had some before, but where it is received.
 pub some-next : (H : History) (e : Entry) (reel : Name) → IsJudged Two (e ∷ H) → receipt_by reel e.effective e.stamped.command ≡ None
     → nat_lt 0 (left_of (e ∷ H) reel) ≡ true → nat_lt 0 (left_of H reel) ≡ true
 some-next H e reel judged other some = by (nat_lt 0 (left_of H reel)) refl
@@ -86,7 +82,7 @@ some-next H e reel judged other some = by (nat_lt 0 (left_of H reel)) refl
 
 -- ---- receipts
 
--- a command that receives a reel takes nothing and finds nothing, and tells the pieces of the receipt
+-- A receipt takes and finds nothing, and states the reel's pieces.
 received-picks : (H : History) (minute : ℕ) (command : Command) (reel : Name) (receipt : Receipt) → receipt_by reel minute command ≡ Some receipt
     → (picks_of H command ≡ []) × (pieces_by reel command ≡ Some receipt.quantity) × (found_by (left_of H reel) reel command ≡ 0)
 received-picks H minute (ReelReceived r part lot moisture quantity) reel receipt is = (refl, by (same r reel) is, refl)
@@ -97,14 +93,12 @@ received-picks H minute (ReelReceived r part lot moisture quantity) reel receipt
     by false is = cc
 received-picks H minute _ reel receipt is = cc
 
--- An entry that receives a reel leaves the pieces of its receipt.
 pub left-received : (H : History) (e : Entry) (reel : Name) (receipt : Receipt) → receipt_by reel e.effective e.stamped.command ≡ Some receipt
     → left_of (e ∷ H) reel ≡ receipt.quantity
 unfolding left_of
 left-received H e reel receipt is =
     ap (λ o. unwrap_or o (left_of H reel - pieces_picked (picks_of H e.stamped.command) reel)) (received-picks H e.effective e.stamped.command reel receipt is).1
 
--- A reel that was not received has nothing left.
 pub unreceived-empty : (H : History) (reel : Name) → IsJudged Two H → receipt_of H reel ≡ None → left_of H reel ≡ 0
 unfolding left_of
 unreceived-empty [] reel judged none = refl
@@ -114,7 +108,6 @@ unreceived-empty (e ∷ H) reel (next, judged) none =
 
 -- ---- totals
 
--- all that a list took of a reel
 abbrev taken_of : History → Name → ℕ
 taken_of H reel = pieces_picked (all_picks H) reel
 
@@ -122,7 +115,6 @@ taken-next : (H : History) (e : Entry) (reel : Name) → taken_of (e ∷ H) reel
 unfolding all_picks
 taken-next H e reel = pieces_picked-append (all_picks H) (picks_of H e.stamped.command) reel
 
--- what was received of a reel is what was taken of it and what is left
 received-taken : (H : History) (reel : Name) → IsJudged Two H → received_of H reel ≡ taken_of H reel + left_of H reel
 unfolding left_of all_picks found_of
 received-taken [] reel judged = refl
@@ -146,7 +138,6 @@ received-taken (e ∷ H) reel (next, judged) = by (receipt_by reel e.effective e
         let taken = taken-next H e reel in
         omega (arith, before, nothing, empty, left, none, found, taken)
 
--- For each reel the received pieces are the placed, the scrapped and the left ones together.
 pub balance : (H : History) (reel : Name) → IsJudged Two H → received_of H reel ≡ placed_of H reel + scrapped_of H reel + left_of H reel
 balance H reel judged =
     let all = received-taken H reel judged in

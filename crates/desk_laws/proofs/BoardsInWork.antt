@@ -1,4 +1,4 @@
--- The boards in work after one entry more.
+-- Boards in work after one more entry.
 use Rattle.std.proofs.lemmas.Bool.{not-false}
 use Rattle.std.proofs.Common.{◌≡◌, ℕ, Bool, true, false, not, Option, Some, None, List, [], ◌∷◌, refl, sym, ap, ◌∙◌, unwrap_or}
 use Rattle.std.specs.Prelude.{if◌then◌else◌, is_none, is_some}
@@ -24,14 +24,13 @@ use Rattle.desk_laws.proofs.Mounted.{iff}
 
 -- ---- tests
 
--- the tests of a start, but for those of the machine's slots
+-- The tests of a start, except those of the machine's slots.
 pub record IsStartable (H : History) (machine board : Name) : Type 0 where
   pub selected : is_none (selected_on H machine) ≡ false
   pub machine_free : is_some (in_work_on H machine) ≡ false
   pub board_free : is_in_work H board ≡ false
   pub same_product : differ (product_of H board) (selected_on H machine) ≡ false
 
--- what an accepted start says
 pub startable : (H : History) (minute : ℕ) (machine board : Name) → start_refusal H minute machine board ≡ None → IsStartable H machine board
 unfolding start_refusal
 startable H minute machine board none =
@@ -46,7 +45,6 @@ startable H minute machine board none =
         ∷ (differ (product_of H board) (selected_on H machine), OtherProduct board)
         ∷ []
 
--- what an accepted completion says: its board is in work on its machine
 pub completable : (H : History) (machine board : Name) → completion_refusal H machine board ≡ None → in_work_on H machine ≡ Some board
 unfolding completion_refusal
 completable H machine board none = by (in_work_on H machine) (not-false _ (none-holds ((not (is_in_work_on H machine board), NotInWork board) ∷ []) none).0)
@@ -55,9 +53,8 @@ completable H machine board none = by (in_work_on H machine) (not-false _ (none-
     by None is = cc
     by (Some b) is = ap (λ x. Some x) (sym (same-true board b is))
 
--- ---- one entry more
+-- ---- one more entry
 
--- The board in work on a machine after one entry more is the one that it leaves there, where it says, and else the one before.
 pub work-next : (H : History) (e : Entry) (machine : Name) → in_work_on (e ∷ H) machine ≡ unwrap_or (work_by machine e.stamped.command) (in_work_on H machine)
 work-next H e machine = by (work_by machine e.stamped.command)
   where
@@ -65,14 +62,12 @@ work-next H e machine = by (work_by machine e.stamped.command)
     by None = refl
     by (Some at) = refl
 
--- a board that is in work on one machine at most is so on one at most after an accepted command
 one-step : (H : History) (minute : ℕ) (m n board : Name) (command : Command) → command_refusal Two H minute command ≡ None
     → (in_work_on H m ≡ Some board → in_work_on H n ≡ Some board → m ≡ n)
     → unwrap_or (work_by m command) (in_work_on H m) ≡ Some board → unwrap_or (work_by n command) (in_work_on H n) ≡ Some board → m ≡ n
 unfolding command_refusal
 one-step H minute m n board (WorkStarted k b) accepted before on_m on_n = by (same k m) (same k n) refl refl on_m on_n
   where
-    -- the board was not in work before
     new : (machine : Name) → b ≡ board → in_work_on H machine ≡ Some board → ⊥
     new machine one on =
         let busy = somewhere-in_work H board (machine, on) in
@@ -94,14 +89,12 @@ one-step H minute m n board (WorkCompleted k b) accepted before on_m on_n = by (
     by false false on_m on_n = before on_m on_n
 one-step H minute m n board _ accepted before on_m on_n = before on_m on_n
 
--- A board is in work on one machine.
 pub one-machine : (H : History) (m n board : Name) → IsJudged Two H → in_work_on H m ≡ Some board → in_work_on H n ≡ Some board → m ≡ n
 one-machine [] m n board judged on_m on_n = cc
 one-machine (e ∷ H) m n board (next, judged) on_m on_n =
     one-step H e.effective m n board e.stamped.command (next-accepted H e next) (one-machine H m n board judged)
     (sym (work-next H e m) ∙ on_m) (sym (work-next H e n) ∙ on_n)
 
--- a board that is on some machine after an accepted command is in work after it
 there-after : (H : History) (minute : ℕ) (board : Name) (command : Command) (machine : Name) → IsJudged Two H → command_refusal Two H minute command ≡ None
     → unwrap_or (work_by machine command) (in_work_on H machine) ≡ Some board → in_work_after board command (is_in_work H board) ≡ true
 unfolding command_refusal
@@ -123,7 +116,6 @@ there-after H minute board (WorkCompleted k b) machine judged accepted on = by (
     by false false elsewhere other on = somewhere-in_work H board (machine, on)
 there-after H minute board _ machine judged accepted on = somewhere-in_work H board (machine, on)
 
--- a board that is in work after an accepted command is on some machine after it
 after-there : (H : History) (minute : ℕ) (board : Name) (command : Command) → command_refusal Two H minute command ≡ None
     → in_work_after board command (is_in_work H board) ≡ true → (machine : Name) × (unwrap_or (work_by machine command) (in_work_on H machine) ≡ Some board)
 unfolding command_refusal
@@ -134,7 +126,6 @@ after-there H minute board (WorkStarted k b) accepted is = by (same b board) ref
     by true its is = (k, ap (λ s. unwrap_or (if s then Some (Some b) else None) (in_work_on H k)) (same-refl k) ∙ ap (λ x. Some x) (same-true b board its))
     by false other is = let on = in_work-somewhere H board is in (on.0, stays on.0 (same k on.0) refl on.1)
       where
-        -- the machine of the start had none
         stays : (machine : Name) (s : Bool) → same k machine ≡ s → in_work_on H machine ≡ Some board → unwrap_or (if s then Some (Some b) else None) (in_work_on H machine) ≡ Some board
         stays machine true here on =
             let free = (startable H minute k b accepted).machine_free in
@@ -148,7 +139,6 @@ after-there H minute board (WorkCompleted k b) accepted is = by (same b board) r
     by true its is = cc
     by false other is = let on = in_work-somewhere H board is in (on.0, stays on.0 (same k on.0) refl on.1)
       where
-        -- the machine of the completion had its board
         stays : (machine : Name) (s : Bool) → same k machine ≡ s → in_work_on H machine ≡ Some board → unwrap_or (if s then Some None else None) (in_work_on H machine) ≡ Some board
         stays machine true here on =
             let both : Some b ≡ Some board = sym (completable H k b accepted) ∙ ap (in_work_on H) (same-true k machine here) ∙ on in
@@ -158,7 +148,6 @@ after-there H minute board (WorkCompleted k b) accepted is = by (same b board) r
         stays machine false elsewhere on = on
 after-there H minute board _ accepted is = in_work-somewhere H board is
 
--- Whether a board is in work after one entry more, from whether it was before.
 pub in_work-next : (H : History) (e : Entry) (board : Name) → IsJudged Two (e ∷ H) → is_in_work (e ∷ H) board ≡ in_work_after board e.stamped.command (is_in_work H board)
 in_work-next H e board (next, judged) =
     iff _ _
@@ -167,28 +156,23 @@ in_work-next H e board (next, judged) =
 
 -- ---- products
 
--- what is not missing is there
 some-is : {X : Type 0} (o : Option X) → is_none o ≡ false → is_some o ≡ true
 some-is None is = cc
 some-is (Some x) is = refl
 
--- Work is started where a product is selected.
 pub work-selected : (H : History) (e : Entry) (machine board : Name) → IsNext Two H e → e.stamped.command ≡ WorkStarted machine board → is_some (selected_on H machine) ≡ true
 unfolding command_refusal
 work-selected H e machine board next is =
     some-is (selected_on H machine) (startable H e.effective machine board (sym (ap (command_refusal Two H e.effective) is) ∙ next-accepted H e next)).selected
 
--- of two there is one where the first is there,
 or-first : {X : Type 0} (a b : Option X) → is_some a ≡ true → is_some (option_or a b) ≡ true
 or-first None b is = cc
 or-first (Some x) b is = refl
 
--- and where the second is
 or-second : {X : Type 0} (a b : Option X) → is_some b ≡ true → is_some (option_or a b) ≡ true
 or-second None b is = is
 or-second (Some x) b is = refl
 
--- a board that is in work on a machine after an accepted command has a product then
 product-step : (H : History) (minute : ℕ) (machine board : Name) (command : Command) → command_refusal Two H minute command ≡ None
     → (in_work_on H machine ≡ Some board → is_some (product_of H board) ≡ true) → unwrap_or (work_by machine command) (in_work_on H machine) ≡ Some board
     → is_some (option_or (product_of H board) (option_and_then (selected_on H) (start_by board command))) ≡ true
@@ -211,7 +195,6 @@ product-step H minute machine board (WorkCompleted k b) accepted before on = by 
     by false on = or-first (product_of H board) None (before on)
 product-step H minute machine board _ accepted before on = or-first (product_of H board) None (before on)
 
--- A board in work has a product.
 pub work-product : (H : History) (machine board : Name) → IsJudged Two H → in_work_on H machine ≡ Some board → is_some (product_of H board) ≡ true
 work-product [] machine board judged on = cc
 work-product (e ∷ H) machine board (next, judged) on =

@@ -1,4 +1,4 @@
--- What an accepted count says of mounted and of counted reels.
+-- Accepted counts of mounted and of other reels.
 use Rattle.std.proofs.Common.{◌≡◌, ℕ, ◌-◌, All, Bool, true, false, Some, None, List, [], ◌∷◌, ◌++◌, find, refl, sym, ap, ◌∙◌, unwrap_or, arith}
 use Rattle.std.specs.Prelude.{if◌then◌else◌, ◌||◌}
 use Rattle.std.specs.Option.{option_map, option_map_or}
@@ -20,7 +20,6 @@ use Rattle.desk_laws.proofs.Picks.{IsCountable, countable}
 
 -- ---- mounted reels
 
--- a mounted reel is in no row
 pub unmounted-rows : (H : History) (seen : List Name) (rows : List CountRow) (reel : Name) → counts_refusal Two H seen rows ≡ None → is_mounted H reel ≡ true
     → find (λ (row : CountRow). same row.reel reel) rows ≡ None
 unmounted-rows H seen [] reel none mounted = refl
@@ -39,7 +38,6 @@ found-none H minute (CountsTaken rows) reel none mounted =
     ap (λ said. option_map_or (λ (row : CountRow). row.quantity - left_of H reel) said 0) (unmounted-rows H [] rows reel none mounted)
 found-none H minute _ reel none mounted = refl
 
--- An accepted command finds nothing on a mounted reel.
 pub mounted-finds-none : (H : History) (s : Stamped) (reel : Name) → refusal_of Two H s ≡ None → is_mounted H reel ≡ true → found_of (accept H s) reel ≡ found_of H reel
 unfolding found_of
 mounted-finds-none H s reel none mounted =
@@ -47,7 +45,6 @@ mounted-finds-none H s reel none mounted =
 
 -- ---- counted reels
 
--- a reel of a row before is in no further row
 absent-rows : (H : History) (seen : List Name) (rows : List CountRow) (reel : Name) → counts_refusal Two H seen rows ≡ None → list_any (same reel) seen ≡ true
     → AllByRecursion (λ (row : CountRow). same row.reel reel ≡ false) rows
 absent-rows H seen [] reel none before = tt
@@ -61,11 +58,10 @@ absent-rows H seen (row ∷ rows) reel none before = (
     away true here = let one = same-true row.reel reel here in let once = (countable H seen row rows none).0.once in cc
     away false is = is
 
--- the row is the one that is found for its reel
+-- A search for the row's reel finds this row.
 abbrev IsFoundIn : List CountRow → CountRow → Type 0
 IsFoundIn rows row = find (λ (r : CountRow). same r.reel row.reel) rows ≡ Some row
 
--- So is each row of an accepted count.
 rows-found : (H : History) (seen : List Name) (rows : List CountRow) → counts_refusal Two H seen rows ≡ None → All (IsFoundIn rows) rows
 rows-found H seen [] none = All-nil (IsFoundIn [])
 rows-found H seen (row ∷ rows) none =
@@ -92,12 +88,10 @@ found-rows : (H : History) (minute : ℕ) (command : Command) (rows : List Count
 unfolding command_refusal
 found-rows H minute command rows none is = rows-found H [] rows (sym (ap (command_refusal Two H minute) is) ∙ none)
 
--- what a command leaves that tells the pieces
 left-told : (H : History) (s : Stamped) (reel : Name) (n : ℕ) → pieces_by reel s.command ≡ Some n → left_of (accept H s) reel ≡ n
 unfolding left_of
 left-told H s reel n told = ap (λ o. unwrap_or o (left_of H reel - pieces_picked (picks_of H s.command) reel)) told
 
--- An accepted count leaves on each counted reel the pieces that were counted.
 pub counts-exact : (H : History) (s : Stamped) (rows : List CountRow) → refusal_of Two H s ≡ None → s.command ≡ CountsTaken rows
     → All (λ (row : CountRow). left_of (accept H s) row.reel ≡ row.quantity) rows
 counts-exact H s rows none is k d inside = each _ (found-rows H (effective_minute H s.minute) s.command rows (command-accepted H s none) is k d inside)

@@ -32,28 +32,24 @@ use Rattle.desk_laws.proofs.Distinct.{distinct-join}
 use Rattle.desk_laws.proofs.Installs.{ArePlacedFor, each-placed, installable, designators-differ, designators-new}
 use Rattle.desk_laws.proofs.InstalledPieces.{AreUnplaced, unplaced-scrap, unplaced-count}
 
--- ---- spots: a board and a designator of it
+-- ---- spots: a board and one of its designators
 
 abbrev spot_by : Purpose → Option (Name × Name)
 spot_by (Placed board designator machine slot) = Some (board, designator)
 spot_by _ = None
 
--- the spots of picks
 abbrev spots : List Pick → List (Name × Name)
 spots picks = filter_map (λ (p : Pick). spot_by p.purpose) picks
 
--- the spots of placements
 abbrev pub spots_of : List Placement → List (Name × Name)
 spots_of placements = map (λ (p : Placement). (p.board, p.designator)) placements
 
--- the spots that a command names
 abbrev spots_named : Command → List (Name × Name)
 spots_named (MaterialsInstalled machine board designators) = map (λ (d : Name). (board, d)) designators
 spots_named _ = []
 
 -- ---- one command
 
--- the spots of picks of one piece for each designator
 placed-spots : (machine board : Name) (ds : List Name) (ps : List Pick) → ArePlacedFor machine board ds ps → spots ps ≡ map (λ (x : Name). (board, x)) ds
 placed-spots machine board [] [] all = refl
 placed-spots machine board (d ∷ ds) (p ∷ ps) ((slot, is), all) =
@@ -70,7 +66,6 @@ unplaced-spots (p ∷ ps) (first, all) = by p.purpose first (unplaced-spots ps a
     by (Rejected machine slot) is rest = rest
     by Counted is rest = rest
 
--- an accepted command places a piece on each spot that it names
 command-spots : (H : History) (minute : ℕ) (command : Command) → command_refusal Two H minute command ≡ None → spots (picks_of H command) ≡ spots_named command
 unfolding command_refusal
 command-spots H minute (MaterialsInstalled machine board ds) none =
@@ -79,7 +74,6 @@ command-spots H minute (MaterialsScrapped machine slot n) none = unplaced-spots 
 command-spots H minute (CountsTaken counts) none = unplaced-spots _ (unplaced-count (left_of H) counts)
 command-spots H minute _ none = refl
 
--- a board and one of several of its designators
 board-named : (board : Name) (ds : List Name) (b d : Name) → list_any (same_pair (b, d)) (map (λ (x : Name). (board, x)) ds) ≡ (same board b && list_any (same d) ds)
 board-named board [] b d = sym (and-false (same board b))
 board-named board (x ∷ xs) b d =
@@ -90,7 +84,6 @@ board-named board (x ∷ xs) b d =
     both true s t = refl
     both false s t = refl
 
--- the spots that a command names are those on which it places
 named-placed : (command : Command) (b d : Name) → list_any (same_pair (b, d)) (spots_named command) ≡ places b d command
 named-placed (MaterialsInstalled machine board ds) b d = board-named board ds b d
 named-placed _ b d = refl
@@ -104,7 +97,6 @@ board-distinct board (d ∷ ds) (apart, distinct) = (others ds apart, board-dist
     others [] all = tt
     others (x ∷ xs) (first, all) = (and_right (same board board) (same d x) first, others xs all)
 
--- the spots that an accepted command names differ
 named-distinct : (H : History) (minute : ℕ) (command : Command) → command_refusal Two H minute command ≡ None → IsDistinct same_pair (spots_named command)
 unfolding command_refusal IsDistinct
 named-distinct H minute (MaterialsInstalled machine board ds) none =
@@ -112,7 +104,6 @@ named-distinct H minute (MaterialsInstalled machine board ds) none =
     designators-differ (slot_on H machine) (tape_of H machine) (left_of H) (is_placed_on H board) machine board [] [] ds (installable H machine board ds none) tt)
 named-distinct H minute _ none = tt
 
--- and nothing is placed on them
 named-new : (H : History) (minute : ℕ) (command : Command) → command_refusal Two H minute command ≡ None
     → AllByRecursion (λ (s : Name × Name). is_placed_on H s.0 s.1 ≡ false) (spots_named command)
 unfolding command_refusal
@@ -125,9 +116,8 @@ named-new H minute (MaterialsInstalled machine board ds) none =
     each (x ∷ xs) (first, all) = (first, each xs all)
 named-new H minute _ none = tt
 
--- ---- lists
+-- ---- histories
 
--- the spots of an entry's placements are those of its picks
 entry-spots : (H : History) (e : Entry) (place : ℕ) (ps : List Pick)
     → spots_of (filter_map placement_of (
     map (λ (place, take). record { number = e.number; place = place; effective = e.effective; take = take }) (enumerate_from place (map (take_of H e.effective) ps))))
@@ -151,7 +141,6 @@ entry-spots H e place (p ∷ ps) = by p.purpose (entry-spots H e (place + 1) ps)
     by (Rejected machine slot) is = is
     by Counted is = is
 
--- the spots of a list and one entry more
 spots-next : (H : History) (e : Entry) → IsJudged Two (e ∷ H) → spots_of (placements_of (e ∷ H)) ≡ spots_of (placements_of H) ++ spots_named e.stamped.command
 unfolding takes_of
 spots-next H e (next, judged) =
@@ -159,7 +148,6 @@ spots-next H e (next, judged) =
     ∙ map-append (λ (p : Placement). (p.board, p.designator)) (placements_of H) (filter_map placement_of (entry_takes H e))
     ∙ ap (λ l. spots_of (placements_of H) ++ l) (entry-spots H e 1 (picks_of H e.stamped.command) ∙ command-spots H e.effective e.stamped.command (next-accepted H e next))
 
--- A designator of a board is among the placements exactly where it is placed.
 pub spot-placed : (H : History) (board d : Name) → IsJudged Two H → list_any (same_pair (board, d)) (spots_of (placements_of H)) ≡ is_placed_on H board d
 unfolding takes_of
 spot-placed [] board d judged = refl
@@ -170,7 +158,6 @@ spot-placed (e ∷ H) board d (next, judged) =
     ∙ ap (λ b. is_placed_on H board d || b) (named-placed e.stamped.command board d)
     ∙ or_comm (is_placed_on H board d) (places board d e.stamped.command)
 
--- No board has the same designator twice.
 pub designators-once : (H : History) → IsJudged Two H → IsDistinct same_pair (spots_of (placements_of H))
 unfolding takes_of IsDistinct
 designators-once [] judged = tt

@@ -1,10 +1,9 @@
--- Lists in which nothing stands twice.
+-- Lists without duplicates.
 use Rattle.std.proofs.lemmas.Bool.{or_parts}
 use Rattle.std.proofs.Common.{◌≡◌, Bool, true, false, List, [], ◌∷◌, ◌++◌, filter, ◌∙◌}
 use Rattle.std.specs.Prelude.{if◌then◌else◌}
 use Rattle.std.specs.List.{list_any, AllByRecursion, IsDistinct}
 
--- what holds of each element of two lists holds of each of both
 pub all-append : {K : Type 0} (P : K → Type 0) (xs ys : List K) → AllByRecursion P xs → AllByRecursion P ys → AllByRecursion P (xs ++ ys)
 all-append P [] ys all rest = rest
 all-append P (x ∷ xs) ys (first, all) rest = (first, all-append P xs ys all rest)
@@ -18,7 +17,6 @@ module _ {K : Type 0} (eq : K → K → Bool) where
       by true rest = (first, rest)
       by false rest = rest
 
-  -- some of a list in which nothing stands twice
   pub distinct-filter : (test : K → Bool) (xs : List K) → IsDistinct eq xs → IsDistinct eq (filter test xs)
   unfolding IsDistinct
   distinct-filter test [] distinct = tt
@@ -36,7 +34,6 @@ module _ {K : Type 0} (eq : K → K → Bool) where
       let rest = split flips x xs ys all in
       ((flips x y ∙ both.0, rest.0), (both.1, rest.1))
 
-  -- two such lists that have nothing in common
   pub distinct-join : ((x y : K) → eq x y ≡ eq y x) → (xs ys : List K) → IsDistinct eq xs → IsDistinct eq ys → AllByRecursion (λ y. list_any (eq y) xs ≡ false) ys
       → IsDistinct eq (xs ++ ys)
   unfolding IsDistinct

@@ -1,4 +1,4 @@
--- Exposure as minutes and entries come.
+-- Exposure over time and over later entries.
 use Rattle.std.proofs.Common.{◌≡◌, ◌≢◌, ℕ, All, ◌-◌, ◌<◌, ◌≤◌, Bool, true, false, Option, Some, None, List, [], ◌∷◌, ◌++◌, refl, ap, ◌∙◌, subst, unwrap_or, count_by, arith}
 use Rattle.std.specs.Prelude.{nat_le, is_some, if◌then◌else◌}
 use Rattle.std.specs.Option.{option_map, option_or}
@@ -22,9 +22,8 @@ use Rattle.desk_types.proofs.Minutes.{count-split, count-agree, count-one}
 use Rattle.desk_laws.proofs.Judgements.{untouched, judged-prefix}
 use Rattle.desk_laws.proofs.ReelsLater.{receipt-prefix}
 
--- ---- one list
+-- ---- one history
 
--- An exposure is of no more minutes than came since it began.
 pub exposure-within : (H : History) (reel : Name) (minute : ℕ) → exposure_of H reel minute ≤ minute - exposure_starts H reel
 unfolding exposure_of
 exposure-within H reel minute =
@@ -32,7 +31,6 @@ exposure-within H reel minute =
     (length-range_with_len (exposure_starts H reel) (minute - exposure_starts H reel))
     (count_by-le-length (is_out_at H reel) (minutes_between (exposure_starts H reel) minute))
 
--- An exposure never falls from one minute to a later one.
 pub exposure-rises : (H : History) (reel : Name) (earlier later : ℕ) → earlier ≤ later → exposure_of H reel earlier ≤ exposure_of H reel later
 unfolding exposure_of
 exposure-rises H reel earlier later le = by (nat_le (exposure_starts H reel) earlier) refl
@@ -47,9 +45,8 @@ exposure-rises H reel earlier later le = by (nat_le (exposure_starts H reel) ear
         let few = exposure-within H reel earlier in
         omega (arith, start, few)
 
--- ---- more entries
+-- ---- later entries
 
--- what takes effect later than a minute says nothing of it
 out-later : (more : List Entry) (G : History) (reel : Name) (minute bound : ℕ) → All (λ (x : Entry). bound ≤ x.effective) more → minute < bound
     → is_out_at (more ++ G) reel minute ≡ is_out_at G reel minute
 out-later [] G reel minute bound all before = refl
@@ -57,7 +54,6 @@ out-later (e ∷ more) G reel minute bound all before =
     let first = All-head (λ (x : Entry). bound ≤ x.effective) e more all in
     is_out-before (more ++ G) e reel minute (omega (arith, before, first)) ∙ out-later more G reel minute bound (All-tail (λ (x : Entry). bound ≤ x.effective) e more all) before
 
--- a reel that no command handles has no exposure
 pub untouched-exposure : (H : History) (reel : Name) (minute : ℕ) → IsUntouched H reel → exposure_of H reel minute ≡ 0
 unfolding exposure_of is_out_at
 untouched-exposure H reel minute all = count-one (is_out_at H reel) false (exposure_starts H reel) minute (λ t low high. inside H t all)
@@ -66,7 +62,6 @@ untouched-exposure H reel minute all = count-one (is_out_at H reel) false (expos
     inside [] t all = refl
     inside (e ∷ G) t (none, all) = is_out-untouched G e reel t none ∙ inside G t all
 
--- up to a minute that no later entry comes before, an exposure that began with the same minute is the same
 exposure-kept : (more : List Entry) (G : History) (reel : Name) (minute : ℕ) → exposure_starts (more ++ G) reel ≡ exposure_starts G reel
     → All (λ (e : Entry). minute ≤ e.effective) more → exposure_of (more ++ G) reel minute ≡ exposure_of G reel minute
 unfolding exposure_of
@@ -74,7 +69,6 @@ exposure-kept more G reel minute starts all =
     ap (λ s. count_by (is_out_at (more ++ G) reel) (minutes_between s minute)) starts
     ∙ count-agree (is_out_at (more ++ G) reel) (is_out_at G reel) (exposure_starts G reel) minute (λ t low high. out-later more G reel t minute all high)
 
--- what is no bake of the reel tells no bake of it
 bake-other : (reel : Name) (minute : ℕ) (command : Command) → command ≢ ReelBaked reel → bake_by reel minute command ≡ None
 bake-other reel minute (ReelBaked r) other = by (same r reel) refl
   where
@@ -90,7 +84,7 @@ bake-kept (e ∷ more) G reel none =
     (bake-other reel e.effective e.stamped.command (All-head (λ (x : Entry). x.stamped.command ≢ ReelBaked reel) e more none))
     ∙ bake-kept more G reel (All-tail (λ (x : Entry). x.stamped.command ≢ ReelBaked reel) e more none)
 
--- Between bakes an exposure never falls.
+-- Exposure never falls between bakes.
 pub exposure-later : (G : History) (more : List Entry) (reel : Name) (earlier later : ℕ) → IsJudged Two (more ++ G)
     → All (λ (e : Entry). e.stamped.command ≢ ReelBaked reel) more → All (λ (e : Entry). earlier ≤ e.effective) more → earlier ≤ later
     → exposure_of G reel earlier ≤ exposure_of (more ++ G) reel later

@@ -1,4 +1,4 @@
--- Tapes that go on: reels are joined to their ends.
+-- Tapes grow at their ends.
 use Rattle.std.proofs.Common.{◌≡◌, All, Bool, true, false, List, [], ◌∷◌, ◌++◌, refl, sym, ap, ◌∙◌}
 use Rattle.std.specs.Prelude.{◌&&◌, if◌then◌else◌}
 use Rattle.std.proofs.lemmas.List.{append_assoc, append-nil}
@@ -11,7 +11,7 @@ use Rattle.desk_types.specs.History.{History}
 use Rattle.desk_types.specs.Tape.{tape_with, tape_after, tape_of}
 use Rattle.desk_laws.specs.TapeOrder.{restarts}
 
--- the first reels are the second ones with others joined to their end
+-- The first tape is the second with reels joined to its end.
 abbrev GoesOn : List Name → List Name → Type 0
 GoesOn after before = (joined : List Name) × (after ≡ before ++ joined)
 
@@ -22,7 +22,6 @@ splice-joins : (reels : List Name) (reel : Name) → GoesOn (tape_with reels ree
 splice-joins [] reel = ([], refl)
 splice-joins (r ∷ rs) reel = (reel ∷ [], refl)
 
--- a command that neither loads nor unloads the slot leaves its tape, or joins a reel to its end
 command-joins : (machine slot : Name) (command : Command) (reels : List Name) → restarts machine slot command ≡ false → GoesOn (tape_after machine slot command reels) reels
 command-joins machine slot (MaterialsSpliced m s reel) reels other = by (same m machine && same s slot)
   where
@@ -33,7 +32,6 @@ command-joins machine slot (MaterialsLoaded m s reel) reels other = ([], ap (λ 
 command-joins machine slot (MaterialsUnloaded m s) reels other = ([], ap (λ b. if b then [] else reels) other ∙ sym (append-nil reels))
 command-joins machine slot _ reels other = stays reels
 
--- Until its slot is loaded or unloaded, a tape goes on.
 pub tape-joins : (G : History) (more : List Entry) (machine slot : Name) → All (λ (e : Entry). restarts machine slot e.stamped.command ≡ false) more
     → GoesOn (tape_of (more ++ G) machine slot) (tape_of G machine slot)
 unfolding tape_of

@@ -1,4 +1,4 @@
--- What an accepted install says of the pieces that it places.
+-- The pieces that an accepted install places.
 use Rattle.std.proofs.Common.{◌≡◌, ℕ, ◌+◌, ◌-◌, Bool, true, false, Option, Some, None, List, [], ◌∷◌, ◌++◌, find, filter_map, length, take, map, min, All, refl, sym, ap, ◌∙◌, subst, arith}
 use Rattle.std.specs.Prelude.{if◌then◌else◌, ⊤, ◌||◌, slice_get}
 use Rattle.std.specs.Option.{option_and_then, option_map, option_map_or, option_to_list}
@@ -34,19 +34,20 @@ use Rattle.desk_laws.proofs.VerifiedReels.{tape-verified}
 
 -- ---- picks in turn
 
--- the pick of a piece for a designator, after the picks before it: at the designator's slot, off its first reel with a piece left
+-- The pick for a designator: at its slot, from the first reel with a piece left after earlier
+-- picks.
 pub record IsPickedFor (H : History) (command : Command) (before : List Pick) (reel board designator machine slot : Name) : Type 0 where
   pub designators : List Name
   pub installs : command ≡ MaterialsInstalled machine board designators
   pub on_sheet : slot_on H machine designator ≡ Some slot
   pub next : next_reel H machine slot before ≡ Some reel
 
--- what a pick of this purpose must say
+-- A pick that places a piece is the one for its designator.
 abbrev pub IsPicked : History → Command → List Pick → Name → Purpose → Type 0
 IsPicked H command before reel (Placed board designator machine slot) = IsPickedFor H command before reel board designator machine slot
 IsPicked H command before reel _ = ⊤
 
--- each pick after those before it
+-- The same for each pick in turn.
 abbrev pub ArePicked : History → Command → List Pick → List Pick → Type 0
 ArePicked H command before [] = ⊤
 ArePicked H command before (p ∷ ps) = IsPicked H command before p.reel p.purpose × ArePicked H command (before ++ p ∷ []) ps
@@ -57,7 +58,6 @@ picked-push H command before [] p all last = (subst (λ b. IsPicked H command b 
 picked-push H command before (x ∷ xs) p (first, all) last =
     (first, picked-push H command (before ++ x ∷ []) xs p all (subst (λ b. IsPicked H command b p.reel p.purpose) (sym (append_assoc before (x ∷ []) xs)) last))
 
--- one more designator
 one-picked : (H : History) (machine board : Name) (all : List Name) (before : List Pick) (d : Name) → ArePicked H (MaterialsInstalled machine board all) [] before
     → ArePicked H (MaterialsInstalled machine board all) [] (before ++ option_to_list (pick_for (slot_on H machine) (tape_of H machine) (left_of H) machine board before d))
 one-picked H machine board all before d right = by (slot_on H machine d) refl
@@ -90,22 +90,19 @@ install-picked H machine board all before (d ∷ ds) right =
 
 -- ---- other takes
 
--- the pick is of no piece that is placed
+-- The pick places no piece.
 abbrev pub IsUnplaced : Pick → Type 0
 IsUnplaced p = is_placed p.purpose ≡ false
 
--- no pick is
 abbrev pub AreUnplaced : List Pick → Type 0
 AreUnplaced picks = AllByRecursion IsUnplaced picks
 
--- no pick of a scrap is,
 pub unplaced-scrap : (pieces : Name → ℕ) (machine slot : Name) (reels : List Name) (n : ℕ) → AreUnplaced (scrap_picks pieces (Rejected machine slot) reels n)
 unplaced-scrap pieces machine slot [] n = tt
 unplaced-scrap pieces machine slot (r ∷ rs) n =
     all-append IsUnplaced (pieces_off r (min n (pieces r)) (Rejected machine slot)) _ (all-off IsUnplaced r (min n (pieces r)) (Rejected machine slot) refl)
     (unplaced-scrap pieces machine slot rs (n - pieces r))
 
--- and none of a count.
 pub unplaced-count : (pieces : Name → ℕ) (rows : List CountRow) → AreUnplaced (count_picks pieces rows)
 unplaced-count pieces [] = tt
 unplaced-count pieces (row ∷ rows) =
@@ -121,7 +118,6 @@ unplaced-picked H command before (p ∷ ps) (first, all) = (by p.purpose first, 
     by (Rejected machine slot) is = tt
     by Counted is = tt
 
--- Each pick of a command is for the designator that it says, after those before it.
 pub picks-picked : (H : History) (command : Command) → ArePicked H command [] (picks_of H command)
 picks-picked H (MaterialsInstalled machine board ds) = install-picked H machine board ds [] ds tt
 picks-picked H (MaterialsScrapped machine slot n) =
@@ -131,7 +127,6 @@ picks-picked H _ = tt
 
 -- ---- placements
 
--- what a search finds stands there
 pub find-there : (p : Name → Bool) (names : List Name) (name : Name) → find p names ≡ Some name → has names name ≡ true
 find-there p [] name is = cc
 find-there p (x ∷ xs) name is = by (p x) is (find-there p xs name)
@@ -147,11 +142,9 @@ find-there p (x ∷ xs) name is = by (p x) is (find-there p xs name)
         last true there = refl
         last false there = there
 
--- the first picks of several
 take-before : (before ps : List Pick) (place : ℕ) → place ≡ length before + 1 → take (place - 1) (before ++ ps) ≡ before
 take-before before ps place is = take_at before ps (place - 1) (omega (arith, is))
 
--- the placements of one entry
 entry-placed : (H : History) (e : Entry) → IsJudged Two H → ((m b : Name) (ds : List Name) → e.stamped.command ≡ MaterialsInstalled m b ds → ArePlacedFor m b ds (picks_of H e.stamped.command))
     → (before ps : List Pick) (place : ℕ) → place ≡ length before + 1 → picks_of H e.stamped.command ≡ before ++ ps
     → ArePicked H e.stamped.command before ps
@@ -206,7 +199,6 @@ entry-placed H e judged each before (p ∷ ps) place there all (first, right) =
     by (Rejected machine slot) says is others = others
     by Counted says is others = others
 
--- what was so stays so
 placed-later : (H : History) (e : Entry) (p : Placement) → IsRightlyPlaced H p → IsRightlyPlaced (e ∷ H) p
 placed-later H e p is = record {
   before = is.before;
@@ -228,7 +220,6 @@ placed-later H e p is = record {
   verified = is.verified;
 }
 
--- Each piece was rightly placed.
 pub rightly-placed : (H : History) → IsJudged Two H → All (IsRightlyPlaced H) (placements_of H)
 unfolding takes_of
 rightly-placed [] judged = All-nil (IsRightlyPlaced [])

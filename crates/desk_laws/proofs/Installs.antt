@@ -1,4 +1,4 @@
--- The designators of an accepted install, and its picks: one for each.
+-- The designators of an accepted install, and its one pick for each.
 use Rattle.std.proofs.Common.{◌≡◌, ℕ, nat_lt, Bool, true, false, Option, Some, None, List, [], ◌∷◌, ◌++◌, find, length, refl, sym, ap, ◌∙◌, subst}
 use Rattle.std.specs.Prelude.{is_none, if◌then◌else◌, ⊤, slice_get}
 use Rattle.std.specs.Option.{option_and_then, option_map, option_to_list}
@@ -24,7 +24,7 @@ use Rattle.desk_laws.proofs.Tapes.{one-more}
 
 -- ---- picks in the order of designators
 
--- the picks are of one piece for each designator, in their order, for the machine and the board
+-- The picks are one piece for each designator in order, on this machine and board.
 abbrev pub ArePlacedFor : Name → Name → List Name → List Pick → Type 0
 ArePlacedFor machine board [] [] = ⊤
 ArePlacedFor machine board (d ∷ ds) (p ∷ ps) = ((slot : Name) × (p.purpose ≡ Placed board d machine slot)) × ArePlacedFor machine board ds ps
@@ -37,7 +37,6 @@ placed-push machine board (x ∷ xs) (q ∷ qs) d slot p (first, all) is = (firs
 placed-push machine board [] (q ∷ qs) d slot p all is = absurd all
 placed-push machine board (x ∷ xs) [] d slot p all is = absurd all
 
--- A pick of a piece for a designator stands where the designator does.
 pub placed-at : (m b : Name) (ds : List Name) (before ps : List Pick) (p : Pick) (board d machine slot : Name) → ArePlacedFor m b ds (before ++ p ∷ ps)
     → p.purpose ≡ Placed board d machine slot → slice_get ds (length before) ≡ Some d
 placed-at m b [] [] ps p board d machine slot all is = absurd all
@@ -48,7 +47,7 @@ placed-at m b (x ∷ xs) (q ∷ qs) ps p board d machine slot (first, all) is = 
 -- ---- one message
 
 module _ (slot_of : Name → Option Name) (tape : Name → List Name) (pieces : Name → ℕ) (placed : Name → Bool) (machine board : Name) where
-  -- the tests of one designator
+  -- The tests of one designator.
   pub record IsPlaceable (before : List Pick) (seen : List Name) (d : Name) : Type 0 where
     pub once : list_any (same d) seen ≡ false
     pub new : placed d ≡ false
@@ -72,7 +71,6 @@ module _ (slot_of : Name → Option Name) (tape : Name → List Name) (pieces : 
           ∷ (is_none (pick_for slot_of tape pieces machine board before d), ReelShort d)
           ∷ []
 
-  -- the designators of an accepted message differ
   pub designators-differ : (before : List Pick) (seen ds : List Name) → designators_refusal slot_of tape pieces placed machine board before seen ds ≡ None → IsDistinct same seen
       → IsDistinct same (seen ++ ds)
   designators-differ before seen [] none distinct = subst (IsDistinct same) (sym (append-nil seen)) distinct
@@ -81,14 +79,12 @@ module _ (slot_of : Name → Option Name) (tape : Name → List Name) (pieces : 
       subst (IsDistinct same) (append_assoc seen (d ∷ []) ds)
       (designators-differ (next_picks before d) (seen ++ d ∷ []) ds both.1 (one-more seen d distinct both.0.once))
 
-  -- none of them is placed
   pub designators-new : (before : List Pick) (seen ds : List Name) → designators_refusal slot_of tape pieces placed machine board before seen ds ≡ None
       → AllByRecursion (λ d. placed d ≡ false) ds
   designators-new before seen [] none = tt
   designators-new before seen (d ∷ ds) none =
       let both = placeable before seen d ds none in (both.0.new, designators-new (next_picks before d) (seen ++ d ∷ []) ds both.1)
 
-  -- each gets a piece
   next-placed : (before : List Pick) (seen : List Name) (d : Name) → is_none (pick_for slot_of tape pieces machine board before d) ≡ false
       → ArePlacedFor machine board seen before → ArePlacedFor machine board (seen ++ d ∷ []) (next_picks before d)
   next-placed before seen d some all = by (slot_of d) some
@@ -118,7 +114,6 @@ module _ (slot_of : Name → Option Name) (tape : Name → List Name) (pieces : 
 
 -- ---- one command
 
--- an accepted install passes the tests of its designators
 pub installable : (H : History) (machine board : Name) (ds : List Name) → install_refusal H machine board ds ≡ None
     → designators_refusal (slot_on H machine) (tape_of H machine) (left_of H) (is_placed_on H board) machine board [] [] ds ≡ None
 unfolding install_refusal
@@ -129,7 +124,6 @@ installable H machine board ds none = by (is_in_work_on H machine board) none
     by true none = none
     by false none = cc
 
--- An accepted install picks one piece for each designator of its message.
 pub each-placed : (H : History) (minute : ℕ) (command : Command) (machine board : Name) (ds : List Name) → command_refusal Two H minute command ≡ None
     → command ≡ MaterialsInstalled machine board ds → ArePlacedFor machine board ds (picks_of H command)
 unfolding command_refusal
@@ -138,7 +132,6 @@ each-placed H minute command machine board ds none is =
     (install-placed (slot_on H machine) (tape_of H machine) (left_of H) (is_placed_on H board) machine board [] [] ds
     (installable H machine board ds (sym (ap (command_refusal Two H minute) is) ∙ none)) tt)
 
--- The designators of an accepted install differ.
 pub named-once : (H : History) (minute : ℕ) (command : Command) (machine board : Name) (ds : List Name) → command_refusal Two H minute command ≡ None
     → command ≡ MaterialsInstalled machine board ds → IsDistinct same ds
 unfolding command_refusal IsDistinct

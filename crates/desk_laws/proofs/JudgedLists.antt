@@ -1,4 +1,4 @@
--- A judged list is consistent.
+-- Accepted histories are consistent.
 use Rattle.desk_types.specs.declared.rules.Rules.{Rules}
 use Rattle.desk_types.specs.History.{History}
 use Rattle.desk_types.specs.Judged.{IsJudged}

@@ -1,4 +1,4 @@
--- What holds of the lists that a desk can come to have.
+-- Facts about the histories that a desk can reach.
 use Rattle.std.proofs.Common.{◌≡◌, ℕ, ◌≤◌, Bool, Option, Some, None, List, [], ◌∷◌, ◌++◌, refl, ap, ◌∙◌, subst, arith, unwrap_or}
 use Rattle.std.specs.Prelude.{max}
 use Rattle.std.specs.Option.{option_or}
@@ -15,12 +15,10 @@ use Rattle.desk_laws.proofs.Accepted.{handled-received}
 
 -- ---- reels
 
--- of two, neither says anything where both together do not
 pub or-none : {X : Type 0} (a b : Option X) → option_or a b ≡ None → (a ≡ None) × (b ≡ None)
 or-none None b none = (refl, none)
 or-none (Some x) b none = cc
 
--- No command handles a reel that was not received.
 pub untouched : (H : History) (name : Name) → IsJudged Two H → receipt_of H name ≡ None → IsUntouched H name
 untouched [] name judged none = tt
 untouched (e ∷ H) name (next, judged) none = (unhandled (open_by name e.stamped.command) refl, untouched H name judged both.1)
@@ -34,22 +32,19 @@ untouched (e ∷ H) name (next, judged) none = (unhandled (open_by name e.stampe
 
 -- ---- time
 
--- each entry of the list took effect by the minute
 abbrev pub AreBy : History → ℕ → Type 0
 AreBy H minute = AllByRecursion (λ (e : Entry). e.effective ≤ minute) H
 
--- what took effect by a minute took effect by a later one
 pub by-later : (H : History) (minute later : ℕ) → minute ≤ later → AreBy H minute → AreBy H later
 by-later [] minute later le all = tt
 by-later (e ∷ H) minute later le (first, all) = (omega arith, by-later H minute later le all)
 
--- each entry took effect by the desk minute
+-- Every entry took effect by the desk minute.
 pub by-desk_minute : (H : History) → AreBy H (now_of H)
 by-desk_minute [] = tt
 by-desk_minute (e ∷ H) =
     (le-max_left e.effective _, by-later H _ _ (le-max_right e.effective (now_of H)) (by-desk_minute H))
 
--- the desk minute of a list is there in each list that it begins, and is no earlier there
 minute-later : (later : List Entry) (G : History) (minute : ℕ) → desk_minute G ≡ Some minute → (x : ℕ) × (desk_minute (later ++ G) ≡ Some x) × (minute ≤ x)
 minute-later [] G minute is = (minute, is, omega arith)
 minute-later (e ∷ later) G minute is =
@@ -66,6 +61,5 @@ judged-before : (later : List Entry) (G : History) → IsJudged Two (later ++ G)
 judged-before [] G judged = judged
 judged-before (e ∷ later) G (next, judged) = judged-before later G judged
 
--- What stood before the last entries of a list that a desk can have is such a list too.
 pub judged-prefix : (G H : History) → IsPrefix G H → IsJudged Two H → IsJudged Two G
 judged-prefix G H (later, is) judged = judged-before later G (subst (IsJudged Two) is judged)

@@ -1,4 +1,4 @@
--- The live reels after one entry more; and pieces come off the live reels of a slot alone, for its spent reels give none.
+-- Live reels after one more entry. Picks come only from live reels.
 use Rattle.std.proofs.Common.{◌≡◌, ℕ, ◌-◌, min, nat_lt, Bool, true, false, Option, Some, None, List, [], ◌∷◌, ◌++◌, find, refl, sym, ap, ◌∙◌, arith}
 use Rattle.std.specs.Prelude.{if◌then◌else◌, ◌&&◌, is_none}
 use Rattle.std.specs.Option.{option_and_then, option_map, option_or, option_to_list}
@@ -29,7 +29,6 @@ use Rattle.desk_laws.proofs.Places.{joined, vacant-same}
 
 -- ---- filters
 
--- a filter of the reels that pass a weaker test keeps what it keeps of all
 filter-twice : (p q : Name → Bool) (reels : List Name) → ((r : Name) → has reels r ≡ true → p r ≡ true → q r ≡ true) → filter p (filter q reels) ≡ filter p reels
 filter-twice p q [] weaker = refl
 filter-twice p q (x ∷ xs) weaker =
@@ -42,7 +41,6 @@ filter-twice p q (x ∷ xs) weaker =
     by false true weak strong rest = let passes = weaker x (or_left (same x x) (has xs x) (same-refl x)) strong in cc
     by false false weak strong rest = rest
 
--- a search among those that pass a weaker test finds what it finds among all
 find-filter : (p q : Name → Bool) → ((r : Name) → p r ≡ true → q r ≡ true) → (reels : List Name) → find p (filter q reels) ≡ find p reels
 find-filter p q weaker [] = refl
 find-filter p q weaker (x ∷ xs) = by (q x) (p x) refl refl (find-filter p q weaker xs)
@@ -53,9 +51,8 @@ find-filter p q weaker (x ∷ xs) = by (q x) (p x) refl refl (find-filter p q we
     by false true weak strong rest = let passes = weaker x strong in cc
     by false false weak strong rest = rest
 
--- ---- one entry more
+-- ---- one more entry
 
--- a reel of a tape that has pieces left after the next entry had some before
 some-before : (H : History) (e : Entry) (machine slot reel : Name) → IsJudged Two (e ∷ H) → has (tape_of H machine slot) reel ≡ true
     → nat_lt 0 (left_of (e ∷ H) reel) ≡ true → nat_lt 0 (left_of H reel) ≡ true
 some-before H e machine slot reel (next, judged) there = some-next H e reel (next, judged) (by (receipt_by reel e.effective e.stamped.command) refl)
@@ -64,12 +61,11 @@ some-before H e machine slot reel (next, judged) there = some-next H e reel (nex
     by None is = is
     by (Some receipt) is = let nowhere = unreceived-nowhere H machine slot reel judged (received-once H e reel receipt next is) in cc
 
--- reels of which there are some, with one joined
 tape_with-some : (reels : List Name) (reel : Name) → is_none (first reels) ≡ false → tape_with reels reel ≡ reels ++ reel ∷ []
 tape_with-some [] reel some = cc
 tape_with-some (x ∷ xs) reel some = refl
 
--- an accepted command does to the live reels what it does to the tape, where a test keeps the same of both
+-- An accepted command changes the live reels as it changes the tape, for tests that agree on both.
 live-step : (H : History) (minute : ℕ) (machine slot : Name) (command : Command) (keeps : Name → Bool) → command_refusal Two H minute command ≡ None
     → filter keeps (live_on H machine slot) ≡ filter keeps (tape_of H machine slot)
     → filter keeps (tape_after machine slot command (tape_of H machine slot)) ≡ filter keeps (tape_after machine slot command (live_on H machine slot))
@@ -98,7 +94,7 @@ live-step H minute machine slot (MaterialsUnloaded m s) keeps accepted alike = b
     by false = sym alike
 live-step H minute machine slot _ keeps accepted alike = sym alike
 
--- The live reels of a slot after one entry more: what the command makes of those before, without the ones that it spends.
+-- The command's effect on the live reels, less those that it spends, gives the next live reels.
 pub live-next : (H : History) (e : Entry) (machine slot : Name) → IsJudged Two (e ∷ H)
     → live_on (e ∷ H) machine slot ≡ filter (λ r. nat_lt 0 (left_of (e ∷ H) r)) (tape_after machine slot e.stamped.command (live_on H machine slot))
 unfolding live_on tape_of
@@ -108,17 +104,15 @@ live-next H e machine slot (next, judged) =
 
 -- ---- picks
 
--- A search for a reel with pieces left finds it among the live reels as on the tape.
+-- A search for a reel with pieces left finds the same among live reels as on the tape.
 pub find-live : (H : History) (machine slot : Name) (test : Name → Bool) → ((r : Name) → test r ≡ true → nat_lt 0 (left_of H r) ≡ true)
     → find test (live_on H machine slot) ≡ find test (tape_of H machine slot)
 unfolding live_on
 find-live H machine slot test some = find-filter test (λ r. nat_lt 0 (left_of H r)) some (tape_of H machine slot)
 
--- what is more than some number is more than none
 more-some : (k n : ℕ) → nat_lt k n ≡ true → nat_lt 0 n ≡ true
 more-some k n more = let above = ltb-true k n more in lt-ltb 0 n (omega (arith, above))
 
--- The pick for a designator is the same from the live lists,
 pub pick-live : (H : History) (slot_of : Name → Option Name) (machine board : Name) (before : List Pick) (d : Name)
     → pick_for slot_of (live_on H machine) (left_of H) machine board before d ≡ pick_for slot_of (tape_of H machine) (left_of H) machine board before d
 pick-live H slot_of machine board before d =
@@ -126,7 +120,6 @@ pick-live H slot_of machine board before d =
     (λ j slot. option_map (λ reel. record { reel = reel; quantity = 1; purpose = Placed board d machine slot })
     (find-live H machine slot (λ r. nat_lt (pieces_picked before r) (left_of H r)) (λ r. more-some (pieces_picked before r) (left_of H r)) j))
 
--- so are the picks of an install after some before,
 pub picks-live-after : (H : History) (slot_of : Name → Option Name) (machine board : Name) (before : List Pick) (ds : List Name)
     → install_picks slot_of (live_on H machine) (left_of H) machine board before ds ≡ install_picks slot_of (tape_of H machine) (left_of H) machine board before ds
 unfolding install_picks
@@ -135,12 +128,10 @@ picks-live-after H slot_of machine board before (d ∷ ds) =
     ap (λ (o : Option Pick). install_picks slot_of (live_on H machine) (left_of H) machine board (before ++ option_to_list o) ds) (pick-live H slot_of machine board before d)
     ∙ picks-live-after H slot_of machine board (before ++ option_to_list (pick_for slot_of (tape_of H machine) (left_of H) machine board before d)) ds
 
--- and all picks of an install.
 pub picks-live : (H : History) (slot_of : Name → Option Name) (machine board : Name) (ds : List Name)
     → install_picks slot_of (live_on H machine) (left_of H) machine board [] ds ≡ install_picks slot_of (tape_of H machine) (left_of H) machine board [] ds
 picks-live H slot_of machine board ds = picks-live-after H slot_of machine board [] ds
 
--- What is wrong with the designators of a message is the same from the live lists.
 pub designators-live : (H : History) (slot_of : Name → Option Name) (placed : Name → Bool) (machine board : Name) (before : List Pick) (seen ds : List Name)
     → designators_refusal slot_of (live_on H machine) (left_of H) placed machine board before seen ds
     ≡ designators_refusal slot_of (tape_of H machine) (left_of H) placed machine board before seen ds
@@ -152,7 +143,6 @@ designators-live H slot_of placed machine board before seen (d ∷ ds) =
     (pick_for slot_of (tape_of H machine) (left_of H) machine board before d)) o)
     (designators-live H slot_of placed machine board (before ++ option_to_list (pick_for slot_of (tape_of H machine) (left_of H) machine board before d)) (seen ++ d ∷ []) ds)
 
--- a spent reel gives nothing of a scrap
 scrap-filter : (pieces : Name → ℕ) (purpose : Purpose) (reels : List Name) (n : ℕ)
     → scrap_picks pieces purpose (filter (λ r. nat_lt 0 (pieces r)) reels) n ≡ scrap_picks pieces purpose reels n
 scrap-filter pieces purpose [] n = refl
@@ -172,7 +162,6 @@ scrap-filter pieces purpose (r ∷ rs) n = by (nat_lt 0 (pieces r)) refl (scrap-
     by true some rest = ap (λ l. pieces_off r (min n (pieces r)) purpose ++ l) (rest (n - pieces r))
     by false few rest = rest n ∙ none (pieces r) (let nothing = ltb-false 0 (pieces r) few in omega (arith, nothing))
 
--- The picks of a scrap are the same from the live list.
 pub scrap-live : (H : History) (purpose : Purpose) (machine slot : Name) (n : ℕ)
     → scrap_picks (left_of H) purpose (live_on H machine slot) n ≡ scrap_picks (left_of H) purpose (tape_of H machine slot) n
 unfolding live_on

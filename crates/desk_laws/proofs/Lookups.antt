@@ -1,4 +1,4 @@
--- What the searches of the definitions find.
+-- Searches in the definitions agree with the plain rules.
 use Rattle.std.proofs.lemmas.Bool.{and_parts, or_left, or_right}
 use Rattle.std.proofs.Common.{◌≡◌, ◌≢◌, Bool, true, false, Any, Contains, Option, Some, None, List, [], ◌∷◌, filter_map, unwrap_or, refl, sym, ap, ◌∙◌}
 use Rattle.std.specs.Prelude.{◌&&◌, ◌||◌, if◌then◌else◌, is_none}
@@ -28,7 +28,6 @@ use Rattle.desk_laws.proofs.NameSets.{has-set}
 
 -- ---- mounted reels
 
--- A mounted reel is live on some slot.
 pub mounted-live : (H : History) (reel : Name) → is_mounted H reel ≡ true → (machine : Name) × (slot : Name) × Contains (live_on H machine slot) reel
 mounted-live H reel is = let some = Any-from_list_any (λ (e : Entry). is_live_where_loaded H reel e.stamped.command) H is in by some.1.stamped.command some.4
   where
@@ -36,14 +35,12 @@ mounted-live H reel is = let some = Any-from_list_any (λ (e : Entry). is_live_w
     by (MaterialsLoaded m s r) live = (m, s, Contains-from_any same-true reel (live_on H m s) live)
     by _ live = cc
 
--- A reel that is live on some slot is mounted.
 pub mounted-there : (H : History) (reel : Name) → (machine : Name) × (slot : Name) × Contains (live_on H machine slot) reel → is_mounted H reel ≡ true
 mounted-there H reel (machine, slot, live) =
     live-mounted H machine slot reel (list_any-from_Contains nat_list_eq_equiv reel (live_on H machine slot) live)
 
 -- ---- placed designators
 
--- the placement is of this designator of the board
 abbrev pub IsOf : Name → Name → Placement → Type 0
 IsOf board designator p = (p.board ≡ board) × (p.designator ≡ designator)
 
@@ -52,7 +49,6 @@ spots-any : (ps : List Placement) (board d : Name)
 spots-any [] board d = refl
 spots-any (p ∷ ps) board d = ap (λ b. (same board p.board && same d p.designator) || b) (spots-any ps board d)
 
--- A designator of a board that is placed is among the placements.
 pub placed-among : (H : History) (board d : Name) → IsJudged Two H → is_placed_on H board d ≡ true → Any (IsOf board d) (placements_of H)
 placed-among H board d judged is =
     let some = Any-from_list_any (λ (p : Placement). same board p.board && same d p.designator) (placements_of H) (
@@ -60,7 +56,6 @@ placed-among H board d judged is =
     let both = and_parts (same board some.1.board) (same d some.1.designator) some.4 in
     (some.0, some.1, some.2, some.3, (sym (same-true board some.1.board both.0), sym (same-true d some.1.designator both.1)))
 
--- One that is among the placements is placed.
 pub among-placed : (H : History) (board d : Name) → IsJudged Two H → Any (IsOf board d) (placements_of H) → is_placed_on H board d ≡ true
 among-placed H board d judged (k, p, within, at, (of_board, of_designator)) =
     sym (spot-placed H board d judged) ∙ spots-any (placements_of H) board d
@@ -73,7 +68,6 @@ among-placed H board d judged (k, p, within, at, (of_board, of_designator)) =
 
 -- ---- boards in work
 
--- A board that is in work is so on some machine.
 pub in_work-somewhere : (H : History) (board : Name) → is_in_work H board ≡ true → (machine : Name) × (in_work_on H machine ≡ Some board)
 in_work-somewhere H board is = let some = Any-from_list_any (λ (e : Entry). is_in_work_where_started H board e.stamped.command) H is in by some.1.stamped.command some.4
   where
@@ -85,7 +79,7 @@ in_work-somewhere H board is = let some = Any-from_list_any (λ (e : Entry). is_
     by (WorkStarted machine b) one = there machine (in_work_on H machine) refl (and_parts (same b board) (is_in_work_on H machine board) one).1
     by _ one = cc
 
--- after a command, a board that is in work on the machine was started there by it or was in work before; `test` holds of each such start
+-- A board in work on the machine was started there, now or earlier; `test` holds for such starts.
 started-step : (machine board : Name) (test : Command → Bool) → test (WorkStarted machine board) ≡ true → (command : Command) (before : Option (Option Name)) (rest : Bool)
     → unwrap_or (option_or (work_by machine command) before) None ≡ Some board → (unwrap_or before None ≡ Some board → rest ≡ true) → (test command || rest) ≡ true
 started-step machine board test of_start (WorkStarted m b) before rest at there = by (same m machine) refl at
@@ -109,7 +103,6 @@ started-by [] machine board test of_start at = cc
 started-by (e ∷ H) machine board test of_start at =
     started-step machine board test of_start e.stamped.command (latest (λ e. work_by machine e.stamped.command) H) _ at (started-by H machine board test of_start)
 
--- One that is in work on some machine is in work.
 pub somewhere-in_work : (H : History) (board : Name) → (machine : Name) × (in_work_on H machine ≡ Some board) → is_in_work H board ≡ true
 somewhere-in_work H board (machine, at) = started-by H machine board (is_in_work_where_started H board) of_start at
   where
@@ -118,7 +111,6 @@ somewhere-in_work H board (machine, at) = started-by H machine board (is_in_work
 
 -- ---- loaded slots
 
--- among what is read of the elements that give a name
 has-given : {X : Type 0} (read : X → Option Name) (xs : List X) (name : Name) → list_any (λ x. option_map_or (same name) (read x) false) xs ≡ has (filter_map read xs) name
 has-given read [] name = refl
 has-given read (x ∷ xs) name = by (read x) (has-given read xs name)
@@ -128,7 +120,6 @@ has-given read (x ∷ xs) name = by (read x) (has-given read xs name)
     by None rest = rest
     by (Some y) rest = ap (λ b. same name y || b) rest
 
--- A slot that has a tape is among the loaded ones.
 pub tape-loaded : (H : History) (machine slot : Name) → tape_of H machine slot ≢ [] → Contains (loaded_slots H machine) slot
 tape-loaded H machine slot some =
     Contains-from_any same-true slot (loaded_slots H machine) (

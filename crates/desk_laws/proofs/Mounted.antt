@@ -1,4 +1,4 @@
--- The mounted reels after one entry more.
+-- Mounted reels after one more entry.
 use Rattle.std.proofs.Math.Bool.{and-false, and-true}
 use Rattle.std.proofs.lemmas.Bool.{and_from, and_parts, not-false}
 use Rattle.std.proofs.Common.{◌≡◌, ℕ, ◌-◌, nat_lt, Bool, true, false, not, Option, Some, None, List, [], ◌∷◌, refl, sym, ap, ◌∙◌, unwrap_or, arith}
@@ -26,21 +26,17 @@ use Rattle.desk_laws.proofs.Places.{placed, live-placed, untouched-unplaced}
 
 -- ---- pieces left
 
--- whether the reel has pieces left
 abbrev some_left : History → Name → Bool
 some_left H reel = nat_lt 0 (left_of H reel)
 
--- what is left of the reel after the command
 abbrev left_after : History → Command → Name → ℕ
 left_after H command reel = unwrap_or (pieces_by reel command) (left_of H reel - pieces_picked (picks_of H command) reel)
 
--- taking nothing leaves all
 less-none : (n : ℕ) → n - 0 ≡ n
 less-none n = omega arith
 
 -- ---- places
 
--- tests of which each holds where the other does give the same
 pub iff : (a b : Bool) → (a ≡ true → b ≡ true) → (b ≡ true → a ≡ true) → a ≡ b
 iff true b there back = sym (there refl)
 iff false true there back = back refl
@@ -50,7 +46,6 @@ at-some : (machine slot : Name) (place : Option (Name × Name)) → is_at machin
 at-some machine slot None is = cc
 at-some machine slot (Some q) is = refl
 
--- whether the reel has a place and pieces left
 abbrev is_placed_with_some : History → Name → Bool
 is_placed_with_some H reel = is_some (place_of H reel) && some_left H reel
 
@@ -77,13 +72,11 @@ placed-mounted H reel (Some q) judged is some =
     has-live_on H q.0 q.1 reel
     ∙ and_from _ _ some (placed H q.0 q.1 reel judged some ∙ ap (is_at q.0 q.1) is ∙ and_from _ _ (same-refl q.0) (same-refl q.1)))
 
--- A mounted reel is one that has a place and pieces left.
 pub mounted-is : (H : History) (reel : Name) → IsJudged Two H → is_mounted H reel ≡ (is_some (place_of H reel) && some_left H reel)
 mounted-is H reel judged = iff _ _ (from-any H reel H judged) (placed-mounted H reel (place_of H reel) judged refl)
 
--- ---- one entry more
+-- ---- one more entry
 
--- no reel with pieces left has its place on a vacant slot
 off : (H : History) (machine slot reel : Name) → IsJudged Two H → is_vacant H machine slot ≡ true → some_left H reel ≡ true → is_at machine slot (place_of H reel) ≡ false
 off H machine slot reel judged vacant some =
     sym (placed H machine slot reel judged some) ∙ sym (has-live_on H machine slot reel ∙ ap (λ b. b && has (tape_of H machine slot) reel) some) ∙ none (live_on H machine slot) vacant
@@ -92,7 +85,6 @@ off H machine slot reel judged vacant some =
     none [] is = refl
     none (x ∷ xs) is = cc
 
--- where pieces are taken, a mounted reel that still has some stays so
 less : (H : History) (reel : Name) (command : Command) → (nat_lt 0 (left_after H command reel) ≡ true → some_left H reel ≡ true)
     → (is_some (place_of H reel) && nat_lt 0 (left_after H command reel)) ≡ (is_placed_with_some H reel && nat_lt 0 (left_after H command reel))
 less H reel command had = by (nat_lt 0 (left_after H command reel)) refl
@@ -101,7 +93,6 @@ less H reel command had = by (nat_lt 0 (left_after H command reel)) refl
     by true some = sym (and-true (is_placed_with_some H reel) ∙ ap (λ x. is_some (place_of H reel) && x) (had some))
     by false none = and-false _ ∙ sym (and-false (is_placed_with_some H reel))
 
--- after an accepted command
 mounted-step : (H : History) (minute : ℕ) (reel : Name) (command : Command) → IsJudged Two H → command_refusal Two H minute command ≡ None
     → (receipt_by reel minute command ≡ None → nat_lt 0 (left_after H command reel) ≡ true → some_left H reel ≡ true)
     → (is_some (place_after reel command (place_of H reel)) && nat_lt 0 (left_after H command reel))
@@ -146,7 +137,6 @@ mounted-step H minute reel (MaterialsUnloaded m s) judged accepted had =
     ∙ cases (some_left H reel) (is_at m s (place_of H reel)) (place_of H reel)
     ∙ ap (λ b. is_placed_with_some H reel && not b) (sym (there (some_left H reel) refl))
   where
-    -- the reel is live on the slot where it has pieces left and its place there
     there : (some : Bool) → some_left H reel ≡ some → has (live_on H m s) reel ≡ (some_left H reel && is_at m s (place_of H reel))
     there true some = has-live_on H m s reel ∙ ap (λ b. some_left H reel && b) (placed H m s reel judged some)
     there false none =
@@ -162,7 +152,6 @@ mounted-step H minute reel (MaterialsScrapped m s n) judged accepted had = less 
 mounted-step H minute reel (CountsTaken counts) judged accepted had = less H reel (CountsTaken counts) (had refl)
 mounted-step H minute reel _ judged accepted had = ap (λ n. is_some (place_of H reel) && nat_lt 0 n) (less-none (left_of H reel))
 
--- Whether a reel is mounted after one entry more, from whether it was before.
 pub mounted-next : (H : History) (e : Entry) (reel : Name) → IsJudged Two (e ∷ H)
     → is_mounted (e ∷ H) reel ≡ mounted_after (some_left (e ∷ H) reel) (λ m s. has (live_on H m s) reel) reel e.stamped.command (is_mounted H reel)
 unfolding left_of place_of

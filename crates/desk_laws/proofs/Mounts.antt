@@ -1,4 +1,4 @@
--- Which reels stand on slots, and which entries put them there.
+-- The reels on slots, and the entries that put them there.
 use Rattle.std.proofs.lemmas.Bool.{and_parts, or_left, or_right}
 use Rattle.std.proofs.Common.{◌≡◌, Bool, true, false, Option, Some, None, List, [], ◌∷◌, refl, sym, ap, ◌∙◌}
 use Rattle.std.specs.Prelude.{nat_lt, is_none, is_some, ◌&&◌, ◌||◌, if◌then◌else◌}
@@ -21,22 +21,19 @@ use Rattle.desk_laws.specs.Verified.{mounts}
 use Rattle.desk_laws.proofs.Judgements.{untouched}
 use Rattle.desk_types.proofs.Keys.{same-refl, same-sym, same-true}
 
--- whether the reel stands among the reels
 abbrev pub has : List Name → Name → Bool
 has reels reel = list_any (same reel) reels
 
 -- ---- live reels
 
--- a filter keeps a reel that passes its test, and no other
 pub has-filter : (p : Name → Bool) (reels : List Name) (reel : Name) → has (filter (λ r. p r) reels) reel ≡ (p reel && has reels reel)
 has-filter p reels reel = any-filter_same (same reel) p (p reel) (λ r is. ap p (sym (same-true reel r is))) reels
 
--- a reel is live on a slot where it stands on its tape and has pieces left
 pub has-live_on : (H : History) (machine slot reel : Name) → has (live_on H machine slot) reel ≡ (nat_lt 0 (left_of H reel) && has (tape_of H machine slot) reel)
 unfolding live_on
 has-live_on H machine slot reel = has-filter (λ r. nat_lt 0 (left_of H r)) (tape_of H machine slot) reel
 
--- ---- which entry put it there
+-- ---- the entry that mounted a reel
 
 has-one : (r reel : Name) (rest : Bool) → has (r ∷ []) reel ≡ true → (same r reel || rest) ≡ true
 has-one r reel rest is = by (same reel r) (same-sym reel r) is
@@ -45,7 +42,6 @@ has-one r reel rest is = by (same reel r) (same-sym reel r) is
     by true eq is = or_left _ rest (sym eq)
     by false eq is = cc
 
--- a reel that stands on a tape after a splice stood there before or is the one that was joined
 has-tape_with : (reels : List Name) (r reel : Name) (rest : Bool) → has (tape_with reels r) reel ≡ true → (has reels reel ≡ true → rest ≡ true)
     → (same r reel || rest) ≡ true
 has-tape_with [] r reel rest is there = cc
@@ -55,7 +51,6 @@ has-tape_with (x ∷ xs) r reel rest is there = by (has (x ∷ xs) reel) refl (s
     by true before is = or_right _ rest (there before)
     by false before is = has-one r reel rest is
 
--- after a command, the reel was put there by it or stood there before
 pub mounted-step : (machine slot reel : Name) (command : Command) (reels : List Name) (rest : Bool) → has (tape_after machine slot command reels) reel ≡ true
     → (has reels reel ≡ true → rest ≡ true) → (mounts machine slot reel command || rest) ≡ true
 mounted-step machine slot reel (MaterialsLoaded m s r) reels rest is there = by (same m machine && same s slot) is
@@ -75,7 +70,6 @@ mounted-step machine slot reel (MaterialsUnloaded m s) reels rest is there = by 
     by false is = there is
 mounted-step machine slot reel _ reels rest is there = there is
 
--- A reel that stands on the tape of a slot was loaded or spliced there by some entry.
 pub mounted-by : (H : History) (machine slot reel : Name) → has (tape_of H machine slot) reel ≡ true
     → list_any (λ (e : Entry). mounts machine slot reel e.stamped.command) H ≡ true
 unfolding tape_of
@@ -88,7 +82,6 @@ not-there true true none = cc
 not-there true false none = refl
 not-there false b none = refl
 
--- a command that does not handle the reel puts it on no slot
 untouched-mounts : (machine slot reel : Name) (command : Command) → open_by reel command ≡ None → mounts machine slot reel command ≡ false
 untouched-mounts machine slot reel (MaterialsLoaded m s r) none = not-there (same m machine && same s slot) (same r reel) none
 untouched-mounts machine slot reel (MaterialsSpliced m s r) none = not-there (same m machine && same s slot) (same r reel) none
@@ -100,7 +93,6 @@ mounts-none (e ∷ H) machine slot reel (none, all) =
     ap (λ b. b || list_any (λ (e' : Entry). mounts machine slot reel e'.stamped.command) H) (untouched-mounts machine slot reel e.stamped.command none)
     ∙ mounts-none H machine slot reel all
 
--- A reel that was not received stands on no tape.
 pub unreceived-nowhere : (H : History) (machine slot reel : Name) → IsJudged Two H → receipt_of H reel ≡ None → has (tape_of H machine slot) reel ≡ false
 unreceived-nowhere H machine slot reel judged none = by (has (tape_of H machine slot) reel) refl
   where
@@ -110,7 +102,8 @@ unreceived-nowhere H machine slot reel judged none = by (has (tape_of H machine 
 
 -- ---- loaded slots
 
--- after a command, a slot that has a tape was loaded by it or had one before; `test` holds of each load of the slot
+-- A slot with a tape after a command was loaded by it or had one before; `test` holds for its
+-- loads.
 loaded-step : (machine slot : Name) (test : Command → Bool) → ((r : Name) → test (MaterialsLoaded machine slot r) ≡ true) → (command : Command)
     (reels : List Name) (rest : Bool) → is_none (first (tape_after machine slot command reels)) ≡ false → (is_none (first reels) ≡ false → rest ≡ true)
     → (test command || rest) ≡ true
@@ -136,7 +129,6 @@ loaded-step machine slot test of_load (MaterialsUnloaded m s) reels rest some th
     by false some = some
 loaded-step machine slot test of_load _ reels rest some there = or_right _ rest (there some)
 
--- A slot that has a tape was loaded: some entry passes each test that holds of its loads.
 pub loaded-by : (H : History) (machine slot : Name) (test : Command → Bool) → ((r : Name) → test (MaterialsLoaded machine slot r) ≡ true)
     → is_none (first (tape_of H machine slot)) ≡ false → list_any (λ (e : Entry). test e.stamped.command) H ≡ true
 unfolding tape_of
@@ -144,12 +136,10 @@ loaded-by [] machine slot test of_load some = cc
 loaded-by (e ∷ H) machine slot test of_load some =
     loaded-step machine slot test of_load e.stamped.command (tape_of H machine slot) _ some (loaded-by H machine slot test of_load)
 
--- reels among which one stands are some
 pub has-first : (reels : List Name) (reel : Name) → has reels reel ≡ true → is_none (first reels) ≡ false
 has-first [] reel is = cc
 has-first (x ∷ xs) reel is = refl
 
--- A reel that is live on some slot is mounted.
 pub live-mounted : (H : History) (machine slot reel : Name) → has (live_on H machine slot) reel ≡ true → is_mounted H reel ≡ true
 live-mounted H machine slot reel is =
     loaded-by H machine slot (is_live_where_loaded H reel) (λ r. is) (has-first (tape_of H machine slot) reel on_tape)
@@ -157,7 +147,6 @@ live-mounted H machine slot reel is =
     on_tape : has (tape_of H machine slot) reel ≡ true
     on_tape = (and_parts (nat_lt 0 (left_of H reel)) _ (sym (has-live_on H machine slot reel) ∙ is)).1
 
--- A live reel was received.
 pub live-received : (H : History) (machine slot reel : Name) → IsJudged Two H → has (live_on H machine slot) reel ≡ true → is_some (receipt_of H reel) ≡ true
 live-received H machine slot reel judged is = by (receipt_of H reel) refl
   where
@@ -174,10 +163,8 @@ first-there : (reels : List Name) (reel : Name) → first reels ≡ Some reel �
 first-there [] reel is = cc
 first-there (x ∷ xs) reel is = let same-one = same-refl reel in cc
 
--- The front reel of a slot is mounted.
 pub front-mounted : (H : History) (machine slot reel : Name) → front_of H machine slot ≡ Some reel → is_mounted H reel ≡ true
 front-mounted H machine slot reel is = live-mounted H machine slot reel (first-there (live_on H machine slot) reel is)
 
--- The front reel of a slot was received.
 pub front-received : (H : History) (machine slot reel : Name) → IsJudged Two H → front_of H machine slot ≡ Some reel → is_some (receipt_of H reel) ≡ true
 front-received H machine slot reel judged is = live-received H machine slot reel judged (first-there (live_on H machine slot) reel is)

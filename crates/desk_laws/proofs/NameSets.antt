@@ -1,4 +1,4 @@
--- Sets of names, and the two traces.
+-- Sets of names, and traces.
 use Rattle.std.proofs.Math.Bool.{and_comm, or_self_left}
 use Rattle.std.proofs.Common.{◌≡◌, ◌↔◌, Bool, true, false, Contains, List, [], ◌∷◌, filter, map, refl, sym, ap, ◌∙◌}
 use Rattle.std.specs.Prelude.{if◌then◌else◌, ◌||◌, ◌&&◌}
@@ -18,7 +18,6 @@ use Rattle.desk_types.proofs.Keys.{same-sym, same-true, is_at-by_name, list_any-
 use Rattle.desk_types.proofs.Tests.{swap-or}
 use Rattle.desk_laws.proofs.Mounts.{has}
 
--- a name that is put into a set
 has-insert : (names : List Name) (name other : Name) → has (insert_key by_name names name) other ≡ (same other name || has names other)
 has-insert [] name other = refl
 has-insert (x ∷ xs) name other = by (by_name name x) refl (has-insert xs name other)
@@ -34,14 +33,12 @@ has-insert (x ∷ xs) name other = by (by_name name x) refl (has-insert xs name 
         equal a b is = cc
     by Greater o rest = ap (λ b. same other x || b) rest ∙ swap-or (same other x) (same other name) (has xs other)
 
--- A set has the names that it was made of.
 pub has-set : (names : List Name) (other : Name) → has (set_of names) other ≡ has names other
 has-set [] other = refl
 has-set (x ∷ xs) other = has-insert (set_of xs) x other ∙ ap (λ b. same other x || b) (has-set xs other)
 
 -- ---- traces
 
--- among what is read of the elements that pass a test
 has-read : {X : Type 0} (read : X → Name) (test : X → Bool) (xs : List X) (name : Name)
     → has (map read (filter test xs)) name ≡ list_any (λ x. test x && same name (read x)) xs
 has-read read test [] name = refl
@@ -52,7 +49,6 @@ has-read read test (x ∷ xs) name = by (test x) (has-read read test xs name)
     by true rest = ap (λ b. same name (read x) || b) rest
     by false rest = rest
 
--- The board holds a piece of the lot exactly where the lot has a piece on the board.
 pub traces-agree : (H : History) (board lot : Name) → has (lots_of H board) lot ≡ has (boards_of H lot) board
 traces-agree H board lot =
     has-set _ lot
@@ -62,7 +58,6 @@ traces-agree H board lot =
     ∙ sym (has-read (λ (p : Placement). p.board) (λ p. same p.lot lot) (placements_of H) board)
     ∙ sym (has-set _ board)
 
--- the same in the words of elements
 pub traces-converse : (H : History) (board lot : Name) → Contains (lots_of H board) lot ↔ Contains (boards_of H lot) board
 traces-converse H board lot = (
   λ there. Contains-from_any same-true board (boards_of H lot) (sym (traces-agree H board lot) ∙ list_any-from_Contains nat_list_eq_equiv lot (lots_of H board) there),

@@ -1,4 +1,4 @@
--- Mounted reels lie out of their bags, and their exposure goes on.
+-- Mounted reels are out of their bags, so their exposure grows.
 use Rattle.std.proofs.Common.{◌≡◌, ℕ, ◌+◌, ◌-◌, ◌≤◌, Bool, true, false, Option, Some, None, [], ◌∷◌, refl, sym, ap, ◌∙◌, unwrap_or, arith}
 use Rattle.std.specs.Prelude.{is_some, if◌then◌else◌}
 use Rattle.std.specs.Option.{option_map, option_or}
@@ -24,16 +24,13 @@ use Rattle.desk_laws.proofs.Mounted.{mounted-next}
 
 -- ---- out of its bag
 
--- a reel that is opened is out, since then or since before
 opened : (since : Option ℕ) (minute : ℕ) → is_some (option_or since (Some minute)) ≡ true
 opened None minute = refl
 opened (Some earlier) minute = refl
 
--- a reel at rest is not mounted
 resting : (H : History) (r reel : Name) → same r reel ≡ true → is_mounted H r ≡ false → is_mounted H reel ≡ true → true ≡ false
 resting H r reel here rest mounted = sym mounted ∙ ap (is_mounted H) (sym (same-true r reel here)) ∙ rest
 
--- a reel that is mounted after an accepted command is out then, if it was out where it was mounted before
 stays-out : (H : History) (minute : ℕ) (some : Bool) (live : Name → Name → Bool) (reel : Name) (command : Command) → command_refusal Two H minute command ≡ None
     → mounted_after some live reel command (is_mounted H reel) ≡ true → (is_mounted H reel ≡ true → is_some (out_since H reel) ≡ true)
     → is_some (since_after (open_by reel command) minute (out_since H reel)) ≡ true
@@ -74,7 +71,6 @@ stays-out H minute some live reel (MaterialsScrapped m s n) accepted mounted bef
 stays-out H minute some live reel (CountsTaken counts) accepted mounted before = before (and_parts _ _ mounted).0
 stays-out H minute some live reel _ accepted mounted before = before mounted
 
--- A mounted reel lies out of its bag.
 pub mounted-out : (H : History) (reel : Name) → IsJudged Two H → is_mounted H reel ≡ true → is_some (out_since H reel) ≡ true
 mounted-out [] reel judged mounted = cc
 mounted-out (e ∷ H) reel (next, judged) mounted =
@@ -82,7 +78,6 @@ mounted-out (e ∷ H) reel (next, judged) mounted =
 
 -- ---- exposure of a reel that is out
 
--- from the last entry on it is out
 out-at : (H : History) (reel : Name) (minute : ℕ) → AreBy H minute → is_some (out_since H reel) ≡ true → is_out_at H reel minute ≡ true
 out-at [] reel minute all out = cc
 out-at (e ∷ H) reel minute (first, all) out = by (open_by reel e.stamped.command) refl out (out-at H reel minute all)
@@ -93,7 +88,6 @@ out-at (e ∷ H) reel minute (first, all) out = by (open_by reel e.stamped.comma
     by (Some false) is out before = cc
     by None is out before = is_out-untouched H e reel minute is ∙ before out
 
--- a bake has the minute of its command, and so has a receipt
 bake-minute : (reel : Name) (minute : ℕ) (command : Command) (told : ℕ) → bake_by reel minute command ≡ Some told → told ≡ minute
 bake-minute reel minute (ReelBaked r) told is = by (same r reel) is
   where
@@ -132,7 +126,6 @@ receipt_of-by (e ∷ H) reel minute receipt (first, all) is = by (receipt_by ree
         omega (arith, same-one, told-is, first)
     by None says is before = before is
 
--- Exposure begins by the minute by which all entries took effect.
 pub starts-by : (H : History) (reel : Name) (minute : ℕ) → AreBy H minute → exposure_starts H reel ≤ minute
 starts-by H reel minute all = by (last_bake H reel) refl
   where
@@ -144,7 +137,6 @@ starts-by H reel minute all = by (last_bake H reel) refl
     by (Some told) is = last_bake-by H reel minute told all is
     by None is = at (receipt_of H reel) refl
 
--- The exposure of a reel that is out goes on minute by minute.
 out-goes-on : (H : History) (reel : Name) (now minute : ℕ) → AreBy H now → is_some (out_since H reel) ≡ true → now ≤ minute
     → exposure_of H reel minute ≡ exposure_of H reel now + (minute - now)
 unfolding exposure_of
@@ -153,7 +145,6 @@ out-goes-on H reel now minute all out le =
     let rest = count-one (is_out_at H reel) true now minute (λ t low high. out-at H reel t (by-later H now t low all) out) in
     omega (arith, parts, rest)
 
--- The exposure of a mounted reel goes on minute by minute from the desk minute.
 pub mounted-goes-on : (H : History) (reel : Name) (minute : ℕ) → IsJudged Two H → is_mounted H reel ≡ true → now_of H ≤ minute
     → exposure_of H reel minute ≡ exposure_of H reel (now_of H) + (minute - now_of H)
 mounted-goes-on H reel minute judged mounted le = out-goes-on H reel (now_of H) minute (by-desk_minute H) (mounted-out H reel judged mounted) le

@@ -24,13 +24,11 @@ use Rattle.desk_types.proofs.Keys.{same-refl, same-sym, same-true}
 use Rattle.desk_laws.proofs.Accepted.{none-holds}
 use Rattle.desk_laws.proofs.Judgements.{or-none}
 
--- ---- lists of picks
+-- ---- concatenated picks
 
--- the picks of two lists together
 pub pieces_picked-append : (before after : List Pick) (reel : Name) → pieces_picked (before ++ after) reel ≡ pieces_picked before reel + pieces_picked after reel
 pieces_picked-append before after reel = sum_by-append (λ (p : Pick). if same p.reel reel then p.quantity else 0) before after
 
--- a pick of n pieces is n pieces of its reel
 pub pieces_picked-off : (r : Name) (n : ℕ) (purpose : Purpose) (reel : Name) → pieces_picked (pieces_off r n purpose) reel ≡ if same r reel then n else 0
 pieces_picked-off r n purpose reel = by (nat_lt 0 n) refl
   where
@@ -43,7 +41,6 @@ pieces_picked-off r n purpose reel = by (nat_lt 0 n) refl
     by true is = zero-add _
     by false is = let none = ltb-false 0 n is in empty (same r reel) (omega (arith, none))
 
--- what holds of a pick of n pieces holds of each that is made of it, which is none where n is 0
 pub all-off : (P : Pick → Type 0) (r : Name) (n : ℕ) (purpose : Purpose) → P (record { reel = r; quantity = n; purpose = purpose }) → AllByRecursion P (pieces_off r n purpose)
 all-off P r n purpose holds = by (nat_lt 0 n)
   where
@@ -51,7 +48,6 @@ all-off P r n purpose holds = by (nat_lt 0 n)
     by true = (holds, tt)
     by false = tt
 
--- what a search finds passes its test
 pub find-passes : {X : Type 0} (p : X → Bool) (xs : List X) (x : X) → find p xs ≡ Some x → p x ≡ true
 find-passes p [] x is = cc
 find-passes p (y ∷ ys) x is = by (p y) refl is (find-passes p ys x)
@@ -62,7 +58,6 @@ find-passes p (y ∷ ys) x is = by (p y) refl is (find-passes p ys x)
 
 -- ---- installs
 
--- one more pick of a reel that has a piece left after those before
 one-within : (pieces : Name → ℕ) (purpose : Purpose) (before : List Pick) (reel : Name) (found : Option Name)
     → ((r : Name) → found ≡ Some r → nat_lt (pieces_picked before r) (pieces r) ≡ true) → pieces_picked before reel ≤ pieces reel
     → pieces_picked (before ++ option_to_list (option_map (λ r. record { reel = r; quantity = 1; purpose = purpose }) found)) reel ≤ pieces reel
@@ -88,7 +83,6 @@ picks-one slot_of tape pieces machine board before d reel within = by (slot_of d
         one-within pieces (Placed board d machine s) before reel (find (λ r. nat_lt (pieces_picked before r) (pieces r)) (tape s))
         (λ r found. find-passes (λ x. nat_lt (pieces_picked before x) (pieces x)) (tape s) r found) within
 
--- The picks of an install are no more of a reel than it has, where those before are not.
 pub install-within : (slot_of : Name → Option Name) (tape : Name → List Name) (pieces : Name → ℕ) (machine board : Name) (before : List Pick) (ds : List Name) (reel : Name)
     → pieces_picked before reel ≤ pieces reel → pieces_picked (install_picks slot_of tape pieces machine board before ds) reel ≤ pieces reel
 unfolding install_picks
@@ -99,7 +93,6 @@ install-within slot_of tape pieces machine board before (d ∷ ds) reel within =
 
 -- ---- scraps
 
--- a reel that does not stand on the tape
 scrap-absent : (pieces : Name → ℕ) (purpose : Purpose) (reels : List Name) (n : ℕ) (reel : Name) → AllByRecursion (λ y. same reel y ≡ false) reels
     → pieces_picked (scrap_picks pieces purpose reels n) reel ≡ 0
 scrap-absent pieces purpose [] n reel absent = refl
@@ -110,7 +103,6 @@ scrap-absent pieces purpose (r ∷ rs) n reel (differs, absent) =
     ∙ zero-add (pieces_picked (scrap_picks pieces purpose rs (n - pieces r)) reel)
     ∙ scrap-absent pieces purpose rs (n - pieces r) reel absent
 
--- The picks of a scrap are no more of a reel than it has, where it stands on the tape once at most.
 pub scrap-within : (pieces : Name → ℕ) (purpose : Purpose) (reels : List Name) (n : ℕ) (reel : Name) → IsDistinct same reels
     → pieces_picked (scrap_picks pieces purpose reels n) reel ≤ pieces reel
 scrap-within pieces purpose [] n reel distinct = omega arith
@@ -133,14 +125,13 @@ scrap-within pieces purpose (r ∷ rs) n reel distinct = by (same r reel) refl (
 
 -- ---- counts
 
--- the tests of one row of a count
+-- The tests of one row of a count.
 pub record IsCountable (H : History) (seen : List Name) (row : CountRow) : Type 0 where
   pub received : is_none (receipt_of H row.reel) ≡ false
   pub once : list_any (same row.reel) seen ≡ false
   pub not_mounted : is_mounted H row.reel ≡ false
   pub spent : ((left_of H row.reel == 0) && nat_lt 0 row.quantity) ≡ false
 
--- what an accepted count says of its first row, and of the others
 pub countable : (H : History) (seen : List Name) (row : CountRow) (rows : List CountRow) → counts_refusal Two H seen (row ∷ rows) ≡ None
     → IsCountable H seen row × (counts_refusal Two H (seen ++ row.reel ∷ []) rows ≡ None)
 countable H seen row rows none =
@@ -156,7 +147,6 @@ countable H seen row rows none =
         ∷ ((left_of H row.reel == 0) && nat_lt 0 row.quantity, CountAbove row.reel)
         ∷ []
 
--- a reel of a row before is in no further row
 pub count-absent : (H : History) (pieces : Name → ℕ) (seen : List Name) (rows : List CountRow) (reel : Name) → counts_refusal Two H seen rows ≡ None
     → list_any (same reel) seen ≡ true → pieces_picked (count_picks pieces rows) reel ≡ 0
 count-absent H pieces seen [] reel none before = refl
@@ -172,23 +162,20 @@ count-absent H pieces seen (row ∷ rows) reel none before =
     away true here = let one = same-true row.reel reel here in let once = (countable H seen row rows none).0.once in cc
     away false is = is
 
--- what an accepted count does with one reel: it takes no more than there is; where it tells the pieces, they are what it leaves and what it
--- finds; and it finds nothing on a spent reel
+-- A count takes at most the remaining pieces of a reel, leaves and finds what its row says, and
+-- finds nothing on a spent reel.
 pub record IsCounted (H : History) (rows : List CountRow) (reel : Name) : Type 0 where
   pub within : pieces_picked (count_picks (left_of H) rows) reel ≤ left_of H reel
   pub told : unwrap_or (option_map (λ (row : CountRow). row.quantity) (find (λ row. same row.reel reel) rows)) (left_of H reel - pieces_picked (count_picks (left_of H) rows) reel)
       ≡ left_of H reel - pieces_picked (count_picks (left_of H) rows) reel + found_by (left_of H reel) reel (CountsTaken rows)
   pub spent : left_of H reel ≡ 0 → found_by (left_of H reel) reel (CountsTaken rows) ≡ 0
 
--- what nothing is found on
 pub and-nothing : (n : ℕ) → n ≡ n + 0
 and-nothing n = omega arith
 
--- a count that is no rise of a spent reel says that it has none
 pub spent-none : (left counted : ℕ) → ((left == 0) && nat_lt 0 counted) ≡ false → left ≡ 0 → counted ≡ 0
 spent-none left counted test none = let few = ltb-false 0 counted (sym (ap (λ n. (n == 0) && nat_lt 0 counted) none) ∙ test) in omega (arith, few)
 
--- An accepted count does so.
 pub counted : (H : History) (seen : List Name) (rows : List CountRow) (reel : Name) → counts_refusal Two H seen rows ≡ None → IsCounted H rows reel
 counted H seen [] reel none = record { within = omega arith; told = and-nothing _; spent = λ empty. refl }
 counted H seen (row ∷ rows) reel none = by (same row.reel reel) refl (both ∙ ap (λ k. k + rest) (pieces_picked-off row.reel (left_of H row.reel - row.quantity) Counted reel))
@@ -200,7 +187,6 @@ counted H seen (row ∷ rows) reel none = by (same row.reel reel) refl (both ∙
     whole : ℕ
     whole = pieces_picked (count_picks (left_of H) (row ∷ rows)) reel
 
-    -- the row of the reel among the others, and what a row finds
     later : Option CountRow
     later = find (λ r. same r.reel reel) rows
 

@@ -1,4 +1,4 @@
--- Each pick comes off the one slot on which its reel is live.
+-- Each pick comes from the only slot where its reel is live.
 use Rattle.std.proofs.Common.{◌≡◌, ℕ, ◌-◌, min, nat_lt, true, Option, Some, None, List, [], ◌∷◌, ◌++◌, find, refl, sym, ap, ◌∙◌, subst}
 use Rattle.std.specs.Prelude.{◌&&◌}
 use Rattle.std.specs.Option.{option_and_then, option_map, option_to_list}
@@ -29,11 +29,9 @@ use Rattle.desk_laws.proofs.Picks.{all-off, countable}
 use Rattle.desk_laws.proofs.Places.{one-slot}
 use Rattle.desk_laws.proofs.InstalledPieces.{find-there}
 
--- A live reel has pieces left.
 pub live-pieces : (H : History) (machine slot reel : Name) → has (live_on H machine slot) reel ≡ true → nat_lt 0 (left_of H reel) ≡ true
 live-pieces H machine slot reel live = (and_parts _ (has (tape_of H machine slot) reel) (sym (has-live_on H machine slot reel) ∙ live)).0
 
--- a reel that is live on a slot is so on no other
 alone : (H : History) (m s machine slot reel : Name) → IsJudged Two H → has (live_on H m s) reel ≡ true → has (live_on H machine slot) reel ≡ true
     → (same m machine && same s slot) ≡ true
 alone H m s machine slot reel judged here there =
@@ -42,7 +40,7 @@ alone H m s machine slot reel judged here there =
 
 -- ---- installs
 
--- the reel of a piece for a designator is live on no slot but the designator's
+-- A designator's reel is live only on the designator's slot.
 pick-alone : (H : History) (slot_of : Name → Option Name) (machine board : Name) (before : List Pick) (d : Name) → IsJudged Two H
     → AllByRecursion (IsOnItsSlot (live_on H)) (option_to_list (pick_for slot_of (live_on H machine) (left_of H) machine board before d))
 pick-alone H slot_of machine board before d judged = by (slot_of d)
@@ -62,7 +60,6 @@ pick-alone H slot_of machine board before d judged = by (slot_of d)
         found slot (find (λ r. nat_lt (pieces_picked before r) (left_of H r)) (live_on H machine slot))
         (λ r is. find-there (λ x. nat_lt (pieces_picked before x) (left_of H x)) (live_on H machine slot) r is)
 
--- so are those of more designators
 install-alone : (H : History) (slot_of : Name → Option Name) (machine board : Name) (before : List Pick) (ds : List Name) → IsJudged Two H
     → AllByRecursion (IsOnItsSlot (live_on H)) before → AllByRecursion (IsOnItsSlot (live_on H)) (install_picks slot_of (live_on H machine) (left_of H) machine board before ds)
 unfolding install_picks
@@ -73,7 +70,6 @@ install-alone H slot_of machine board before (d ∷ ds) judged all =
 
 -- ---- scraps and counts
 
--- the picks of a scrap come off reels that are live on its slot, and so on no other
 scrap-alone : (H : History) (m s : Name) (reels : List Name) (n : ℕ) → IsJudged Two H → ((r : Name) → has reels r ≡ true → has (live_on H m s) r ≡ true)
     → AllByRecursion (IsOnItsSlot (live_on H)) (scrap_picks (left_of H) (Rejected m s) reels n)
 scrap-alone H m s [] n judged live = tt
@@ -82,7 +78,6 @@ scrap-alone H m s (r ∷ rs) n judged live =
     (all-off (IsOnItsSlot (live_on H)) r _ (Rejected m s) (λ machine slot there. alone H m s machine slot r judged (live r (or_left (same r r) _ (same-refl r))) there))
     (scrap-alone H m s rs (n - left_of H r) judged (λ x there. live x (or_right (same x r) _ there)))
 
--- a reel that is counted is live on no slot
 count-alone : (H : History) (seen : List Name) (rows : List CountRow) → counts_refusal Two H seen rows ≡ None
     → AllByRecursion (IsOnItsSlot (live_on H)) (count_picks (left_of H) rows)
 count-alone H seen [] none = tt
@@ -94,7 +89,7 @@ count-alone H seen (row ∷ rows) none =
 
 -- ---- any command
 
--- the reels of all picks of an accepted command are so
+-- Each pick of an accepted command comes from its reel's only slot.
 alone-by : (H : History) (minute : ℕ) (command : Command) → IsJudged Two H → command_refusal Two H minute command ≡ None
     → AllByRecursion (IsOnItsSlot (live_on H)) (picks_of H command)
 unfolding command_refusal
@@ -105,6 +100,5 @@ alone-by H minute (MaterialsScrapped m s n) judged accepted =
 alone-by H minute (CountsTaken counts) judged accepted = count-alone H [] counts accepted
 alone-by H minute _ judged accepted = tt
 
--- The reel of each pick of an accepted command is live on no slot but the one that the pick's pieces come off.
 pub picks-alone : (H : History) (e : Entry) → IsJudged Two (e ∷ H) → AllByRecursion (IsOnItsSlot (live_on H)) (picks_of H e.stamped.command)
 picks-alone H e (next, judged) = alone-by H e.effective e.stamped.command judged (next-accepted H e next)

@@ -1,4 +1,4 @@
--- Each reel with pieces left stands on the slot of its place and on no other.
+-- Each reel with pieces left is on the slot of its place and on no other.
 use Rattle.std.proofs.Common.{Contains, ◌≡◌, ℕ, nat_lt, Bool, true, false, Option, Some, None, List, [], ◌∷◌, ◌++◌, filter, refl, sym, ap, ◌∙◌}
 use Rattle.std.specs.Prelude.{if◌then◌else◌, ◌&&◌, is_none}
 use Rattle.std.specs.Cmp.Lexicographic.{nat_list_eq_equiv}
@@ -27,12 +27,10 @@ use Rattle.desk_laws.proofs.Tapes.{unmounted-nowhere}
 
 -- ---- splices
 
--- a slot is as vacant as one of the same names
 pub vacant-same : (H : History) (machine slot m s : Name) → (same m machine && same s slot) ≡ true → is_vacant H m s ≡ is_vacant H machine slot
 vacant-same H machine slot m s here =
     ap (λ x. is_vacant H x s) (same-true m machine (and_parts _ _ here).0) ∙ ap (λ x. is_vacant H machine x) (same-true s slot (and_parts _ _ here).1)
 
--- a slot that is not vacant has a tape, to which a reel is joined
 pub joined : (H : History) (machine slot r : Name) → is_vacant H machine slot ≡ false → tape_with (tape_of H machine slot) r ≡ tape_of H machine slot ++ r ∷ []
 unfolding live_on
 joined H machine slot r some = by (tape_of H machine slot) some
@@ -41,7 +39,6 @@ joined H machine slot r some = by (tape_of H machine slot) some
     by [] some = cc
     by (x ∷ xs) some = refl
 
--- the same where the slot is given by names that are the same
 pub joined-same : (H : History) (machine slot m s r : Name) → (same m machine && same s slot) ≡ true → is_vacant H m s ≡ false
     → tape_with (tape_of H machine slot) r ≡ tape_of H machine slot ++ r ∷ []
 joined-same H machine slot m s r here some = joined H machine slot r (sym (vacant-same H machine slot m s here) ∙ some)
@@ -62,7 +59,6 @@ untouched-after reel (MaterialsSpliced m s r) none = by (same r reel) none
 untouched-after reel (MaterialsUnloaded m s) none = refl
 untouched-after reel _ none = refl
 
--- A reel that no command handles has no place.
 pub untouched-unplaced : (H : History) (reel : Name) → IsUntouched H reel → place_of H reel ≡ None
 unfolding place_of
 untouched-unplaced [] reel all = refl
@@ -70,7 +66,6 @@ untouched-unplaced (e ∷ H) reel (none, all) = ap (place_after reel e.stamped.c
 
 -- ---- reels with pieces left
 
--- after an accepted command
 on-step : (H : History) (minute : ℕ) (machine slot reel : Name) (command : Command) → IsJudged Two H → command_refusal Two H minute command ≡ None
     → (receipt_by reel minute command ≡ None → nat_lt 0 (left_of H reel) ≡ true)
     → (nat_lt 0 (left_of H reel) ≡ true → IsOn machine slot reel (tape_of H machine slot) (place_of H reel))
@@ -102,7 +97,6 @@ on-step H minute machine slot reel (MaterialsUnloaded m s) judged accepted had o
     on-unload machine slot reel m s (tape_of H machine slot) (place_of H reel) (on (had refl))
 on-step H minute machine slot reel _ judged accepted had on = on (had refl)
 
--- A reel with pieces left stands on the tape of a slot exactly where that is its place.
 pub placed : (H : History) (machine slot reel : Name) → IsJudged Two H → nat_lt 0 (left_of H reel) ≡ true → has (tape_of H machine slot) reel ≡ is_at machine slot (place_of H reel)
 unfolding tape_of place_of left_of
 placed [] machine slot reel judged some = cc
@@ -111,13 +105,11 @@ placed (e ∷ H) machine slot reel (next, judged) some =
     (λ other. some-next H e reel (next, judged) other some)
     (placed H machine slot reel judged)
 
--- A reel that is live on a slot has its place there.
 pub live-placed : (H : History) (machine slot reel : Name) → IsJudged Two H → has (live_on H machine slot) reel ≡ true → is_at machine slot (place_of H reel) ≡ true
 live-placed H machine slot reel judged live =
     let both = and_parts (nat_lt 0 (left_of H reel)) (has (tape_of H machine slot) reel) (sym (has-live_on H machine slot reel) ∙ live) in
     sym (placed H machine slot reel judged both.0) ∙ both.1
 
--- A reel is live on one slot.
 pub one-slot : (H : History) (m s machine slot reel : Name) → IsJudged Two H → Contains (live_on H m s) reel → Contains (live_on H machine slot) reel
     → (m ≡ machine) × (s ≡ slot)
 one-slot H m s machine slot reel judged one other =

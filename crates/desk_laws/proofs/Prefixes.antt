@@ -1,4 +1,4 @@
--- Runs in parts, and what later entries leave as it was.
+-- Runs in two parts, and facts that later entries keep.
 use Rattle.std.proofs.Common.{◌≡◌, List, [], ◌∷◌, ◌++◌, filter_map, refl, sym, ap, ◌∙◌}
 use Rattle.std.proofs.lemmas.List.{append_assoc, append-nil}
 use Rattle.std.proofs.lemmas.List.Elements.{filter_map-append}
@@ -10,17 +10,14 @@ use Rattle.desk_types.specs.History.{History, IsPrefix}
 use Rattle.desk_types.specs.Outcome.{reply_to, after_command, replies_to, after_commands}
 use Rattle.desk_types.specs.Placements.{EntryTake, entry_takes, takes_of, placement_of, placements_of}
 
--- The replies to two runs in turn are those to the first, and those to the second on the list that the first left.
 pub replies-append : (rules : Rules) (H : History) (first second : List Stamped) → replies_to rules H (first ++ second) ≡ replies_to rules H first ++ replies_to rules (after_commands rules H first) second
 replies-append rules H [] second = refl
 replies-append rules H (s ∷ ss) second = ap (λ replies. reply_to rules H s ∷ replies) (replies-append rules (after_command rules H s) ss second)
 
--- The list after both is that after the second on the list that the first left.
 pub after-append : (rules : Rules) (H : History) (first second : List Stamped) → after_commands rules H (first ++ second) ≡ after_commands rules (after_commands rules H first) second
 after-append rules H [] second = refl
 after-append rules H (s ∷ ss) second = after-append rules (after_command rules H s) ss second
 
--- the takes of later entries come after those of a list
 takes-later : (later : List Entry) (G : History) → (more : List EntryTake) × (takes_of (later ++ G) ≡ takes_of G ++ more)
 unfolding takes_of
 takes-later [] G = ([], sym (append-nil (takes_of G)))
@@ -30,7 +27,7 @@ takes-later (e ∷ later) G =
       ap (λ ts. ts ++ entry_takes (later ++ G) e) before.1 ∙ append_assoc (takes_of G) before.0 (entry_takes (later ++ G) e),
     )
 
--- The placements of a list begin those of each list that it begins.
+-- Later entries only append placements.
 pub placements-final : (G H : History) → IsPrefix G H → (more : List Placement) × (placements_of H ≡ placements_of G ++ more)
 placements-final G H (later, is) =
     let takes = takes-later later G in (

@@ -1,4 +1,4 @@
--- How many pieces a reel may have.
+-- The greatest number of pieces on a reel.
 use Rattle.std.proofs.Common.{◌≡◌, ℕ, ◌+◌, ◌*◌, ◌-◌, ◌≤◌, Bool, true, false, cond, Option, Some, None, List, [], ◌∷◌, All, length, unwrap_or, refl, ap, arith}
 use Rattle.std.specs.Prelude.{if◌then◌else◌}
 use Rattle.std.specs.List.{find}
@@ -19,7 +19,6 @@ use Rattle.desk_types.specs.Judged.{IsJudged}
 
 -- ---- one command
 
--- a row of a count
 counted-range : (reel : Name) (rows : List CountRow) (row : CountRow) → All IsCountRow rows → find (λ (r : CountRow). same r.reel reel) rows ≡ Some row
     → row.quantity ≤ GREATEST_QUANTITY
 counted-range reel [] row ranges is = cc
@@ -32,7 +31,6 @@ counted-range reel (r ∷ rows) row ranges is = by (same r.reel reel) is (counte
         omega (arith, it, (All-head IsCountRow r rows ranges).quantity)
     by false is rest = rest is
 
--- A receipt or a count tells no more pieces than there may be.
 pub told-range : (reel : Name) (command : Command) (pieces : ℕ) → IsCommand command → pieces_by reel command ≡ Some pieces → pieces ≤ GREATEST_QUANTITY
 told-range reel (ReelReceived r part lot moisture quantity) pieces range is = by (same r reel) is
   where
@@ -47,7 +45,6 @@ told-range reel (CountsTaken counts) pieces range is = by (find (λ (row : Count
     by None few is = cc
 told-range reel _ pieces range is = cc
 
--- a count finds no more
 found_by-range : (left : ℕ) (reel : Name) (command : Command) → IsCommand command → found_by left reel command ≤ GREATEST_QUANTITY
 found_by-range left reel (CountsTaken counts) range = by (find (λ (row : CountRow). same row.reel reel) counts) (counted-range reel counts)
   where
@@ -57,9 +54,8 @@ found_by-range left reel (CountsTaken counts) range = by (find (λ (row : CountR
     by None few = omega arith
 found_by-range left reel _ range = omega arith
 
--- ---- lists
+-- ---- histories
 
--- No reel has more pieces left than there may be.
 pub left-range : (H : History) (reel : Name) → IsJudged Two H → left_of H reel ≤ GREATEST_QUANTITY
 unfolding left_of
 left-range [] reel judged = omega arith
@@ -70,7 +66,6 @@ left-range (e ∷ H) reel (next, judged) = by (pieces_by reel e.stamped.command)
     by (Some pieces) is before = told-range reel e.stamped.command pieces next.in_range.stamped.command is
     by None is before = omega (arith, before)
 
--- Each entry finds no more than there may be.
 pub found-range : (H : History) (reel : Name) → IsJudged Two H → found_of H reel ≤ GREATEST_QUANTITY * length H
 unfolding found_of
 found-range [] reel judged = omega arith
@@ -79,7 +74,6 @@ found-range (e ∷ H) reel (next, judged) =
     let more = found_by-range (left_of H reel) reel e.stamped.command next.in_range.stamped.command in
     omega (arith, before, more)
 
--- the pieces of a receipt
 receipt-range : (H : History) (reel : Name) → IsJudged Two H → option_map_or (λ (r : Receipt). r.quantity) (receipt_of H reel) 0 ≤ GREATEST_QUANTITY
 receipt-range [] reel judged = omega arith
 receipt-range (e ∷ H) reel (next, judged) = by (receipt_by reel e.effective e.stamped.command) refl (receipt-range H reel judged)
@@ -98,6 +92,5 @@ receipt-range (e ∷ H) reel (next, judged) = by (receipt_by reel e.effective e.
     by (Some receipt) is before = of e.stamped.command e.effective receipt next.in_range.stamped.command is
     by None is before = before
 
--- A reel's pieces are those of its receipt and the found ones.
 pub received-range : (H : History) (reel : Name) → IsJudged Two H → received_of H reel ≤ GREATEST_QUANTITY * length H + GREATEST_QUANTITY
 received-range H reel judged = let first = receipt-range H reel judged in let more = found-range H reel judged in omega (arith, first, more)

@@ -1,4 +1,4 @@
--- What later entries leave of a reel.
+-- Facts about a reel that later entries keep.
 use Rattle.std.proofs.Common.{◌≡◌, true, Option, Some, None, List, [], ◌∷◌, ◌++◌, refl, ap, ◌∙◌, subst}
 use Rattle.std.specs.Prelude.{is_some}
 use Rattle.std.specs.Option.{option_or}
@@ -13,7 +13,6 @@ use Rattle.desk_types.specs.Judged.{IsJudged}
 use Rattle.desk_laws.proofs.Accepted.{received-once}
 use Rattle.desk_laws.proofs.Balance.{spent-next}
 
--- the next entry does not receive a reel again
 pub not-again : (H : History) (e : Entry) (reel : Name) → IsJudged Two (e ∷ H) → is_some (receipt_of H reel) ≡ true → receipt_by reel e.effective e.stamped.command ≡ None
 not-again H e reel (next, judged) received = by (receipt_by reel e.effective e.stamped.command) refl
   where
@@ -27,7 +26,6 @@ receipt-later (e ∷ later) G reel judged received =
     let before = receipt-later later G reel judged.1 received in
     ap (λ said. option_or said (receipt_of (later ++ G) reel)) (not-again (later ++ G) e reel judged (ap is_some before ∙ received)) ∙ before
 
--- The receipt of a reel stays.
 pub receipt-prefix : (G H : History) (reel : Name) → IsPrefix G H → IsJudged Two H → is_some (receipt_of G reel) ≡ true → receipt_of H reel ≡ receipt_of G reel
 receipt-prefix G H reel (later, is) judged received =
     ap (λ es. receipt_of es reel) is ∙ receipt-later later G reel (subst (IsJudged Two) is judged) received
@@ -39,6 +37,5 @@ spent-later (e ∷ later) G reel judged received none =
     let stays = receipt-later later G reel judged.1 received in
     spent-next (later ++ G) e reel judged (not-again (later ++ G) e reel judged (ap is_some stays ∙ received)) (spent-later later G reel judged.1 received none)
 
--- A reel that was received and has nothing left has nothing left from then on.
 pub spent-stays : (G H : History) (reel : Name) → IsPrefix G H → IsJudged Two H → is_some (receipt_of G reel) ≡ true → left_of G reel ≡ 0 → left_of H reel ≡ 0
 spent-stays G H reel (later, is) judged received none = ap (λ es. left_of es reel) is ∙ spent-later later G reel (subst (IsJudged Two) is judged) received none

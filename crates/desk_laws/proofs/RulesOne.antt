@@ -1,4 +1,4 @@
--- What the rules differ in: by rules One no count is above what is left.
+-- The difference between the rules: under rules One, no count exceeds the remaining pieces.
 use Rattle.std.proofs.Common.{◌≡◌, ◌≢◌, ℕ, ◌-◌, nat_lt, Bool, true, false, Some, None, List, [], ◌∷◌, ◌++◌, find, refl, ap, arith}
 use Rattle.std.specs.Prelude.{if◌then◌else◌, is_none}
 use Rattle.std.specs.Option.{option_map_or}
@@ -21,9 +21,8 @@ use Rattle.desk_types.proofs.Keys.{same-true}
 use Rattle.desk_laws.proofs.Accepted.{none-holds}
 use Rattle.desk_laws.proofs.Judgements.{or-none}
 
--- ---- what is found
+-- ---- found pieces
 
--- an accepted row of a count is not above what is left
 row-within : (H : History) (seen : List Name) (row : CountRow) → count_refusal One H seen row ≡ None → nat_lt (left_of H row.reel) row.quantity ≡ false
 row-within H seen row none = (none-holds tests none).1.1.1.0
   where
@@ -66,7 +65,7 @@ accepted-by-one H s none = by (is_too_far_ahead H s) none
     by true none = cc
     by false none = none
 
--- By rules One nothing is found.
+-- Counts find nothing under rules One.
 pub nothing-found : (H : History) (reel : Name) → IsJudged One H → found_of H reel ≡ 0
 unfolding found_of
 nothing-found [] reel judged = refl
@@ -75,7 +74,7 @@ nothing-found (e ∷ H) reel (next, judged) =
     let here = command-finds-none H (effective_minute H e.stamped.minute) e.stamped.command reel (accepted-by-one H e.stamped next.accepted) in
     omega (arith, before, here)
 
--- ---- what is refused
+-- ---- refusals
 
 commands-agree : (H : History) (minute : ℕ) (command : Command) → ((counts : List CountRow) → command ≢ CountsTaken counts)
     → command_refusal One H minute command ≡ command_refusal Two H minute command
@@ -83,7 +82,6 @@ unfolding command_refusal
 commands-agree H minute (CountsTaken counts) other = absurd (other counts refl)
 commands-agree H minute _ other = refl
 
--- Only a count is refused otherwise by one rules than by the other.
 pub refusals-agree : (H : History) (s : Stamped) → ((counts : List CountRow) → s.command ≢ CountsTaken counts) → refusal_of One H s ≡ refusal_of Two H s
 unfolding refusal_of
 refusals-agree H s other = ap (λ refusal. if is_too_far_ahead H s then Some TooFarAhead else refusal) (commands-agree H (effective_minute H s.minute) s.command other)

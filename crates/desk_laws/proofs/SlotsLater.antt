@@ -1,4 +1,4 @@
--- Slots and places after one command, without lists of entries.
+-- Slots and places after one command, for any tape.
 use Rattle.std.proofs.Math.Bool.{or-false}
 use Rattle.std.proofs.lemmas.Bool.{and_parts}
 use Rattle.std.proofs.Common.{◌≡◌, Bool, true, false, Option, Some, None, List, [], ◌∷◌, ◌++◌, refl, sym, ap, ◌∙◌}
@@ -10,7 +10,6 @@ use Rattle.desk_types.proofs.Keys.{same-sym, same-true}
 use Rattle.desk_laws.specs.Place.{is_at}
 use Rattle.desk_laws.proofs.Mounts.{has}
 
--- where a slot is cleared, no place is there
 cleared : (machine slot : Name) (place : Option (Name × Name)) → is_at machine slot (if is_at machine slot place then None else place) ≡ false
 cleared machine slot None = refl
 cleared machine slot (Some q) = by (same q.0 machine && same q.1 slot) refl
@@ -19,7 +18,6 @@ cleared machine slot (Some q) = by (same q.0 machine && same q.1 slot) refl
     by true here = refl
     by false here = here
 
--- where another slot is cleared, a place stays
 uncleared : (machine slot m s : Name) (place : Option (Name × Name)) → (same m machine && same s slot) ≡ false
     → is_at machine slot (if is_at m s place then None else place) ≡ is_at machine slot place
 uncleared machine slot m s None other = refl
@@ -30,7 +28,6 @@ uncleared machine slot m s (Some q) other = by (same q.0 m && same q.1 s) refl
         sym (ap (λ x. same x machine && same q.1 slot) (same-true q.0 m (and_parts _ _ there).0) ∙ ap (λ x. same m machine && same x slot) (same-true q.1 s (and_parts _ _ there).1) ∙ other)
     by false there = refl
 
--- the same where the slot is given by names that are the same
 cleared-same : (machine slot m s : Name) (place : Option (Name × Name)) → (same m machine && same s slot) ≡ true
     → is_at machine slot (if is_at m s place then None else place) ≡ false
 cleared-same machine slot m s place here =
@@ -41,11 +38,10 @@ cleared-same machine slot m s place here =
 one : (r reel : Name) → has (r ∷ []) reel ≡ same r reel
 one r reel = or-false (same reel r) ∙ same-sym reel r
 
--- whether the reel stands on the tape just where the place is the slot
+-- The reel is on the tape exactly if its place is the slot.
 abbrev pub IsOn : Name → Name → Name → List Name → Option (Name × Name) → Type 0
 IsOn machine slot reel tape place = has tape reel ≡ is_at machine slot place
 
--- This stays so after a load,
 pub on-load : (machine slot reel m s r : Name) (tape : List Name) (place : Option (Name × Name)) → IsOn machine slot reel tape place
     → (same r reel ≡ true → has tape reel ≡ false)
     → IsOn machine slot reel (if same m machine && same s slot then r ∷ [] else tape) (if same r reel then Some (m, s) else (if is_at m s place then None else place))
@@ -58,7 +54,6 @@ on-load machine slot reel m s r tape place on away = by (same m machine && same 
     by false true here is = away is ∙ sym here
     by false false here is = on ∙ sym (uncleared machine slot m s place here)
 
--- after a splice,
 pub on-splice : (machine slot reel m s r : Name) (tape : List Name) (place : Option (Name × Name)) → IsOn machine slot reel tape place
     → ((same m machine && same s slot) ≡ true → tape_with tape r ≡ tape ++ r ∷ []) → (same r reel ≡ true → has tape reel ≡ false)
     → IsOn machine slot reel (if same m machine && same s slot then tape_with tape r else tape) (if same r reel then Some (m, s) else place)
@@ -74,7 +69,6 @@ on-splice machine slot reel m s r tape place on joined away = by (same m machine
     by false true here is = away is ∙ sym here
     by false false here is = on
 
--- and after an unload.
 pub on-unload : (machine slot reel m s : Name) (tape : List Name) (place : Option (Name × Name)) → IsOn machine slot reel tape place
     → IsOn machine slot reel (if same m machine && same s slot then [] else tape) (if is_at m s place then None else place)
 on-unload machine slot reel m s tape place on = by (same m machine && same s slot) refl

@@ -1,4 +1,4 @@
--- The tapes of judged lists.
+-- Tapes of accepted histories.
 use Rattle.std.proofs.Common.{◌≡◌, ℕ, nat_lt, Bool, true, false, None, List, [], ◌∷◌, ◌++◌, refl, ap, ◌∙◌, arith}
 use Rattle.std.specs.Prelude.{if◌then◌else◌, ◌&&◌, ◌==◌}
 use Rattle.std.specs.List.{IsDistinct}
@@ -17,7 +17,6 @@ use Rattle.desk_laws.proofs.Accepted.{next-accepted, mountable}
 use Rattle.desk_laws.proofs.Distinct.{distinct-filter, distinct-join}
 use Rattle.desk_laws.proofs.Mounts.{has, has-live_on, live-mounted}
 
--- what is not 0 is some
 pub not-zero : (n : ℕ) → (n == 0) ≡ false → nat_lt 0 n ≡ true
 not-zero n some = by (nat_lt 0 n) refl
   where
@@ -25,7 +24,7 @@ not-zero n some = by (nat_lt 0 n) refl
     by true is = is
     by false is = let few = ltb-false 0 n is in let none : n ≡ 0 = omega (arith, few) in cc
 
--- A reel that has pieces left and is not mounted stands on no tape. This holds of every list.
+-- A reel with pieces left that isn't mounted is on no tape. Holds for any history.
 pub unmounted-nowhere : (H : History) (machine slot reel : Name) → is_mounted H reel ≡ false → nat_lt 0 (left_of H reel) ≡ true → has (tape_of H machine slot) reel ≡ false
 unmounted-nowhere H machine slot reel rests some = by (has (tape_of H machine slot) reel) refl
   where
@@ -33,7 +32,6 @@ unmounted-nowhere H machine slot reel rests some = by (has (tape_of H machine sl
     by false off = off
     by true on = let mounted = live-mounted H machine slot reel (has-live_on H machine slot reel ∙ ap (λ b. b && has (tape_of H machine slot) reel) some ∙ on) in cc
 
--- One more name that is not among them
 pub one-more : (names : List Name) (name : Name) → IsDistinct same names → has names name ≡ false → IsDistinct same (names ++ name ∷ [])
 unfolding IsDistinct
 one-more names name distinct away = distinct-join same same-sym names (name ∷ []) distinct (tt, tt) (away, tt)
@@ -42,7 +40,6 @@ tape_with-distinct : (reels : List Name) (reel : Name) → IsDistinct same reels
 tape_with-distinct [] reel distinct away = distinct
 tape_with-distinct (x ∷ xs) reel distinct away = one-more (x ∷ xs) reel distinct away
 
--- after an accepted command
 distinct-step : (H : History) (minute : ℕ) (machine slot : Name) (command : Command) → command_refusal Two H minute command ≡ None
     → IsDistinct same (tape_of H machine slot) → IsDistinct same (tape_after machine slot command (tape_of H machine slot))
 unfolding command_refusal IsDistinct
@@ -65,14 +62,13 @@ distinct-step H minute machine slot (MaterialsUnloaded m s) none distinct = by (
     by false = distinct
 distinct-step H minute machine slot _ none distinct = distinct
 
--- A reel stands on a tape once: what is spliced has pieces left and is not mounted, so it stands on none.
+-- A reel is on a tape only once, since a spliced reel has pieces left and isn't mounted.
 pub tape-distinct : (H : History) (machine slot : Name) → IsJudged Two H → IsDistinct same (tape_of H machine slot)
 unfolding tape_of IsDistinct
 tape-distinct [] machine slot judged = tt
 tape-distinct (e ∷ H) machine slot (next, judged) =
     distinct-step H e.effective machine slot e.stamped.command (next-accepted H e next) (tape-distinct H machine slot judged)
 
--- A reel stands among the live reels of a slot once.
 pub live-distinct : (H : History) (machine slot : Name) → IsJudged Two H → IsDistinct same (live_on H machine slot)
 unfolding live_on
 live-distinct H machine slot judged = distinct-filter same (λ reel. nat_lt 0 (left_of H reel)) (tape_of H machine slot) (tape-distinct H machine slot judged)

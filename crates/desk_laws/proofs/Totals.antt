@@ -1,4 +1,4 @@
--- What became of the pieces of a reel, one entry more.
+-- A reel's placed and scrapped pieces after one more entry.
 use Rattle.std.proofs.Common.{◌≡◌, ◌+◌, Bool, not, List, ◌∷◌, ◌++◌, refl, sym, ap, ◌∙◌}
 use Rattle.std.specs.Prelude.{if◌then◌else◌}
 use Rattle.std.specs.List.{filter}
@@ -11,25 +11,21 @@ use Rattle.desk_types.specs.History.{History}
 use Rattle.desk_types.specs.Pieces.{pieces_picked, picks_of, all_picks, is_placed, placed_of, scrapped_of}
 use Rattle.desk_laws.proofs.Picks.{pieces_picked-append}
 
--- The pieces of a reel that picks take are those that are placed and the others.
 pub pieces_picked-split : (picks : List Pick) (reel : Name)
     → pieces_picked picks reel ≡ pieces_picked (filter (λ p. is_placed p.purpose) picks) reel + pieces_picked (filter (λ p. not (is_placed p.purpose)) picks) reel
 pieces_picked-split picks reel =
     sym (sum_by-filter_both (λ (p : Pick). is_placed p.purpose) (λ (p : Pick). not (is_placed p.purpose)) (λ p. refl) (λ (p : Pick). if same p.reel reel then p.quantity else 0) picks)
 
--- The pieces that pass a test, of two lists of picks.
 pub pieces_picked-filter : (test : Pick → Bool) (before after : List Pick) (reel : Name)
     → pieces_picked (filter test (before ++ after)) reel ≡ pieces_picked (filter test before) reel + pieces_picked (filter test after) reel
 pieces_picked-filter test before after reel =
     ap (λ picks. pieces_picked picks reel) (filter-append test before after) ∙ pieces_picked-append (filter test before) (filter test after) reel
 
--- The next entry's placed pieces are added to those that were placed,
 pub placed-next : (H : History) (e : Entry) (reel : Name)
     → placed_of (e ∷ H) reel ≡ placed_of H reel + pieces_picked (filter (λ p. is_placed p.purpose) (picks_of H e.stamped.command)) reel
 unfolding all_picks
 placed-next H e reel = pieces_picked-filter (λ p. is_placed p.purpose) (all_picks H) (picks_of H e.stamped.command) reel
 
--- and its others to those that were thrown away or found missing.
 pub scrapped-next : (H : History) (e : Entry) (reel : Name)
     → scrapped_of (e ∷ H) reel ≡ scrapped_of H reel + pieces_picked (filter (λ p. not (is_placed p.purpose)) (picks_of H e.stamped.command)) reel
 unfolding all_picks

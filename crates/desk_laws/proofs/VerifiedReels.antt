@@ -1,4 +1,4 @@
--- What an accepted load, splice or install says of the reels that feed slots.
+-- The verification of the reels that feed slots.
 use Rattle.std.proofs.lemmas.Bool.{and_parts, not-false}
 use Rattle.std.proofs.Common.{◌≡◌, ℕ, Bool, true, false, not, Option, Some, None, [], ◌∷◌, refl, sym, ap, ◌∙◌, subst}
 use Rattle.std.specs.Prelude.{◌&&◌, ◌||◌}
@@ -25,7 +25,6 @@ use Rattle.desk_laws.proofs.Mounts.{has, mounted-step}
 
 -- ---- loads and splices
 
--- a reel that may be mounted is verified
 verified-mountable : (H : History) (minute : ℕ) (machine slot reel : Name) (slot_test : Bool) → IsMountable H minute machine slot reel slot_test → IsVerified H minute machine slot reel
 verified-mountable H minute machine slot reel slot_test tests = by (receipt_of H reel) (row_on H machine slot) refl refl
   where
@@ -47,7 +46,6 @@ verified-mountable H minute machine slot reel slot_test tests = by (receipt_of H
       not_expired = tests.not_expired;
     }
 
--- the same where the slot and the reel are given by names that are the same
 verified-same : (H : History) (minute : ℕ) (machine slot reel m s r : Name) → ((same m machine && same s slot) && same r reel) ≡ true → IsVerified H minute m s r
     → IsVerified H minute machine slot reel
 verified-same H minute machine slot reel m s r is verified =
@@ -65,18 +63,16 @@ verified-by H minute machine slot reel (MaterialsSpliced m s r) none is =
     verified-same H minute machine slot reel m s r is (verified-mountable H minute m s r _ (mountable H minute m s r _ none))
 verified-by H minute machine slot reel _ none is = cc
 
--- A reel that an accepted entry loads or splices onto a slot is verified for it.
 pub mount-verified : (H : History) (e : Entry) (machine slot reel : Name) → IsNext Two H e → mounts machine slot reel e.stamped.command ≡ true
     → IsVerified H e.effective machine slot reel
 mount-verified H e machine slot reel next is = verified-by H e.effective machine slot reel e.stamped.command (next-accepted H e next) is
 
--- A reel that was loaded or spliced was not expired then.
 pub mounted-not_expired : (G H : History) (e : Entry) (machine slot reel : Name) → IsPrefix (e ∷ G) H → IsJudged Two H → mounts machine slot reel e.stamped.command ≡ true
     → is_expired G reel e.effective ≡ false
 mounted-not_expired G H e machine slot reel before judged is =
     (mount-verified G e machine slot reel (judged-prefix (e ∷ G) H before judged).0 is).not_expired
 
--- A reel that stands on the tape of a slot was verified for it when it came there.
+-- Each reel on a tape was verified for the slot when it came there.
 pub tape-verified : (H : History) (machine slot reel : Name) → IsJudged Two H → has (tape_of H machine slot) reel ≡ true → WasVerified H machine slot reel
 unfolding tape_of
 tape-verified [] machine slot reel judged on = cc

@@ -1,4 +1,4 @@
--- Accepted installs and scraps, whole.
+-- Accepted installs and scraps are whole.
 use Rattle.std.proofs.Common.{◌≡◌, ℕ, ◌+◌, ◌-◌, ◌≤◌, min, nat_lt, Bool, true, false, None, List, [], ◌∷◌, ◌++◌, map, filter_map, refl, sym, ap, ◌∙◌, arith, zero-add, filter, cond}
 use Rattle.std.specs.Prelude.{if◌then◌else◌}
 use Rattle.std.specs.List.{cons_option, enumerate_from, sum_by}
@@ -30,7 +30,6 @@ use Rattle.desk_laws.proofs.Installs.{ArePlacedFor, each-placed}
 
 -- ---- installs
 
--- the placements of picks of one piece for each designator
 spots-placed : (H : History) (e : Entry) (machine board : Name) (place : ℕ) (ds : List Name) (ps : List Pick) → ArePlacedFor machine board ds ps
     → map spot_of (filter_map placement_of (
     map (λ (place, take). record { number = e.number; place = place; effective = e.effective; take = take }) (enumerate_from place (map (take_of H e.effective) ps))))
@@ -51,7 +50,6 @@ spots-placed H e machine board place (d ∷ ds) (p ∷ ps) ((slot, is), all) =
 spots-placed H e machine board place [] (p ∷ ps) all = absurd all
 spots-placed H e machine board place (d ∷ ds) [] all = absurd all
 
--- An accepted install places one piece for each designator of its message, each at its place there.
 pub install-whole : (H : History) (s : Stamped) (machine board : Name) (ds : List Name) → refusal_of Two H s ≡ None → s.command ≡ MaterialsInstalled machine board ds
     → (more : List Placement) × (placements_of (accept H s) ≡ placements_of H ++ more) × (map spot_of more ≡ spots_named machine board ds)
 unfolding takes_of
@@ -61,7 +59,6 @@ install-whole H s machine board ds none is = (
   spots-placed H (entry_of H s) machine board 1 ds (picks_of H s.command) (each-placed H (effective_minute H s.minute) s.command machine board ds (command-accepted H s none) is),
 )
 
--- the reels of the placements are those of the picks
 reels-placed : (H : History) (e : Entry) (machine board : Name) (place : ℕ) (ds : List Name) (ps : List Pick) → ArePlacedFor machine board ds ps
     → map (λ (p : Placement). p.reel) (filter_map placement_of (
     map (λ (place, take). record { number = e.number; place = place; effective = e.effective; take = take }) (enumerate_from place (map (take_of H e.effective) ps))))
@@ -82,7 +79,6 @@ reels-placed H e machine board place (d ∷ ds) (p ∷ ps) ((slot, is), all) =
 reels-placed H e machine board place [] (p ∷ ps) all = absurd all
 reels-placed H e machine board place (d ∷ ds) [] all = absurd all
 
--- The answer to an accepted install tells the reels of its placements, in their order.
 pub install-told : (H : History) (s : Stamped) (machine board : Name) (ds : List Name) (more : List Placement) (minute : ℕ) → refusal_of Two H s ≡ None
     → s.command ≡ MaterialsInstalled machine board ds → placements_of (accept H s) ≡ placements_of H ++ more
     → detail_of H minute s.command ≡ Reels (map (λ (p : Placement). p.reel) more)
@@ -99,7 +95,6 @@ install-told H s machine board ds more minute none is placed =
 
 -- ---- scraps
 
--- the spent reels of a tape change nothing
 scrap-filter : (pieces : Name → ℕ) (purpose : Purpose) (reels : List Name) (n : ℕ)
     → scrap_picks pieces purpose (filter (λ r. nat_lt 0 (pieces r)) reels) n ≡ scrap_picks pieces purpose reels n
 scrap-filter pieces purpose [] n = refl
@@ -117,13 +112,11 @@ scrap-filter pieces purpose (r ∷ rs) n = by (nat_lt 0 (pieces r)) refl (scrap-
     by true some rest = ap (λ l. pieces_off r (min n (pieces r)) purpose ++ l) (rest (n - pieces r))
     by false none rest = rest n ∙ empty (pieces r) (let few = ltb-false 0 (pieces r) none in omega (arith, few))
 
--- A scrap takes of the live reels what it takes of the tape.
 scrap-live : (H : History) (purpose : Purpose) (machine slot : Name) (n : ℕ)
     → scrap_picks (left_of H) purpose (live_on H machine slot) n ≡ scrap_picks (left_of H) purpose (tape_of H machine slot) n
 unfolding live_on
 scrap-live H purpose machine slot n = scrap-filter (left_of H) purpose (tape_of H machine slot) n
 
--- n pieces off a reel are n pieces
 pieces-off : (r : Name) (n : ℕ) (purpose : Purpose) → pieces_of (pieces_off r n purpose) ≡ n
 pieces-off r n purpose = by (nat_lt 0 n) refl
   where
@@ -131,7 +124,6 @@ pieces-off r n purpose = by (nat_lt 0 n) refl
     by true is = zero-add n
     by false is = let none = ltb-false 0 n is in omega (arith, none)
 
--- what a scrap takes together: as many as are asked for, where there are so many
 scrap-takes : (pieces : Name → ℕ) (purpose : Purpose) (reels : List Name) (n : ℕ) → pieces_of (scrap_picks pieces purpose reels n) ≡ min n (sum_by pieces reels)
 scrap-takes pieces purpose [] n = omega arith
 scrap-takes pieces purpose (r ∷ rs) n =
@@ -141,7 +133,6 @@ scrap-takes pieces purpose (r ∷ rs) n =
     let whole : sum_by pieces (r ∷ rs) ≡ 0 + pieces r + sum_by pieces rs = sum_by-append pieces (r ∷ []) rs in
     omega (arith, both, first, rest, whole)
 
--- an accepted scrap finds as many pieces as it takes
 scrap-has : (H : History) (machine slot : Name) (n : ℕ) → scrap_refusal H machine slot n ≡ None → n ≤ sum_by (left_of H) (live_on H machine slot)
 unfolding scrap_refusal
 scrap-has H machine slot n none = ltb-false _ _ (none-holds tests none).1.0
@@ -158,7 +149,6 @@ scrap-exact H minute machine slot n none =
     let enough = scrap-has H machine slot n none in
     sym live ∙ all ∙ omega (arith, enough)
 
--- An accepted scrap takes exactly its quantity.
 pub scrap-whole : (H : History) (s : Stamped) (machine slot : Name) (n : ℕ) → refusal_of Two H s ≡ None → s.command ≡ MaterialsScrapped machine slot n
     → pieces_of (picks_of H s.command) ≡ n
 scrap-whole H s machine slot n none is =

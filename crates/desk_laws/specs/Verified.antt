@@ -1,4 +1,4 @@
--- What was verified of a reel of which a piece was placed.
+-- The verification of the reel that each placed piece came from.
 use Rattle.std.specs.Prelude.{◌≡◌, ℕ, ◌-◌, Bool, true, false, ◌&&◌, Option, Some, List, ◌∷◌, ◌++◌, ◌≤◌, take, nat_lt, slice_get}
 use Rattle.std.specs.List.{list_any, find}
 use Rattle.desk_types.specs.declared.command.Command.{Command}
@@ -15,13 +15,14 @@ use Rattle.desk_types.specs.Tape.{tape_of}
 use Rattle.desk_types.specs.Pieces.{pieces_picked, left_of, picks_of}
 use Rattle.desk_types.specs.FloorLife.{is_unbaked, is_expired}
 
--- whether the command loads or splices the reel onto the slot
+-- Whether the command loads or splices the reel onto the slot.
 abbrev pub mounts : Name → Name → Name → Command → Bool
 mounts machine slot reel (MaterialsLoaded m s r) = (same m machine && same s slot) && same r reel
 mounts machine slot reel (MaterialsSpliced m s r) = (same m machine && same s slot) && same r reel
 mounts machine slot reel _ = false
 
--- after H, at the minute, the reel may feed the slot: its part is allowed for the slot's row in the sheet of the selected product, and it is baked and not expired
+-- After H, at the minute, the reel may feed the slot: the selected product's sheet allows its part,
+-- and it neither waits for its bake nor is expired.
 pub record IsVerified (H : History) (minute : ℕ) (machine slot reel : Name) : Type 0 where
   pub receipt : Receipt
   pub received : receipt_of H reel ≡ Some receipt
@@ -31,7 +32,7 @@ pub record IsVerified (H : History) (minute : ℕ) (machine slot reel : Name) : 
   pub baked : is_unbaked H reel ≡ false
   pub not_expired : is_expired H reel minute ≡ false
 
--- the last entry of H that loads or splices the reel onto the slot came where, and when, the reel was verified
+-- The reel was verified when it was last loaded or spliced onto the slot.
 pub record WasVerified (H : History) (machine slot reel : Name) : Type 0 where
   pub before : History
   pub entry : Entry
@@ -41,14 +42,13 @@ pub record WasVerified (H : History) (machine slot reel : Name) : Type 0 where
   pub last : list_any (λ (e : Entry). mounts machine slot reel e.stamped.command) later ≡ false
   pub verified : IsVerified before entry.effective machine slot reel
 
--- the first reel of a slot's tape that has a piece left after the picks before
+-- The first reel on the slot's tape with a piece left after earlier picks.
 abbrev pub next_reel : History → Name → Name → List Pick → Option Name
 next_reel H machine slot before = find (λ reel. nat_lt (pieces_picked before reel) (left_of H reel)) (tape_of H machine slot)
 
--- The piece was placed by the entry of its number, on the machine and the board that this names and on the designator that stands at the
--- piece's place in its message, at the designator's slot, off the reel that was the slot's first with a piece left, whose receipt gives
--- the part and the lot; it is overdue exactly where the reel's floor life was used up at that minute; and the reel was verified for the
--- slot.
+-- The install with the placement's number placed the piece for its designator, at that designator's
+-- slot. The piece came from the slot's first reel with a piece left, which was verified for the
+-- slot and whose receipt has the part and lot. It is overdue exactly if that reel had expired.
 pub record IsRightlyPlaced (H : History) (p : Placement) : Type 0 where
   pub before : History
   pub entry : Entry

@@ -1,4 +1,4 @@
-//! What the laws say of every desk.
+//! The headline guarantee for every desk.
 
 ghost use Rattle.std.specs.Prelude.{◌≡◌, ◌+◌, ◌↔◌, All, Contains};
 ghost use Rattle.std.specs.List.{IsDistinct};
@@ -10,9 +10,7 @@ ghost use Rattle.desk_laws.specs.Verified.{IsRightlyPlaced};
 
 use desk_types::Desk;
 
-/// Each list for which a desk stands is consistent: the pieces of each reel balance, a reel is live on one
-/// slot at most and stands there once, only verified reels are placed, each piece off the first reel of its
-/// slot with a piece left, and the two traces are converse.
+/// Every history that a desk represents is consistent. See `IsConsistent`.
 pub fn desk_is_consistent<D: Desk>(desk: &D)
     ensures balance { (H : History) (reel : Name) → D.Stands desk.now H
         → received_of H reel ≡ placed_of H reel + scrapped_of H reel + left_of H reel }

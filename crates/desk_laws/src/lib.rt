@@ -1,10 +1,10 @@
-//! For proofs alone: nothing of it runs. Laws of the lists that a desk can come to have: what the
-//! definitions mean, as theorems.
+//! Laws about the histories that a desk can reach: the consequences of the definitions, as
+//! theorems. Nothing in this crate runs.
 //!
-//! Each law is a public function with an empty body, whose contract says the law. They hold of every
-//! list that is judged by either rules, so of every list for which a desk stands; where a law holds of
-//! every list, judged or not, it says so. `proofs/` has the lemmas under them, which the desks' proofs
-//! use as well; those are stated for rules Two, by which each judged list is judged.
+//! Each law is a public function with an empty body; its contract states the law. Laws hold for
+//! histories that either set of rules accepts, and so for every history that a desk represents.
+//! Laws that hold for any history say so. The lemmas in `proofs/` are stated for rules Two, which
+//! accept every history that rules One accept.
 #![tactic(auto)]
 
 mod consistent;

@@ -14,43 +14,40 @@ ghost use Rattle.desk_types.specs.Outcome.{pieces_of};
 ghost use Rattle.desk_types.specs.Refusals.{refusal_of};
 ghost use Rattle.desk_types.specs.Judged.{IsJudged};
 
-/// For each reel the received pieces are the placed, the scrapped and the left ones together. Pieces
-/// that a count showed missing are among the scrapped, and those that it found among the received.
-/// This holds of every judged list.
+/// A reel's received pieces are placed, scrapped or remaining. Pieces missing at a count are
+/// scrapped ones, and found pieces are received ones.
 pub fn pieces_balance()
     ensures { (rules : Rules) (H : History) (reel : Name) → IsJudged rules H
         → received_of H reel ≡ placed_of H reel + scrapped_of H reel + left_of H reel }
 {}
 
-/// By rules One no pieces are found. This holds of every list that is judged by them.
+/// Under rules One, counts find no pieces.
 pub fn nothing_is_found_by_rules_one()
     ensures { (H : History) (reel : Name) → IsJudged One H → found_of H reel ≡ 0 }
 {}
 
-/// A reel that was received and has no piece left has none left from then on, by either rules. This
-/// holds of every judged list. (A reel that was not received has none left either, until it is.)
+/// A received reel without pieces stays without pieces, under either set of rules.
 pub fn spent_stays_spent()
     ensures { (rules : Rules) (G H : History) (reel : Name) → IsPrefix G H → IsJudged rules H
         → is_some (receipt_of G reel) ≡ true → left_of G reel ≡ 0
         → left_of H reel ≡ 0 }
 {}
 
-/// No accepted command finds a piece on a mounted reel. This holds after every list.
+/// An accepted command finds no piece on a mounted reel. Holds for any history.
 pub fn mounted_reels_gain_nothing()
     ensures { (rules : Rules) (H : History) (s : Stamped) (reel : Name) → refusal_of rules H s ≡ None
         → is_mounted H reel ≡ true
         → found_of (accept H s) reel ≡ found_of H reel }
 {}
 
-/// An accepted scrap takes exactly its quantity, off one reel or several. This holds after every list.
+/// An accepted scrap takes exactly its quantity, from one reel or several. Holds for any history.
 pub fn scraps_are_whole()
     ensures { (rules : Rules) (H : History) (s : Stamped) (machine slot : Name) (quantity : ℕ)
         → refusal_of rules H s ≡ None
         → s.command ≡ MaterialsScrapped machine slot quantity → pieces_of (picks_of H s.command) ≡ quantity }
 {}
 
-/// An accepted count leaves on each counted reel the pieces that were counted. This holds after every
-/// list.
+/// An accepted count leaves exactly the counted pieces on each reel. Holds for any history.
 pub fn counts_are_exact()
     ensures { (rules : Rules) (H : History) (s : Stamped) (counts : List CountRow) → refusal_of rules H s ≡ None
         → s.command ≡ CountsTaken counts

@@ -18,21 +18,19 @@ ghost use Rattle.desk_types.specs.Placements.{placements_of};
 ghost use Rattle.desk_laws.specs.Verified.{IsRightlyPlaced};
 ghost use Rattle.desk_laws.specs.Whole.{spot_of, spots_named};
 
-/// Placements are final: those of a list begin those of every list that it begins, so no later command
-/// changes one. This holds of every list.
+/// Placements are final: no later command changes one. Holds for any history.
 pub fn placements_are_final()
     ensures { (G H : History) → IsPrefix G H → (later : List Placement) × (placements_of H ≡ placements_of G ++ later) }
 {}
 
-/// In the placements no board has the same designator twice. This holds of every judged list.
+/// No designator of a board is placed twice.
 pub fn no_designator_twice()
     ensures { (rules : Rules) (H : History) → IsJudged rules H
         → IsDistinct same_pair (map (λ (p : Placement). (p.board, p.designator)) (placements_of H)) }
 {}
 
-/// An accepted install places one piece for each designator of its message, on its machine and its
-/// board, each at the designator's place in the message; its answer tells the reels of these pieces, in
-/// their order; and no designator stands there twice. This holds after every list.
+/// An accepted install places one piece for each designator of its message, in order, and its reply
+/// names their reels. No designator appears twice. Holds for any history.
 pub fn installs_are_whole()
     ensures spots { (rules : Rules) (H : History) (s : Stamped) (machine board : Name) (designators : List Name)
         → refusal_of rules H s ≡ None
@@ -49,16 +47,14 @@ pub fn installs_are_whole()
         → s.command ≡ MaterialsInstalled machine board designators → IsDistinct same designators }
 {}
 
-/// Only what was verified is placed. Each placement was made by the install of its number, in whose
-/// message its designator stands at its place, at the designator's slot in the sheet then selected, off
-/// the first reel of the slot's tape that had a piece left. That reel was received, with the part and the
-/// lot that the placement says, and the placement is overdue exactly where the reel's floor life was used
-/// up at its minute; and when it was last loaded or spliced onto the slot, its part was allowed for the
-/// slot's row in the sheet then selected, it was baked if its level asks for that, and it was not expired.
-/// This holds of every judged list.
+/// Every placed piece came from a verified reel. The install with the placement's number took the
+/// piece from the first reel with a piece left on its designator's slot. When that reel was last
+/// loaded or spliced there, the sheet then selected allowed its part, it was baked if its level
+/// requires it, and it was not expired. The placement is overdue exactly if the reel had expired by
+/// its minute.
 ///
-/// It is not so that its part is allowed for the row of a sheet that was selected later: a start of work
-/// verifies the reel at the front of each slot, and not the reels spliced behind it.
+/// A sheet selected later may not allow the part: a start of work verifies the front reel of each
+/// slot, but not the reels spliced behind it.
 pub fn only_verified_reels_are_placed()
     ensures { (rules : Rules) (H : History) → IsJudged rules H → All (IsRightlyPlaced H) (placements_of H) }
 {}

@@ -1,4 +1,4 @@
-//! Laws of what is looked up in a list.
+//! Laws of searches in a history.
 
 ghost use Rattle.std.specs.Prelude.{◌≡◌, ◌≢◌, ◌↔◌, true, Some, [], Any, Contains};
 ghost use Rattle.desk_types.specs.declared.placement.Placement.{Placement};
@@ -12,11 +12,11 @@ ghost use Rattle.desk_types.specs.Judged.{IsJudged};
 ghost use Rattle.desk_types.specs.Placements.{placements_of};
 ghost use Rattle.desk_types.specs.View.{loaded_slots};
 
-/// Four definitions look only at the commands that can matter. What they find is the plain rule: a reel
-/// is mounted exactly where it is live on some slot; a designator of a board is placed exactly where it
-/// is among the placements; a board is in work exactly where it is so on some machine; and each slot
-/// that has a tape is among the loaded slots of its machine. The second holds of every judged list, and
-/// the others of every list.
+/// Four definitions only search the commands that can matter, and find the same as the plain rule.
+/// A reel is mounted exactly if it is live on some slot. A designator is placed exactly if the
+/// placements contain it. A board is in work exactly if some machine has it in work. Each slot with
+/// a tape is among its machine's loaded slots. The second law holds for accepted histories, the
+/// others for any history.
 pub fn searches_say_the_rule()
     ensures mounted { (H : History) (reel : Name)
         → (is_mounted H reel ≡ true) ↔ ((machine : Name) × (slot : Name) × Contains (live_on H machine slot) reel) }

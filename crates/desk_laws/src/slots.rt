@@ -11,7 +11,7 @@ ghost use Rattle.desk_types.specs.Pieces.{live_on};
 ghost use Rattle.desk_types.specs.Judged.{IsJudged};
 ghost use Rattle.desk_laws.specs.TapeOrder.{restarts};
 
-/// A reel stands among the live reels of one slot at most, and there once. This holds of every judged list.
+/// A reel is live on at most one slot, and only once there.
 pub fn one_place()
     ensures one_slot { (rules : Rules) (H : History) (m s machine slot reel : Name) → IsJudged rules H
         → Contains (live_on H m s) reel
@@ -20,8 +20,8 @@ pub fn one_place()
         → IsDistinct same (live_on H machine slot) }
 {}
 
-/// A tape keeps its reels and their order until its slot is loaded or unloaded: others are joined to its
-/// end, and nowhere else. This holds of every list.
+/// A tape keeps its reels in order until its slot is loaded or unloaded; splices only add to its
+/// end. Holds for any history.
 pub fn tapes_keep_their_order()
     ensures { (G : History) (more : List Entry) (machine slot : Name)
         → All (λ (e : Entry). restarts machine slot e.stamped.command ≡ false) more

@@ -1,4 +1,4 @@
--- What happened with clients, one after the other.
+-- The events of clients, one after another.
 use Rattle.std.proofs.Common.{◌≡◌, ◌++◌, ◌∷◌, [], ℕ, List, Option, sym, subst, append_assoc, append-nil}
 use Rattle.std.proofs.lemmas.List.Concat.{flat_map-append}
 use Rattle.std.specs.Prelude.{flat_map}
@@ -11,20 +11,16 @@ module _ {S : Type 0} (Saw : S → List Event → Type 0) where
   pub sees_more : (a b c : S) (xs ys : List Event) → Sees Saw a b xs → Sees Saw b c ys → Sees Saw a c (xs ++ ys)
   sees_more a b c xs ys first last before saw = subst (Saw c) (append_assoc before xs ys) (last (before ++ xs) (first before saw))
 
-  -- then nothing more did
   pub sees_no_more : (a b c : S) (xs : List Event) → Sees Saw a b xs → Sees Saw b c [] → Sees Saw a c xs
   sees_no_more a b c xs first last before saw = subst (Saw c) (append-nil (before ++ xs)) (last (before ++ xs) (first before saw))
 
-  -- then one more was served
   pub sees_one_more : (a b c : S) (es : List Exchange) (e : Exchange) → Sees Saw a b (flat_map events_in es) → Sees Saw b c (events_in e) → Sees Saw a c (flat_map events_in (es ++ e ∷ []))
   sees_one_more a b c es e first last =
       subst (λ (xs : List Event). Sees Saw a c xs) (sym (flat_map-append events_in es (e ∷ []))) (sees_more a b c (flat_map events_in es) (events_in e) first last)
 
-  -- the port was asked for, and these were served
   pub serves_at : (a b c : S) (port : ℕ) (es : List Exchange) → Sees Saw a b (Event.asked port ∷ []) → Sees Saw b c (flat_map events_in es) → ServesAt Saw a c port es
   serves_at a b c port es = sees_more a b c (Event.asked port ∷ []) (flat_map events_in es)
 
-  -- one came, and left
   pub sees_one : {R W : Type 0} (reads : R → Option (List ℕ)) (writes : W → Option (List ℕ)) (a b c : S) (r r₁ r₂ r₃ : R) (w w₁ w₂ w₃ : W) → r₁ ≡ r → w₁ ≡ w → r₃ ≡ r₂ → w₃ ≡ w₂
       → Sees Saw a b (Event.came (reads r) (writes w) ∷ []) → Sees Saw b c (Event.left (reads r₃) (writes w₃) ∷ []) → Sees Saw a c (Event.came (reads r₁) (writes w₁) ∷ Event.left (reads r₂) (writes w₂) ∷ [])
   sees_one reads writes a b c r r₁ r₂ r₃ w w₁ w₂ w₃ same_reader same_writer reader_after writer_after first last =

@@ -1,4 +1,4 @@
--- The lines of connections, of which one more ends.
+-- The lines of connections, with one more connection.
 use Rattle.std.proofs.Common.{◌≡◌, ◌∙◌, ◌+◌, ◌++◌, ◌∷◌, [], ℕ, List, Option, length, ap, sym, subst, append_assoc, append-nil, length-append, arith}
 use Rattle.std.proofs.lemmas.List.{take-append-le}
 use Rattle.served.proofs.SentFronts.{front_after}
@@ -8,7 +8,6 @@ use Rattle.served.specs.Sent.{SendsFront}
 use Rattle.desk_runs.specs.Clients.{Ended}
 use Rattle.desk_runs.specs.Connections.{connection_line, lines_from}
 
--- its line follows
 pub lines_more : (n : ℕ) (ends : List Ended) (ended : Ended) (number : ℕ) → number ≡ n + length ends → lines_from n (ends ++ ended ∷ []) ≡ lines_from n ends ++ connection_line number ended
 lines_more n [] ended number is =
     let same : n ≡ number = omega (arith, is) in
@@ -17,12 +16,11 @@ lines_more n (e ∷ es) ended number is =
     ap (λ text. connection_line n e ++ text) (lines_more (n + 1) es ended number (omega (arith, is)))
     ∙ sym (append_assoc (connection_line n e) (lines_from (n + 1) es) (connection_line number ended))
 
--- the first bytes of a text are the first bytes of more
 pub front_of_more : (a b : Option (List ℕ)) (text more : List ℕ) → SendsFront a b text → SendsFront a b (text ++ more)
 front_of_more a b text more front =
     (front.0, omega (arith, front.1, length-append text more), subst (Appends a b) (sym (take-append-le front.0 text more front.1)) front.2)
 
--- of four pieces one after the other: the first bytes of the second, of the third and of the fourth
+-- The first bytes of the second, the third or the fourth of four consecutive pieces.
 module _ (out₀ out₁ out₂ out₃ out₄ : Option (List ℕ)) (a b k d : List ℕ) where
   pub second : Appends out₀ out₁ a → SendsFront out₁ out₂ b → SendsFront out₀ out₂ (a ++ b ++ k ++ d)
   second p q = front_of_more out₀ out₂ (a ++ b ++ k) d (front_of_more out₀ out₂ (a ++ b) k (front_after out₀ out₁ out₂ a b p q))

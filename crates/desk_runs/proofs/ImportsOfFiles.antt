@@ -1,4 +1,4 @@
--- An import of what was read of a file.
+-- An import of the bytes read from a file.
 use Rattle.std.proofs.Common.{ℕ, List, Option, Result}
 use Rattle.desk_types.specs.declared.command.Stamped.{Stamped}
 use Rattle.desk_types.specs.History.{History}
@@ -9,7 +9,6 @@ use Rattle.desk_import.specs.Folder.{IsRead}
 use Rattle.desk_import.specs.Import.{command_said, IsSaidBy}
 use Rattle.desk_import.proofs.FileFronts.{said_by_all}
 
--- what was read of a file was answered: so was what the whole file says
 pub says_all : {S : Type 0} (Stands : S → Ledger → Type 0) (Trusts : S → Type 0) (old new : S) (import : Import) (file : Option (List ℕ)) (bytes : List ℕ) (Fact : Result Stamped ImportFault → Ledger → History → Type 0)
     → IsRead file bytes → ForLists Stands Trusts old new (Fact (command_said import bytes))
     → ForLists Stands Trusts old new (λ G H. (said : Result Stamped ImportFault) × IsSaidBy import file said × Fact said G H)

@@ -1,4 +1,4 @@
--- The list after connections, of which one more ends, and whether one was faulty.
+-- The history after connections, with one more connection, and whether one was faulty.
 use Rattle.std.proofs.Common.{◌≡◌, ◌∙◌, ◌++◌, ◌∷◌, [], ℕ, List, Option, Ok, Err, IfOk, Bool, true, false, ◌||◌, refl, sym, ap, subst}
 use Rattle.std.specs.List.{list_any}
 use Rattle.std.proofs.lemmas.List.{map-append}
@@ -15,7 +15,6 @@ each_more : (rule : Rule) (H : History) (es : List Exchange) (e : Exchange) (H�
 each_more rule H [] e H₁ H₂ same last = (H₂, subst (λ (G : History). Connected rule G e H₂) same last, refl)
 each_more rule H (d ∷ es) e H₁ H₂ each last = (each.0, each.1, each_more rule each.0 es e H₁ H₂ each.2 last)
 
--- the ends of connections, of which one more ended so
 pub ends_more : (es : List Exchange) (e : Exchange) (ended : Ended) → e.ended ≡ ended → ends_of (es ++ e ∷ []) ≡ ends_of es ++ ended ∷ []
 ends_more es e ended is = map-append (λ (x : Exchange). x.ended) es (e ∷ []) ∙ ap (λ (x : Ended). ends_of es ++ x ∷ []) is
 
@@ -28,11 +27,9 @@ faulty_more before last ends ended told one =
     ap (λ b. b || last) told ∙ ap (λ b. list_any is_faulty ends || b) (one ∙ sym (or_false (is_faulty ended))) ∙ sym (list_any-append is_faulty ends (ended ∷ []))
 
 module _ {S : Type 0} (rule : RuleBy) (Stands : S → Ledger → Type 0) (Trusts : S → Type 0) where
-  -- the connections were served
   abbrev pub Serves : S → List Exchange → S → Type 0
   Serves old es new = ForLists Stands Trusts old new (λ G H. ConnectedEach (rule G.rules G.greatest) G.history es H)
 
-  -- the connection was served
   abbrev pub ServesOne : S → Exchange → S → Type 0
   ServesOne old e new = ForLists Stands Trusts old new (λ G H. Connected (rule G.rules G.greatest) G.history e H)
 
@@ -45,7 +42,6 @@ module _ {S : Type 0} (rule : RuleBy) (Stands : S → Ledger → Type 0) (Trusts
       let l = last (record G { history = f.0 }) f.1 trusts in
       (l.0, l.1, each_more (rule G.rules G.greatest) G.history es e f.0 l.0 f.2 l.2)
 
-  -- however a connection ended
   pub serves_one : (old new : S) (sent unread before after : Option (List ℕ)) (ended : Ended)
       → IfOk ended (λ served. ForLists Stands Trusts old new (λ G H. AnsweredAll (rule G.rules G.greatest) sent G.history before H after served))
       → ((served : Served) → ended ≡ Err (Read served) → ForLists Stands Trusts old new (λ G H. AnsweredFront (rule G.rules G.greatest) sent unread G.history before H after served))

@@ -1,4 +1,4 @@
--- What connections leave that are served one after the other, and what is told of them.
+-- The effect of connections that are served one after another, and the lines printed for them.
 use Rattle.std.specs.Prelude.{◌≡◌, ◌⊎◌, ◌<◌, ◌≤◌, ℕ, ◌+◌, nat_lt, Bool, true, List, [], ◌∷◌, ◌++◌, length, Option, Ok, Err, codes, decimal, if◌then◌else◌}
 use Rattle.std.specs.List.{list_any}
 use Rattle.std.specs.Io.KnownBytes.{Appends}
@@ -9,9 +9,10 @@ use Rattle.served.specs.declared.serving.ServeFault.TheVariants.{Read, Write, To
 use Rattle.http_stream.specs.Stream.{Rule, AnsweredAll, AnsweredFront, AnsweredInto}
 use Rattle.desk_runs.specs.Clients.{Ended, Exchange}
 
--- ---- the list
+-- ---- the history
 
--- the client of a connection that ended so was answered by the list before it, by what it sent, and got these answers; and the list after it
+-- The client of this connection sent these bytes and received their answers by the history before it, and the history
+-- became this one.
 abbrev pub ConnectedSo : Rule → Option (List ℕ) → Option (List ℕ) → History → Option (List ℕ) → Ended → History → Option (List ℕ) → Type 0
 ConnectedSo rule sent unread H before (Ok served) H' after = AnsweredAll rule sent H before H' after served
 ConnectedSo rule sent unread H before (Err (Read served)) H' after = AnsweredFront rule sent unread H before H' after served
@@ -21,7 +22,7 @@ ConnectedSo rule sent unread H before (Err (Write served)) H' after = AnsweredIn
 abbrev pub Connected : Rule → History → Exchange → History → Type 0
 Connected rule H e H' = ConnectedSo rule e.sent e.unread H e.before e.ended H' e.after
 
--- each connection was answered by the list that the one before it left
+-- Each connection was answered by the history that the previous one left.
 abbrev pub ConnectedEach : Rule → History → List Exchange → History → Type 0
 ConnectedEach rule H [] H' = H' ≡ H
 ConnectedEach rule H (e ∷ es) H' = (H₁ : History) × Connected rule H e H₁ × ConnectedEach rule H₁ es H'
@@ -34,46 +35,47 @@ served_of (Err (Read served)) = served
 served_of (Err (Write served)) = served
 served_of (Err (TooManyReads served)) = served
 
--- the word of the fault after a space, where there was one, and the end of the line
+-- A space and the name of the fault, if any, and the end of the line.
 abbrev pub fault_word : Ended → List ℕ
 fault_word (Ok served) = codes "\n"
 fault_word (Err (Read served)) = codes " Read\n"
 fault_word (Err (Write served)) = codes " Write\n"
 fault_word (Err (TooManyReads served)) = codes " TooManyReads\n"
 
--- the line of a connection: its number, how many requests were answered, and the word of its fault
+-- The line of a connection: its number, the number of answered requests, and the name of its fault.
 abbrev pub connection_line : ℕ → Ended → List ℕ
 connection_line number ended = decimal number ++ codes " " ++ decimal (served_of ended).answered ++ fault_word ended
 
--- the lines of connections of which the first has this number
+-- The lines of connections, numbered from this number on.
 abbrev pub lines_from : ℕ → List Ended → List ℕ
 lines_from number [] = []
 lines_from number (ended ∷ ends) = connection_line number ended ++ lines_from (number + 1) ends
 
 -- ---- the exit status
 
--- a request was refused, or a fault ended the connection
+-- A request was refused, or a fault ended the connection.
 abbrev pub is_faulty : Ended → Bool
 is_faulty (Ok served) = nat_lt 0 served.refused
 is_faulty (Err fault) = true
 
--- all were served, and each has its line: the status is 0, or 1 where one of them was faulty
+-- All were served, and each has its line. The status is 0, or 1 if one of them was faulty.
 abbrev pub TellsAll : ℕ → List Ended → ℕ → Option (List ℕ) → Option (List ℕ) → ℕ → ℕ → Type 0
 TellsAll connections ends status out out' failures failures' = (length ends ≡ connections) × (status ≡ (if list_any is_faulty ends then 1 else 0))
     × Appends out out' (lines_from 1 ends) × (failures' ≡ failures)
 
--- no further one could be accepted: those before it have their lines
+-- The next one could not be accepted. The earlier ones have their lines.
 abbrev pub TellsSome : ℕ → List Ended → ℕ → Option (List ℕ) → Option (List ℕ) → ℕ → ℕ → Type 0
 TellsSome connections ends status out out' failures failures' = (length ends < connections) × (status ≡ 4)
     × Appends out out' (lines_from 1 ends) × (failures' ≡ failures)
 
--- a line could not be written, which the writer's count shows: it is the line of the last connection that was served, and only its first bytes went out; those before it have their lines
+-- A line could not be written, as the writer's count shows. Only its first bytes were sent, after the lines of all
+-- earlier connections.
 abbrev pub TellsFront : ℕ → List Ended → ℕ → Option (List ℕ) → Option (List ℕ) → ℕ → ℕ → Type 0
 TellsFront connections ends status out out' failures failures' = (length ends ≤ connections) × (status ≡ 4) × (failures' ≡ failures + 1)
     × (before : List Ended) × (last : Ended) × (mid : Option (List ℕ)) × (ends ≡ before ++ last ∷ [])
     × Appends out mid (lines_from 1 before) × SendsFront mid out' (connection_line (length before + 1) last)
 
--- the lines and the exit status of connections that ended so
+-- The lines and the exit status of connections with these ends.
 abbrev pub TellsConnections : ℕ → List Ended → ℕ → Option (List ℕ) → Option (List ℕ) → ℕ → ℕ → Type 0
 TellsConnections connections ends status out out' failures failures' = TellsAll connections ends status out out' failures failures'
     ⊎ TellsSome connections ends status out out' failures failures' ⊎ TellsFront connections ends status out out' failures failures'

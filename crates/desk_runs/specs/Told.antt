@@ -1,4 +1,4 @@
--- What a run tells on standard output and standard error.
+-- The texts that a run prints on standard output and standard error.
 use Rattle.std.specs.Prelude.{◌≡◌, ◌<◌, ◌+◌, ◌⊎◌, ℕ, List, [], ◌∷◌, ◌++◌, Option, codes, decimal}
 use Rattle.std.specs.Io.KnownBytes.{Appends}
 use Rattle.desk_types.specs.declared.wire.Wire.{Wire}
@@ -15,36 +15,36 @@ use Rattle.desk_import.specs.declared.options.BadOption.TheVariants as option
 
 -- ---- standard output
 
--- the line that tells of an audit: how many commands were accepted
+-- The line of an audit: the number of accepted commands.
 abbrev pub lawful_line : ℕ → List ℕ
 lawful_line count = codes "lawful " ++ decimal count ++ codes "\n"
 
--- the line that tells of a migration
+-- The line of a migration.
 abbrev pub version_line : List ℕ
 version_line = codes "version 2\n"
 
--- a text of this kind as it is told: one that is not CSV gets a line feed
+-- A text of this kind as printed. If it is not CSV, a line feed is added.
 abbrev pub with_end : Kind → List ℕ → List ℕ
 with_end Csv text = text
 with_end Json text = text ++ 10 ∷ []
 
--- the report that a request is answered, or why there is none
+-- The report in an answer, or the fault.
 abbrev pub report_output : Told → List ℕ
 report_output answer = with_end answer.kind answer.body
 
--- ---- what failed
+-- ---- faults
 
--- the line that tells of the fault
+-- The line of the fault.
 abbrev pub fault_line : ServeFault → List ℕ
 fault_line (Read served) = codes "tracedesk: Read"
 fault_line (Write served) = codes "tracedesk: Write"
 fault_line (TooManyReads served) = codes "tracedesk: TooManyReads"
 
--- the line that tells that memory was refused, outside of a message
+-- The line for memory that was refused, outside of a message.
 abbrev pub unavailable_line : List ℕ
 unavailable_line = codes "tracedesk: Unavailable"
 
--- the line that tells of an option that can't be read
+-- The line for an option that can't be read.
 abbrev pub option_line : BadOption → List ℕ
 option_line option.Id = codes "tracedesk: Bad id"
 option_line option.Source = codes "tracedesk: Bad source"
@@ -54,22 +54,23 @@ option_line option.Machine = codes "tracedesk: Bad machine"
 
 -- ---- standard error
 
--- a text went out and nothing failed, or one write failed and only its first bytes did
+-- A text was written and nothing failed, or one write failed and only the first bytes were written.
 abbrev pub Tells : {E : Type 0} → (E → Option (List ℕ)) → Wire E → Wire E → List ℕ → Type 0
 Tells contents errors errors' text =
     ((failures_of errors' ≡ failures_of errors) × Appends (contents (inner_of errors)) (contents (inner_of errors')) text)
     ⊎ ((failures_of errors' ≡ failures_of errors + 1) × SendsFront (contents (inner_of errors)) (contents (inner_of errors')) text)
 
--- so did a line, with its line feed
+-- The same for a line, with its line feed.
 abbrev pub TellsLine : {E : Type 0} → (E → Option (List ℕ)) → Wire E → Wire E → List ℕ → Type 0
 TellsLine contents errors errors' line = Tells contents errors errors' (line ++ 10 ∷ [])
 
--- one write to the output failed, and that is told
+-- One write to the output failed, and standard error says so.
 abbrev pub TellsUnwritten : {W E : Type 0} → (E → Option (List ℕ)) → Wire W → Wire W → Wire E → Wire E → Type 0
 TellsUnwritten contents output output' errors errors' =
     (failures_of output' ≡ failures_of output + 1) × TellsLine contents errors errors' (fault_line (Write none_served))
 
--- why no further connection is served is told: a line could not be written, which the output's count shows, or none could be accepted
+-- Standard error says why no further connection is served: a line could not be written, as the output's count shows, or
+-- none could be accepted.
 abbrev pub TellsEnd : {W E : Type 0} → (E → Option (List ℕ)) → Wire W → Wire W → Wire E → Wire E → Type 0
 TellsEnd contents output output' errors errors' =
     ((failures_of output' ≡ failures_of output) × TellsLine contents errors errors' (fault_line (Read none_served)))

@@ -1,9 +1,8 @@
-//! Where connections come from.
+//! The source of connections.
 
 use std::io::{Read, Write};
 
-/// The clients of a port, who come one after the other. Each sends to a reader and is sent to by a
-/// writer.
+/// The clients of a port, who come one after another. Each has a reader and a writer.
 pub trait Clients {
     ghost use Rattle.std.specs.Prelude.{List, [], ◌∷◌, IfOk, OnErr};
     ghost use Rattle.desk_runs.specs.Clients.{Event, Sees};
@@ -13,25 +12,25 @@ pub trait Clients {
 
     type Writer: Write + Drop;
 
-    /// What happened with them so far, where that is known.
+    /// Their events so far, if known.
     ghost Saw: { Self → List Event → Type 0 };
 
-    /// Asks for a port of this machine.
+    /// Opens a port of this machine.
     fn listen(&mut self, port: u16) -> Result<(), NoClient>
         ensures { Sees Saw self.old self.new (asked port ∷ []) };
 
-    /// Waits for the next one, and gives what it sends and what it gets.
+    /// Waits for the next client, and returns its reader and its writer.
     fn accept(&mut self) -> Result<(Self::Reader, Self::Writer), NoClient>
         ensures ok { IfOk result (λ pair. Sees Saw self.old self.new
             (came (Self.Reader.remaining pair.0) (Self.Writer.contents pair.1) ∷ [])) }
         ensures err { OnErr result (Sees Saw self.old self.new []) };
 
-    /// Lets one go.
+    /// Closes a client's connection.
     fn leave(&mut self, reader: Self::Reader, writer: Self::Writer)
         ensures { Sees Saw self.old self.new
             (left (Self.Reader.remaining reader) (Self.Writer.contents writer) ∷ []) };
 }
 
-/// The port can't be had, or no further client.
+/// The port can't be opened, or no further client accepted.
 #[derive(Clone, Copy, Debug, PartialEq, Eq, Drop)]
 pub struct NoClient;

@@ -1,4 +1,4 @@
-//! How a run ends, and what is told of that on standard error.
+//! The end of a run, and its message on standard error.
 
 ghost use Rattle.std.specs.Prelude.{◌≡◌, ◌^◌, ◌<◌};
 ghost use Rattle.desk_types.specs.Wire.{failures_of};
@@ -9,23 +9,22 @@ use desk_types::Wire;
 use served::{ServeFault, send, send_line};
 use std::io::Write;
 
-/// How a run ended.
+/// The end of a run.
 #[derive(Clone, Copy, Debug, PartialEq, Eq)]
 pub enum Exit {
     /// All went well.
     Done = 0,
-    /// The answer to some line or request, or to the import, counts as refused, a connection failed,
-    /// or there is no such report.
+    /// The answer to some line, request or import counts as refused, a connection failed, or there is no such report.
     Refused = 1,
-    /// The command line asks for nothing that the program does, or an option can't be read.
+    /// The command line has no meaning, or an option can't be read.
     BadCommandLine = 2,
     /// The desk's file was refused, or memory was, outside of a message.
     NoDesk = 3,
-    /// Input or output failed, the file of an import, or a port.
+    /// Input or output failed, or an import's file, or a port.
     Failed = 4,
 }
 
-/// Tells why the input was not answered to its end.
+/// Prints why the input was not answered to its end.
 pub fn tell_failure<E: Write>(fault: &ServeFault, errors: &mut Wire<E>) -> u8
     requires error_failures { failures_of errors.old < 2 ^ 63 }
     ensures status { result ≡ 4 }
@@ -35,7 +34,6 @@ pub fn tell_failure<E: Write>(fault: &ServeFault, errors: &mut Wire<E>) -> u8
     Exit::Failed as u8
 }
 
-/// The line that tells why the input was not answered to its end.
 fn fault_line(fault: &ServeFault) -> &'static str
     ensures { result.now ≡ fault_line fault.now }
 {
@@ -46,7 +44,7 @@ fn fault_line(fault: &ServeFault) -> &'static str
     }
 }
 
-/// Tells that memory was refused outside of a message.
+/// Prints that memory was refused outside of a message.
 pub fn unavailable<E: Write>(errors: &mut Wire<E>) -> u8
     requires error_failures { failures_of errors.old < 2 ^ 63 }
     ensures status { result ≡ 3 }
@@ -56,7 +54,7 @@ pub fn unavailable<E: Write>(errors: &mut Wire<E>) -> u8
     Exit::NoDesk as u8
 }
 
-/// Tells that an option of an import can't be read.
+/// Prints that an option of an import can't be read.
 pub fn bad_option<E: Write>(option: BadOption, errors: &mut Wire<E>) -> u8
     requires error_failures { failures_of errors.old < 2 ^ 63 }
     ensures status { result ≡ 2 }
@@ -66,7 +64,6 @@ pub fn bad_option<E: Write>(option: BadOption, errors: &mut Wire<E>) -> u8
     Exit::BadCommandLine as u8
 }
 
-/// The line that tells of an option that can't be read.
 fn option_line(option: BadOption) -> &'static str
     ensures { result.now ≡ option_line option }
 {
@@ -79,7 +76,7 @@ fn option_line(option: BadOption) -> &'static str
     }
 }
 
-/// Tells a line on standard error. Where that fails there is nowhere to tell of it.
+/// Prints a line on standard error. A failure of this can't be reported anywhere.
 pub fn tell_line<E: Write>(errors: &mut Wire<E>, line: &str)
     requires error_failures { failures_of errors.old < 2 ^ 63 }
     ensures { TellsLine E.contents errors.old errors.new line.now }
@@ -87,7 +84,7 @@ pub fn tell_line<E: Write>(errors: &mut Wire<E>, line: &str)
     let _ = send_line(errors, line.as_bytes());
 }
 
-/// Tells a text on standard error as it is.
+/// Prints a text on standard error, unchanged.
 pub fn tell<E: Write>(errors: &mut Wire<E>, text: &str)
     requires error_failures { failures_of errors.old < 2 ^ 63 }
     ensures { Tells E.contents errors.old errors.new text.now }

@@ -25,8 +25,8 @@ use served::{WriteFailed, send, send_line};
 use std::alloc::Global;
 use std::io::Write;
 
-/// Serves so many connections on a port of this machine, and tells a line of each: the exit status.
-/// Where the port can't be had, none could be accepted.
+/// Serves this number of connections on a port of this machine, and prints a line for each. Returns the exit status. If
+/// the port can't be opened, no connection could be accepted.
 pub fn serve_port<A: Handler, C: Clients, W: Write, E: Write>(
     alloc: Global,
     clients: &mut C,
@@ -63,7 +63,6 @@ pub fn serve_port<A: Handler, C: Clients, W: Write, E: Write>(
     status
 }
 
-/// Tells why no further connection was served: a line could not be written, or none was accepted.
 fn tell_end<E: Write>(errors: &mut Wire<E>, unwritten: bool)
     requires error_failures { failures_of errors.old < 2 ^ 63 }
     ensures read { unwritten ≡ false → TellsLine E.contents errors.old errors.new (fault_line (ReadFault none_served)) }
@@ -77,7 +76,7 @@ fn tell_end<E: Write>(errors: &mut Wire<E>, unwritten: bool)
     }
 }
 
-/// Tells what a GET of a target is answered: the exit status.
+/// Prints the answer to a GET of a target. Returns the exit status.
 pub fn tell_report<L: ReportedOwner, W: Write, E: Write>(
     alloc: Global,
     target: &str,
@@ -119,7 +118,6 @@ pub fn tell_report<L: ReportedOwner, W: Write, E: Write>(
     }
 }
 
-/// Sends what an answer tells to standard output.
 fn send_report<W: Write>(output: &mut Wire<W>, response: &Response) -> Result<(), WriteFailed>
     requires few_failures { failures_of output.old < 2 ^ 63 }
     ensures ok { OnOk result

@@ -15,7 +15,7 @@ use desk_types::Wire;
 use std::alloc::Global;
 use std::io::Write;
 
-/// Answers an import by an owner of a list: the exit status.
+/// Answers an import by an owner of a history. Returns the exit status.
 pub fn import_rows<F: Folder, W: Write, E: Write, L: Owner>(
     alloc: Global,
     owner: &mut L,

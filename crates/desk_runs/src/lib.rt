@@ -1,8 +1,5 @@
-//! What each command does at an open desk, and what a run tells of it.
-//!
-//! `specs/Told.antt` has the lines that are told, `specs/Runs.antt` what is answered by the list of a
-//! desk, `specs/Clients.antt` what happens with clients, `specs/Connections.antt` what connections leave,
-//! and `specs/Wires.antt` how readers and writers are left. Nothing here knows in what the desk is kept.
+//! The work of each command at an open desk, and the texts that a run prints. This crate doesn't know how a desk is
+//! stored.
 #![tactic(auto)]
 
 mod clients;

@@ -19,7 +19,7 @@ use desk_types::Wire;
 use std::alloc::Global;
 use std::io::{Read, Write};
 
-/// Answers the lines of the input by an owner of a list: the exit status.
+/// Answers the lines of the input by an owner of a history. Returns the exit status.
 pub fn feed_lines<R: Read, W: Write, E: Write, L: Owner>(
     alloc: Global,
     input: &mut Wire<R>,

@@ -1,4 +1,4 @@
-//! Connections, one after the other.
+//! Connections, one after another.
 
 ghost use Rattle.std.specs.Prelude.{◌≡◌, ◌⊎◌, ◌≤◌, ◌<◌, ◌+◌, ◌^◌, List, [], None, flat_map, IfSome, OnOk, OnErr};
 ghost use Rattle.std.specs.Io.KnownBytes.{Appends};
@@ -16,13 +16,12 @@ use served::{ServeFault, Served, WriteFailed, send};
 use std::alloc::Global;
 use std::io::Write;
 
-/// Serves so many connections, one after the other, and writes a line for each: its number from 1 on,
-/// how many requests were answered, and behind that the fault that ended it. A connection that ends
-/// with a fault ends no other. What each client sent decides alone what it gets.
+/// Serves this number of connections, one after another, and writes a line for each: its number from 1 on, the number
+/// of answered requests, and the fault that ended it, if any. A connection that ends with a fault ends no other. Only
+/// the bytes that a client sent decide the answers it gets.
 ///
-/// It answers the exit status: 0; 1 where a request was refused or a connection ended with a fault; 4
-/// where no further connection could be accepted, or where a line could not be written, which a
-/// failure of `output` shows.
+/// Returns the exit status: 0; 1 if a request was refused or a connection ended with a fault; 4 if no further
+/// connection could be accepted, or if a line could not be written, which a failure of `output` shows.
 pub fn serve_listener<A: Handler, C: Clients, W: Write>(
     alloc: Global,
     clients: &mut C,
@@ -55,7 +54,6 @@ pub fn serve_listener<A: Handler, C: Clients, W: Write>(
     u8::from(faulty)
 }
 
-/// Serves the next connection, where a client comes.
 fn serve_next<A: Handler, C: Clients>(
     alloc: Global,
     clients: &mut C,
@@ -80,7 +78,6 @@ fn serve_next<A: Handler, C: Clients>(
     Some(ended)
 }
 
-/// A request was refused, or a fault ended the connection.
 fn is_faulty(ended: &Result<Served, ServeFault>) -> bool
     ensures { result ≡ is_faulty ended.now }
 {
@@ -90,7 +87,7 @@ fn is_faulty(ended: &Result<Served, ServeFault>) -> bool
     }
 }
 
-/// Writes the line of a connection, as `1 8` or `2 0 Read`.
+/// Writes the line of a connection, such as `1 8` or `2 0 Read`.
 fn tell<W: Write>(
     output: &mut Wire<W>,
     number: u64,
@@ -113,7 +110,7 @@ fn tell<W: Write>(
     send(output, word.as_bytes())
 }
 
-/// How much was answered, and the word of the fault with the end of the line.
+/// Returns the number of answers, and the name of the fault with the end of the line.
 fn served_and_word(ended: &Result<Served, ServeFault>) -> (Served, &'static str)
     ensures served { result.0 ≡ served_of ended.now }
     ensures word { result.1.now ≡ fault_word ended.now }

@@ -13,7 +13,7 @@ use served::send;
 use std::alloc::Global;
 use std::io::Write;
 
-/// Tells that a list is lawful, and how many commands it has: the exit status.
+/// Prints that a history is lawful, and its number of commands. Returns the exit status.
 pub fn tell_lawful<W: Write, E: Write>(
     alloc: Global,
     count: u32,
@@ -37,7 +37,7 @@ pub fn tell_lawful<W: Write, E: Write>(
     }
 }
 
-/// Sends a text to standard output: the exit status.
+/// Writes a text to standard output. Returns the exit status.
 pub fn send_text<W: Write, E: Write>(text: &str, output: &mut Wire<W>, errors: &mut Wire<E>) -> u8
     requires few { HaveFewFailures output.old errors.old }
     ensures status { (result ≡ 0) ⊎ (result ≡ 4) }

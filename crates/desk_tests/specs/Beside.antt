@@ -1,10 +1,10 @@
--- A desk beside the rows of its list.
+-- A desk and the rows of its history.
 use Rattle.std.specs.Prelude.{◌≡◌, ℕ, ◌+◌, ◌≤◌, length}
 use Rattle.desk_types.specs.History.{History}
 use Rattle.feeder_state.specs.Restored.{AreRowsOf}
 use Rattle.state_rows.specs.Kept.{KeptRows}
 
--- The desk stands for a list whose tables the rows are, and its next entry has this number, 10,101 at most.
+-- The desk represents a history whose tables are these rows, and whose next entry has this number, at most 10,101.
 pub record AreOfOneList {D : Type 0} (StandsFor : D → History → Type 0) (desk : D) (rows : KeptRows) (number : ℕ) : Type 0 where
   pub list : History
   pub stands : StandsFor desk list

@@ -1,6 +1,5 @@
-//! What no clause says of the two desks: that their calls succeed with ample memory, one beside the
-//! other. It stands here and not in the crates that it calls, since a crate with tests is proved once
-//! more with them.
+//! Properties of the two desks that no clause covers: their calls succeed with ample memory, and both give the same
+//! results. These tests are a crate of their own, since a crate with tests is proved twice.
 #![tactic(auto)]
 
 #[cfg(test)]

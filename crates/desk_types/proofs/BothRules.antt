@@ -1,4 +1,4 @@
--- What is accepted by rules One is accepted by rules Two.
+-- Rules Two accept every command that rules One accept.
 use Rattle.std.proofs.Common.{◌≡◌, ℕ, nat_lt, Bool, true, false, Option, Some, None, List, [], ◌∷◌, ◌++◌, refl, sym, ap, ◌∙◌}
 use Rattle.std.specs.Prelude.{if◌then◌else◌, is_none, ◌&&◌, ◌==◌}
 use Rattle.std.specs.Option.{option_or}
@@ -19,7 +19,6 @@ use Rattle.desk_types.specs.Pieces.{left_of, is_mounted}
 use Rattle.desk_types.specs.Judged.{IsJudged}
 use Rattle.desk_types.specs.Refusals.{first_refusal, is_above, is_too_far_ahead, count_refusal, counts_refusal, command_refusal, refusal_of}
 
--- a count that is not too high by rules One is not by rules Two
 above-by-two : (left counted : ℕ) → nat_lt left counted ≡ false → is_above Two left counted ≡ false
 above-by-two left counted low = by (left == 0) refl
   where
@@ -27,7 +26,6 @@ above-by-two left counted low = by (left == 0) refl
     by false is = refl
     by true is = ap (λ n. nat_lt n counted) (sym (eqb-true left 0 is)) ∙ low
 
--- where tests hold that nothing is wrong, they do so with a last test that holds less often
 last-test : (ts : List (Bool × Refusal)) (a b : Bool) (r : Refusal) → (a ≡ false → b ≡ false) → first_refusal (ts ++ (a, r) ∷ []) ≡ None
     → first_refusal (ts ++ (b, r) ∷ []) ≡ None
 last-test [] true b r less none = cc
@@ -72,7 +70,6 @@ command-by-two H minute (MaterialsScrapped machine slot quantity) none = none
 command-by-two H minute (CountsTaken counts) none = counts-by-two H [] counts none
 command-by-two H minute ClockSet none = none
 
--- what is accepted by either rules is accepted by rules Two
 pub accepted-by-two : (rules : Rules) (H : History) (s : Stamped) → refusal_of rules H s ≡ None → refusal_of Two H s ≡ None
 unfolding refusal_of
 accepted-by-two Two H s none = none
@@ -83,7 +80,7 @@ accepted-by-two One H s none = by (is_too_far_ahead H s) none
     by true none = cc
     by false none = command-by-two H (effective_minute H s.minute) s.command none
 
--- so a list that is judged by either rules is judged by rules Two
+-- A history that either rules accept is accepted by rules Two.
 pub judged-by-two : (rules : Rules) (H : History) → IsJudged rules H → IsJudged Two H
 judged-by-two rules [] judged = judged
 judged-by-two rules (e ∷ H) (next, judged) = (

@@ -1,4 +1,4 @@
--- Worked runs of counts, by both sets of rules, computed by the definitions.
+-- Worked cases of counts under both sets of rules.
 use Rattle.std.specs.Prelude.{◌≡◌, None, List, [], ◌∷◌, ◌++◌, refl}
 use Rattle.desk_types.specs.declared.answer.Detail.TheVariants.{Plain, MinutesLeft, Taken}
 use Rattle.desk_types.specs.declared.answer.Refusal.TheVariants.{ReelMounted, CountAbove}
@@ -13,7 +13,7 @@ use Rattle.desk_types.specs.Refusals.{part_refusal, sheet_refusal, definition_re
 use Rattle.desk_types.specs.Outcome.{replies_to, after_commands}
 use Rattle.desk_types.proofs.RowsCommon.{P, L1, M, S1, K1, said, counted, received, base, base_replies}
 
--- A reel of ten pieces is counted with fifteen, then with twelve, with none, and then with one.
+-- A reel of ten pieces is counted at fifteen, then twelve, none and one.
 abbrev counts : List Stamped
 counts = base ++ said (
     received K1 P L1 10
@@ -23,19 +23,19 @@ counts = base ++ said (
     ∷ CountsTaken (counted K1 1 ∷ [])
     ∷ [])
 
--- By rules Two the first count takes nothing, since it finds five pieces. The last is refused: a spent reel stays spent.
+-- Under rules Two the first count takes nothing because it finds five pieces. The last is refused:
+-- a spent reel stays spent.
 pub a_count_rises_by_rules_two : replies_to Two [] counts ≡
     base_replies ++ Accepted Plain ∷ Accepted (Taken 0) ∷ Accepted (Taken 3) ∷ Accepted (Taken 12) ∷ Refused (CountAbove K1) ∷ []
 unfolding refusal_of command_refusal part_refusal definition_refusal sheet_refusal selection_refusal receipt_refusal tape_of left_of live_on
 a_count_rises_by_rules_two = refl
 
--- By rules One no count rises.
 pub no_count_rises_by_rules_one : replies_to One [] counts ≡
     base_replies ++ Accepted Plain ∷ Refused (CountAbove K1) ∷ Refused (CountAbove K1) ∷ Accepted (Taken 10) ∷ Refused (CountAbove K1) ∷ []
 unfolding refusal_of command_refusal part_refusal definition_refusal sheet_refusal selection_refusal receipt_refusal tape_of left_of live_on
 no_count_rises_by_rules_one = refl
 
--- the list after the first two counts by rules Two
+-- The history after the first two counts under rules Two.
 abbrev after_rise : History
 after_rise = after_commands Two [] (base ++ said (
     received K1 P L1 10
@@ -43,13 +43,12 @@ after_rise = after_commands Two [] (base ++ said (
     ∷ CountsTaken (counted K1 12 ∷ [])
     ∷ []))
 
--- The found pieces count as received: of fifteen three were missing later, and twelve are left.
+-- Found pieces count as received: of fifteen, three were missing later and twelve remain.
 pub found_pieces_count_as_received :
     (received_of after_rise K1 ≡ 15) × (found_of after_rise K1 ≡ 5) × (scrapped_of after_rise K1 ≡ 3) × (left_of after_rise K1 ≡ 12)
 unfolding refusal_of command_refusal part_refusal definition_refusal sheet_refusal selection_refusal receipt_refusal tape_of left_of live_on all_picks found_of
 found_pieces_count_as_received = (refl, refl, refl, refl)
 
--- By neither rules is a reel counted that stands on a slot.
 pub a_mounted_reel_is_not_counted : replies_to Two [] (base ++ said (
     received K1 P L1 10
     ∷ MaterialsLoaded M S1 K1

@@ -1,4 +1,4 @@
--- Bytes are compared eight at a time, as one number.
+-- Comparing bytes eight at a time as one number.
 use Rattle.std.proofs.Common.{◌≡◌, ◌≢◌, ℕ, zero, suc, ◌+◌, ◌-◌, ◌*◌, ◌==◌, ◌<◌, ◌≤◌, List, [], ◌∷◌, ◌++◌, length, take, drop, replicate, slice_index, All, inl, inr, refl, sym, ap, ◌∙◌, arith}
 use Rattle.std.proofs.lemmas.Bool.{cases_lt}
 use Rattle.std.proofs.lemmas.Bool.Decides.{nat_tests}
@@ -27,11 +27,9 @@ then-Equal Less = refl
 then-Equal Equal = refl
 then-Equal Greater = refl
 
--- one more digit of base 256 counts only between equal numbers
 one-more : (m n x y : ℕ) → x < 256 → y < 256 → nat_cmp (m * 256 + x) (n * 256 + y) ≡ ordering_then (nat_cmp m n) (nat_cmp x y)
 one-more m n x y p q = grind (arith, nat_tests)
 
--- Numbers of as many digits are ordered as what stands before the digits, and then as the digits.
 spelt : (m n : ℕ) (xs ys : List ℕ) → length xs ≡ length ys → Bytes xs → Bytes ys
     → nat_cmp (big_endian m xs) (big_endian n ys) ≡ ordering_then (nat_cmp m n) (by_bytes xs ys)
 spelt m n [] [] e f g = then-Equal _
@@ -42,7 +40,6 @@ spelt m n (x ∷ xs) (y ∷ ys) e f g =
     ∙ ap (λ o. ordering_then o (by_bytes xs ys)) (one-more m n x y (f 0) (g 0))
     ∙ then-then (nat_cmp m n) (nat_cmp x y) (by_bytes xs ys)
 
--- Lists are ordered as their first parts, and then as the rest.
 parted : (n : ℕ) (xs ys : List ℕ) → n ≤ length xs → n ≤ length ys
     → by_bytes xs ys ≡ ordering_then (by_bytes (take n xs) (take n ys)) (by_bytes (drop n xs) (drop n ys))
 parted zero xs ys p q = refl
@@ -64,7 +61,6 @@ same : (x : ℕ) → nat_cmp x x ≡ Equal
 same x = tied_itself nat_cmp_total x
 
 module _ (at : ℕ) (xs ys : List ℕ) (p : at + 8 ≤ length xs) (q : at + 8 ≤ length ys) (f : Bytes xs) (g : Bytes ys) where
-  -- What is left is ordered as its first words, and then as what is behind them.
   step : by_bytes (drop at xs) (drop at ys) ≡ ordering_then (nat_cmp (word_at xs at) (word_at ys at)) (by_bytes (drop (at + 8) xs) (drop (at + 8) ys))
   step =
       let k = length-drop at xs in
@@ -75,11 +71,9 @@ module _ (at : ℕ) (xs ys : List ℕ) (p : at + 8 ≤ length xs) (q : at + 8 �
       ∙ ap (λ o. ordering_then o (by_bytes (drop 8 (drop at xs)) (drop 8 (drop at ys)))) (sym (spelt 0 0 (take 8 (drop at xs)) (take 8 (drop at ys)) (omega (arith, k, l, m, n, p, q)) (small at xs f) (small at ys g)))
       ∙ (λ i. ordering_then (nat_cmp (word_at xs at) (word_at ys at)) (by_bytes (drop-drop 8 at xs i) (drop-drop 8 at ys i)))
 
-  -- words that differ decide
   pub apart : (x y : ℕ) → x ≡ word_at xs at → y ≡ word_at ys at → (x ≢ y) → by_bytes xs ys ≡ by_bytes (drop at xs) (drop at ys) → nat_cmp x y ≡ by_bytes xs ys
   apart x y a b n rest = sym (rest ∙ step ∙ (λ i. ordering_then (nat_cmp (sym a i) (sym b i)) (by_bytes (drop (at + 8) xs) (drop (at + 8) ys))) ∙ unlike x y _ n)
 
-  -- words that are the same leave it to what is behind
   pub alike : (x y : ℕ) → x ≡ word_at xs at → y ≡ word_at ys at → x ≡ y → by_bytes xs ys ≡ by_bytes (drop at xs) (drop at ys)
       → by_bytes xs ys ≡ by_bytes (drop (at + 8) xs) (drop (at + 8) ys)
   alike x y a b e rest =
@@ -92,7 +86,6 @@ before y p = grind (arith, nat_tests)
 behind : (x : ℕ) → 0 < x → nat_cmp x 0 ≡ Greater
 behind x p = grind (arith, nat_tests)
 
--- Names without a zero are ordered as they are with zeros behind them.
 pub padding : (i j : ℕ) (u v : List ℕ) → length u + i ≡ length v + j → All (λ b. 0 < b) u → All (λ b. 0 < b) v
     → by_bytes u v ≡ by_bytes (u ++ replicate i 0) (v ++ replicate j 0)
 padding i j [] [] e f g =
@@ -109,7 +102,7 @@ abbrev Printable : List ℕ → Type 0
 Printable bytes = All (λ b. (0x20 ≤ b) × (b ≤ 0x7e)) bytes
 
 module _ (width : ℕ) (xs ys : List ℕ) (k l : ℕ) (p : IsPadded width xs k) (q : IsPadded width ys l) where
-  -- Printable names are ordered as the arrays that keep them, and equal where these are.
+  -- Printable names have the order and equality of the arrays that store them.
   pub kept-order : length (take k xs) ≤ width → length (take l ys) ≤ width → Printable (take k xs) → Printable (take l ys) → by_bytes (take k xs) (take l ys) ≡ by_bytes xs ys
   kept-order e f a b =
       padding (width - length (take k xs)) (width - length (take l ys)) (take k xs) (take l ys) (omega (arith, e, f))

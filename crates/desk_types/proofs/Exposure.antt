@@ -9,7 +9,7 @@ use Rattle.desk_types.specs.History.{History, latest}
 use Rattle.desk_types.specs.FloorLife.{open_by, is_out_at, exposure_starts, minutes_between, exposure_of}
 use Rattle.desk_types.proofs.Minutes.{count-split, count-agree, count-one}
 
--- what the last command on the reel says that took effect by the minute
+-- How the last command on the reel in effect by the minute leaves it.
 abbrev said_at : History → Name → ℕ → Option Bool
 said_at H name minute = latest (λ e. if nat_le e.effective minute then open_by name e.stamped.command else None) H
 
@@ -19,13 +19,11 @@ by-then a b le = grind (arith, nat_tests)
 not-yet : (a b : ℕ) → b < a → nat_le a b ≡ false
 not-yet a b lt = grind (arith, nat_tests)
 
--- before the entry took effect it says nothing
 pub is_out-before : (H : History) (e : Entry) (name : Name) (minute : ℕ) → minute < e.effective → is_out_at (e ∷ H) name minute ≡ is_out_at H name minute
 unfolding is_out_at
 is_out-before H e name minute lt =
     ap (λ b. unwrap_or (option_or (if b then open_by name e.stamped.command else None) (said_at H name minute)) false) (not-yet e.effective minute lt)
 
--- from then on it says whether the reel is out
 pub is_out-after : (H : History) (e : Entry) (name : Name) (out : Bool) (minute : ℕ) → open_by name e.stamped.command ≡ Some out → e.effective ≤ minute
     → is_out_at (e ∷ H) name minute ≡ out
 unfolding is_out_at
@@ -33,7 +31,6 @@ is_out-after H e name out minute says le =
     ap (λ b. unwrap_or (option_or (if b then open_by name e.stamped.command else None) (said_at H name minute)) false) (by-then e.effective minute le)
     ∙ ap (λ o. unwrap_or (option_or o (said_at H name minute)) false) says
 
--- an entry that is no command on the reel says nothing at all
 pub is_out-untouched : (H : History) (e : Entry) (name : Name) (minute : ℕ) → open_by name e.stamped.command ≡ None
     → is_out_at (e ∷ H) name minute ≡ is_out_at H name minute
 unfolding is_out_at
@@ -43,7 +40,6 @@ is_out-untouched H e name minute none = by (nat_le e.effective minute)
     by true = ap (λ o. unwrap_or (option_or o (said_at H name minute)) false) none
     by false = refl
 
--- Up to the entry's minute the exposure is as before,
 pub exposure-before : (H : History) (e : Entry) (name : Name) → exposure_starts (e ∷ H) name ≡ exposure_starts H name
     → (minute : ℕ) → minute ≤ e.effective → exposure_of (e ∷ H) name minute ≡ exposure_of H name minute
 unfolding exposure_of
@@ -51,7 +47,7 @@ exposure-before H e name starts minute le =
     ap (λ s. count_by (is_out_at (e ∷ H) name) (minutes_between s minute)) starts
     ∙ count-agree (is_out_at (e ∷ H) name) (is_out_at H name) (exposure_starts H name) minute (λ t low high. is_out-before H e name t (omega arith))
 
--- and from then on each minute counts, or none.
+-- After the entry's minute, either every minute counts or none does.
 pub exposure-after : (H : History) (e : Entry) (name : Name) (out : Bool) → open_by name e.stamped.command ≡ Some out
     → exposure_starts (e ∷ H) name ≡ exposure_starts H name → exposure_starts H name ≤ e.effective → (minute : ℕ) → e.effective ≤ minute
     → exposure_of (e ∷ H) name minute ≡ exposure_of H name e.effective + cond out (minute - e.effective) 0
@@ -67,7 +63,6 @@ exposure-after H e name out says starts low minute le =
     p : ℕ → Bool
     p = is_out_at (e ∷ H) name
 
--- After an entry at whose minute the exposure begins and which leaves the reel in its bag, there is none.
 pub exposure-anew : (H : History) (e : Entry) (name : Name) → open_by name e.stamped.command ≡ Some false → exposure_starts (e ∷ H) name ≡ e.effective
     → (minute : ℕ) → exposure_of (e ∷ H) name minute ≡ 0
 unfolding exposure_of
@@ -75,7 +70,6 @@ exposure-anew H e name says starts minute =
     ap (λ s. count_by (is_out_at (e ∷ H) name) (minutes_between s minute)) starts
     ∙ count-one (is_out_at (e ∷ H) name) false e.effective minute (λ t from to. is_out-after H e name false t says from)
 
--- An entry that is no command on the reel changes nothing.
 pub exposure-untouched : (H : History) (e : Entry) (name : Name) → open_by name e.stamped.command ≡ None → exposure_starts (e ∷ H) name ≡ exposure_starts H name
     → (minute : ℕ) → exposure_of (e ∷ H) name minute ≡ exposure_of H name minute
 unfolding exposure_of

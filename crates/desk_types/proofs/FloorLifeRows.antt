@@ -1,4 +1,4 @@
--- Worked runs of floor life, computed by the definitions.
+-- Worked cases of floor life.
 use Rattle.std.specs.Prelude.{◌≡◌, ℕ, Some, List, [], ◌∷◌, ◌++◌, refl}
 use Rattle.desk_types.specs.declared.answer.Detail.TheVariants.{Plain, MinutesLeft}
 use Rattle.desk_types.specs.declared.answer.Refusal.TheVariants.{NotBaked, Expired}
@@ -14,8 +14,8 @@ use Rattle.desk_types.specs.declared.rules.Rules.TheVariants.{Two}
 use Rattle.desk_types.specs.Outcome.{replies_to}
 use Rattle.desk_types.proofs.RowsCommon.{M, S1, K1, K2, at, received_at, received_at_six, base, base_replies}
 
--- A reel of level 3 has 10,080 minutes. One minute before they are over it is loaded with one minute left.
--- At the minute itself another reel, which was opened with it, is refused.
+-- A reel of level 3 is loaded with one minute left of its 10,080. One minute later another reel,
+-- opened with it, is refused.
 pub floor_life_expires_at_its_limit : replies_to Two [] (base
     ++ at 0 (received_at Three K1 100)
     ∷ at 0 (received_at Three K2 100)
@@ -30,7 +30,7 @@ pub floor_life_expires_at_its_limit : replies_to Two [] (base
 unfolding refusal_of command_refusal part_refusal definition_refusal sheet_refusal selection_refusal receipt_refusal opening_refusal mounting_refusal tape_of left_of live_on unload_refusal is_out_at exposure_of
 floor_life_expires_at_its_limit = refl
 
--- A reel of level 3 is opened at minute 0, and loaded at this minute.
+-- A reel of level 3 is opened at minute 0, and loaded at the given minute.
 abbrev opened_and_loaded_at : ℕ → List Stamped
 opened_and_loaded_at minute = base
     ++ at 0 (received_at Three K1 100)
@@ -38,20 +38,18 @@ opened_and_loaded_at minute = base
     ∷ at minute (MaterialsLoaded M S1 K1)
     ∷ []
 
--- At the minute at which its floor life is over the load is refused.
 pub expired_at_the_very_minute : replies_to Two [] (opened_and_loaded_at 10080) ≡
     base_replies ++ Accepted Plain ∷ Accepted Plain ∷ Refused (Expired K1) ∷ []
 unfolding refusal_of command_refusal part_refusal definition_refusal sheet_refusal selection_refusal receipt_refusal opening_refusal mounting_refusal tape_of left_of live_on is_out_at exposure_of
 expired_at_the_very_minute = refl
 
--- On another desk the same load one minute earlier is accepted.
 pub one_minute_is_left_before : replies_to Two [] (opened_and_loaded_at 10079) ≡
     base_replies ++ Accepted Plain ∷ Accepted Plain ∷ Accepted (MinutesLeft (Some 1)) ∷ []
 unfolding refusal_of command_refusal part_refusal definition_refusal sheet_refusal selection_refusal receipt_refusal opening_refusal mounting_refusal tape_of left_of live_on is_out_at exposure_of
 one_minute_is_left_before = refl
 
--- An expired reel is refused. Once it is baked, the same load with the same minute of its own is accepted with the whole floor life:
--- it is judged anew, and at the minute of the desk.
+-- An expired reel is refused. After a bake the same load, with the same minute, is accepted with
+-- the whole floor life: it is judged again, at the desk minute.
 pub a_bake_gives_the_whole_floor_life : replies_to Two [] (base
     ++ at 0 (received_at FiveA K1 10)
     ∷ at 0 (ReelOpened K1)
@@ -63,7 +61,8 @@ pub a_bake_gives_the_whole_floor_life : replies_to Two [] (base
 unfolding refusal_of command_refusal part_refusal definition_refusal sheet_refusal selection_refusal receipt_refusal opening_refusal closing_refusal mounting_refusal tape_of left_of live_on is_out_at exposure_of
 a_bake_gives_the_whole_floor_life = refl
 
--- A reel of level 6 is refused until it is baked. Then it has the minutes of its label, here 60, of which those count that it is open.
+-- A reel of level 6 is refused until it is baked. It then has the 60 minutes of its label, which
+-- run only while it is open.
 pub level_six_waits_for_its_bake : replies_to Two [] (base
     ++ at 0 (received_at_six 60 K1)
     ∷ at 0 (MaterialsLoaded M S1 K1)
@@ -75,7 +74,7 @@ pub level_six_waits_for_its_bake : replies_to Two [] (base
 unfolding refusal_of command_refusal part_refusal definition_refusal sheet_refusal selection_refusal receipt_refusal opening_refusal closing_refusal mounting_refusal tape_of left_of live_on is_out_at exposure_of
 level_six_waits_for_its_bake = refl
 
--- A reel lies open for 100 minutes, and before and after that in its bag: those 100 count.
+-- Only the 100 minutes between opening and sealing count.
 pub sealed_minutes_do_not_count : replies_to Two [] (base
     ++ at 0 (received_at FiveA K1 10)
     ∷ at 50 (ReelOpened K1)
@@ -86,7 +85,6 @@ pub sealed_minutes_do_not_count : replies_to Two [] (base
 unfolding refusal_of command_refusal part_refusal definition_refusal sheet_refusal selection_refusal receipt_refusal opening_refusal closing_refusal mounting_refusal tape_of left_of live_on is_out_at exposure_of
 sealed_minutes_do_not_count = refl
 
--- A reel that is opened and sealed in one minute has lost nothing.
 pub opening_and_sealing_in_one_minute_counts_none : replies_to Two [] (base
     ++ at 0 (received_at FiveA K1 10)
     ∷ at 50 (ReelOpened K1)

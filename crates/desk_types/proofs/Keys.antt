@@ -21,7 +21,6 @@ same-sym a b = (partial_equiv_from_equiv nat_list_eq_equiv).symm a b
 pub same-true : (a b : Name) → same a b ≡ true → a ≡ b
 same-true a b = (bytes_decides a b).0
 
--- a key is found exactly where it is the same
 pub is_at-by_name : (k q : Name) → is_at (by_name k) q ≡ same k q
 is_at-by_name k q = sym (texts_ties k q)
 
@@ -36,7 +35,6 @@ is_at-by_pair k q =
     ∙ ap (λ t. t && is_eq (by_name k.1 q.1)) (is_at-by_name k.0 q.0)
     ∙ ap (λ t. same k.0 q.0 && t) (is_at-by_name k.1 q.1)
 
--- a test that two tests agree on is passed by the same lists
 pub list_any-same : {X : Type 0} (s t : X → Bool) → ((x : X) → s x ≡ t x) → (xs : List X) → list_any s xs ≡ list_any t xs
 list_any-same s t agree xs = ap (λ test. list_any test xs) (λ j x. agree x j)
 
@@ -44,7 +42,7 @@ or-cond : (b c : Bool) → cond b true c ≡ (b || c)
 or-cond true c = refl
 or-cond false c = refl
 
--- What a set has after one key is put in, where `at k` finds the key k and `is k` is the test for it.
+-- The members of a set after inserting k; `at` is the lookup and `is` the test of a key.
 pub has-after : {K : Type 0} (at is : K → K → Bool) → ((k q : K) → at k q ≡ is k q) → (old new : List K) (k : K)
     → ((q : K) → list_any (at q) new ≡ cond (at k q) true (list_any (at q) old)) → (q : K) → list_any (is q) new ≡ (is k q || list_any (is q) old)
 has-after at is agree old new k after q =
@@ -60,17 +58,15 @@ cond-of : {X Y : Type 0} (F : X → Y) (b : Bool) (x y : X) → F (cond b x y) �
 cond-of F true x y = refl
 cond-of F false x y = refl
 
--- What is read of a map by names after one name is written: `old` and `new` look it up before and after, w is what is written.
+-- A map by name after writing w at k; `old` and `new` are the lookups before and after.
 pub name-written : {V X : Type 0} (old new : Name → Option V) (k : Name) (w : Option V) (read : Option V → X)
     → ((q : Name) → new q ≡ cond (is_at (by_name k) q) w (old q)) → (q : Name) → read (new q) ≡ cond (same k q) (read w) (read (old q))
 name-written old new k w read after q = ap read (after q) ∙ cond-of read _ _ _ ∙ ap (λ b. cond b (read w) (read (old q))) (is_at-by_name k q)
 
--- The same of a map by pairs of names.
 pub pair-written : {V X : Type 0} (old new : Name × Name → Option V) (k : Name × Name) (w : Option V) (read : Option V → X)
     → ((q : Name × Name) → new q ≡ cond (is_at (by_pair k) q) w (old q)) → (a b : Name) → read (new (a, b)) ≡ cond (same_pair k (a, b)) (read w) (read (old (a, b)))
 pair-written old new k w read after a b = ap read (after (a, b)) ∙ cond-of read _ _ _ ∙ ap (λ t. cond t (read w) (read (old (a, b)))) (is_at-by_pair k (a, b))
 
--- What is written over what was there is a step from it.
 pub name-changed : {X : Type 0} (x y : X) (old : Name → X) (step : X → X) (k : Name) → old k ≡ x → step x ≡ y → (q : Name)
     → cond (same k q) y (old q) ≡ cond (same k q) (step (old q)) (old q)
 name-changed x y old step k was is q = by (same k q) refl
@@ -79,7 +75,6 @@ name-changed x y old step k was is q = by (same k q) refl
     by true one = sym is ∙ ap step (sym was ∙ ap old (same-true k q one))
     by false one = refl
 
--- The same of pairs.
 pub pair-changed : {X : Type 0} (x y : X) (old : Name → Name → X) (step : X → X) (k : Name × Name) → old k.0 k.1 ≡ x → step x ≡ y → (a b : Name)
     → cond (same_pair k (a, b)) y (old a b) ≡ cond (same_pair k (a, b)) (step (old a b)) (old a b)
 pair-changed x y old step k was is a b = by (same_pair k (a, b)) refl

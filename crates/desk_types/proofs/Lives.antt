@@ -1,11 +1,10 @@
--- What is left to reels as the keys of ordered sets.
+-- Remaining floor life as a key of ordered sets.
 use Rattle.std.proofs.Common.{◌≡◌, refl}
 use Rattle.desk_types.specs.declared.view.Left.{Left}
 use Rattle.desk_types.specs.declared.view.Left.TheVariants.{Minutes, Unlimited, Unbaked}
 use Rattle.desk_types.specs.contracts.view.LeftOrd.TheImpl.{ghosts}
 use Rattle.desk_types.specs.Free.{by_left}
 
--- the order of the code is that of the definition
 left-cmp : (a b : Left) → ghosts.cmp a b ≡ by_left a b
 left-cmp (Minutes a) (Minutes b) = refl
 left-cmp (Minutes a) Unlimited = refl
@@ -17,6 +16,5 @@ left-cmp Unbaked (Minutes b) = refl
 left-cmp Unbaked Unlimited = refl
 left-cmp Unbaked Unbaked = refl
 
--- the same of the two orders as functions
 pub left-order : ghosts.cmp ≡ by_left
 left-order = λ j a b. left-cmp a b j

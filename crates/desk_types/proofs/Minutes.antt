@@ -4,7 +4,6 @@ use Rattle.std.specs.List.{range_with_len}
 use Rattle.std.proofs.lemmas.List.Sums.{sum_by-append, sum_by-cons}
 use Rattle.desk_types.specs.FloorLife.{minutes_between}
 
--- a stretch is its first part and its second
 range-add : (a m n : ℕ) → range_with_len a (m + n) ≡ range_with_len a m ++ range_with_len (a + m) n
 range-add a zero n = ap (range_with_len a) (zero-add n) ∙ ap (λ b. range_with_len b n) (sym (add-zero a))
 range-add a (suc m) n = ap (range_with_len a) one_more ∙ ap (λ l. a ∷ l) (range-add (a + 1) m n ∙ ap (λ b. range_with_len (a + 1) m ++ range_with_len b n) one_on)
@@ -15,7 +14,6 @@ range-add a (suc m) n = ap (range_with_len a) one_more ∙ ap (λ l. a ∷ l) (r
     one_on : a + 1 + m ≡ a + suc m
     one_on = omega arith
 
--- the minutes of a stretch are those of its two parts
 pub count-split : (p : ℕ → Bool) (from mid to : ℕ) → from ≤ mid → mid ≤ to
     → count_by p (minutes_between from to) ≡ count_by p (minutes_between from mid) + count_by p (minutes_between mid to)
 count-split p from mid to low high =
@@ -38,7 +36,6 @@ range-agree p q a (suc n) agree =
     ∙ ap (λ k. cond (q a) 1 0 + k) (range-agree p q (a + 1) n (λ t low high. agree t (omega arith) (omega arith)))
     ∙ sym (sum_by-cons (λ t. cond (q t) 1 0) a (range_with_len (a + 1) n))
 
--- two tests that agree on a stretch count the same minutes
 pub count-agree : (p q : ℕ → Bool) (from to : ℕ) → ((t : ℕ) → from ≤ t → t < to → p t ≡ q t) → count_by p (minutes_between from to) ≡ count_by q (minutes_between from to)
 count-agree p q from to agree = range-agree p q from (to - from) (λ t low high. agree t low (omega arith))
 
@@ -48,6 +45,5 @@ range-one false a zero = refl
 range-one true a (suc n) = sum_by-cons (λ t. 1) a (range_with_len (a + 1) n) ∙ ap (λ k. 1 + k) (range-one true (a + 1) n) ∙ omega arith
 range-one false a (suc n) = sum_by-cons (λ t. 0) a (range_with_len (a + 1) n) ∙ ap (λ k. 0 + k) (range-one false (a + 1) n)
 
--- a test with one answer on a stretch counts all its minutes or none
 pub count-one : (p : ℕ → Bool) (b : Bool) (from to : ℕ) → ((t : ℕ) → from ≤ t → t < to → p t ≡ b) → count_by p (minutes_between from to) ≡ cond b (to - from) 0
 count-one p b from to one = count-agree p (λ t. b) from to one ∙ range-one b from (to - from)

@@ -1,4 +1,4 @@
--- Worked runs of tapes, pieces and counts, computed by the definitions.
+-- Worked cases of tapes, pieces and counts.
 use Rattle.std.specs.Prelude.{◌≡◌, ℕ, None, List, [], ◌∷◌, ◌++◌, map, refl}
 use Rattle.desk_types.specs.declared.answer.Detail.TheVariants.{Plain, MinutesLeft, Reels, Taken}
 use Rattle.desk_types.specs.declared.answer.Refusal.TheVariants.{SlotTaken, SlotEmpty, ReelMounted, AlreadyPlaced, CountAbove}
@@ -15,7 +15,7 @@ use Rattle.desk_types.specs.Refusals.{part_refusal, sheet_refusal, definition_re
 use Rattle.desk_types.specs.Outcome.{replies_to, after_commands}
 use Rattle.desk_types.proofs.RowsCommon.{P, L1, M, S1, K1, K2, K3, K4, B1, R1, R2, R3, R4, R5, said, counted, received, base, base_replies}
 
--- A reel of fifty pieces is joined to the end of one of two pieces, and a board takes five pieces.
+-- A reel of fifty pieces is spliced to one of two pieces, and a board takes five.
 abbrev spliced_board : List Stamped
 spliced_board = base ++ said (
     received K1 P L1 2
@@ -26,21 +26,18 @@ spliced_board = base ++ said (
     ∷ MaterialsInstalled M B1 (R1 ∷ R2 ∷ R3 ∷ R4 ∷ R5 ∷ [])
     ∷ [])
 
--- the replies to that
 abbrev spliced_board_replies : List Reply
 spliced_board_replies = base_replies ++ Accepted Plain ∷ Accepted Plain ∷ Accepted (MinutesLeft None) ∷ Accepted (MinutesLeft None) ∷ Accepted Plain
     ∷ Accepted (Reels (K1 ∷ K1 ∷ K2 ∷ K2 ∷ K2 ∷ [])) ∷ []
 
--- A splice in mid board: each piece is taken off the reel that is at the front for that very piece.
 pub a_splice_in_mid_board : replies_to Two [] spliced_board ≡ spliced_board_replies
 unfolding refusal_of command_refusal part_refusal definition_refusal sheet_refusal selection_refusal receipt_refusal mounting_refusal tape_of left_of live_on start_refusal install_refusal install_picks
 a_splice_in_mid_board = refl
 
--- the list after that
 abbrev after_splice : History
 after_splice = after_commands Two [] spliced_board
 
--- Of the first reel both pieces were placed; of the second three were, and 47 are left.
+-- Both pieces of the first reel were placed; the second had three placed and has 47 left.
 pub pieces_balance_after_a_splice :
     (map (received_of after_splice) (K1 ∷ K2 ∷ []) ≡ 2 ∷ 50 ∷ [])
     × (map (placed_of after_splice) (K1 ∷ K2 ∷ []) ≡ 2 ∷ 3 ∷ [])
@@ -49,12 +46,12 @@ pub pieces_balance_after_a_splice :
 unfolding refusal_of command_refusal part_refusal definition_refusal sheet_refusal selection_refusal receipt_refusal mounting_refusal tape_of left_of live_on start_refusal install_refusal install_picks all_picks found_of
 pieces_balance_after_a_splice = (refl, refl, refl, refl)
 
--- The slot's tape keeps the spent reel, which is not live.
 pub a_tape_keeps_a_spent_reel : (tape_of after_splice M S1 ≡ K1 ∷ K2 ∷ []) × (live_on after_splice M S1 ≡ K2 ∷ [])
 unfolding refusal_of command_refusal part_refusal definition_refusal sheet_refusal selection_refusal receipt_refusal mounting_refusal tape_of left_of live_on start_refusal install_refusal install_picks
 a_tape_keeps_a_spent_reel = (refl, refl)
 
--- A count may not give pieces to a reel that is spent, and may say that it has none. A reel on a slot may not be counted.
+-- A count can confirm that a spent reel has no pieces, but can't add any. A mounted reel can't be
+-- counted.
 pub a_spent_reel_stays_spent : replies_to Two [] (spliced_board ++ said (
     CountsTaken (counted K1 1 ∷ [])
     ∷ CountsTaken (counted K1 0 ∷ [])
@@ -64,7 +61,7 @@ pub a_spent_reel_stays_spent : replies_to Two [] (spliced_board ++ said (
 unfolding refusal_of command_refusal part_refusal definition_refusal sheet_refusal selection_refusal receipt_refusal mounting_refusal tape_of left_of live_on start_refusal install_refusal install_picks
 a_spent_reel_stays_spent = refl
 
--- All that is left on a slot is thrown away: there is nothing to unload then. A designator that was placed stays placed.
+-- After all its pieces are scrapped, a slot can't be unloaded. A placed designator stays placed.
 pub a_scrap_of_all_empties_the_slot : replies_to Two [] (spliced_board ++ said (
     MaterialsScrapped M S1 47
     ∷ MaterialsUnloaded M S1
@@ -74,7 +71,6 @@ pub a_scrap_of_all_empties_the_slot : replies_to Two [] (spliced_board ++ said (
 unfolding refusal_of command_refusal part_refusal definition_refusal sheet_refusal selection_refusal receipt_refusal mounting_refusal tape_of left_of live_on start_refusal install_refusal install_picks scrap_refusal unload_refusal
 a_scrap_of_all_empties_the_slot = refl
 
--- the list after the scrap
 abbrev after_scrap : History
 after_scrap = after_commands Two [] (spliced_board ++ said (MaterialsScrapped M S1 47 ∷ []))
 
@@ -84,7 +80,7 @@ pub a_scrap_of_all_leaves_no_live_reel :
 unfolding refusal_of command_refusal part_refusal definition_refusal sheet_refusal selection_refusal receipt_refusal mounting_refusal tape_of left_of live_on start_refusal install_refusal install_picks all_picks scrap_refusal
 a_scrap_of_all_leaves_no_live_reel = (refl, refl)
 
--- Three reels of ten pieces, of which the first stands on a slot.
+-- Three reels of ten pieces, with the first on a slot.
 abbrev three_reels : List Stamped
 three_reels = base ++ said (
     received K1 P L1 10
@@ -93,15 +89,15 @@ three_reels = base ++ said (
     ∷ MaterialsLoaded M S1 K1
     ∷ [])
 
--- The other two are counted, with five pieces on each.
+-- A count of five pieces on each of the other two.
 abbrev count_of_two : List CountRow
 count_of_two = counted K3 5 ∷ counted K4 5 ∷ []
 
--- the pieces left on the three, after a count
+-- The remaining pieces of the three reels after a count.
 abbrev left_after_count : List CountRow → List ℕ
 left_after_count counts = map (left_of (after_commands Two [] (three_reels ++ said (CountsTaken counts ∷ [])))) (K1 ∷ K3 ∷ K4 ∷ [])
 
--- With one more row, for the reel on the slot, the count is refused. Without it ten pieces are taken.
+-- A row for the mounted reel makes the count fail. Without that row the count takes ten pieces.
 pub a_count_is_taken_whole_or_not_at_all : replies_to Two [] (three_reels ++ said (
     CountsTaken (count_of_two ++ counted K1 5 ∷ [])
     ∷ CountsTaken count_of_two
@@ -111,13 +107,12 @@ pub a_count_is_taken_whole_or_not_at_all : replies_to Two [] (three_reels ++ sai
 unfolding refusal_of command_refusal part_refusal definition_refusal sheet_refusal selection_refusal receipt_refusal mounting_refusal tape_of left_of live_on
 a_count_is_taken_whole_or_not_at_all = refl
 
--- The refused count takes no piece of any reel, and the other one five pieces of each.
+-- The refused count takes nothing; the accepted one takes five pieces from each reel.
 pub a_refused_count_takes_nothing :
     (left_after_count (count_of_two ++ counted K1 5 ∷ []) ≡ 10 ∷ 10 ∷ 10 ∷ []) × (left_after_count count_of_two ≡ 10 ∷ 5 ∷ 5 ∷ [])
 unfolding refusal_of command_refusal part_refusal definition_refusal sheet_refusal selection_refusal receipt_refusal mounting_refusal tape_of left_of live_on
 a_refused_count_takes_nothing = (refl, refl)
 
--- The same load twice: the second is refused. After an unload it is accepted again.
 pub a_load_is_accepted_again_after_an_unload : replies_to Two [] (base ++ said (
     received K1 P L1 100
     ∷ MaterialsLoaded M S1 K1

@@ -1,4 +1,4 @@
--- What commands on a reel say, and what they don't.
+-- The effects of commands on a reel.
 use Rattle.std.proofs.Common.{◌≡◌, ℕ, Bool, true, false, Some, None, ◌∷◌, refl, ap, ◌∙◌}
 use Rattle.std.specs.Prelude.{unwrap_or, if◌then◌else◌}
 use Rattle.std.specs.Option.{option_or, option_map}
@@ -11,7 +11,7 @@ use Rattle.desk_types.specs.History.{History, latest}
 use Rattle.desk_types.specs.Setup.{receipt_by, receipt_of}
 use Rattle.desk_types.specs.FloorLife.{open_by, bake_by, baked_by, last_bake, exposure_starts, is_baked}
 
--- the command neither receives nor bakes the reel
+-- The command neither receives nor bakes the reel.
 pub record IsQuiet (name : Name) (minute : ℕ) (command : Command) : Type 0 where
   pub receipt : receipt_by name minute command ≡ None
   pub bake : bake_by name minute command ≡ None
@@ -25,13 +25,11 @@ not-at-all : {X Y : Type 0} (b : Bool) (x : X) (y : Y) → (if b then Some x els
 not-at-all true x y is = cc
 not-at-all false x y is = refl
 
--- a command that leaves the reel out of its bag
 pub IsQuiet-open : (name : Name) (minute : ℕ) (command : Command) → open_by name command ≡ Some true → IsQuiet name minute command
 IsQuiet-open name minute (ReelReceived r part lot moisture quantity) is = in-bag (same r name) is
 IsQuiet-open name minute (ReelBaked r) is = in-bag (same r name) is
 IsQuiet-open name minute _ is = record { receipt = refl; bake = refl; baked = refl }
 
--- a command that does not handle the reel
 pub IsQuiet-untouched : (name : Name) (minute : ℕ) (command : Command) → open_by name command ≡ None → IsQuiet name minute command
 IsQuiet-untouched name minute (ReelReceived r part lot moisture quantity) is = record {
   receipt = not-at-all (same r name) false (record { part = part; lot = lot; moisture = moisture; quantity = quantity; effective = minute }) is;
@@ -48,7 +46,7 @@ IsQuiet-untouched name minute _ is = record { receipt = refl; bake = refl; baked
 pub IsQuiet-seal : (name : Name) (minute : ℕ) (reel : Name) → IsQuiet name minute (ReelSealed reel)
 IsQuiet-seal name minute reel = record { receipt = refl; bake = refl; baked = refl }
 
--- after a quiet entry the receipt, the last bake and the minute from which exposure counts are as before
+-- A quiet entry keeps the receipt, the last bake and the minute when exposure starts.
 pub receipt_of-quiet : (H : History) (e : Entry) (name : Name) → IsQuiet name e.effective e.stamped.command → receipt_of (e ∷ H) name ≡ receipt_of H name
 receipt_of-quiet H e name quiet = ap (λ o. option_or o (receipt_of H name)) quiet.receipt
 

@@ -1,4 +1,4 @@
--- What the worked runs share: names, messages, and the messages that set up a machine.
+-- The names, messages and machine setup shared by the worked cases.
 use Rattle.std.specs.Prelude.{ℕ, List, [], ◌∷◌, map, codes}
 use Rattle.desk_types.specs.declared.answer.Detail.TheVariants.{Plain}
 use Rattle.desk_types.specs.declared.answer.Reply.{Reply}
@@ -14,14 +14,14 @@ use Rattle.desk_types.specs.Id.{Name}
 
 -- ---- names
 
--- parts
+-- Parts.
 abbrev pub P : Name
 P = codes "P"
 
 abbrev pub Q : Name
 Q = codes "Q"
 
--- lots
+-- Lots.
 abbrev pub L : Name
 L = codes "L"
 
@@ -31,28 +31,28 @@ L1 = codes "L1"
 abbrev pub L2 : Name
 L2 = codes "L2"
 
--- products
+-- Products.
 abbrev pub PR : Name
 PR = codes "PR"
 
 abbrev pub PS : Name
 PS = codes "PS"
 
--- machines
+-- Machines.
 abbrev pub M : Name
 M = codes "M"
 
 abbrev pub N : Name
 N = codes "N"
 
--- slots
+-- Slots.
 abbrev pub S1 : Name
 S1 = codes "1"
 
 abbrev pub S2 : Name
 S2 = codes "2"
 
--- reels
+-- Reels.
 abbrev pub K1 : Name
 K1 = codes "K1"
 
@@ -65,14 +65,14 @@ K3 = codes "K3"
 abbrev pub K4 : Name
 K4 = codes "K4"
 
--- boards
+-- Boards.
 abbrev pub B1 : Name
 B1 = codes "B1"
 
 abbrev pub B2 : Name
 B2 = codes "B2"
 
--- designators
+-- Designators.
 abbrev pub R1 : Name
 R1 = codes "R1"
 
@@ -90,37 +90,37 @@ R5 = codes "R5"
 
 -- ---- messages
 
--- A message of this own minute with the command. All have one UniqueID and one source, at which replies do not look.
+-- A message with this minute and command. All have the same UniqueID and source, which replies
+-- ignore.
 abbrev pub at : ℕ → Command → Stamped
 at minute command = record { uid = codes "u"; source = codes "S"; minute = minute; command = command }
 
--- messages of minute 0 with the commands
+-- The commands as messages at minute 0.
 abbrev pub said : List Command → List Stamped
 said commands = map (at 0) commands
 
--- a row of a sheet
 abbrev pub sheet_row : Name → Name → List Name → SheetRow
 sheet_row slot part designators = record { slot = slot; part = part; designators = designators }
 
--- the receipt of a reel of part P and lot L1, at a level without a label
+-- The receipt of a reel of part P and lot L1, at a level without a label.
 abbrev pub received_at : Level → Name → ℕ → Command
 received_at level reel quantity = ReelReceived reel P L1 (record { level = level; label = 0 }) quantity
 
--- the receipt of a reel of a part and a lot, at level 1
+-- The receipt of a reel at level 1.
 abbrev pub received : Name → Name → Name → ℕ → Command
 received reel part lot quantity = ReelReceived reel part lot (record { level = One; label = 0 }) quantity
 
--- the receipt of a reel of part P and lot L1 with ten pieces, at level 6 with a label of so many minutes
+-- The receipt of ten pieces of part P and lot L1 at level 6, with this label in minutes.
 abbrev pub received_at_six : ℕ → Name → Command
 received_at_six label reel = ReelReceived reel P L1 (record { level = Six; label = label }) 10
 
--- a row of a count
 abbrev pub counted : Name → ℕ → CountRow
 counted reel quantity = record { reel = reel; quantity = quantity }
 
 -- ---- the setup
 
--- Parts P and Q are defined, and product PR is selected on machine M, where slot 1 has part P for five designators.
+-- Product PR is selected on machine M, where slot 1 feeds part P to five designators; part Q is
+-- also defined.
 abbrev pub base : List Stamped
 base = said (
     PartDefined P
@@ -129,6 +129,5 @@ base = said (
     ∷ ProductSelected M PR
     ∷ [])
 
--- the replies to that
 abbrev pub base_replies : List Reply
 base_replies = Accepted Plain ∷ Accepted Plain ∷ Accepted Plain ∷ Accepted Plain ∷ []

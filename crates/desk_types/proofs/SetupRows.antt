@@ -1,4 +1,4 @@
--- Worked runs of parts, alternates and the clock, computed by the definitions.
+-- Worked cases of parts, alternates and the clock.
 use Rattle.std.specs.Prelude.{◌≡◌, None, List, [], ◌∷◌, ◌++◌, map, codes, refl}
 use Rattle.desk_types.specs.declared.answer.Detail.TheVariants.{Plain, MinutesLeft}
 use Rattle.desk_types.specs.declared.answer.Refusal.TheVariants.{TooFarAhead, WrongPart}
@@ -13,7 +13,6 @@ use Rattle.desk_types.specs.declared.rules.Rules.TheVariants.{Two}
 use Rattle.desk_types.specs.Outcome.{replies_to, after_commands}
 use Rattle.desk_types.proofs.RowsCommon.{P, Q, L1, PS, M, N, S1, K1, K2, R1, at, said, sheet_row, received, base, base_replies}
 
--- A reel of another part than the sheet wants is refused at the slot.
 pub another_part_is_refused_at_its_slot : replies_to Two [] (base ++ said (
     received K1 Q L1 100
     ∷ MaterialsLoaded M S1 K1
@@ -22,8 +21,8 @@ pub another_part_is_refused_at_its_slot : replies_to Two [] (base ++ said (
 unfolding refusal_of command_refusal part_refusal definition_refusal sheet_refusal selection_refusal receipt_refusal mounting_refusal tape_of left_of live_on
 another_part_is_refused_at_its_slot = refl
 
--- Once Q is allowed for P, the load of a reel of Q that was refused is accepted.
--- The permission goes one way: on a machine whose sheet says Q, a reel of P is still refused.
+-- Once Q is an alternate of P, a load of Q is accepted where the sheet says P. The reverse is still
+-- refused.
 pub alternates_go_one_way : replies_to Two [] (base ++ said (
     received K1 Q L1 100
     ∷ MaterialsLoaded M S1 K1
@@ -39,7 +38,7 @@ pub alternates_go_one_way : replies_to Two [] (base ++ said (
 unfolding refusal_of command_refusal part_refusal definition_refusal sheet_refusal selection_refusal receipt_refusal alternate_refusal mounting_refusal tape_of left_of live_on
 alternates_go_one_way = refl
 
--- Two messages that run ahead of the desk, one that is late, and one that sets the clock.
+-- Two messages ahead of the desk, one late, and one that sets the clock.
 abbrev ahead_and_behind : List Stamped
 ahead_and_behind = base
     ++ at 20161 (PartDefined (codes "Z"))
@@ -48,14 +47,13 @@ ahead_and_behind = base
     ∷ at 100000 ClockSet
     ∷ []
 
--- A message more than two weeks ahead of the desk is refused, and one that is just two weeks ahead is accepted, as a late one is.
--- The clock may be set any distance ahead.
+-- A message may be two weeks ahead but not more; a late one and any clock setting are accepted.
 pub no_message_is_more_than_two_weeks_ahead : replies_to Two [] ahead_and_behind ≡
     base_replies ++ Refused TooFarAhead ∷ Accepted Plain ∷ Accepted Plain ∷ Accepted Plain ∷ []
 unfolding refusal_of command_refusal part_refusal definition_refusal sheet_refusal selection_refusal
 no_message_is_more_than_two_weeks_ahead = refl
 
--- The minutes at which they took effect, the newest first: the late one did so at the minute of the desk.
+-- The effective minutes, newest first: the late message takes effect at the desk minute.
 pub late_message_takes_the_desk_minute : map (λ (e : Entry). e.effective) (after_commands Two [] ahead_and_behind) ≡ 100000 ∷ 20160 ∷ 20160 ∷ 0 ∷ 0 ∷ 0 ∷ 0 ∷ []
 unfolding refusal_of command_refusal part_refusal definition_refusal sheet_refusal selection_refusal
 late_message_takes_the_desk_minute = refl

@@ -1,4 +1,4 @@
--- Tests joined, and what comes of a test.
+-- Concatenated tests and their results.
 use Rattle.std.proofs.Common.{◌≡◌, Bool, true, false, Some, None, refl}
 use Rattle.std.specs.Prelude.{◌&&◌, ◌||◌, if◌then◌else◌}
 

@@ -1,4 +1,4 @@
--- Worked runs of what was placed where, computed by the definitions.
+-- Worked cases of traces.
 use Rattle.std.specs.Prelude.{◌≡◌, ℕ, Bool, true, false, Some, None, List, [], ◌∷◌, ◌++◌, map, codes, refl}
 use Rattle.desk_types.specs.declared.answer.Detail.TheVariants.{Plain, MinutesLeft, Reels}
 use Rattle.desk_types.specs.declared.answer.Refusal.TheVariants.{Expired}
@@ -18,7 +18,7 @@ use Rattle.desk_types.specs.Outcome.{replies_to, after_commands}
 use Rattle.desk_types.specs.Placements.{takes_of, placements_of, overdue_of, lots_of, boards_of}
 use Rattle.desk_types.proofs.RowsCommon.{P, L, L1, L2, PR, M, S1, S2, K1, K2, K3, B1, B2, R1, R2, R3, R4, R5, at, said, sheet_row, received, received_at, base, base_replies}
 
--- a piece of part P, placed from slot 1 of machine M by the entry of this number, in this place of its message
+-- A piece of part P, placed from slot 1 of machine M by this entry, at this place in its message.
 abbrev piece : ℕ → ℕ → Name → Name → Name → Name → ℕ → Bool → Placement
 piece number place board designator reel lot effective overdue = record {
   number = number;
@@ -34,7 +34,7 @@ piece number place board designator reel lot effective overdue = record {
   overdue = overdue;
 }
 
--- A piece is placed at the minute at which its reel's floor life is over.
+-- A piece is placed at the minute when its reel expires.
 abbrev late_piece : List Stamped
 late_piece = base
     ++ at 0 (received_at FiveA K1 10)
@@ -43,18 +43,18 @@ late_piece = base
     ∷ at 1440 (MaterialsInstalled M B1 (R1 ∷ []))
     ∷ []
 
--- What was placed past floor life was placed, and is accepted. The next board is not begun with the expired reel at the front.
+-- Placing a piece from an expired reel is accepted, but the next board can't start with that reel
+-- at the front.
 pub a_piece_past_floor_life_is_placed : replies_to Two [] (late_piece ++ at 1440 (WorkCompleted M B1) ∷ at 1440 (WorkStarted M B2) ∷ []) ≡
     base_replies ++ Accepted Plain ∷ Accepted (MinutesLeft (Some 1440)) ∷ Accepted Plain ∷ Accepted (Reels (K1 ∷ [])) ∷ Accepted Plain
     ∷ Refused (Expired S1) ∷ []
 unfolding refusal_of command_refusal part_refusal definition_refusal sheet_refusal selection_refusal receipt_refusal mounting_refusal tape_of left_of live_on is_out_at exposure_of start_refusal install_refusal install_picks completion_refusal
 a_piece_past_floor_life_is_placed = refl
 
--- the list after the piece
 abbrev after_late_piece : History
 after_late_piece = after_commands Two [] late_piece
 
--- The piece is the one placement, and is marked overdue. The board holds its lot.
+-- The piece is the only placement and is overdue. The board traces to its lot.
 pub a_piece_past_floor_life_is_overdue :
     (placements_of after_late_piece ≡ piece 8 1 B1 R1 K1 L1 1440 true ∷ [])
     × (overdue_of after_late_piece ≡ piece 8 1 B1 R1 K1 L1 1440 true ∷ [])
@@ -62,7 +62,8 @@ pub a_piece_past_floor_life_is_overdue :
 unfolding refusal_of command_refusal part_refusal definition_refusal sheet_refusal selection_refusal receipt_refusal mounting_refusal tape_of left_of live_on is_out_at exposure_of start_refusal install_refusal install_picks takes_of
 a_piece_past_floor_life_is_overdue = (refl, refl, refl)
 
--- Two boards take pieces of two reels of lot L, the second joined to the first. A reel of lot L2 is received, and stays where it is.
+-- Two boards take pieces from two spliced reels of lot L. A reel of lot L2 is received but not
+-- used.
 abbrev boards_of_one_lot : List Stamped
 boards_of_one_lot = base ++ said (
     received K1 P L 5
@@ -77,18 +78,17 @@ boards_of_one_lot = base ++ said (
     ∷ MaterialsInstalled M B2 (R1 ∷ [])
     ∷ [])
 
--- the list after that
 abbrev after_two_boards : History
 after_two_boards = after_commands Two [] boards_of_one_lot
 
--- The first board takes the whole first reel, and the second board takes its piece off the second.
+-- The first board takes the whole first reel, and the second board takes its piece from the second.
 pub a_tape_goes_on_with_the_next_board : replies_to Two [] boards_of_one_lot ≡
     base_replies ++ Accepted Plain ∷ Accepted Plain ∷ Accepted Plain ∷ Accepted (MinutesLeft None) ∷ Accepted (MinutesLeft None)
     ∷ Accepted Plain ∷ Accepted (Reels (K1 ∷ K1 ∷ K1 ∷ K1 ∷ K1 ∷ [])) ∷ Accepted Plain ∷ Accepted Plain ∷ Accepted (Reels (K2 ∷ [])) ∷ []
 unfolding refusal_of command_refusal part_refusal definition_refusal sheet_refusal selection_refusal receipt_refusal mounting_refusal tape_of left_of live_on start_refusal completion_refusal install_refusal install_picks
 a_tape_goes_on_with_the_next_board = refl
 
--- the pieces of both boards, each with its entry, its place in the message, its reel and its lot
+-- The placed pieces of both boards.
 abbrev pieces_of_both : List Placement
 pieces_of_both =
     piece 11 1 B1 R1 K1 L 0 false
@@ -99,12 +99,11 @@ pieces_of_both =
     ∷ piece 14 1 B2 R1 K2 L 0 false
     ∷ []
 
--- They are the placements, and none is overdue.
 pub placements_of_two_boards : (placements_of after_two_boards ≡ pieces_of_both) × (overdue_of after_two_boards ≡ [])
 unfolding refusal_of command_refusal part_refusal definition_refusal sheet_refusal selection_refusal receipt_refusal mounting_refusal tape_of left_of live_on start_refusal completion_refusal install_refusal install_picks takes_of
 placements_of_two_boards = (refl, refl)
 
--- The lot leads to both boards, and each board leads back to the lot. A lot of which nothing was placed leads to no board.
+-- The lot traces to both boards, and each board to the lot. An unused lot traces to no board.
 pub a_lot_leads_to_its_boards_and_they_lead_back :
     (boards_of after_two_boards L ≡ B1 ∷ B2 ∷ [])
     × (lots_of after_two_boards B1 ≡ L ∷ [])
@@ -113,7 +112,8 @@ pub a_lot_leads_to_its_boards_and_they_lead_back :
 unfolding refusal_of command_refusal part_refusal definition_refusal sheet_refusal selection_refusal receipt_refusal mounting_refusal tape_of left_of live_on start_refusal completion_refusal install_refusal install_picks takes_of
 a_lot_leads_to_its_boards_and_they_lead_back = (refl, refl, refl, refl)
 
--- A board is built from the first reel of slot 1. Then both slots are unloaded, and the second reel of slot 1 is loaded on slot 2.
+-- A board uses the first reel of slot 1. Then both slots are unloaded, and the second reel moves
+-- from slot 1 to slot 2.
 abbrev reel_moved : List Stamped
 reel_moved = said (
     PartDefined P
@@ -133,11 +133,9 @@ reel_moved = said (
     ∷ MaterialsLoaded M S2 K2
     ∷ [])
 
--- the list after that
 abbrev after_the_move : History
 after_the_move = after_commands Two [] reel_moved
 
--- A reel that was unloaded may be loaded on another slot.
 pub a_reel_moves_to_another_slot : replies_to Two [] reel_moved ≡
     Accepted Plain ∷ Accepted Plain ∷ Accepted Plain ∷ Accepted Plain ∷ Accepted Plain ∷ Accepted Plain
     ∷ Accepted (MinutesLeft None) ∷ Accepted (MinutesLeft None) ∷ Accepted (MinutesLeft None) ∷ Accepted Plain ∷ Accepted (Reels (K1 ∷ []))
@@ -145,7 +143,7 @@ pub a_reel_moves_to_another_slot : replies_to Two [] reel_moved ≡
 unfolding refusal_of command_refusal part_refusal definition_refusal sheet_refusal selection_refusal receipt_refusal mounting_refusal tape_of left_of live_on start_refusal completion_refusal install_refusal install_picks unload_refusal
 a_reel_moves_to_another_slot = refl
 
--- The moved reel is live where it is now. One piece of the first reel is gone.
+-- The moved reel is live on its new slot. The first reel has lost one piece.
 pub a_moved_reel_is_live_on_its_new_slot :
     (live_on after_the_move M S1 ≡ [])
     × (live_on after_the_move M S2 ≡ K2 ∷ [])
@@ -153,7 +151,6 @@ pub a_moved_reel_is_live_on_its_new_slot :
 unfolding refusal_of command_refusal part_refusal definition_refusal sheet_refusal selection_refusal receipt_refusal mounting_refusal tape_of left_of live_on start_refusal completion_refusal install_refusal install_picks unload_refusal
 a_moved_reel_is_live_on_its_new_slot = (refl, refl, refl)
 
--- The placement keeps the reel and the slot from which the piece was taken, whatever was loaded later.
 pub a_placement_keeps_its_reel_and_slot : placements_of after_the_move ≡ piece 11 1 B1 R1 K1 L1 0 false ∷ []
 unfolding refusal_of command_refusal part_refusal definition_refusal sheet_refusal selection_refusal receipt_refusal mounting_refusal tape_of left_of live_on start_refusal completion_refusal install_refusal install_picks unload_refusal takes_of
 a_placement_keeps_its_reel_and_slot = refl

@@ -1,4 +1,4 @@
--- Worked runs of what a desk tells of reels and slots, computed by the definitions.
+-- Worked cases of the reported state of reels and slots.
 use Rattle.std.specs.Prelude.{◌≡◌, ℕ, true, false, Some, None, List, [], ◌∷◌, ◌++◌, map, refl}
 use Rattle.desk_types.specs.declared.command.Command.TheVariants.{PartDefined, SheetDefined, ProductSelected, ReelOpened, ReelSealed, MaterialsLoaded, MaterialsSpliced, WorkStarted, MaterialsInstalled, CountsTaken, ClockSet}
 use Rattle.desk_types.specs.declared.command.Stamped.{Stamped}
@@ -19,7 +19,7 @@ use Rattle.desk_types.specs.View.{reel_view, mounts_on}
 use Rattle.desk_types.specs.Free.{free_reels}
 use Rattle.desk_types.proofs.RowsCommon.{P, Q, L1, PR, M, N, S1, S2, K1, K2, K3, K4, B1, R1, R2, R3, at, said, counted, sheet_row, received, received_at, received_at_six, base}
 
--- Slot 2 stands first on the sheet. On slot 1 a reel of fifty pieces is joined to one of two.
+-- Slot 2 comes first on the sheet. On slot 1 a reel of fifty pieces is spliced to one of two.
 abbrev two_slots : List Stamped
 two_slots = said (
     PartDefined P
@@ -33,28 +33,28 @@ two_slots = said (
     ∷ MaterialsSpliced M S1 K2
     ∷ [])
 
--- a live reel of part P and lot L1 without a limit
+-- A live reel of part P and lot L1 without a limit.
 abbrev mount : Name → ℕ → Name → ℕ → Mount
 mount slot position reel remaining =
     record { slot = slot; position = position; reel = reel; part = P; lot = L1; remaining = remaining; left = Unlimited }
 
--- The live reels are told by slot and then by position, and none of a machine without a sheet.
+-- Live reels are listed by slot and position; a machine without a sheet has no list.
 pub live_reels_by_slot_and_position :
     (mounts_on (after_commands Two [] two_slots) M ≡ Some (mount S1 1 K1 2 ∷ mount S1 2 K2 50 ∷ mount S2 1 K3 5 ∷ []))
     × (mounts_on (after_commands Two [] two_slots) N ≡ None)
 unfolding refusal_of command_refusal part_refusal definition_refusal sheet_refusal selection_refusal receipt_refusal mounting_refusal tape_of left_of live_on
 live_reels_by_slot_and_position = (refl, refl)
 
--- the list after a board took both pieces of the first reel of slot 1
+-- The history after a board took both pieces of the first reel on slot 1.
 abbrev after_two_pieces : History
 after_two_pieces = after_commands Two [] (two_slots ++ said (WorkStarted M B1 ∷ MaterialsInstalled M B1 (R1 ∷ R3 ∷ []) ∷ []))
 
--- A spent reel is not told: the next one is the front.
+-- A spent reel is not listed: the next one is the front.
 pub a_spent_reel_is_not_told : mounts_on after_two_pieces M ≡ Some (mount S1 1 K2 50 ∷ mount S2 1 K3 5 ∷ [])
 unfolding refusal_of command_refusal part_refusal definition_refusal sheet_refusal selection_refusal receipt_refusal mounting_refusal tape_of left_of live_on start_refusal install_refusal install_picks
 a_spent_reel_is_not_told = refl
 
--- a reel of part P and lot L1 and level 1 that was opened at minute 0
+-- A reel of part P, lot L1 and level 1, opened at minute 0.
 abbrev opened : Name → ℕ → ℕ → ℕ → ReelView
 opened reel got placed remaining = record {
   reel = reel;
@@ -75,12 +75,14 @@ opened reel got placed remaining = record {
   baked = false;
 }
 
--- The spent reel is on no slot, and both its pieces were placed. Of a reel that was not received nothing is told.
+-- The spent reel is on no slot, and both its pieces were placed. A reel that wasn't received has no
+-- view.
 pub a_spent_reel_was_placed : (reel_view after_two_pieces K1 ≡ Some (opened K1 2 2 0)) × (reel_view after_two_pieces K4 ≡ None)
 unfolding refusal_of command_refusal part_refusal definition_refusal sheet_refusal selection_refusal receipt_refusal mounting_refusal tape_of left_of live_on is_out_at exposure_of start_refusal install_refusal install_picks all_picks found_of
 a_spent_reel_was_placed = (refl, refl)
 
--- A reel of level 3 lay open for ten minutes, and then in its bag. A count shows four pieces missing. It is loaded, and ten minutes go by.
+-- A reel of level 3 is open for ten minutes, then sealed. A count shows four pieces missing. It is
+-- loaded, and ten minutes pass.
 abbrev after_ten_minutes : History
 after_ten_minutes = after_commands Two [] (base
     ++ at 0 (received_at Three K1 10)
@@ -91,7 +93,7 @@ after_ten_minutes = after_commands Two [] (base
     ∷ at 30 ClockSet
     ∷ [])
 
--- Twenty minutes of its floor life are gone: ten were used when it was loaded.
+-- Twenty minutes of its floor life are used: ten before the load and ten since.
 pub a_loaded_reel_is_told_at_the_desk_minute : reel_view after_ten_minutes K1 ≡ Some (record {
   reel = K1;
   part = P;
@@ -113,7 +115,8 @@ pub a_loaded_reel_is_told_at_the_desk_minute : reel_view after_ten_minutes K1 �
 unfolding refusal_of command_refusal part_refusal definition_refusal sheet_refusal selection_refusal receipt_refusal opening_refusal closing_refusal mounting_refusal tape_of left_of live_on is_out_at exposure_of all_picks found_of
 a_loaded_reel_is_told_at_the_desk_minute = refl
 
--- Of four reels one has no limit, one is open with floor life left, one waits for its bake, and one is expired.
+-- Four reels: one without a limit, one open with floor life left, one that waits for its bake, and
+-- one expired.
 abbrev after_a_day : History
 after_a_day = after_commands Two [] (base
     ++ at 0 (received_at One K1 100)
@@ -125,11 +128,11 @@ after_a_day = after_commands Two [] (base
     ∷ at 1440 ClockSet
     ∷ [])
 
--- the free reels for a part, and what is left to each
+-- The free reels for a part with their remaining floor life.
 abbrev free_on : History → Name → List (Name × Left)
 free_on H part = map (λ (v : ReelView). (v.reel, v.left)) (free_reels H part)
 
--- The reel with a limit is used first. The reel on a slot is not free.
+-- The reel with a limit is used first. A mounted reel is not free.
 pub free_reels_by_what_is_left :
     (free_on after_a_day P ≡ (K2, Minutes 8640) ∷ (K1, Unlimited) ∷ []) × (free_on after_a_day Q ≡ []) × (free_on after_ten_minutes P ≡ [])
 unfolding refusal_of command_refusal part_refusal definition_refusal sheet_refusal selection_refusal receipt_refusal opening_refusal closing_refusal mounting_refusal tape_of left_of live_on is_out_at exposure_of all_picks found_of

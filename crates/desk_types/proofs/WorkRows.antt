@@ -1,4 +1,4 @@
--- Worked runs of boards in work, computed by the definitions.
+-- Worked cases of boards in work.
 use Rattle.std.specs.Prelude.{◌≡◌, None, [], ◌∷◌, ◌++◌, codes, refl}
 use Rattle.desk_types.specs.declared.answer.Detail.TheVariants.{Plain, MinutesLeft, Reels}
 use Rattle.desk_types.specs.declared.answer.Refusal.TheVariants.{MachineBusy, DesignatorTwice, SlotEmpty, OtherProduct, NotInWork, DesignatorNotOnSheet, ReelShort}
@@ -11,14 +11,14 @@ use Rattle.desk_types.specs.declared.rules.Rules.TheVariants.{Two}
 use Rattle.desk_types.specs.Outcome.{replies_to}
 use Rattle.desk_types.proofs.RowsCommon.{P, L1, PR, PS, M, S1, K1, B1, B2, R1, R2, R3, said, sheet_row, received, base, base_replies}
 
--- Work on a board does not begin while a slot of the sheet has no reel.
 pub work_needs_loaded_slots : replies_to Two [] (base ++ said (WorkStarted M B1 ∷ [])) ≡
     base_replies ++ Refused (SlotEmpty S1) ∷ []
 unfolding refusal_of command_refusal part_refusal definition_refusal sheet_refusal selection_refusal start_refusal tape_of live_on
 work_needs_loaded_slots = refl
 
--- While a board is in work on a machine, a new sheet for the machine and the next board are refused. The work is completed once.
--- Then another product is selected, and the board, which was begun as the first product, is refused.
+-- During work on a machine, a new sheet for it and another board are refused. Work can be completed
+-- only once. After another product is selected, the board is refused, because it was started as the
+-- first product.
 pub a_machine_in_work_waits : replies_to Two [] (base ++ said (
     received K1 P L1 10
     ∷ MaterialsLoaded M S1 K1
@@ -36,8 +36,8 @@ pub a_machine_in_work_waits : replies_to Two [] (base ++ said (
 unfolding refusal_of command_refusal part_refusal definition_refusal sheet_refusal selection_refusal receipt_refusal mounting_refusal tape_of left_of live_on start_refusal completion_refusal
 a_machine_in_work_waits = refl
 
--- An install names the board in work, and designators of its sheet, each once, for which there are pieces. Else nothing is placed.
--- A slot whose reel is spent counts as empty.
+-- An install names the board in work and its sheet's designators, each once and with pieces
+-- available. Otherwise it places nothing. A slot with a spent reel counts as empty.
 pub what_an_install_is_refused_for : replies_to Two [] (base ++ said (
     received K1 P L1 2
     ∷ MaterialsLoaded M S1 K1

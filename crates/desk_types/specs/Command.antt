@@ -1,4 +1,4 @@
--- The values that commands and entries have. Contracts see names as bytes and numbers as numbers, so their ranges are said here.
+-- The ranges of the values in commands and entries.
 use Rattle.std.specs.Prelude.{⊤, List, length, All}
 use Rattle.desk_types.specs.declared.command.Command.{Command}
 use Rattle.desk_types.specs.declared.command.Command.TheVariants.{PartDefined, AlternateAllowed, SheetDefined, ProductSelected, ReelReceived, ReelOpened, ReelSealed, ReelBaked, MaterialsLoaded, MaterialsSpliced, MaterialsUnloaded, WorkStarted, WorkCompleted, MaterialsInstalled, MaterialsScrapped, CountsTaken, ClockSet}
@@ -12,7 +12,7 @@ use Rattle.desk_types.specs.Id.{IsId}
 use Rattle.desk_types.specs.Level.{IsLabel}
 use Rattle.desk_types.specs.Number.{IsMinute, IsQuantity, IsCountedQuantity}
 
--- 1 to 5,000 elements of a kind
+-- 1 to 5,000 elements, each within its range.
 pub record IsListOf {X : Type 0} (IsElement : X → Type 0) (xs : List X) : Type 0 where
   pub count : IsListLength (length xs)
   pub each : All IsElement xs
@@ -26,7 +26,7 @@ pub record IsCountRow (row : CountRow) : Type 0 where
   pub reel : IsId row.reel
   pub quantity : IsCountedQuantity row.quantity
 
--- the names, the numbers and the lists of a command are in their ranges
+-- The command's names, numbers and lists are within their ranges.
 abbrev pub IsCommand : Command → Type 0
 IsCommand (PartDefined part) = IsId part
 IsCommand (AlternateAllowed part alternate) = IsId part × IsId alternate

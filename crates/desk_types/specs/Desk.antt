@@ -1,4 +1,4 @@
--- What a desk promises of a command, and what it asks.
+-- The result of judging a command.
 use Rattle.std.specs.Prelude.{◌≡◌, ℕ, ◌+◌, ◌≤◌, ⊤, Some, None, Result, Ok, Err, length}
 use Rattle.desk_types.specs.declared.change.Change.{Change}
 use Rattle.desk_types.specs.declared.command.Stamped.{Stamped}
@@ -10,17 +10,17 @@ use Rattle.desk_types.specs.History.{History}
 use Rattle.desk_types.specs.Refusals.{refusal_of}
 use Rattle.desk_types.specs.Outcome.{change_of}
 
--- the command is not refused after H by the rules, and this is the change that it makes
+-- The rules accept the command after H, and this is the change it makes.
 pub record IsChange (rules : Rules) (H : History) (s : Stamped) (change : Change) : Type 0 where
   pub accepted : refusal_of rules H s ≡ None
   pub value : change ≡ change_of H s
 
--- the command is refused for the refusal that there is, or else makes its change; out of memory may stand in the place of either
+-- The result of judging a command: its change, its refusal, or out of memory.
 abbrev pub IsJudgement : Rules → History → Stamped → Result Change JudgeFault → Type 0
 IsJudgement rules H s (Ok change) = IsChange rules H s change
 IsJudgement rules H s (Err (Refused refusal)) = refusal_of rules H s ≡ Some refusal
 IsJudgement rules H s (Err NoMemory) = ⊤
 
--- some list for which the desk stands has room for n more entries
+-- The desk represents some history with room for n more entries.
 abbrev pub HasRoom : {D : Type 0} → (D → History → Type 0) → D → ℕ → Type 0
 HasRoom Stands desk n = (H : History) × Stands desk H × (length H + n ≤ MOST_ENTRIES)

@@ -1,4 +1,4 @@
--- What edits make of tables.
+-- Edits of the state tables.
 use Rattle.std.specs.Prelude.{◌==◌, ◌&&◌, ◌||◌, ◌≡◌, ◌<◌, ◌+◌, ⊤, Bool, true, false, Some, None, List, [], ◌∷◌, if◌then◌else◌}
 use Rattle.std.specs.List.{AllByRecursion, list_any}
 use Rattle.desk_types.specs.Id.{same}
@@ -6,7 +6,7 @@ use Rattle.desk_types.specs.declared.edit.RowEdit.{RowEdit}
 use Rattle.desk_types.specs.declared.edit.RowEdit.TheVariants.{TakeSheetRow, TakeMount, PutPart, PutAlternate, PutSheetRow, PutSelected, PutReel, PutMount, PutBoard, PutPlacement, PutFound}
 use Rattle.desk_types.specs.Tables.{Tables}
 
--- the tables after one edit: a row is taken out, or put in the place of that with its key
+-- The tables after one edit: it removes a row, or puts a row and replaces one with the same key.
 abbrev pub with_edit : RowEdit → Tables → Tables
 with_edit (TakeSheetRow product machine place) t =
     record t { sheets = λ p m k. if same product p && same machine m && (place == k) then None else t.sheets p m k }
@@ -23,14 +23,14 @@ with_edit (PutPlacement row) t =
     record t { placements = λ n k. if row.number == n && (row.place == k) then Some row else t.placements n k }
 with_edit (PutFound reel pieces) t = record t { found = λ r. if same reel r then Some pieces else t.found r }
 
--- the tables after edits, one after the other
+-- The tables after several edits in order.
 abbrev pub with_edits : List RowEdit → Tables → Tables
 with_edits [] t = t
 with_edits (x ∷ xs) t = with_edits xs (with_edit x t)
 
--- ---- edits that a table with its keys and its checks takes one after the other
+-- ---- edits that the constraints of the stored tables allow
 
--- the edit puts no placement, no mount and no sheet row where the tables have one, and no row of 0 found pieces
+-- The edit replaces no placement, mount or sheet row, and puts no row of 0 found pieces.
 abbrev pub IsNew : RowEdit → Tables → Type 0
 IsNew (PutPlacement row) t = t.placements row.number row.place ≡ None
 IsNew (PutMount row) t = t.mounts row.reel ≡ None
@@ -38,27 +38,27 @@ IsNew (PutSheetRow product machine place row) t = t.sheets product machine place
 IsNew (PutFound reel pieces) t = 0 < pieces
 IsNew _ t = ⊤
 
--- so it is of each edit, made one after the other
+-- Each edit is new when its turn comes.
 abbrev pub AreNew : List RowEdit → Tables → Type 0
 AreNew [] t = ⊤
 AreNew (x ∷ xs) t = IsNew x t × AreNew xs (with_edit x t)
 
--- whether the edit takes a row out
+-- Whether the edit removes a row.
 abbrev pub takes_out : RowEdit → Bool
 takes_out (TakeSheetRow product machine place) = true
 takes_out (TakeMount reel) = true
 takes_out edit = false
 
--- no row is taken out after one was put in
+-- Every edit that removes a row comes before those that put one.
 abbrev pub AreTakesFirst : List RowEdit → Type 0
 AreTakesFirst [] = ⊤
 AreTakesFirst (x ∷ xs) = (list_any takes_out xs ≡ true → takes_out x ≡ true) × AreTakesFirst xs
 
--- a reel's row that the edit puts accounts for every received piece: it was placed or scrapped, or it remains
+-- A reel row accounts for every received piece: placed, scrapped or remaining.
 abbrev pub IsBalanced : RowEdit → Type 0
 IsBalanced (PutReel row) = row.received ≡ row.placed + row.scrapped + row.remaining
 IsBalanced edit = ⊤
 
--- each reel's row does
+-- Each reel row is balanced.
 abbrev pub AreBalanced : List RowEdit → Type 0
 AreBalanced edits = AllByRecursion IsBalanced edits

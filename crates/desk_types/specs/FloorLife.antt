@@ -1,4 +1,4 @@
--- Floor life: how many minutes a reel lay out of its bag, and how many it may.
+-- Floor life: how many minutes a reel was out of its bag, and how many are allowed.
 use Rattle.std.specs.Prelude.{◌≡◌, ℕ, ◌-◌, nat_le, ⊤, Bool, true, false, not, ◌&&◌, Option, Some, None, List, [], ◌∷◌, if◌then◌else◌, unwrap_or, count_by}
 use Rattle.std.specs.Option.{option_and_then, option_map, option_map_or, option_or}
 use Rattle.std.specs.List.{range_with_len}
@@ -14,7 +14,7 @@ use Rattle.desk_types.specs.Setup.{receipt_of}
 
 -- ---- exposure
 
--- what the command says of the reel's bag: true where it leaves the reel out of it, false where in it, nothing where it does not handle the reel
+-- How the command leaves the reel: out of its bag (true), in it (false), or untouched (none).
 abbrev pub open_by : Name → Command → Option Bool
 open_by reel (ReelReceived r part lot moisture quantity) = if same r reel then Some false else None
 open_by reel (ReelOpened r) = if same r reel then Some true else None
@@ -24,70 +24,72 @@ open_by reel (MaterialsLoaded machine slot r) = if same r reel then Some true el
 open_by reel (MaterialsSpliced machine slot r) = if same r reel then Some true else None
 open_by reel _ = None
 
--- no entry is a command on the reel of this name
+-- No entry is a command on this reel.
 abbrev pub IsUntouched : History → Name → Type 0
 IsUntouched [] name = ⊤
 IsUntouched (e ∷ H) name = (open_by name e.stamped.command ≡ None) × IsUntouched H name
 
--- whether the reel is out of its bag at the minute: as the last command on it that took effect by then left it
+-- Whether the reel is out of its bag at the minute, after the last command in effect by then.
 unfoldable pub is_out_at : History → Name → ℕ → Bool
 is_out_at H reel minute = unwrap_or (latest (λ e. if nat_le e.effective minute then open_by reel e.stamped.command else None) H) false
 
--- the minute of the command where it bakes the reel
+-- The minute of the command, if it bakes the reel.
 abbrev pub bake_by : Name → ℕ → Command → Option ℕ
 bake_by reel minute (ReelBaked r) = if same r reel then Some minute else None
 bake_by reel minute _ = None
 
--- the minute of the reel's last bake
+-- The minute of the reel's last bake.
 abbrev pub last_bake : History → Name → Option ℕ
 last_bake H reel = latest (λ e. bake_by reel e.effective e.stamped.command) H
 
--- the minute from which exposure counts: the last bake, or else the receipt
+-- The minute at which exposure starts: the last bake, or else the receipt.
 abbrev pub exposure_starts : History → Name → ℕ
 exposure_starts H reel = unwrap_or (option_or (last_bake H reel) (option_map (λ (r : Receipt). r.effective) (receipt_of H reel))) 0
 
--- the minutes from the first on, below the second
+-- The minutes from the first up to but not including the second.
 abbrev pub minutes_between : ℕ → ℕ → List ℕ
 minutes_between from to = range_with_len from (to - from)
 
--- the exposure at a minute: how many minutes before it the reel was out, since its last bake, or else its receipt
+-- The reel's exposure at the minute: how many earlier minutes it was out of its bag since its last
+-- bake, or else its receipt.
 unfoldable pub exposure_of : History → Name → ℕ → ℕ
 exposure_of H reel minute = count_by (is_out_at H reel) (minutes_between (exposure_starts H reel) minute)
 
--- ---- since when a reel is out
+-- ---- the minute since which a reel is out
 
--- the minute since which the reel is out after a command on it, or in its bag: what opens it says so unless it is out already
+-- The minute since which the reel is out after a command; opening a reel that is out changes
+-- nothing.
 abbrev pub since_after : Option Bool → ℕ → Option ℕ → Option ℕ
 since_after (Some true) minute since = option_or since (Some minute)
 since_after (Some false) minute since = None
 since_after None minute since = since
 
--- the minute since which the reel is out of its bag: that of the first open, load or splice since its last receipt, seal or bake
+-- The minute of the first open, load or splice since the reel's last receipt, seal or bake.
 abbrev pub out_since : History → Name → Option ℕ
 out_since [] reel = None
 out_since (e ∷ H) reel = since_after (open_by reel e.stamped.command) e.effective (out_since H reel)
 
 -- ---- floor life
 
--- the reel's floor life in minutes, where it has a limit
+-- The reel's floor life in minutes, if it has a limit.
 abbrev pub floor_life : History → Name → Option ℕ
 floor_life H reel = option_and_then (λ (r : Receipt). limit_of r.moisture.level r.moisture.label) (receipt_of H reel)
 
--- whether the reel's exposure has reached its floor life
+-- Whether the reel's exposure has reached its floor life.
 abbrev pub is_expired : History → Name → ℕ → Bool
 is_expired H reel minute = option_map_or (λ limit. nat_le limit (exposure_of H reel minute)) (floor_life H reel) false
 
--- the minutes of floor life that are left, 0 when expired; none without a limit
+-- The remaining minutes of floor life, 0 if expired; none without a limit.
 abbrev pub minutes_left : History → Name → ℕ → Option ℕ
 minutes_left H reel minute = option_map (λ limit. limit - exposure_of H reel minute) (floor_life H reel)
 
--- whether the command leaves the reel baked, where it receives or bakes it
+-- Whether the command leaves the reel baked (a bake) or not (a receipt).
 abbrev pub baked_by : Name → Command → Option Bool
 baked_by reel (ReelReceived r part lot moisture quantity) = if same r reel then Some false else None
 baked_by reel (ReelBaked r) = if same r reel then Some true else None
 baked_by reel _ = None
 
--- whether the reel was baked since its receipt
+-- Whether the reel was baked since its receipt.
 abbrev pub is_baked : History → Name → Bool
 is_baked H reel = unwrap_or (latest (λ e. baked_by reel e.stamped.command) H) false
 
@@ -95,6 +97,6 @@ abbrev pub is_six : Level → Bool
 is_six Six = true
 is_six _ = false
 
--- whether the reel waits for its bake: it is of level 6, and was not baked since its receipt
+-- Whether the reel waits for its bake: it has level 6 and was not baked since its receipt.
 abbrev pub is_unbaked : History → Name → Bool
 is_unbaked H reel = option_map_or (λ (r : Receipt). is_six r.moisture.level) (receipt_of H reel) false && not (is_baked H reel)

@@ -1,4 +1,4 @@
--- Free reels: those that could be loaded for a part, in the order in which they are used.
+-- Free reels: those that can be loaded for a part, in the order of use.
 use Rattle.std.specs.Prelude.{Bool, not, ◌&&◌, nat_lt, Option, Some, None, List, [], ◌∷◌}
 use Rattle.std.specs.List.{filter, filter_map}
 use Rattle.std.specs.BTreeSet.{insert_key}
@@ -18,19 +18,19 @@ use Rattle.desk_types.specs.Pieces.{left_of, is_mounted}
 use Rattle.desk_types.specs.FloorLife.{is_expired, is_unbaked}
 use Rattle.desk_types.specs.View.{part_of, life_left, reel_view}
 
--- ---- which reels
+-- ---- selection
 
--- the reel that the command receives
+-- The reel that the command receives.
 abbrev pub received_by : Command → Option Name
 received_by (ReelReceived reel part lot moisture quantity) = Some reel
 received_by _ = None
 
--- the reels that were received
+-- The received reels.
 abbrev pub reels_received : History → List Name
 reels_received H = filter_map (λ (e : Entry). received_by e.stamped.command) H
 
--- Whether a received reel could be loaded at the desk minute where a sheet says the part: its part is allowed, it is on no slot, it has
--- pieces left, and it is neither unbaked nor expired.
+-- Whether the reel can be loaded for the part now: it is allowed, not mounted, not empty, neither
+-- unbaked nor expired.
 abbrev pub is_free : History → Name → Name → Bool
 is_free H part reel =
     is_allowed H part (part_of H reel)
@@ -39,9 +39,9 @@ is_free H part reel =
     && not (is_unbaked H reel)
     && not (is_expired H reel (now_of H))
 
--- ---- in which order
+-- ---- order
 
--- fewer minutes first, then no limit, and then a reel that waits for its bake
+-- Fewer minutes first, then unlimited, then reels that wait for their bake.
 abbrev pub by_left : Left → Left → Ordering
 by_left (Minutes a) (Minutes b) = nat_cmp a b
 by_left (Minutes a) _ = Less
@@ -51,15 +51,15 @@ by_left Unlimited Unbaked = Less
 by_left Unbaked Unbaked = Equal
 by_left Unbaked _ = Greater
 
--- the order of reels: by the floor life that is left to them, and then by their names
+-- The order of reels: by remaining floor life, then by name.
 abbrev pub by_turn : History → Name → Name → Ordering
 by_turn H a b = ordering_then (by_left (life_left H a) (life_left H b)) (by_name a b)
 
--- these names in the order, each once
+-- The names in this order, without duplicates.
 abbrev pub in_order : (Name → Name → Ordering) → List Name → List Name
 in_order order [] = []
 in_order order (x ∷ xs) = insert_key order (in_order order xs) x
 
--- the free reels for the part, in their order
+-- The free reels for the part, in order.
 abbrev pub free_reels : History → Name → List ReelView
 free_reels H part = filter_map (reel_view H) (in_order (by_turn H) (filter (is_free H part) (reels_received H)))

@@ -1,11 +1,11 @@
--- How long a part may lie out of its bag.
+-- Moisture sensitivity levels and their floor life.
 use Rattle.std.specs.Prelude.{◌≡◌, ℕ, ◌≤◌, Option, Some, None, List, [], ◌∷◌, codes, find}
 use Rattle.desk_types.specs.declared.level.Level.{Level}
 use Rattle.desk_types.specs.declared.level.Level.TheVariants.{One, Two, TwoA, Three, Four, Five, FiveA, Six}
 use Rattle.desk_types.specs.declared.limits.TheConstants.{GREATEST_LABEL}
 use Rattle.desk_types.specs.Id.{same}
 
--- the text of a level
+-- The text of a level.
 abbrev pub text_of : Level → List ℕ
 text_of One = codes "1"
 text_of Two = codes "2"
@@ -16,11 +16,11 @@ text_of Five = codes "5"
 text_of FiveA = codes "5a"
 text_of Six = codes "6"
 
--- the level that a text names
+-- The level with this text.
 abbrev pub level_of : List ℕ → Option Level
 level_of text = find (λ level. same (text_of level) text) (One ∷ Two ∷ TwoA ∷ Three ∷ Four ∷ Five ∷ FiveA ∷ Six ∷ [])
 
--- the floor life in minutes: none at level 1, and at level 6 what the label says
+-- The floor life in minutes: none at level 1, the label's at level 6.
 abbrev pub limit_of : Level → ℕ → Option ℕ
 limit_of One label = None
 limit_of Two label = Some 525600
@@ -36,7 +36,7 @@ pub record LevelWithLabel : Type 0 where
   pub level : Level
   pub label : ℕ
 
--- a label has 1 to 525,600 minutes at level 6, and 0 stands for it at the others
+-- The label's minutes: 1 to 525,600 at level 6, and 0 at the others.
 abbrev pub IsLabel : Level → ℕ → Type 0
 IsLabel Six label = (1 ≤ label) × (label ≤ GREATEST_LABEL)
 IsLabel _ label = label ≡ 0

@@ -1,4 +1,4 @@
--- What an accepted command changes, what a command is answered, and what a whole run is answered.
+-- The change that an accepted command makes, and the replies to commands.
 use Rattle.std.specs.Prelude.{ℕ, ◌&&◌, List, [], ◌∷◌, map, sum_by}
 use Rattle.std.specs.Option.{option_map_or}
 use Rattle.desk_types.specs.declared.answer.Detail.{Detail}
@@ -20,17 +20,17 @@ use Rattle.desk_types.specs.Pieces.{picks_of, is_placed}
 use Rattle.desk_types.specs.FloorLife.{minutes_left, is_expired}
 use Rattle.desk_types.specs.Refusals.{refusal_of}
 
--- ---- what is changed
+-- ---- changes
 
--- the reels of picks, in their order
+-- The reels of the picks, in order.
 abbrev pub reels_of : List Pick → List Name
 reels_of picks = map (λ (p : Pick). p.reel) picks
 
--- the pieces of picks together
+-- The total pieces of the picks.
 abbrev pub pieces_of : List Pick → ℕ
 pieces_of picks = sum_by (λ (p : Pick). p.quantity) picks
 
--- what the answer to a command tells that is accepted after H and takes effect at the minute
+-- The detail in the reply to a command accepted after H that takes effect at the minute.
 abbrev pub detail_of : History → ℕ → Command → Detail
 detail_of H minute (MaterialsLoaded machine slot reel) = MinutesLeft (minutes_left H reel minute)
 detail_of H minute (MaterialsSpliced machine slot reel) = MinutesLeft (minutes_left H reel minute)
@@ -39,7 +39,7 @@ detail_of H minute (MaterialsScrapped machine slot quantity) = Taken (pieces_of 
 detail_of H minute (CountsTaken counts) = Taken (pieces_of (picks_of H (CountsTaken counts)))
 detail_of H minute _ = Plain
 
--- a pick with the part and the lot of its reel; overdue where a piece is placed whose reel has used up its floor life
+-- The pick with its reel's part and lot; overdue if its piece is placed from an expired reel.
 abbrev pub take_of : History → ℕ → Pick → Take
 take_of H minute p = record {
   reel = p.reel;
@@ -50,11 +50,11 @@ take_of H minute p = record {
   overdue = is_placed p.purpose && is_expired H p.reel minute;
 }
 
--- what a command takes that is accepted after H and takes effect at the minute
+-- The takes of a command accepted after H that takes effect at the minute.
 abbrev pub takes_by : History → ℕ → Command → List Take
 takes_by H minute command = map (take_of H minute) (picks_of H command)
 
--- the change that a command makes which is accepted after H
+-- The change made by a command accepted after H.
 abbrev pub change_of : History → Stamped → Change
 change_of H s = record {
   stamped = s;
@@ -63,24 +63,24 @@ change_of H s = record {
   takes = takes_by H (effective_minute H s.minute) s.command;
 }
 
--- ---- what is answered
+-- ---- replies
 
--- The replies of a desk. Repeats of a message and the greatest number are its owner's matter and not looked at here.
+-- The desk's owner, not the desk, handles repeated messages and the greatest number.
 
--- the reply to a command after H, by the rules
+-- The reply to a command after H under the rules.
 abbrev pub reply_to : Rules → History → Stamped → Reply
 reply_to rules H s = option_map_or Refused (refusal_of rules H s) (Accepted (change_of H s).detail)
 
--- the list after the command: with it where it is accepted, and as it was where it is refused
+-- The history after the command, unchanged if it is refused.
 abbrev pub after_command : Rules → History → Stamped → History
 after_command rules H s = option_map_or (λ _. H) (refusal_of rules H s) (accept H s)
 
--- the replies to commands one after the other
+-- The replies to several commands in order.
 abbrev pub replies_to : Rules → History → List Stamped → List Reply
 replies_to rules H [] = []
 replies_to rules H (s ∷ ss) = reply_to rules H s ∷ replies_to rules (after_command rules H s) ss
 
--- the list after them all
+-- The history after several commands.
 abbrev pub after_commands : Rules → History → List Stamped → History
 after_commands rules H [] = H
 after_commands rules H (s ∷ ss) = after_commands rules (after_command rules H s) ss

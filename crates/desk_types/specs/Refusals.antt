@@ -1,4 +1,4 @@
--- When a command is refused, and why: for each command its tests in order, of which the first that holds gives the answer.
+-- Refusals: the tests of each command in order; the first that holds decides.
 use Rattle.std.specs.Prelude.{ℕ, ◌+◌, nat_lt, Bool, true, false, not, ◌&&◌, Option, Some, None, List, [], ◌∷◌, ◌++◌, map, if◌then◌else◌, unwrap_or, is_some, is_none, ◌==◌}
 use Rattle.std.specs.Option.{option_map, option_map_or, option_or, option_to_list}
 use Rattle.std.specs.List.{list_any, find, sum_by, flat_map}
@@ -22,7 +22,7 @@ use Rattle.desk_types.specs.Pieces.{left_of, live_on, front_of, is_mounted, pick
 use Rattle.desk_types.specs.FloorLife.{is_expired, is_unbaked}
 use Rattle.desk_types.specs.Work.{in_work_on, is_in_work_on, is_in_work, product_of, is_placed_on}
 
--- the refusal of the first test that holds
+-- The refusal of the first test that holds.
 abbrev pub first_refusal : List (Bool × Refusal) → Option Refusal
 first_refusal [] = None
 first_refusal (t ∷ ts) = if t.0 then Some t.1 else first_refusal ts
@@ -40,24 +40,24 @@ alternate_refusal H part alternate = first_refusal (
     ∷ (not (is_part H alternate), UnknownPart alternate)
     ∷ [])
 
--- the first name that stands among those before it
+-- The first name that repeats an earlier one.
 abbrev pub name_twice : List Name → List Name → Option Name
 name_twice before [] = None
 name_twice before (x ∷ xs) = if list_any (same x) before then Some x else name_twice (before ++ x ∷ []) xs
 
--- the slots of all rows, in sheet order
+-- The slots of the rows, in sheet order.
 abbrev pub slots_of_rows : List SheetRow → List Name
 slots_of_rows rows = map (λ (row : SheetRow). row.slot) rows
 
--- the designators of all rows, in sheet order
+-- The designators of the rows, in sheet order.
 abbrev pub designators_of_rows : List SheetRow → List Name
 designators_of_rows rows = flat_map (λ (row : SheetRow). row.designators) rows
 
--- the part of the first row whose part is not among the parts, of which a test is given
+-- The part of the first row whose part is not known.
 abbrev pub unknown_part : (Name → Bool) → List SheetRow → Option Name
 unknown_part is_known rows = option_map (λ (row : SheetRow). row.part) (find (λ (row : SheetRow). not (is_known row.part)) rows)
 
--- what is wrong with the rows of a sheet: first a slot twice, then a designator twice, then a part that is not among the parts
+-- The fault in a sheet's rows: a repeated slot, then a repeated designator, then an unknown part.
 unfoldable pub sheet_refusal : (Name → Bool) → List SheetRow → Option Refusal
 sheet_refusal is_known rows =
     option_or (option_map SlotTwice (name_twice [] (slots_of_rows rows)))
@@ -81,13 +81,13 @@ receipt_refusal H reel part = first_refusal (
     ∷ (is_some (receipt_of H reel), ReelExists reel)
     ∷ [])
 
--- of an open
+-- The refusal of an open.
 unfoldable pub opening_refusal : History → Name → Option Refusal
 opening_refusal H reel = first_refusal (
     (is_none (receipt_of H reel), UnknownReel reel)
     ∷ [])
 
--- of a seal or a bake
+-- The refusal of a seal or a bake.
 unfoldable pub closing_refusal : History → Name → Option Refusal
 closing_refusal H reel = first_refusal (
     (is_none (receipt_of H reel), UnknownReel reel)
@@ -96,19 +96,19 @@ closing_refusal H reel = first_refusal (
 
 -- ---- slots
 
--- whether the reel's part is not allowed for the part of a row
+-- Whether the reel's part is not allowed for the row's part.
 abbrev pub is_wrong_for : History → SheetRow → Name → Bool
 is_wrong_for H row reel = option_map_or (λ (r : Receipt). not (is_allowed H row.part r.part)) (receipt_of H reel) false
 
--- whether the reel's part is not allowed for the slot's row in the sheet of the selected product
+-- Whether the reel's part is not allowed for the slot in the selected product's sheet.
 abbrev pub is_wrong_part : History → Name → Name → Name → Bool
 is_wrong_part H machine slot reel = option_map_or (λ row. is_wrong_for H row reel) (row_on H machine slot) false
 
--- whether the slot has no live reel
+-- Whether the slot has no live reel.
 abbrev pub is_vacant : History → Name → Name → Bool
 is_vacant H machine slot = is_none (front_of H machine slot)
 
--- what is tested of a reel that is to be loaded or spliced at a minute; whether its part is wrong for the slot is given
+-- The tests of a reel to load or splice at a minute.
 abbrev pub reel_tests : History → ℕ → Name → Bool → List (Bool × Refusal)
 reel_tests H minute reel wrong =
     (is_none (receipt_of H reel), UnknownReel reel)
@@ -119,7 +119,7 @@ reel_tests H minute reel wrong =
     ∷ (is_expired H reel minute, Expired reel)
     ∷ []
 
--- of a load or a splice at a minute; they differ in the test of the slot's live reels, which is given
+-- The refusal of a load or a splice at a minute; `slot_test` is their only difference.
 unfoldable pub mounting_refusal : History → ℕ → Name → Name → Name → Bool × Refusal → Option Refusal
 mounting_refusal H minute machine slot reel slot_test = first_refusal (
     (is_none (selected_on H machine), NoProduct machine)
@@ -140,27 +140,28 @@ scrap_refusal H machine slot n = first_refusal (
 
 -- ---- work
 
--- what is wrong with a reel that is to feed a slot
+-- The fault of a reel that would feed the slot.
 abbrev pub feeding_refusal : Name → (wrong unbaked expired : Bool) → Option Refusal
 feeding_refusal slot wrong unbaked expired = first_refusal ((wrong, WrongPart slot) ∷ (unbaked, NotBaked slot) ∷ (expired, Expired slot) ∷ [])
 
--- what is wrong at a minute with the front of a row's slot
+-- The fault of the front reel in a row's slot at a minute.
 abbrev pub front_refusal : History → ℕ → SheetRow → Option Name → Option Refusal
 front_refusal H minute row None = Some (SlotEmpty row.slot)
 front_refusal H minute row (Some reel) = feeding_refusal row.slot (is_wrong_for H row reel) (is_unbaked H reel) (is_expired H reel minute)
 
--- what is wrong with the first faulty slot of some rows
+-- The fault of the first faulty slot.
 abbrev pub slots_refusal : History → ℕ → Name → List SheetRow → Option Refusal
 slots_refusal H minute machine [] = None
 slots_refusal H minute machine (row ∷ rows) =
     option_or (front_refusal H minute row (front_of H machine row.slot)) (slots_refusal H minute machine rows)
 
--- whether two names are there and differ
+-- Whether both names exist and differ.
 abbrev pub differ : Option Name → Option Name → Bool
 differ (Some a) (Some b) = not (same a b)
 differ _ _ = false
 
--- of a start of work; by the test before it no board is in work on this machine, so a board that is in work is so on another
+-- The refusal of a start of work. The test for MachineBusy excludes a board in work on this
+-- machine, so BoardBusy means that the board is in work on another one.
 unfoldable pub start_refusal : History → ℕ → Name → Name → Option Refusal
 start_refusal H minute machine board = option_or (first_refusal (
     (is_none (selected_on H machine), NoProduct machine)
@@ -175,7 +176,7 @@ completion_refusal H machine board = first_refusal (
     (not (is_in_work_on H machine board), NotInWork board)
     ∷ [])
 
--- what is wrong with a designator of a message, by its slot, whether it stands twice, whether it is placed, and its pick
+-- The fault of a designator in a message.
 abbrev pub designator_refusal : Name → Option Name → (twice placed : Bool) → Option Pick → Option Refusal
 designator_refusal d slot twice placed pick = first_refusal (
     (is_none slot, DesignatorNotOnSheet d)
@@ -184,7 +185,7 @@ designator_refusal d slot twice placed pick = first_refusal (
     ∷ (is_none pick, ReelShort d)
     ∷ [])
 
--- what is wrong with the first faulty designator of a message, after the picks for those before it and the designators that stand before it
+-- The fault of the first faulty designator in a message.
 abbrev pub designators_refusal : (Name → Option Name) → (Name → List Name) → (Name → ℕ) → (Name → Bool) → Name → Name → List Pick → List Name → List Name → Option Refusal
 designators_refusal slot_of tape pieces placed machine board before seen [] = None
 designators_refusal slot_of tape pieces placed machine board before seen (d ∷ ds) = option_or
@@ -199,13 +200,13 @@ install_refusal H machine board designators =
 
 -- ---- counts
 
--- Whether a count is too high for a reel with so many pieces left. By rules One it is where it is above them. By rules Two it may be
--- above them, for pieces are found; but a reel with none left is spent, and has none from then on.
+-- Whether a count is too high. Rules One refuse any count above the remaining pieces. Rules Two
+-- refuse it for a spent reel only, because pieces can be found.
 abbrev pub is_above : Rules → (left counted : ℕ) → Bool
 is_above One left counted = nat_lt left counted
 is_above Two left counted = (left == 0) && nat_lt 0 counted
 
--- what is wrong with a row of a count, after the reels of the rows before it
+-- The fault of a count's row.
 abbrev pub count_refusal : Rules → History → List Name → CountRow → Option Refusal
 count_refusal rules H seen row = first_refusal (
     (is_none (receipt_of H row.reel), UnknownReel row.reel)
@@ -214,14 +215,14 @@ count_refusal rules H seen row = first_refusal (
     ∷ (is_above rules (left_of H row.reel) row.quantity, CountAbove row.reel)
     ∷ [])
 
--- what is wrong with the first faulty row of a count, after the reels of the rows before it
+-- The fault of the first faulty row of a count.
 abbrev pub counts_refusal : Rules → History → List Name → List CountRow → Option Refusal
 counts_refusal rules H seen [] = None
 counts_refusal rules H seen (row ∷ rows) = option_or (count_refusal rules H seen row) (counts_refusal rules H (seen ++ row.reel ∷ []) rows)
 
 -- ---- any command
 
--- the refusal of a command after H that takes effect at the minute; the rules matter for a count alone
+-- The refusal of a command that takes effect at the minute; the rules differ only for counts.
 unfoldable pub command_refusal : Rules → History → ℕ → Command → Option Refusal
 command_refusal rules H minute (PartDefined part) = part_refusal H part
 command_refusal rules H minute (AlternateAllowed part alternate) = alternate_refusal H part alternate
@@ -245,10 +246,11 @@ abbrev pub is_clock : Command → Bool
 is_clock ClockSet = true
 is_clock _ = false
 
--- whether the own minute is more than two weeks above the desk minute; a command that sets the clock, and the first one of all, may be so
+-- Whether the command's minute is more than two weeks after the desk minute. This is false for the
+-- first command and for a clock setting.
 abbrev pub is_too_far_ahead : History → Stamped → Bool
 is_too_far_ahead H s = option_map_or (λ desk. nat_lt (desk + FURTHEST_AHEAD) s.minute) (desk_minute H) false && not (is_clock s.command)
 
--- why the command is refused after H by the rules, where it is
+-- The refusal of the command after H under the rules, if any.
 unfoldable pub refusal_of : Rules → History → Stamped → Option Refusal
 refusal_of rules H s = if is_too_far_ahead H s then Some TooFarAhead else command_refusal rules H (effective_minute H s.minute) s.command

@@ -1,4 +1,4 @@
--- The state tables of a list: for each table the row that a key has, where there is one.
+-- The state tables of a history, each as a lookup by key.
 use Rattle.std.specs.Prelude.{ℕ, ◌+◌, ◌==◌, ◌&&◌, Bool, Option, Some, None, List, [], ◌∷◌, if◌then◌else◌}
 use Rattle.std.specs.Option.{option_and_then, option_map}
 use Rattle.std.specs.List.{find}
@@ -21,18 +21,18 @@ use Rattle.desk_types.specs.declared.row.PlacementRow.{PlacementRow}
 
 -- ---- sheet_row
 
--- the element at a place, where the first is at the place n
+-- The element at a place, counting from n.
 abbrev pub at_place : {X : Type 0} → ℕ → List X → ℕ → Option X
 at_place n [] place = None
 at_place n (x ∷ xs) place = if n == place then Some x else at_place (n + 1) xs place
 
--- the row of the sheet of the product on the machine, at a place from 1
+-- The row at a place, from 1, of the product's sheet on the machine.
 abbrev pub sheet_row : History → Name → Name → ℕ → Option SheetRow
 sheet_row H product machine place = option_and_then (λ rows. at_place 1 rows place) (sheet_of H product machine)
 
 -- ---- reel
 
--- what of a reel's view does not change with the minute
+-- The columns of a reel's view that don't change with the minute.
 abbrev pub columns_of : ReelView → ReelRow
 columns_of view = record {
   reel = view.reel;
@@ -49,40 +49,40 @@ columns_of view = record {
   baked = view.baked;
 }
 
--- the row of a received reel
+-- A received reel's row.
 abbrev pub reel_row : History → Name → Option ReelRow
 reel_row H reel = option_map columns_of (reel_view H reel)
 
 -- ---- mount
 
--- where the command puts the reel, by the number of its entry
+-- The slot where the command loads or splices the reel, with its entry's number.
 abbrev pub put_by : Name → ℕ → Command → Option MountRow
 put_by reel number (MaterialsLoaded m s r) = if same r reel then Some (record { since = number; machine = m; slot = s; reel = reel }) else None
 put_by reel number (MaterialsSpliced m s r) = if same r reel then Some (record { since = number; machine = m; slot = s; reel = reel }) else None
 put_by reel number _ = None
 
--- the last load or splice of the reel
+-- The last load or splice of the reel.
 abbrev pub last_put : History → Name → Option MountRow
 last_put H reel = latest (λ e. put_by reel e.number e.stamped.command) H
 
--- the row of a mounted reel
+-- A mounted reel's row.
 abbrev pub mount_row : History → Name → Option MountRow
 mount_row H reel = if is_mounted H reel then last_put H reel else None
 
 -- ---- board
 
--- the machine that last started the board, where the board is in work there
+-- The machine that last started the board, if the board is in work there.
 abbrev pub work_machine : History → Name → Option Name
 work_machine H board =
     option_and_then (λ machine. if is_in_work_on H machine board then Some machine else None) (latest (λ e. start_by board e.stamped.command) H)
 
--- the row of a board that was started
+-- A started board's row.
 abbrev pub board_row : History → Name → Option BoardRow
 board_row H board = option_map (λ product. record { board = board; product = product; machine = work_machine H board }) (product_of H board)
 
 -- ---- placement
 
--- the columns of a placement; its part, its lot and its minute are those of its reel and its entry
+-- A placement's columns; its reel and entry have the part, lot and minute.
 abbrev pub placement_columns : Placement → PlacementRow
 placement_columns p = record {
   number = p.number;
@@ -95,19 +95,19 @@ placement_columns p = record {
   overdue = p.overdue;
 }
 
--- the row of a placed piece
+-- A placed piece's row.
 abbrev pub placement_row : History → ℕ → ℕ → Option PlacementRow
 placement_row H number place = option_map placement_columns (find (λ (p : Placement). p.number == number && p.place == place) (placements_of H))
 
 -- ---- found
 
--- the pieces that counts found on the reel, where there are some
+-- The pieces that counts found on the reel, if any.
 abbrev pub found_row : History → Name → Option ℕ
 found_row H reel = if found_of H reel == 0 then None else Some (found_of H reel)
 
 -- ---- all tables
 
--- The nine state tables, each by its key. A `mount` row is found by its reel.
+-- The nine state tables, each by its key; a `mount` row is found by its reel.
 pub record Tables : Type 0 where
   pub parts : Name → Bool
   pub alternates : Name → Name → Bool
@@ -119,7 +119,7 @@ pub record Tables : Type 0 where
   pub placements : ℕ → ℕ → Option PlacementRow
   pub found : Name → Option ℕ
 
--- the tables of a list
+-- The state tables of a history.
 abbrev pub tables_of : History → Tables
 tables_of H = record {
   parts = is_part H;

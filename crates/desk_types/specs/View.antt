@@ -1,4 +1,4 @@
--- What a desk tells of a reel, and of the slots of a machine.
+-- The reported state of a reel and of a machine's slots.
 use Rattle.std.specs.Prelude.{ℕ, Bool, false, Option, Some, None, is_some, List, [], map, if◌then◌else◌, unwrap_or}
 use Rattle.std.specs.Option.{option_map, option_map_or}
 use Rattle.std.specs.List.{list_any, filter_map, flat_map, enumerate_from}
@@ -19,23 +19,23 @@ use Rattle.desk_types.specs.Placements.{set_of}
 
 -- ---- a reel
 
--- the part of a received reel
+-- A received reel's part.
 abbrev pub part_of : History → Name → Name
 part_of H reel = option_map_or (λ (r : Receipt). r.part) (receipt_of H reel) []
 
--- the lot of a received reel
+-- A received reel's lot.
 abbrev pub lot_of : History → Name → Name
 lot_of H reel = option_map_or (λ (r : Receipt). r.lot) (receipt_of H reel) []
 
--- the floor life that is left to the reel at the desk minute
+-- The reel's remaining floor life at the desk minute.
 abbrev pub life_left : History → Name → Left
 life_left H reel = if is_unbaked H reel then Unbaked else option_map_or Minutes (minutes_left H reel (now_of H)) Unlimited
 
--- the exposure at the minute since which the reel is out of its bag, or at the desk minute while it is in it
+-- The reel's exposure when it last left its bag, or at the desk minute while it is in its bag.
 abbrev pub used_of : History → Name → ℕ
 used_of H reel = exposure_of H reel (unwrap_or (out_since H reel) (now_of H))
 
--- a reel with this receipt, as the list leaves it
+-- The state of a reel with this receipt.
 abbrev pub view_of : History → Name → Receipt → ReelView
 view_of H reel receipt = record {
   reel = reel;
@@ -56,31 +56,31 @@ view_of H reel receipt = record {
   baked = is_baked H reel;
 }
 
--- the reel as the list leaves it, where it was received
+-- The state of the reel, if it was received.
 abbrev pub reel_view : History → Name → Option ReelView
 reel_view H reel = option_map (view_of H reel) (receipt_of H reel)
 
--- ---- the slots of a machine
+-- ---- a machine's slots
 
--- whether the command defines a sheet on the machine
+-- Whether the command defines a sheet for the machine.
 abbrev pub defines_on : Name → Command → Bool
 defines_on machine (SheetDefined p m rows) = same m machine
 defines_on machine _ = false
 
--- whether some sheet names the machine
+-- Whether some sheet is for the machine.
 abbrev pub has_sheet : History → Name → Bool
 has_sheet H machine = list_any (λ (e : Entry). defines_on machine e.stamped.command) H
 
--- the slot of the machine that the command loads
+-- The slot of the machine that the command loads.
 abbrev pub slot_by : Name → Command → Option Name
 slot_by machine (MaterialsLoaded m slot reel) = if same m machine then Some slot else None
 slot_by machine _ = None
 
--- The slots of the machine, each once and in byte order. Each slot that has a tape was loaded by some entry, so those are looked at.
+-- The machine's loaded slots in byte order, without duplicates.
 abbrev pub loaded_slots : History → Name → List Name
 loaded_slots H machine = set_of (filter_map (λ (e : Entry). slot_by machine e.stamped.command) H)
 
--- a live reel in its position on a slot
+-- A live reel at its position on a slot.
 abbrev pub mount_of : History → Name → ℕ × Name → Mount
 mount_of H slot (position, reel) = record {
   slot = slot;
@@ -92,10 +92,10 @@ mount_of H slot (position, reel) = record {
   left = life_left H reel;
 }
 
--- the live reels of a slot; the one in position 1 is the front
+-- The slot's live reels, with the front at position 1.
 abbrev pub slot_mounts : History → Name → Name → List Mount
 slot_mounts H machine slot = map (mount_of H slot) (enumerate_from 1 (live_on H machine slot))
 
--- the live reels of the machine's slots, where some sheet names the machine
+-- The live reels on the machine's slots, if some sheet is for the machine.
 abbrev pub mounts_on : History → Name → Option (List Mount)
 mounts_on H machine = if has_sheet H machine then Some (flat_map (slot_mounts H machine) (loaded_slots H machine)) else None

@@ -1,20 +1,20 @@
-//! What a desk answers.
+//! Replies to commands.
 
 use crate::id::Id;
 use crate::list::{IdList, Listing};
 use std::alloc::AllocError;
 
-/// Why a command is refused, with the name of what is at fault: a part, a reel, a product, a
-/// machine, a slot, a board or a designator.
+/// Why a command is refused, with the name at fault: a part, reel, product, machine, slot, board or
+/// designator.
 #[derive(Clone, Copy, Debug, PartialEq, Eq)]
 pub enum Refusal {
-    /// The own minute is more than 20,160 above the desk minute.
+    /// The command's minute is more than 20,160 minutes after the desk minute.
     TooFarAhead,
-    /// The part is defined already.
+    /// The part is already defined.
     PartExists(Id),
     /// No such part is defined.
     UnknownPart(Id),
-    /// The reel was received already.
+    /// The reel was already received.
     ReelExists(Id),
     /// No such reel was received.
     UnknownReel(Id),
@@ -24,11 +24,11 @@ pub enum Refusal {
     MachineBusy(Id),
     /// An earlier row of the sheet has the slot.
     SlotTwice(Id),
-    /// The designator stands earlier, in the sheet or in the message.
+    /// The designator appears earlier in the sheet or in the message.
     DesignatorTwice(Id),
     /// No product is selected on the machine.
     NoProduct(Id),
-    /// The sheet of the selected product has no such slot.
+    /// The selected product's sheet has no such slot.
     SlotNotOnSheet(Id),
     /// The slot has a live reel.
     SlotTaken(Id),
@@ -36,42 +36,42 @@ pub enum Refusal {
     SlotEmpty(Id),
     /// The reel is live on some slot.
     ReelMounted(Id),
-    /// The reel has no piece left.
+    /// The reel has no pieces left.
     ReelEmpty(Id),
-    /// The reel's part is not allowed there: named by the reel, or at a start of work by the slot.
+    /// The reel's part is not allowed there. Names the reel or, at a start of work, the slot.
     WrongPart(Id),
-    /// The reel waits for its bake: named by the reel, or at a start of work by the slot.
+    /// The reel waits for its bake. Names the reel or, at a start of work, the slot.
     NotBaked(Id),
-    /// The reel's floor life is used up: named by the reel, or at a start of work by the slot.
+    /// The reel's floor life has expired. Names the reel or, at a start of work, the slot.
     Expired(Id),
     /// The board is in work on another machine.
     BoardBusy(Id),
-    /// The board was begun as another product.
+    /// The board was started as another product.
     OtherProduct(Id),
     /// The board is not the one in work on the machine.
     NotInWork(Id),
     /// No row of the sheet has the designator.
     DesignatorNotOnSheet(Id),
-    /// The designator of this board was placed by an earlier command.
+    /// An earlier command placed this designator of the board.
     AlreadyPlaced(Id),
-    /// Too few pieces are left: named by the designator, or at a scrap by the slot.
+    /// Too few pieces are left. Names the designator or, at a scrap, the slot.
     ReelShort(Id),
     /// An earlier row of the count has the reel.
     ReelTwice(Id),
-    /// More pieces are counted than may be: see [`Rules`](crate::Rules).
+    /// The count is too high: see [`Rules`](crate::Rules).
     CountAbove(Id),
 }
 
-/// What the answer to an accepted command tells.
+/// The details in the reply to an accepted command.
 #[derive(Debug, PartialEq, Eq, Drop)]
 pub enum Detail {
-    /// Nothing more.
+    /// No details.
     Plain,
-    /// Of a load or a splice: the reel's minutes of floor life, or none where it has no limit.
+    /// The reel's remaining minutes of floor life after a load or splice, or none without a limit.
     MinutesLeft(Option<u64>),
-    /// Of an install: the reel of each designator in message order.
+    /// The reel of each installed designator, in message order.
     Reels(IdList),
-    /// Of a scrap or a count: how many pieces were taken. Pieces that a count finds don't lower it.
+    /// The pieces that a scrap or count took. Pieces that a count finds don't lower it.
     Taken(u64),
 }
 
@@ -90,7 +90,7 @@ impl Clone for Detail {
     }
 }
 
-/// What a desk answers to one command.
+/// The reply to one command.
 #[derive(Debug, PartialEq, Eq, Drop)]
 pub enum Reply {
     Accepted(Detail),

@@ -1,4 +1,4 @@
-//! For how many boards a kit is.
+//! The number of boards of a kit.
 
 ghost use Rattle.std.specs.Prelude.{◌≡◌, SomeIff};
 ghost use Rattle.desk_types.specs.Boards.{IsBoards};
@@ -24,7 +24,7 @@ impl Model for Boards {
 }
 
 impl Boards {
-    /// This many boards, where there may be so many.
+    /// Returns the number of boards if it is in range.
     pub fn new(boards: u64) -> Option<Boards>
         ensures { SomeIff result (IsBoards boards) boards }
     {
@@ -34,7 +34,7 @@ impl Boards {
         Some(Boards(boards as u32))
     }
 
-    /// How many boards.
+    /// Returns the number of boards.
     pub fn get(self) -> u64
         ensures value { result ≡ self }
         ensures range { IsBoards result }

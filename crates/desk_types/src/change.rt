@@ -1,4 +1,4 @@
-//! What a command does that is not refused.
+//! The effect of an accepted command.
 
 ghost use Rattle.std.specs.Prelude.{◌≡◌};
 
@@ -8,11 +8,10 @@ use crate::list::Listing;
 use crate::number::Minute;
 use crate::take::Take;
 
-/// Takes in the order in which the pieces come off.
+/// Takes, ordered as the pieces leave their reels.
 pub type Takes = Listing<Take>;
 
-/// What a command does that is not refused: the minute at which it takes effect, what its answer
-/// tells, and the pieces that it takes. It is accepted when it is settled.
+/// The effect of a command that isn't refused. Settling the change accepts the command.
 #[derive(Debug, PartialEq, Eq, Drop)]
 pub struct Change {
     pub stamped: Stamped,
@@ -22,28 +21,28 @@ pub struct Change {
 }
 
 impl Change {
-    /// The minute at which the command takes effect.
+    /// Returns the minute at which the command takes effect.
     pub fn minute(&self) -> Minute
         ensures { result ≡ self.now.minute }
     {
         self.minute
     }
 
-    /// What the answer tells.
+    /// Returns the details of the reply.
     pub fn detail(&self) -> &Detail
         ensures { result.now ≡ self.now.detail }
     {
         &self.detail
     }
 
-    /// The pieces that the command takes.
+    /// Returns the pieces that the command takes.
     pub fn takes(&self) -> &[Take]
         ensures { result.now ≡ self.now.takes }
     {
         self.takes.as_slice()
     }
 
-    /// The command with its message.
+    /// Returns the command with its message.
     pub fn stamped(&self) -> &Stamped
         ensures { result.now ≡ self.now.stamped }
     {

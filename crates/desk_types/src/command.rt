@@ -1,4 +1,4 @@
-//! What machines say.
+//! The messages that machines send.
 
 use crate::count::Counts;
 use crate::id::Id;
@@ -7,31 +7,31 @@ use crate::number::{Minute, Quantity};
 use crate::sheet::{Designators, SheetRows};
 use std::alloc::AllocError;
 
-/// What a message asks of the desk: this project's profile of seventeen messages, each in the
-/// envelope after IPC-CFX.
+/// The request in a message. The message kinds are this project's own profile; the envelope follows
+/// IPC-CFX.
 #[derive(Debug, PartialEq, Eq, Drop)]
 pub enum Command {
-    /// A part may be received and stand on sheets.
+    /// Defines a part, so that it can be received and appear on sheets.
     PartDefined {
         part: Id,
     },
-    /// The alternate may stand wherever a sheet says the part. One direction, and not chained.
+    /// Allows the alternate in place of the part, in this direction only and without chaining.
     AlternateAllowed {
         part: Id,
         alternate: Id,
     },
-    /// The sheet of a product on a machine, in place of the one before.
+    /// Defines or replaces a product's sheet on a machine.
     SheetDefined {
         product: Id,
         machine: Id,
         rows: SheetRows,
     },
-    /// The machine makes this product from now on.
+    /// Selects the product that the machine makes from now on.
     ProductSelected {
         machine: Id,
         product: Id,
     },
-    /// A reel came in, sealed.
+    /// Receives a sealed reel.
     ReelReceived {
         reel: Id,
         part: Id,
@@ -39,64 +39,63 @@ pub enum Command {
         moisture: Moisture,
         quantity: Quantity,
     },
-    /// The reel is out of its bag.
+    /// Takes the reel out of its bag.
     ReelOpened {
         reel: Id,
     },
-    /// The reel is back in its bag: its exposure stands still.
+    /// Seals the reel in its bag, which stops its exposure.
     ReelSealed {
         reel: Id,
     },
-    /// The reel was baked and sealed: its exposure is 0.
+    /// Records that the reel was baked and sealed, which resets its exposure to 0.
     ReelBaked {
         reel: Id,
     },
-    /// The reel begins a tape on the slot. It is out of its bag until it is sealed or
-    /// baked.
+    /// Starts a new tape on the slot. The reel is out of its bag until it is sealed or baked.
     MaterialsLoaded {
         machine: Id,
         slot: Id,
         reel: Id,
     },
-    /// The reel is joined to the end of the slot's tape. It is out of its bag until it is sealed or
-    /// baked.
+    /// Joins the reel to the end of the slot's tape. The reel is out of its bag until it is sealed
+    /// or baked.
     MaterialsSpliced {
         machine: Id,
         slot: Id,
         reel: Id,
     },
-    /// The slot's tape is taken off.
+    /// Removes the slot's tape.
     MaterialsUnloaded {
         machine: Id,
         slot: Id,
     },
-    /// The machine begins to work on the board.
+    /// Starts work on the board.
     WorkStarted {
         machine: Id,
         board: Id,
     },
-    /// The machine is done with the board.
+    /// Completes work on the board.
     WorkCompleted {
         machine: Id,
         board: Id,
     },
-    /// One piece was placed at each designator, in this order.
+    /// Places one piece at each designator, in this order.
     MaterialsInstalled {
         machine: Id,
         board: Id,
         designators: Designators,
     },
-    /// Pieces were thrown away at the slot.
+    /// Scraps pieces at the slot.
     MaterialsScrapped {
         machine: Id,
         slot: Id,
         quantity: Quantity,
     },
-    /// The pieces on these reels were counted.
+    /// Records the counted pieces of these reels.
     CountsTaken {
         counts: Counts,
     },
-    /// Time has gone on.
+    /// Advances the desk's clock.
     ClockSet,
 }
 
@@ -197,8 +196,7 @@ impl Clone for Command {
     }
 }
 
-/// A command with the message that it came in: who said it under which UniqueID, and at which
-/// minute of its own clock.
+/// A command with its message: the source, the UniqueID and the minute of the source's clock.
 #[derive(Debug, PartialEq, Eq, Drop)]
 pub struct Stamped {
     pub uid: Id,
@@ -222,8 +220,7 @@ impl Clone for Stamped {
     }
 }
 
-/// An accepted command: its place in the list of accepted commands, from 1, and the minute at
-/// which it took effect.
+/// An accepted command, with its number in the history (from 1) and its effective minute.
 #[derive(Debug, PartialEq, Eq, Drop)]
 pub struct Entry {
     pub number: u64,
@@ -231,7 +228,7 @@ pub struct Entry {
     pub effective: Minute,
 }
 
-/// What the receipt of a reel said, and when it took effect.
+/// A reel's receipt and the minute at which it took effect.
 #[derive(Clone, Copy, Debug, PartialEq, Eq)]
 pub struct Receipt {
     pub part: Id,

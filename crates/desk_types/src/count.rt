@@ -7,7 +7,7 @@ use crate::number::CountedQuantity;
 /// 1 to 5,000 rows in message order.
 pub type Counts = Bounded<CountRow>;
 
-/// A row of a count: a reel, and how many pieces were counted on it.
+/// A reel and the number of pieces counted on it.
 #[derive(Clone, Copy, Debug, PartialEq, Eq)]
 pub struct CountRow {
     pub reel: Id,

@@ -1,4 +1,4 @@
-//! Names of places on a board.
+//! Designators: the names of places on a board.
 
 ghost use Rattle.std.specs.Prelude.{◌≡◌, ℕ, ◌≤◌, ◌<◌, ◌↔◌, List, length, SomeIff, IsTrue, Some, ⊤};
 ghost use Rattle.desk_types.specs.Designator.{IsDesignator, is_designator_byte};
@@ -10,10 +10,10 @@ use std::cmp::Ordering;
 use std::fmt;
 use std::marker::Model;
 
-/// A place on a board, as `R17`: 1 to 16 ASCII letters, digits, `_`, `.` and `-`.
+/// A place on a board, such as `R17`: 1 to 16 ASCII letters, digits, `_`, `.` and `-`.
 ///
-/// It holds its bytes in place, so it is copied freely. It is compared, sorted and shown byte by
-/// byte, with no folding of case. The rule is this project's own profile.
+/// It stores its bytes in place, so it is cheap to copy. Comparison is by bytes and case-sensitive.
+/// The allowed characters are this project's own profile.
 pub struct Designator {
     bytes: [u8; LONGEST_DESIGNATOR],
     len: u8,
@@ -35,7 +35,7 @@ impl Model for Designator {
 }
 
 impl Designator {
-    /// The designator of these bytes, where they are one.
+    /// Returns the designator with these bytes if they are valid.
     pub fn read(bytes: &[u8]) -> Option<Designator>
         ensures { SomeIff result (IsDesignator bytes.now) bytes.now }
     {
@@ -48,7 +48,7 @@ impl Designator {
         })
     }
 
-    /// The bytes of the designator.
+    /// Returns the designator's bytes.
     pub fn as_bytes(&self) -> &[u8]
         ensures value { result.now ≡ self.now }
         ensures is_designator { IsDesignator result.now }
@@ -56,7 +56,7 @@ impl Designator {
         &self.bytes[..self.len as usize]
     }
 
-    /// The designator as text. Its bytes are ASCII.
+    /// Returns the designator as text.
     pub fn as_str(&self) -> &str
         ensures { result.now ≡ self.now }
     {

@@ -1,4 +1,4 @@
-//! What a desk is, and a run of commands on one.
+//! The trait of a desk, and a run of commands on one.
 
 ghost use Rattle.std.specs.Prelude.{◌≡◌, ℕ, IfOk, OnOk, length};
 ghost use Rattle.desk_types.specs.History.{History};
@@ -17,12 +17,12 @@ use crate::sheet::SheetRows;
 use crate::view::{Mounts, ReelView, ReelViews};
 use std::alloc::{AllocError, Global};
 
-/// Why a command came to no change.
+/// Why judging a command produced no change.
 #[derive(Clone, Copy, Debug, PartialEq, Eq)]
 pub enum JudgeFault {
-    /// The command is refused.
+    /// The rules refuse the command.
     Refused(Refusal),
-    /// Memory was refused while it was judged.
+    /// There was too little memory to judge the command.
     NoMemory,
 }
 
@@ -37,11 +37,11 @@ impl From<AllocError> for JudgeFault {
     }
 }
 
-/// A desk answers commands as the list of the commands that it accepted says, by its rules.
+/// A desk judges commands by its rules and its history of accepted commands.
 ///
-/// `Stands` says for which lists it stands, each a judged one. There may be several: what a call
-/// promises holds for each of them, and room for one more entry is asked of one. A desk keeps its
-/// allocator, so its methods take none.
+/// `Stands` relates a desk to each history that it represents. Contracts hold for every such
+/// history; a call asks for room in one of them. A desk keeps its allocator, so its methods take
+/// none.
 pub trait Desk {
     ghost use Rattle.std.specs.Prelude.{[]};
     ghost use Rattle.desk_types.specs.declared.rules.Rules.{Rules};
@@ -53,74 +53,73 @@ pub trait Desk {
     ghost use Rattle.desk_types.specs.Desk.{HasRoom, IsChange, IsJudgement};
     ghost use Rattle.desk_types.specs.Judged.{IsJudged};
 
-    /// The lists for which the desk stands.
+    /// The histories that the desk represents.
     ghost Stands: { Self → History → Type 0 };
 
-    /// The rules that the desk keeps.
+    /// The rules that the desk follows.
     ghost kept_rules: { Self → Rules };
 
-    /// A desk of these rules that has accepted nothing. Takes no memory.
+    /// Returns an empty desk with these rules. Takes no memory.
     fn fresh(alloc: Global, rules: Rules) -> Self
         ensures stands { Stands result [] }
         ensures rules { kept_rules result ≡ rules };
 
-    /// The rules that the desk keeps. Takes no memory.
+    /// Returns the desk's rules. Takes no memory.
     fn rules(&self) -> Rules
         ensures { result ≡ kept_rules self.now };
 
-    /// A law, without code: each list for which the desk stands is one that a desk of its rules can
-    /// come to have.
+    /// A law, without code: a desk with these rules can reach each history that the desk
+    /// represents.
     fn is_judged(&self)
         ensures { (H : History) → Stands self.now H → IsJudged (kept_rules self.now) H };
 
-    /// What the command would do, were it sent now. It is refused exactly for the refusal of the
-    /// definition, and changes nothing. Repeats are the owner's to look for, and so is the greatest
-    /// number.
+    /// Judges the command without changing the desk. The desk's owner checks for repeats and for
+    /// the greatest number.
     fn judge(&self, stamped: &Stamped) -> Result<Change, JudgeFault>
         requires room { HasRoom Stands self.now 1 }
         ensures { (H : History) → Stands self.now H → IsJudgement (kept_rules self.now) H stamped.now result };
 
-    /// Accepts what was judged. After an `Err` nothing is known of the desk: drop it.
+    /// Accepts a judged command. After an `Err` the desk's state is unknown: drop it.
     fn settle(&mut self, change: Change) -> Result<(), AllocError>
         requires room { HasRoom Stands self.old 1 }
         requires judged { (H : History) → Stands self.old H → IsChange (kept_rules self.old) H change.stamped change }
         ensures stands { (H : History) → Stands self.old H → OnOk result (Stands self.new (accept H change.stamped)) }
         ensures rules { OnOk result (kept_rules self.new ≡ kept_rules self.old) };
 
-    /// The desk minute: the greatest effective minute of the accepted commands.
+    /// Returns the desk minute: the greatest effective minute of the accepted commands.
     fn minute(&self) -> Option<Minute>
         ensures { (H : History) → Stands self.now H → result ≡ desk_minute H };
 
-    /// The product that is selected on the machine.
+    /// Returns the product selected on the machine.
     fn selected(&self, machine: &Id) -> Option<Id>
         ensures { (H : History) → Stands self.now H → result ≡ selected_on H machine.now };
 
-    /// The last sheet of the product on the machine.
+    /// Returns the product's last sheet on the machine.
     fn sheet_of(&self, product: &Id, machine: &Id) -> Result<Option<SheetRows>, AllocError>
         ensures { (H : History) → Stands self.now H → IfOk result (λ rows. rows ≡ sheet_of H product.now machine.now) };
 
-    /// The slots of the selected product's sheet, in sheet order, each with its front reel at the
-    /// desk minute. There are none where no product is selected.
+    /// Returns the slots of the selected product's sheet in order, each with its front reel at the
+    /// desk minute. The list is empty if no product is selected.
     fn fronts(&self, machine: &Id) -> Result<Fronts, AllocError>
         ensures { (H : History) → Stands self.now H → IfOk result (λ fronts. fronts ≡ fronts_of H machine.now) };
 
-    /// The reel at the desk minute, or none where no such reel was received. Takes no memory.
+    /// Returns the reel at the desk minute, or none if it wasn't received. Takes no memory.
     fn reel(&self, reel: &Id) -> Option<ReelView>
         ensures { (H : History) → Stands self.now H → result ≡ reel_view H reel.now };
 
-    /// The live reels of the machine's slots, by slot and then by position, also of slots that a later
-    /// sheet no longer has; or none where no sheet names the machine.
+    /// Returns the live reels on the machine's slots, by slot and position, or none if no sheet is
+    /// for the machine. It includes slots that a later sheet no longer has.
     fn slots_of(&self, machine: &Id) -> Result<Option<Mounts>, AllocError>
         ensures { (H : History) → Stands self.now H → IfOk result (λ mounts. mounts ≡ mounts_on H machine.now) };
 
-    /// The reels that could be loaded at the desk minute where a sheet says the part: those with the
-    /// fewest minutes left first, those without a limit last, and among equals by name.
+    /// Returns the reels that can be loaded for the part at the desk minute. Reels with the fewest
+    /// minutes left come first, those without a limit last; ties are ordered by name.
     fn free_reels(&self, part: &Id) -> Result<ReelViews, AllocError>
         ensures { (H : History) → Stands self.now H → IfOk result (λ reels. reels ≡ free_reels H part.now) };
 }
 
-/// Judges commands one after the other, and settles each that is accepted. The replies are those of
-/// the list alone, by the desk's rules. It stops when out of memory, and then nothing is known of the desk.
+/// Judges the commands in order and settles each accepted one. Stops when out of memory; the desk's
+/// state is then unknown.
 pub fn run<D: Desk>(
     alloc: Global,
     desk: &mut D,
@@ -141,7 +140,7 @@ pub fn run<D: Desk>(
     Ok(Listing::new(replies))
 }
 
-/// Judges one command, and settles it where it is accepted.
+/// Judges one command and settles it if it is accepted.
 fn answer<D: Desk>(desk: &mut D, message: &Stamped) -> Result<Reply, AllocError>
     requires room { HasRoom D.Stands desk.old 1 }
     ensures reply { (H : History) → D.Stands desk.old H

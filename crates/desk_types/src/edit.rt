@@ -5,7 +5,7 @@ use crate::list::Listing;
 use crate::row::{BoardRow, MountRow, PlacementRow, ReelRow};
 use crate::sheet::SheetRow;
 
-/// One row taken out, or one put in the place of the row with its key.
+/// Removes one row, or puts one and replaces the row with the same key.
 #[derive(Debug, Drop)]
 pub enum RowEdit {
     TakeSheetRow {
@@ -44,5 +44,5 @@ pub enum RowEdit {
     },
 }
 
-/// Edits in the order in which they are made.
+/// Edits in order.
 pub type RowEdits = Listing<RowEdit>;

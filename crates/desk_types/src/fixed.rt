@@ -1,4 +1,4 @@
-//! Short texts that are kept in place, in an array of a fixed width.
+//! Short texts stored in an array of a fixed width.
 
 ghost use Rattle.std.specs.Prelude.{◌≡◌, ◌≤◌, ◌+◌, ◌%◌, length};
 ghost use Rattle.std.specs.Cmp.Lexicographic.{slice_cmp};
@@ -7,7 +7,7 @@ ghost use Rattle.desk_types.specs.Fixed.{with_zeros, word_at};
 
 use std::cmp::Ordering;
 
-/// The bytes, with zeros behind them up to the width.
+/// Returns the bytes, padded with zeros up to the width.
 pub fn with_zeros<const N: usize>(bytes: &[u8]) -> [u8; N]
     requires { length bytes.now ≤ N }
     ensures { result ≡ with_zeros N bytes.now }
@@ -17,8 +17,7 @@ pub fn with_zeros<const N: usize>(bytes: &[u8]) -> [u8; N]
     own
 }
 
-/// The order of two arrays of one width, byte by byte. Eight bytes at a time are compared, as one
-/// number.
+/// Compares two arrays of the same width by their bytes, eight at a time as one number.
 pub fn order(a: &[u8], b: &[u8]) -> Ordering
     requires one_width { length a.now ≡ length b.now }
     requires whole_words { length a.now % 8 ≡ 0 }
@@ -35,7 +34,7 @@ pub fn order(a: &[u8], b: &[u8]) -> Ordering
     Ordering::Equal
 }
 
-/// The number that eight bytes spell, the greatest first.
+/// Returns the big-endian number in the eight bytes at this place.
 fn word(bytes: &[u8], at: usize) -> u64
     requires { at + 8 ≤ length bytes.now }
     ensures { result ≡ word_at bytes.now at }

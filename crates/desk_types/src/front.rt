@@ -1,21 +1,21 @@
-//! The fronts of a machine's slots, as a verification looks at them.
+//! The front reels of a machine's slots, as verification uses them.
 
 use crate::id::Id;
 use crate::list::Listing;
 
-/// How long a reel on a slot may still feed it.
+/// How long a reel may still feed its slot.
 #[derive(Clone, Copy, Debug, PartialEq, Eq)]
 pub enum Life {
     /// Its level has no limit.
     Unlimited,
     /// It waits for its bake.
     Unbaked,
-    /// Up to the minute before this one, the first at which it counts as expired. It is a minute since
-    /// 1970-01-01T00:00Z, and may be past the greatest one of a message.
+    /// It expires at this minute since 1970-01-01T00:00Z, which may be later than any message's
+    /// minute.
     Until(u64),
 }
 
-/// The front reel of a slot, with its part.
+/// A slot's front reel with its part.
 #[derive(Clone, Copy, Debug, PartialEq, Eq)]
 pub struct FrontReel {
     pub reel: Id,
@@ -23,7 +23,7 @@ pub struct FrontReel {
     pub life: Life,
 }
 
-/// A slot and its front reel, or none where it has no live reel.
+/// A slot and its front reel, or none if no reel is live there.
 #[derive(Clone, Copy, Debug, PartialEq, Eq)]
 pub struct Front {
     pub slot: Id,

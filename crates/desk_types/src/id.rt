@@ -13,8 +13,8 @@ use std::marker::Model;
 
 /// A name: 1 to 64 bytes from `0x20` to `0x7E` with no space at either end.
 ///
-/// It holds its bytes in place, so it is copied freely. It is compared, sorted and shown byte by
-/// byte, with no folding of case. The rule is this project's own profile.
+/// It stores its bytes in place, so it is cheap to copy. Comparison is by bytes and case-sensitive.
+/// The allowed characters are this project's own profile.
 pub struct Id {
     bytes: [u8; LONGEST_ID],
     len: u8,
@@ -36,7 +36,7 @@ impl Model for Id {
 }
 
 impl Id {
-    /// The id of these bytes, where they are one.
+    /// Returns the id with these bytes if they are valid.
     pub fn read(bytes: &[u8]) -> Option<Id>
         ensures { SomeIff result (IsId bytes.now) bytes.now }
     {
@@ -49,7 +49,7 @@ impl Id {
         })
     }
 
-    /// The bytes of the id.
+    /// Returns the id's bytes.
     pub fn as_bytes(&self) -> &[u8]
         ensures value { result.now ≡ self.now }
         ensures is_id { IsId result.now }
@@ -57,7 +57,7 @@ impl Id {
         &self.bytes[..self.len as usize]
     }
 
-    /// The id as text. Its bytes are ASCII.
+    /// Returns the id as text.
     pub fn as_str(&self) -> &str
         ensures { result.now ≡ self.now }
     {
@@ -80,7 +80,7 @@ fn is_id(bytes: &[u8]) -> bool
     bytes.iter().all(|b| *b >= 0x20 && *b <= 0x7e)
 }
 
-/// Each designator is an id, so a refusal names either as one.
+/// Every designator is also an id, so a refusal can name either as an id.
 impl From<Designator> for Id {
     ghost from_gives = { λ designator id. id ≡ designator };
 

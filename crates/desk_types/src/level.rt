@@ -1,4 +1,4 @@
-//! How long a part may lie out of its bag.
+//! Moisture sensitivity levels and their floor life.
 
 ghost use Rattle.std.specs.Prelude.{◌≡◌, SomeIff, Some, None, IfSome, IsSome, find};
 ghost use Rattle.desk_types.specs.Id.{same};
@@ -11,7 +11,7 @@ use std::marker::Model;
 /// profile.
 #[derive(Clone, Copy, Debug, PartialEq, Eq)]
 pub enum Level {
-    /// `1`: may lie out without limit.
+    /// `1`: no limit.
     One,
     /// `2`: a year.
     Two,
@@ -25,12 +25,12 @@ pub enum Level {
     Five,
     /// `5a`: a day.
     FiveA,
-    /// `6`: baked before use, and then as long as the label says.
+    /// `6`: bake before use, then the minutes on the label.
     Six,
 }
 
 impl Level {
-    /// The level that this text names: `1`, `2`, `2a`, `3`, `4`, `5`, `5a` or `6`.
+    /// Returns the level with this text: `1`, `2`, `2a`, `3`, `4`, `5`, `5a` or `6`.
     pub fn read(bytes: &[u8]) -> Option<Level>
         ensures { result ≡ level_of bytes.now }
     {
@@ -47,7 +47,7 @@ impl Level {
         }
     }
 
-    /// The text of the level, as `2a`.
+    /// Returns the level's text, such as `2a`.
     pub fn as_str(self) -> &'static str
         ensures { result.now ≡ text_of self }
     {
@@ -63,7 +63,7 @@ impl Level {
         }
     }
 
-    /// The floor life in minutes, where there is a limit. Only level 6 looks at the label.
+    /// Returns the floor life in minutes, if it has a limit. Only level 6 uses the label.
     pub fn limit(self, label: u64) -> Option<u64>
         ensures { result ≡ limit_of self label }
     {
@@ -80,7 +80,7 @@ impl Level {
     }
 }
 
-/// A level with the minutes of its label: 0 just where the level is not 6.
+/// A level with the minutes on its label, which are 0 except at level 6.
 #[derive(Clone, Copy, Debug, PartialEq, Eq)]
 pub struct Moisture {
     level: Level,
@@ -100,7 +100,7 @@ impl Model for Moisture {
 }
 
 impl Moisture {
-    /// The level with this label in minutes, where the two fit together.
+    /// Returns the level with this label in minutes if the two fit together.
     pub fn new(level: Level, label: u64) -> Option<Moisture>
         ensures { SomeIff result (IsLabel level label) (record { level = level; label = label }) }
     {
@@ -114,14 +114,14 @@ impl Moisture {
         Some(Moisture { level, label })
     }
 
-    /// The level.
+    /// Returns the level.
     pub fn level(self) -> Level
         ensures { result ≡ self.level }
     {
         self.level
     }
 
-    /// The minutes of the label, 0 where the level is not 6.
+    /// Returns the minutes on the label, 0 except at level 6.
     pub fn label(self) -> u64
         ensures value { result ≡ self.label }
         ensures range { IsLabel self.level result }
@@ -129,7 +129,7 @@ impl Moisture {
         self.label
     }
 
-    /// The floor life in minutes, where there is a limit.
+    /// Returns the floor life in minutes, if it has a limit.
     pub fn limit(self) -> Option<u64>
         ensures { result ≡ limit_of self.level self.label }
     {

@@ -1,7 +1,7 @@
-//! The words of the trace desk: what a command is, what a list of accepted commands means, when a
-//! command is refused and what it is answered, and what a desk is.
+//! The shared types of the trace desk: commands, the history, refusals, replies and the desk
+//! itself.
 //!
-//! The definitions stand in `specs/`, one file a topic. `docs/definitions.md` leads through them.
+//! The definitions are in `specs/`, one file for each topic. `docs/definitions.md` introduces them.
 #![tactic(auto)]
 
 mod answer;

@@ -1,4 +1,4 @@
-//! Lists that commands and answers carry. Contracts see each as the list of its elements.
+//! The lists in commands and replies. Contracts see each as a list of its elements.
 
 ghost use Rattle.std.specs.Prelude.{◌≡◌, length, SomeIff};
 ghost use Rattle.desk_types.specs.Bounds.{IsListLength};
@@ -17,7 +17,7 @@ pub struct Listing<T> {
 /// Names in order.
 pub type IdList = Listing<Id>;
 
-/// Bytes of a text.
+/// A text's bytes.
 pub type Text = Listing<u8>;
 
 impl<T> Model for Listing<T> {
@@ -29,21 +29,21 @@ impl<T> Model for Listing<T> {
 }
 
 impl<T> Listing<T> {
-    /// The list of these elements. Takes no memory.
+    /// Returns the list of these elements. Takes no memory.
     pub fn new(items: Vec<T>) -> Listing<T>
         ensures { result ≡ items.items }
     {
         Listing { items }
     }
 
-    /// The elements in order.
+    /// Returns the elements in order.
     pub fn as_slice(&self) -> &[T]
         ensures { result.now ≡ self.now }
     {
         self.items.as_slice()
     }
 
-    /// Gives the elements back. Takes no memory.
+    /// Converts the list into a vector. Takes no memory.
     pub fn into_vec(self) -> Vec<T>
         ensures { result.items ≡ self }
     {
@@ -81,7 +81,7 @@ impl<T: Eq> Eq for Listing<T> {
     ghost laws = { lists_equiv T.Eq.laws };
 }
 
-/// A list of 1 to 5,000 elements, as a command may carry it.
+/// A list of 1 to 5,000 elements.
 #[derive(Debug, Drop)]
 pub struct Bounded<T> {
     items: Vec<T>,
@@ -99,7 +99,7 @@ impl<T> Model for Bounded<T> {
 }
 
 impl<T> Bounded<T> {
-    /// The elements in order.
+    /// Returns the elements in order.
     pub fn as_slice(&self) -> &[T]
         ensures value { result.now ≡ self.now }
         ensures range { IsListLength (length result.now) }
@@ -107,7 +107,7 @@ impl<T> Bounded<T> {
         self.items.as_slice()
     }
 
-    /// Gives the elements back. Takes no memory.
+    /// Converts the list into a vector. Takes no memory.
     pub fn into_vec(self) -> Vec<T>
         ensures { result.items ≡ self }
     {
@@ -117,7 +117,7 @@ impl<T> Bounded<T> {
 }
 
 impl<T: Drop> Bounded<T> {
-    /// The list of these elements, where there are 1 to 5,000. Takes no memory.
+    /// Returns the list if it has 1 to 5,000 elements. Takes no memory.
     pub fn new(items: Vec<T>) -> Option<Bounded<T>>
         ensures { SomeIff result (IsListLength (length items.items)) items.items }
     {

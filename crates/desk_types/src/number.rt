@@ -24,7 +24,7 @@ impl Model for Minute {
 }
 
 impl Minute {
-    /// The minute of this number, where it is one.
+    /// Returns the minute with this number if it is in range.
     pub fn new(minutes: u64) -> Option<Minute>
         ensures { SomeIff result (IsMinute minutes) minutes }
     {
@@ -34,7 +34,7 @@ impl Minute {
         Some(Minute(minutes))
     }
 
-    /// The number of minutes since 1970-01-01T00:00Z.
+    /// Returns the minutes since 1970-01-01T00:00Z.
     pub fn get(self) -> u64
         ensures value { result ≡ self }
         ensures range { IsMinute result }
@@ -61,7 +61,7 @@ impl Model for Quantity {
 }
 
 impl Quantity {
-    /// The quantity of this many pieces, where it is one.
+    /// Returns the quantity if it is in range.
     pub fn new(pieces: u64) -> Option<Quantity>
         ensures { SomeIff result (IsQuantity pieces) pieces }
     {
@@ -71,7 +71,7 @@ impl Quantity {
         Some(Quantity(pieces as u32))
     }
 
-    /// The number of pieces.
+    /// Returns the number of pieces.
     pub fn get(self) -> u64
         ensures value { result ≡ self }
         ensures range { IsQuantity result }
@@ -80,7 +80,7 @@ impl Quantity {
     }
 }
 
-/// 0 to 10,000,000 pieces, as they are counted on a reel.
+/// 0 to 10,000,000 pieces, counted on a reel.
 #[derive(Clone, Copy, Debug, PartialEq, Eq, PartialOrd, Ord)]
 pub struct CountedQuantity(u32);
 
@@ -98,7 +98,7 @@ impl Model for CountedQuantity {
 }
 
 impl CountedQuantity {
-    /// The counted quantity of this many pieces, where it is one.
+    /// Returns the counted quantity if it is in range.
     pub fn new(pieces: u64) -> Option<CountedQuantity>
         ensures { SomeIff result (IsCountedQuantity pieces) pieces }
     {
@@ -108,7 +108,7 @@ impl CountedQuantity {
         Some(CountedQuantity(pieces as u32))
     }
 
-    /// The number of pieces.
+    /// Returns the number of pieces.
     pub fn get(self) -> u64
         ensures value { result ≡ self }
         ensures range { IsCountedQuantity result }

@@ -4,8 +4,8 @@ use crate::designator::Designator;
 use crate::id::Id;
 use crate::number::Minute;
 
-/// One piece on a board: placed by the entry of this number, in this place of its message. Both count
-/// from 1. Its part and its lot are those of its reel's receipt.
+/// A piece placed on a board by the entry with this number, at this place in its message. Both
+/// count from 1. The reel's receipt has its part and lot.
 #[derive(Clone, Copy, Debug, PartialEq, Eq)]
 pub struct Placement {
     pub number: u64,
@@ -17,8 +17,8 @@ pub struct Placement {
     pub reel: Id,
     pub machine: Id,
     pub slot: Id,
-    /// The effective minute of the entry.
+    /// The entry's effective minute.
     pub effective: Minute,
-    /// The reel's floor life was used up.
+    /// Whether the reel's floor life had expired.
     pub overdue: bool,
 }

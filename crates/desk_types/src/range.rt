@@ -1,5 +1,5 @@
-//! Laws over values. Contracts see a name as its bytes and a number as a number; these say that each
-//! value of the program is in its range. They are for proofs, and do nothing when they run.
+//! Laws that each value of the program is within its range. They are for proofs and do nothing at
+//! run time.
 
 ghost use Rattle.desk_types.specs.Command.{IsCommand, IsStamped, IsEntry, IsListOf, IsSheetRow, IsCountRow};
 ghost use Rattle.desk_types.specs.Designator.{IsDesignator};
@@ -12,7 +12,6 @@ use crate::id::Id;
 use crate::sheet::{Designators, SheetRow, SheetRows};
 
 impl Id {
-    /// Each id has 1 to 64 printable bytes, with no space at either end.
     pub fn ranges_hold(&self)
         ensures { IsId self.now }
     {
@@ -21,7 +20,6 @@ impl Id {
 }
 
 impl Designator {
-    /// Each designator has 1 to 16 letters, digits, `_`, `.` and `-`.
     pub fn ranges_hold(&self)
         ensures { IsDesignator self.now }
     {
@@ -30,7 +28,6 @@ impl Designator {
 }
 
 impl Entry {
-    /// Each entry has a command in its ranges, and takes effect at a minute.
     pub fn ranges_hold(&self)
         ensures { IsEntry self.now }
     {
@@ -40,7 +37,6 @@ impl Entry {
 }
 
 impl Stamped {
-    /// Each command comes with names and a minute in their ranges.
     pub fn ranges_hold(&self)
         ensures { IsStamped self.now }
     {
@@ -52,7 +48,6 @@ impl Stamped {
 }
 
 impl Command {
-    /// Each command has its names, its numbers and its lists in their ranges.
     pub fn ranges_hold(&self)
         ensures { IsCommand self.now }
     {

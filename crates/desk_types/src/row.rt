@@ -17,13 +17,13 @@ pub struct ReelRow {
     pub placed: u64,
     pub scrapped: u64,
     pub remaining: u64,
-    /// The exposure at `open_since`, or at the desk minute while the reel is in its bag.
+    /// The exposure in minutes at `open_since`, or at the desk minute while the reel is in its bag.
     pub used: u64,
     pub open_since: Option<Minute>,
     pub baked: bool,
 }
 
-/// A row of the table `mount`: a live reel, with the number of the load or splice that put it there.
+/// A row of the table `mount`: a live reel, and the number of its load or splice.
 #[derive(Clone, Copy, Debug, PartialEq, Eq)]
 pub struct MountRow {
     pub since: u64,
@@ -32,7 +32,7 @@ pub struct MountRow {
     pub reel: Id,
 }
 
-/// A row of the table `board`: its product, and the machine where it is in work.
+/// A row of the table `board`: its product and the machine where it is in work.
 #[derive(Clone, Copy, Debug, PartialEq, Eq)]
 pub struct BoardRow {
     pub board: Id,

@@ -1,10 +1,11 @@
-//! The two sets of rules.
+//! Versions of the rules.
 
-/// Which rules a desk keeps. They differ in when a count is too high, and in nothing else.
+/// The version of the rules. The versions differ only in the counts that they refuse.
 #[derive(Clone, Copy, Debug, PartialEq, Eq)]
 pub enum Rules {
-    /// A count may not rise.
+    /// A count must not exceed the remaining pieces.
     One,
-    /// A count may rise on a reel that is not mounted and not spent: pieces were found.
+    /// A count may exceed the remaining pieces of a reel that is neither mounted nor spent: pieces
+    /// were found.
     Two,
 }

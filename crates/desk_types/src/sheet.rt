@@ -1,4 +1,4 @@
-//! Setup sheets: which part each slot feeds, and where its pieces go.
+//! Setup sheets: the part of each slot, and the designators of its pieces.
 
 use crate::designator::Designator;
 use crate::id::Id;
@@ -11,7 +11,7 @@ pub type Designators = Bounded<Designator>;
 /// 1 to 5,000 rows in sheet order.
 pub type SheetRows = Bounded<SheetRow>;
 
-/// A row of a sheet: a slot, the part that it feeds, and the designators that its pieces go to.
+/// A slot, the part that it feeds, and the designators where its pieces go.
 #[derive(Debug, PartialEq, Eq, Drop)]
 pub struct SheetRow {
     pub slot: Id,

@@ -1,29 +1,28 @@
-//! Pieces that accepted commands take off reels.
+//! The pieces that accepted commands take off reels.
 
 use crate::designator::Designator;
 use crate::id::Id;
 
-/// What a piece was taken for.
+/// Why a piece was taken.
 #[derive(Clone, Copy, Debug, PartialEq, Eq)]
 pub enum Purpose {
-    /// It was placed on a board, from a slot.
+    /// It was placed on a board from a slot.
     Placed {
         board: Id,
         designator: Designator,
         machine: Id,
         slot: Id,
     },
-    /// It was thrown away at a slot.
+    /// It was scrapped at a slot.
     Rejected {
         machine: Id,
         slot: Id,
     },
-    /// A count showed it missing.
+    /// It was missing at a count.
     Counted,
 }
 
-/// Pieces off one reel, and what for: a take before its part and lot are looked up. The definitions
-/// of the takes are in these words.
+/// Pieces from one reel and their purpose, before the reel's part and lot are known.
 #[derive(Clone, Copy, Debug, PartialEq, Eq)]
 pub struct Pick {
     pub reel: Id,
@@ -31,8 +30,7 @@ pub struct Pick {
     pub purpose: Purpose,
 }
 
-/// A pick with its reel's part and lot. It is overdue where a piece was placed whose reel had used
-/// up its floor life.
+/// A pick with its reel's part and lot. It is overdue if it places a piece from an expired reel.
 #[derive(Clone, Copy, Debug, PartialEq, Eq)]
 pub struct Take {
     pub reel: Id,

@@ -1,23 +1,23 @@
-//! How much a trace tells.
+//! The detail level of a trace.
 
 ghost use Rattle.std.specs.Prelude.{◌≡◌};
 ghost use Rattle.desk_types.specs.TraceDetail.{trace_detail_of};
 
-/// How much a trace tells of a piece.
+/// How much a trace reports about a piece.
 #[derive(Clone, Copy, Debug, PartialEq, Eq)]
 pub enum TraceDetail {
-    /// Of a board its parts; of a lot its boards.
+    /// The parts of a board, or the boards of a lot.
     One,
-    /// The lots as well; of a lot the parts.
+    /// Also the lots of a board, or the parts of a lot.
     Two,
-    /// The reels as well.
+    /// Also the reels.
     Three,
     /// Each piece, with its designator, machine and slot.
     Four,
 }
 
 impl TraceDetail {
-    /// The detail of this number, from 1 to 4.
+    /// Returns the detail level for a number from 1 to 4.
     pub fn new(number: u8) -> Option<TraceDetail>
         ensures { result ≡ trace_detail_of number }
     {

@@ -1,4 +1,4 @@
-//! Readers and writers that count.
+//! Readers and writers that count their calls.
 
 ghost use Rattle.std.specs.Prelude.{◌≡◌, ◌<◌, length, IfOk, OnOk, OnErr, Ok};
 ghost use Rattle.std.specs.Io.{ReadsAtMost, WritesAtMost};
@@ -8,11 +8,10 @@ ghost use Rattle.desk_types.specs.Wire.{inner_of, reads_of, failures_of, one_mor
 use std::io;
 use std::io::{Read, Write};
 
-/// A reader or a writer that counts its reads and its failures.
+/// A reader or writer that counts its reads and failures.
 ///
-/// A failure is a read or a write that answers an error, and a write of a non-empty piece that takes
-/// nothing. Both counts are 0 at first, and a count at the greatest `u64` stays there.
-/// Its bytes are those of what it wraps.
+/// A failure is an error, or a write of a non-empty piece that takes nothing. Counts start at 0 and
+/// stay at the greatest `u64`. Bytes pass through unchanged.
 #[derive(Debug, Drop)]
 pub struct Wire<T> {
     inner: T,
@@ -21,7 +20,7 @@ pub struct Wire<T> {
 }
 
 impl<T> Wire<T> {
-    /// Wraps a reader or a writer.
+    /// Wraps a reader or writer.
     pub fn new(inner: T) -> Wire<T>
         ensures inner { inner_of result ≡ inner }
         ensures reads { reads_of result ≡ 0 }
@@ -34,7 +33,7 @@ impl<T> Wire<T> {
         }
     }
 
-    /// Gives back what it wraps.
+    /// Returns the wrapped reader or writer.
     pub fn into_inner(self) -> T
         ensures { result ≡ inner_of self }
     {
@@ -46,14 +45,14 @@ impl<T> Wire<T> {
         inner
     }
 
-    /// How many reads there were.
+    /// Returns the number of reads.
     pub fn reads(&self) -> u64
         ensures { result ≡ reads_of self.now }
     {
         self.reads
     }
 
-    /// How many failures there were.
+    /// Returns the number of failures.
     pub fn failures(&self) -> u64
         ensures { result ≡ failures_of self.now }
     {
@@ -61,7 +60,7 @@ impl<T> Wire<T> {
     }
 }
 
-/// One more of a count, which stays at the greatest `u64`.
+/// Returns the count plus one, at most the greatest `u64`.
 fn one_more(count: u64) -> u64
     ensures { result ≡ one_more count }
 {

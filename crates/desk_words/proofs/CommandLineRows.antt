@@ -1,4 +1,4 @@
--- Command lines, computed: what they ask for, and what is told where no command is to be run.
+-- Worked command lines: their meaning, and the text printed if no command is run.
 use Rattle.std.proofs.Common.{◌≡◌, ◌∙◌, ℕ, List, Some, None, codes, [], ◌∷◌, refl, inl, inr, false, true≢false, sym}
 use Rattle.std.specs.Option.{option_map_or}
 use Rattle.clap.specs.ValueTests.{is_unsigned_in}
@@ -149,7 +149,7 @@ pub migrate_takes_one_file : told_of (codes "migrate" ∷ codes "--db" ∷ codes
 unfolding told_of clap_on_literals
 migrate_takes_one_file = refl
 
--- ---- none of them
+-- ---- no command
 
 pub help_is_told : told_of (codes "--help" ∷ []) ≡ DisplayHelp ∷ []
 unfolding told_of clap_on_literals

@@ -1,4 +1,4 @@
--- Words name one command: where they ask to answer lines, they ask for nothing else.
+-- Arguments name one command: if they mean `feed`, they mean nothing else.
 use Rattle.std.proofs.Common.{◌≡◌, ◌∙◌, ℕ, Bool, true, false, true≢false, sym, ap, subst, codes, List, [], ◌∷◌, Option, Some, None, IsSomeAnd, Result, Ok, Err, inl, inr, refl}
 use Rattle.std.specs.Option.{option_map_or}
 use Rattle.std.specs.Str.{bytes_eq}
@@ -10,34 +10,28 @@ use Rattle.desk_import.specs.declared.options.BadOption.{BadOption}
 use Rattle.desk_import.specs.declared.options.Import.{Import}
 use Rattle.desk_words.specs.CommandLine.{AsksForFeed, AsksForNothing, AsksForOther, GoesUpTo, IsGreatest, Names, NamesImport, named_by, told_of}
 
--- the name and the options of what the words name
 abbrev name_in : Option (List ℕ × List Row) → List ℕ
 name_in found = option_map_or (λ (p : List ℕ × List Row). p.0) found []
 
 abbrev rows_in : Option (List ℕ × List Row) → List Row
 rows_in found = option_map_or (λ (p : List ℕ × List Row). p.1) found []
 
--- words name a command by one name
 pub one_name : (words : List (List ℕ)) (name name' : List ℕ) (rows rows' : List Row) → Names words name rows → Names words name' rows' → name ≡ name'
 one_name words name name' rows rows' is is' = ap name_in (sym is.1 ∙ is'.1)
 
--- and with one reading of its options
 pub one_reading : (words : List (List ℕ)) (name name' : List ℕ) (rows rows' : List Row) → Names words name rows → Names words name' rows' → rows ≡ rows'
 one_reading words name name' rows rows' is is' = ap rows_in (sym is.1 ∙ is'.1)
 
--- so they don't name two
 pub never_both : {A : Type 0} (words : List (List ℕ)) (name name' : List ℕ) (rows rows' : List Row) → bytes_eq name name' ≡ false
     → Names words name rows → Names words name' rows' → A
 never_both words name name' rows rows' differ is is' =
     absurd (true≢false (sym ((bytes_eq-Decides name name').1 (one_name words name name' rows rows' is is')) ∙ differ))
 
--- nor an import, where they name a command that is none
 pub never_import : {A : Type 0} (words : List (List ℕ)) (name : List ℕ) (rows rows' : List Row) (said : Result Import BadOption)
     → bytes_eq name (codes "import-setup") ≡ false → bytes_eq name (codes "import-counts") ≡ false → Names words name rows → NamesImport words rows' said → A
 never_import words name rows rows' said setup counts is (inl import) = never_both words name (codes "import-setup") rows rows' setup is import.0
 never_import words name rows rows' said setup counts is (inr import) = never_both words name (codes "import-counts") rows rows' counts is import.0
 
--- where they name a command, nothing is told in its place
 pub never_told : {A : Type 0} (words : List (List ℕ)) (name : List ℕ) (rows : List Row) (kind : ErrorKind) → Names words name rows → IsAmong kind (told_of words) → A
 never_told words name rows kind is among = absurd (subst (λ (kinds : Kinds). IsAmong kind kinds) is.0 among)
 
@@ -45,7 +39,6 @@ never_beyond : {A : Type 0} (shown : Option (List ℕ)) (greatest : ℕ) → Goe
 never_beyond None greatest up none = absurd none
 never_beyond (Some text) greatest up none = absurd (none up.0)
 
--- words that ask to answer lines ask for what the program does
 lines_or_nothing : (words : List (List ℕ)) (rows : List Row) (greatest : ℕ) → Names words (codes "feed") rows → GoesUpTo (first_of (codes "greatest") rows) greatest → AsksForNothing words → ⊥
 lines_or_nothing words rows greatest feed up nothing = elim nothing [
   | inl (kind, told, _) ↦ never_told words (codes "feed") rows kind feed told
@@ -58,7 +51,6 @@ lines_or_nothing words rows greatest feed up nothing = elim nothing [
   | inr (rows', inr (inr (inr (inr (inr (import, imports, _)))))) ↦ never_import words (codes "feed") rows rows' (Ok import) refl refl feed imports
 ]
 
--- words that ask to answer lines ask for nothing else
 pub lines_or_other : (words : List (List ℕ)) (file : Option (List ℕ)) (greatest : ℕ) → AsksForFeed words file greatest → AsksForOther words → ⊥
 lines_or_other words file greatest (rows, feed, at, up) other = elim other [
   | inl (_, (rows', audit, _)) ↦ never_both words (codes "feed") (codes "audit") rows rows' refl feed audit

@@ -17,43 +17,44 @@ use Rattle.desk_words.specs.declared.command_line.Asked.TheVariants.{Feed, Serve
 
 -- ---- the grammar
 
--- the option `--db FILE`
+-- The option `--db FILE`.
 abbrev pub file_rule : Rule
 file_rule = record (new_rule (codes "db")) { long = Some (codes "db"); value_names = 1 }
 
--- the option `--greatest N`
+-- The option `--greatest N`.
 abbrev pub greatest_rule : Rule
 greatest_rule = record (new_rule (codes "greatest")) { long = Some (codes "greatest"); value_names = 1 }
 
--- `feed` may have both options, and neither twice
+-- `feed` may have both options, and neither twice.
 abbrev pub feed_shape : Shape
 feed_shape = record (new_shape (codes "feed")) { rules = file_rule ∷ greatest_rule ∷ [] }
 
--- an option of this name with a value, which has to be there
+-- An option of this name with a value, which has to be there.
 abbrev pub required_option : List ℕ → Rule
 required_option name = record (new_rule name) { long = Some name; value_names = 1; required = true }
 
--- `serve` has a file, a port and a number of connections, and may have the greatest number of `feed`
+-- `serve` has a file, a port and a number of connections, and may have the greatest number of `feed`.
 abbrev pub serve_shape : Shape
 serve_shape = record (new_shape (codes "serve")) { rules = required_option (codes "db") ∷ required_option (codes "port") ∷ required_option (codes "connections") ∷ greatest_rule ∷ [] }
 
--- `report` has a file, and the target of a request
+-- `report` has a file, and the target of a request.
 abbrev pub report_shape : Shape
 report_shape = record (new_shape (codes "report")) { rules = required_option (codes "db") ∷ required_option (codes "get") ∷ [] }
 
--- `audit` has a file
+-- `audit` has a file.
 abbrev pub audit_shape : Shape
 audit_shape = record (new_shape (codes "audit")) { rules = record file_rule { required = true } ∷ [] }
 
--- so has `migrate`
+-- `migrate` has a file.
 abbrev pub migrate_shape : Shape
 migrate_shape = record (new_shape (codes "migrate")) { rules = record file_rule { required = true } ∷ [] }
 
--- a command with the options of both imports: a desk's file, the UniqueID of the command, its source and its time
+-- A command with the options of both imports: a desk's file, and the UniqueID, source and time of the command.
 abbrev pub with_stamp : App → App
 with_stamp command = with_rule (with_rule (with_rule (with_rule command (required_option (codes "db"))) (required_option (codes "id"))) (required_option (codes "source"))) (required_option (codes "time"))
 
--- `import-setup` has a desk's file, the UniqueID, the source and the time of its command, a product, a machine, and the file that is read
+-- `import-setup` has a desk's file, the UniqueID, source and time of its command, a product, a machine, and the file to
+-- read.
 abbrev pub import_setup_shape : Shape
 import_setup_shape =
     record (new_shape (codes "import-setup")) {
@@ -61,71 +62,72 @@ import_setup_shape =
           ∷ required_option (codes "product") ∷ required_option (codes "machine") ∷ required_option (codes "file") ∷ [];
     }
 
--- so has `import-counts`, without a product and a machine
+-- `import-counts` has the same without a product and a machine.
 abbrev pub import_counts_shape : Shape
 import_counts_shape =
     record (new_shape (codes "import-counts")) {
       rules = required_option (codes "db") ∷ required_option (codes "id") ∷ required_option (codes "source") ∷ required_option (codes "time") ∷ required_option (codes "file") ∷ [];
     }
 
--- the program has a version, and wants a command
+-- The program has a version, and requires a command.
 abbrev pub bare : App
 bare = on_top (λ s. record s { no_binary_name = true; disable_help_subcommand = true; subcommand_required = true; has_version = true }) (new_app (codes "tracedesk"))
 
--- those that answer messages and files
+-- The commands that answer messages and files.
 abbrev pub with_answering : App
 with_answering = with_subcommand (with_subcommand (with_subcommand (with_subcommand bare feed_shape) serve_shape) import_setup_shape) import_counts_shape
 
--- and those that only look, with the one that migrates: seven
+-- The commands that only look, and `migrate`: seven in all.
 abbrev pub commands : App
 commands = with_subcommand (with_subcommand (with_subcommand with_answering report_shape) audit_shape) migrate_shape
 
--- what is told where the words are no command to be run: help, the version, or a mistake
+-- The text printed if the arguments are no command: help, the version, or a mistake.
 unfoldable pub told_of : List (List ℕ) → Kinds
 told_of words = fault_of commands words
 
--- the command that the words name, and what was found of its options
+-- The command that the arguments name, and the options that were found.
 unfoldable pub named_by : List (List ℕ) → Option (List ℕ × List Row)
 named_by words = subcommand_of commands words
 
 -- ---- the numbers
 
--- the number that the digits of a text show, where a plus may stand before them
+-- The number in the digits of a text, which may begin with a plus.
 abbrev pub number_of : List ℕ → ℕ
 number_of text = digits_value 10 (without_leading_plus text)
 
--- the text is a number from 1 to the most that a desk may number
+-- The text is a number from 1 to the greatest number of a desk.
 abbrev pub IsGreatest : List ℕ → Type 0
 IsGreatest text = IsUnsignedIn 1 MOST_ENTRIES text
 
--- the text of an option is there, and is a number from 1 to the most, this one
+-- The text of an option is present, and is this number from 1 to the greatest.
 abbrev pub Shows : ℕ → Option (List ℕ) → ℕ → Type 0
 Shows most None number = ⊥
 Shows most (Some text) number = IsUnsignedIn 1 most text × (number ≡ number_of text)
 
--- it isn't there, or is no number from 1 to the most
+-- It is absent, or is no number from 1 to the greatest.
 abbrev pub ShowsNone : ℕ → Option (List ℕ) → Type 0
 ShowsNone most None = ⊤
 ShowsNone most (Some text) = IsUnsignedIn 1 most text → ⊥
 
--- the greatest number is the one that the text shows, and the most that there may be where there is none
+-- The greatest number is that of the text, or the default if there is no text.
 abbrev pub GoesUpTo : Option (List ℕ) → ℕ → Type 0
 GoesUpTo None greatest = greatest ≡ MOST_ENTRIES
 GoesUpTo (Some text) greatest = IsGreatest text × (greatest ≡ number_of text)
 
--- ---- what is asked for
+-- ---- meaning
 
--- the grammar takes the words as this command, with these options
+-- The grammar reads the arguments as this command, with these options.
 abbrev pub Names : List (List ℕ) → List ℕ → List Row → Type 0
 Names words name rows = (told_of words ≡ []) × (named_by words ≡ Some (name, rows))
 
--- the words ask to answer lines on the desk of this file, or in memory, and up to this number where a desk is made
+-- The arguments mean: answer lines on the desk of this file, or in memory, and up to this number if a desk is made.
 abbrev pub AsksForFeed : List (List ℕ) → Option (List ℕ) → ℕ → Type 0
 AsksForFeed words file greatest =
     (rows : List Row) × Names words (codes "feed") rows
     × (first_of (codes "db") rows ≡ file) × GoesUpTo (first_of (codes "greatest") rows) greatest
 
--- the words ask to serve so many connections at this port by the desk of this file, and up to this number where a desk is made
+-- The arguments mean: serve this number of connections at this port, by the desk of this file, and up to this number if
+-- a desk is made.
 abbrev pub AsksForServing : List (List ℕ) → List ℕ → ℕ → ℕ → ℕ → Type 0
 AsksForServing words file port connections greatest =
     (rows : List Row) × Names words (codes "serve") rows
@@ -134,65 +136,65 @@ AsksForServing words file port connections greatest =
     × Shows MOST_CONNECTIONS (first_of (codes "connections") rows) connections
     × GoesUpTo (first_of (codes "greatest") rows) greatest
 
--- the words ask for the report that a GET of this target is answered by the desk of this file
+-- The arguments mean: print the report for a GET of this target, by the desk of this file.
 abbrev pub AsksForReport : List (List ℕ) → List ℕ → List ℕ → Type 0
 AsksForReport words file target =
     (rows : List Row) × Names words (codes "report") rows
     × (first_of (codes "db") rows ≡ Some file) × (first_of (codes "get") rows ≡ Some target)
 
--- the words ask to audit the desk of this file
+-- The arguments mean: audit the desk of this file.
 abbrev pub AsksForAudit : List (List ℕ) → List ℕ → Type 0
 AsksForAudit words file =
     (rows : List Row) × Names words (codes "audit") rows × (first_of (codes "db") rows ≡ Some file)
 
--- the words ask to migrate this file
+-- The arguments mean: migrate this file.
 abbrev pub AsksForMigration : List (List ℕ) → List ℕ → Type 0
 AsksForMigration words file =
     (rows : List Row) × Names words (codes "migrate") rows × (first_of (codes "db") rows ≡ Some file)
 
--- the text of an option that the grammar wants to be there
+-- The text of an option that the grammar requires.
 abbrev pub text_of : List Row → List ℕ → List ℕ
 text_of rows name = unwrap_or (first_of name rows) []
 
--- the import that the options of `import-setup` say
+-- The import in the options of `import-setup`.
 abbrev pub setup_in : List Row → Result Import BadOption
 setup_in rows = setup_import (text_of rows (codes "id")) (text_of rows (codes "source")) (text_of rows (codes "time")) (text_of rows (codes "product")) (text_of rows (codes "machine"))
 
--- and those of `import-counts`
+-- The import in the options of `import-counts`.
 abbrev pub counts_in : List Row → Result Import BadOption
 counts_in rows = counts_import (text_of rows (codes "id")) (text_of rows (codes "source")) (text_of rows (codes "time"))
 
--- the words are those of an import, whose options say this
+-- The arguments are those of an import with these options.
 abbrev pub NamesImport : List (List ℕ) → List Row → Result Import BadOption → Type 0
 NamesImport words rows said =
     (Names words (codes "import-setup") rows × (said ≡ setup_in rows)) ⊎ (Names words (codes "import-counts") rows × (said ≡ counts_in rows))
 
--- the words ask to answer, by the desk of this file, this import with the rows of that file
+-- The arguments mean: answer this import, with the records of that file, by the desk of this file.
 abbrev pub AsksForImport : List (List ℕ) → List ℕ → Import → List ℕ → Type 0
 AsksForImport words file import from =
     (rows : List Row) × NamesImport words rows (Ok import)
     × (first_of (codes "db") rows ≡ Some file) × (first_of (codes "file") rows ≡ Some from)
 
--- the words are those of an import, and this is the first of its options that can't be read
+-- The arguments are those of an import, and this is its first option that can't be read.
 abbrev pub HasBadOption : List (List ℕ) → BadOption → Type 0
 HasBadOption words option = (rows : List Row) × NamesImport words rows (Err option)
 
 abbrev pub IsText : ErrorKind → Type 0
 IsText kind = (kind ≡ DisplayHelp) ⊎ (kind ≡ DisplayVersion)
 
--- the words ask for help or for the version
+-- The arguments ask for help or for the version.
 abbrev pub AsksForText : List (List ℕ) → Type 0
 AsksForText words = (kind : ErrorKind) × IsAmong kind (told_of words) × IsText kind
 
--- the grammar doesn't take the words
+-- The grammar rejects the arguments.
 abbrev pub IsMistaken : List (List ℕ) → Type 0
 IsMistaken words = (kind : ErrorKind) × IsAmong kind (told_of words) × (IsText kind → ⊥)
 
--- the greatest number that is asked for is none
+-- The greatest number is not valid.
 abbrev pub HasNoGreatest : List Row → Type 0
 HasNoGreatest rows = IsSomeAnd (first_of (codes "greatest") rows) (λ text. IsGreatest text → ⊥)
 
--- a value that `serve` is to have is none
+-- A value of `serve` is not valid.
 abbrev pub HasBadServing : List Row → Type 0
 HasBadServing rows =
     ShowsNone MOST_PORT (first_of (codes "port") rows)
@@ -200,7 +202,7 @@ HasBadServing rows =
     ⊎ HasNoGreatest rows
     ⊎ (first_of (codes "db") rows ≡ None)
 
--- it does, and a value that the command is to have is none
+-- The grammar accepts the arguments, but a value of the command is not valid.
 abbrev pub HasBadValue : List (List ℕ) → Type 0
 HasBadValue words =
     (rows : List Row)
@@ -211,11 +213,11 @@ HasBadValue words =
     ⊎ (Names words (codes "migrate") rows × (first_of (codes "db") rows ≡ None))
     ⊎ ((import : Import) × NamesImport words rows (Ok import) × ((first_of (codes "db") rows ≡ None) ⊎ (first_of (codes "file") rows ≡ None))))
 
--- the words ask for nothing that the program does
+-- The arguments have no meaning.
 abbrev pub AsksForNothing : List (List ℕ) → Type 0
 AsksForNothing words = IsMistaken words ⊎ HasBadValue words
 
--- the words ask for something else than to answer lines
+-- The arguments mean something other than `feed`.
 abbrev pub AsksForOther : List (List ℕ) → Type 0
 AsksForOther words =
     ((file : List ℕ) × AsksForAudit words file) ⊎ ((file : List ℕ) × AsksForMigration words file)
@@ -224,7 +226,7 @@ AsksForOther words =
     ⊎ ((file : List ℕ) × (target : List ℕ) × AsksForReport words file target)
     ⊎ ((option : BadOption) × HasBadOption words option) ⊎ AsksForText words ⊎ AsksForNothing words
 
--- what the words ask for
+-- The meaning of the arguments.
 abbrev pub Asks : List (List ℕ) → Asked → Type 0
 Asks words (Feed file greatest) = AsksForFeed words (option_map string_bytes file) greatest
 Asks words (Serve file port connections greatest) = AsksForServing words (string_bytes file) port connections greatest
@@ -236,7 +238,7 @@ Asks words (OfBadOption option) = HasBadOption words option
 Asks words (Text text) = AsksForText words
 Asks words (Bad text) = AsksForNothing words
 
--- a desk may go up to the greatest number that is asked for, and there is a connection to be served
+-- The greatest number is valid for a desk, and at least one connection is served.
 abbrev pub IsInRange : Asked → Type 0
 IsInRange (Feed file greatest) = (1 ≤ greatest) × (greatest ≤ MOST_ENTRIES)
 IsInRange (Serve file port connections greatest) = (1 ≤ connections) × (1 ≤ greatest) × (greatest ≤ MOST_ENTRIES)

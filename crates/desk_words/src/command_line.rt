@@ -15,62 +15,53 @@ use desk_import::{BadOption, Import, counts_import, setup_import};
 use desk_types::{MOST_CONNECTIONS, MOST_ENTRIES, MOST_PORT};
 use std::alloc::{AllocError, Global};
 
-/// What the words of a command line ask for.
+/// The meaning of a command line.
 #[derive(Drop)]
 pub enum Asked {
-    /// To answer the lines of standard input.
+    /// Answer the lines of standard input.
     Feed {
-        /// The file that keeps the desk. Without one it is in memory.
+        /// The desk's file. Without one it is in memory.
         file: Option<String>,
-        /// The greatest number that a desk made by this run gives.
+        /// The greatest number of a desk that this run makes.
         greatest: u32,
     },
-    /// To serve connections, one after the other.
+    /// Serve connections, one after another.
     Serve {
-        /// The file that keeps the desk.
         file: String,
-        /// The port on which it listens.
         port: u16,
-        /// How many connections are served.
         connections: u32,
-        /// The greatest number that a desk made by this run gives.
         greatest: u32,
     },
-    /// To tell a report.
+    /// Print a report.
     Report {
-        /// The file that keeps the desk.
         file: String,
-        /// The target of the request that it answers, as `/slots?machine=M`.
+        /// The target of the request, such as `/slots?machine=M`.
         target: String,
     },
-    /// To audit the desk that a file keeps.
+    /// Audit the desk in a file.
     Audit {
-        /// The file.
         file: String,
     },
-    /// To make version 2 of the file of version 1 that keeps a desk.
+    /// Migrate a desk's file from version 1 to version 2.
     Migrate {
-        /// The file.
         file: String,
     },
-    /// To answer an import.
+    /// Answer an import.
     Import {
-        /// The file that keeps the desk.
         file: String,
-        /// The import.
         import: Import,
-        /// The file that has its rows.
+        /// The file with its records.
         from: String,
     },
-    /// To answer an import of which this option can't be read.
+    /// Answer an import with this unreadable option.
     BadOption(BadOption),
-    /// This text, help or the version, for standard output.
+    /// Print this text, help or the version, on standard output.
     Text(String),
-    /// Nothing that the program does: this text says why, for standard error.
+    /// No meaning. This text, for standard error, says why.
     Bad(String),
 }
 
-/// How a run ends, for the help.
+/// The exit statuses, for the help.
 const STATUSES: &str = "\
 Exit status:
   0  Each line was Accepted or Ignored, each request answered 200 or 202, the import was Accepted, the report given, the audit found nothing wrong, the file was migrated, or help or the version was asked for
@@ -79,7 +70,7 @@ Exit status:
   3  The desk's file was refused, or memory was, outside of a line
   4  Input or output failed, the import's file can't be read, or the port can't be had";
 
-/// Reads the words after the program's name.
+/// Reads the arguments.
 pub fn read_words(alloc: Global, words: &[String]) -> Result<Asked, AllocError>
     ensures asks { IfOk result (Asks (map string_bytes words.now)) }
     ensures range { IfOk result IsInRange }
@@ -91,7 +82,6 @@ pub fn read_words(alloc: Global, words: &[String]) -> Result<Asked, AllocError>
     }
 }
 
-/// What is told where no command is to be run.
 fn help_or_mistake(alloc: Global, error: &clap::Error) -> Result<Asked, AllocError>
     ensures asks { (words : List (List ℕ)) → HasKind (told_of words) error.now → IfOk result (Asks words) }
     ensures range { IfOk result IsInRange }
@@ -107,7 +97,6 @@ fn help_or_mistake(alloc: Global, error: &clap::Error) -> Result<Asked, AllocErr
     }
 }
 
-/// The command to be run.
 fn command_of(alloc: Global, matches: &ArgMatches<'_>) -> Result<Asked, AllocError>
     requires named { (words : List (List ℕ)) × (told_of words ≡ [])
         × (subcommand_rows_of matches.now ≡ named_by words) }
@@ -133,7 +122,6 @@ fn command_of(alloc: Global, matches: &ArgMatches<'_>) -> Result<Asked, AllocErr
     }
 }
 
-/// What `feed` asks for, with the options that were found.
 fn feed_of(alloc: Global, found: &ArgMatches<'_>) -> Result<Asked, AllocError>
     ensures asks { (words : List (List ℕ)) → Names words (codes "feed") (rows_of (found_of found.now))
         → IfOk result (Asks words) }
@@ -149,7 +137,6 @@ fn feed_of(alloc: Global, found: &ArgMatches<'_>) -> Result<Asked, AllocError>
     Ok(Asked::Feed { file, greatest })
 }
 
-/// What `serve` asks for, with the options that were found.
 fn serve_of(alloc: Global, found: &ArgMatches<'_>) -> Result<Asked, AllocError>
     ensures asks { (words : List (List ℕ)) → Names words (codes "serve") (rows_of (found_of found.now))
         → IfOk result (Asks words) }
@@ -175,7 +162,6 @@ fn serve_of(alloc: Global, found: &ArgMatches<'_>) -> Result<Asked, AllocError>
     }
 }
 
-/// What `report` asks for, with the options that were found.
 fn report_of(alloc: Global, found: &ArgMatches<'_>) -> Result<Asked, AllocError>
     ensures asks { (words : List (List ℕ)) → Names words (codes "report") (rows_of (found_of found.now))
         → IfOk result (Asks words) }
@@ -190,7 +176,6 @@ fn report_of(alloc: Global, found: &ArgMatches<'_>) -> Result<Asked, AllocError>
     }
 }
 
-/// What `audit` asks for, with the options that were found.
 fn audit_of(alloc: Global, found: &ArgMatches<'_>) -> Result<Asked, AllocError>
     ensures asks { (words : List (List ℕ)) → Names words (codes "audit") (rows_of (found_of found.now))
         → IfOk result (Asks words) }
@@ -204,7 +189,6 @@ fn audit_of(alloc: Global, found: &ArgMatches<'_>) -> Result<Asked, AllocError>
     }
 }
 
-/// What `migrate` asks for, with the options that were found.
 fn migrate_of(alloc: Global, found: &ArgMatches<'_>) -> Result<Asked, AllocError>
     ensures asks { (words : List (List ℕ)) → Names words (codes "migrate") (rows_of (found_of found.now))
         → IfOk result (Asks words) }
@@ -218,7 +202,6 @@ fn migrate_of(alloc: Global, found: &ArgMatches<'_>) -> Result<Asked, AllocError
     }
 }
 
-/// What an import asks for, whose options say this.
 fn import_of(
     alloc: Global,
     found: &ArgMatches<'_>,
@@ -242,7 +225,6 @@ fn import_of(
     }
 }
 
-/// What the options of `import-setup` say.
 fn setup_in(found: &ArgMatches<'_>) -> Result<Import, BadOption>
     ensures { result ≡ setup_in (rows_of (found_of found.now)) }
 {
@@ -254,7 +236,6 @@ fn setup_in(found: &ArgMatches<'_>) -> Result<Import, BadOption>
     setup_import(id, source, time, product, machine)
 }
 
-/// What the options of `import-counts` say.
 fn counts_in(found: &ArgMatches<'_>) -> Result<Import, BadOption>
     ensures { result ≡ counts_in (rows_of (found_of found.now)) }
 {
@@ -264,7 +245,6 @@ fn counts_in(found: &ArgMatches<'_>) -> Result<Import, BadOption>
     counts_import(id, source, time)
 }
 
-/// The text of an option, which the grammar wants to be there.
 fn text_of<'m>(found: &'m ArgMatches<'_>, name: &str) -> &'m str
     ensures { result.now ≡ text_of (rows_of (found_of found.now)) name.now }
 {
@@ -274,12 +254,11 @@ fn text_of<'m>(found: &'m ArgMatches<'_>, name: &str) -> &'m str
     }
 }
 
-/// Tells that there is no file, where a command is to have one.
 fn no_file(alloc: Global) -> Result<String, AllocError> {
     String::from_str(alloc, "error: a value is required for '--db <FILE>'\n")
 }
 
-/// The greatest number of a desk, from 1 to 1,000,000,000, which is its default.
+/// Returns the greatest number of a desk, from 1 to its default, 1,000,000,000.
 fn greatest_in(found: &ArgMatches<'_>) -> Option<u32>
     ensures some { IfSome result (GoesUpTo (first_of (codes "greatest") (rows_of (found_of found.now)))) }
     ensures none { IsNone result → HasNoGreatest (rows_of (found_of found.now)) }
@@ -290,7 +269,7 @@ fn greatest_in(found: &ArgMatches<'_>) -> Option<u32>
     }
 }
 
-/// The number that the text of an option shows, from 1 to the most.
+/// Returns the number in the text of an option, from 1 to the greatest.
 fn number_in(found: &ArgMatches<'_>, name: &str, most: u32) -> Option<u32>
     ensures some { IfSome result (Shows most (first_of name.now (rows_of (found_of found.now)))) }
     ensures none { IsNone result → ShowsNone most (first_of name.now (rows_of (found_of found.now))) }
@@ -301,7 +280,6 @@ fn number_in(found: &ArgMatches<'_>, name: &str, most: u32) -> Option<u32>
     }
 }
 
-/// The number that a text shows, from 1 to the most.
 fn numeral(text: &str, most: u32) -> Option<u32>
     ensures some { IfSome result (λ n. IsUnsignedIn 1 most text.now × (n ≡ number_of text.now)) }
     ensures none { IsNone result → IsUnsignedIn 1 most text.now → ⊥ }
@@ -313,12 +291,10 @@ fn numeral(text: &str, most: u32) -> Option<u32>
     Some(number)
 }
 
-/// Tells that there is no greatest number.
 fn no_greatest(alloc: Global, found: &ArgMatches<'_>) -> Result<String, AllocError> {
     no_number(alloc, found, "greatest", MOST_ENTRIES as u32)
 }
 
-/// Tells that the text of an option is no number from 1 to the most.
 fn no_number(
     alloc: Global,
     found: &ArgMatches<'_>,
@@ -331,7 +307,6 @@ fn no_number(
     )
 }
 
-/// The commands of the program.
 fn commands<'a>(alloc: Global) -> Result<clap::Command<'a>, AllocError>
     ensures { IfOk result (λ command. app_of command ≡ commands) }
 {
@@ -341,7 +316,6 @@ fn commands<'a>(alloc: Global) -> Result<clap::Command<'a>, AllocError>
     with_audit.subcommand(migrate(alloc)?)
 }
 
-/// The program with the commands that answer messages and files.
 fn with_answering<'a>(alloc: Global) -> Result<clap::Command<'a>, AllocError>
     ensures { IfOk result (λ command. app_of command ≡ with_answering) }
 {
@@ -352,13 +326,12 @@ fn with_answering<'a>(alloc: Global) -> Result<clap::Command<'a>, AllocError>
     with_setup.subcommand(import_counts(alloc)?)
 }
 
-/// The program without its commands.
 fn bare<'a>(alloc: Global) -> Result<clap::Command<'a>, AllocError>
     ensures { IfOk result (λ command. app_of command ≡ bare) }
 {
     let tracedesk = clap::Command::new(alloc, "tracedesk")
         .about("Verify feeders and trace boards to lots and back")
-        .version("0.2.0")
+        .version("0.3.0")
         .after_help(STATUSES)
         .bin_name("tracedesk")?
         .no_binary_name(true)
@@ -367,7 +340,6 @@ fn bare<'a>(alloc: Global) -> Result<clap::Command<'a>, AllocError>
     Ok(tracedesk)
 }
 
-/// The command `feed`.
 fn feed<'a>(alloc: Global) -> Result<clap::Command<'a>, AllocError>
     ensures shape { IfOk result (λ command. shape_of command ≡ feed_shape) }
     ensures local { IfOk result (λ command. (out-Command command).has_globals ≡ false) }
@@ -382,7 +354,6 @@ fn feed<'a>(alloc: Global) -> Result<clap::Command<'a>, AllocError>
     with_greatest(alloc, kept)
 }
 
-/// The command with the option `--greatest`.
 fn with_greatest<'a>(
     alloc: Global,
     command: clap::Command<'a>,
@@ -400,7 +371,6 @@ fn with_greatest<'a>(
     command.arg(option)
 }
 
-/// The command `serve`.
 fn serve<'a>(alloc: Global) -> Result<clap::Command<'a>, AllocError>
     ensures shape { IfOk result (λ command. shape_of command ≡ serve_shape) }
     ensures local { IfOk result (λ command. (out-Command command).has_globals ≡ false) }
@@ -426,7 +396,6 @@ fn serve<'a>(alloc: Global) -> Result<clap::Command<'a>, AllocError>
     with_greatest(alloc, ending)
 }
 
-/// The command `report`.
 fn report<'a>(alloc: Global) -> Result<clap::Command<'a>, AllocError>
     ensures shape { IfOk result (λ command. shape_of command ≡ report_shape) }
     ensures local { IfOk result (λ command. (out-Command command).has_globals ≡ false) }
@@ -444,7 +413,6 @@ fn report<'a>(alloc: Global) -> Result<clap::Command<'a>, AllocError>
     )
 }
 
-/// The command `import-setup`.
 fn import_setup<'a>(alloc: Global) -> Result<clap::Command<'a>, AllocError>
     ensures shape { IfOk result (λ command. shape_of command ≡ import_setup_shape) }
     ensures local { IfOk result (λ command. (out-Command command).has_globals ≡ false) }
@@ -464,7 +432,6 @@ fn import_setup<'a>(alloc: Global) -> Result<clap::Command<'a>, AllocError>
     )
 }
 
-/// The command `import-counts`.
 fn import_counts<'a>(alloc: Global) -> Result<clap::Command<'a>, AllocError>
     ensures shape { IfOk result (λ command. shape_of command ≡ import_counts_shape) }
     ensures local { IfOk result (λ command. (out-Command command).has_globals ≡ false) }
@@ -482,7 +449,6 @@ fn import_counts<'a>(alloc: Global) -> Result<clap::Command<'a>, AllocError>
     )
 }
 
-/// The command with the options of both imports: the desk's file, and whose command it is.
 fn with_stamp<'a>(
     alloc: Global,
     command: clap::Command<'a>,
@@ -509,7 +475,7 @@ fn with_stamp<'a>(
     )
 }
 
-/// The command with one more option, which has to be there.
+/// The command with one more option, which is required.
 fn with_wanted<'a>(
     alloc: Global,
     command: clap::Command<'a>,
@@ -529,7 +495,6 @@ fn with_wanted<'a>(
     command.arg(option)
 }
 
-/// The command `audit`.
 fn audit<'a>(alloc: Global) -> Result<clap::Command<'a>, AllocError>
     ensures { IfOk result (λ command. (shape_of command ≡ audit_shape) × ((out-Command command).has_globals ≡ false)) }
 {
@@ -544,7 +509,6 @@ fn audit<'a>(alloc: Global) -> Result<clap::Command<'a>, AllocError>
         .arg(file)
 }
 
-/// The command `migrate`.
 fn migrate<'a>(alloc: Global) -> Result<clap::Command<'a>, AllocError>
     ensures { IfOk result (λ command. (shape_of command ≡ migrate_shape)
         × ((out-Command command).has_globals ≡ false)) }

@@ -1,7 +1,6 @@
-//! The words of the program's command line: what they ask for, by `clap`'s statement of its grammar.
+//! The arguments of the command line and their meaning, by `clap`'s statement of its grammar.
 //!
-//! `specs/CommandLine.antt` is the page that has the grammar, and what words ask for by it. Nothing is
-//! opened or read here but the words.
+//! `specs/CommandLine.antt` has the grammar and the meaning. Nothing is opened, and only the arguments are read.
 #![tactic(auto)]
 
 mod command_line;

@@ -1,4 +1,4 @@
--- The shop floor in maps, entry by entry.
+-- The shop floor after each entry.
 use Rattle.std.proofs.Common.{◌≡◌, ℕ, ◌-◌, ◌≤◌, true, Option, Some, None, List, [], ◌∷◌, unwrap_or, refl, sym, ap, ◌∙◌, arith}
 use Rattle.std.specs.Prelude.{nat_lt, ◌&&◌, is_some}
 use Rattle.std.specs.List.{find, filter}
@@ -22,7 +22,6 @@ use Rattle.entry_search.proofs.ReelsLater.{pieces_taken-map}
 use Rattle.entry_search.proofs.Live.{front_of-tape}
 use Rattle.entry_search.proofs.MountedReels.{mounted-last}
 
--- what is left after an entry: what it tells, or else what was left less its takes
 pub left_of-next : (H : History) (e : Entry) (takes : List Take) (reel : Name) → takes ≡ takes_by H e.effective e.stamped.command
     → unwrap_or (pieces_by reel e.stamped.command) (left_of H reel - pieces_taken takes reel) ≡ left_of (e ∷ H) reel
 unfolding left_of
@@ -30,12 +29,10 @@ left_of-next H e takes reel are =
     ap (λ n. unwrap_or (pieces_by reel e.stamped.command) (left_of H reel - n))
     (ap (λ ts. pieces_taken ts reel) are ∙ pieces_taken-map H e.effective (picks_of H e.stamped.command) reel)
 
--- the tape after an entry
 pub tape_of-next : (H : History) (e : Entry) (machine slot : Name) → tape_after machine slot e.stamped.command (tape_of H machine slot) ≡ tape_of (e ∷ H) machine slot
 unfolding tape_of
 tape_of-next H e machine slot = refl
 
--- nothing is left, and no tape stands, where nothing is accepted
 pub left_of-none : (reel : Name) → 0 ≡ left_of [] reel
 unfolding left_of
 left_of-none reel = refl
@@ -44,7 +41,6 @@ pub tape_of-none : (machine slot : Name) → [] ≡ tape_of [] machine slot
 unfolding tape_of
 tape_of-none machine slot = refl
 
--- the live reels of a slot on the floor
 pub floor-live : (H : History) (floor : Floor) (machine slot : Name) → IsFloor H floor
     → filter (λ reel. nat_lt 0 (pieces_at floor.stock reel)) (tape_at floor.tapes machine slot) ≡ live_on H machine slot
 unfolding live_on
@@ -52,7 +48,6 @@ floor-live H floor machine slot is_floor =
     ap (λ (left : Name → ℕ). filter (λ reel. nat_lt 0 (left reel)) (tape_at floor.tapes machine slot)) (λ j reel. is_floor.stock reel j)
     ∙ ap (filter (λ reel. nat_lt 0 (left_of H reel))) (is_floor.tapes machine slot)
 
--- the front of a slot on the floor
 pub floor-front : (H : History) (floor : Floor) (machine slot : Name) → IsFloor H floor
     → find (λ reel. nat_lt 0 (pieces_at floor.stock reel)) (tape_at floor.tapes machine slot) ≡ front_of H machine slot
 floor-front H floor machine slot is_floor =
@@ -60,7 +55,6 @@ floor-front H floor machine slot is_floor =
     ∙ ap (find (λ reel. nat_lt 0 (left_of H reel))) (is_floor.tapes machine slot)
     ∙ sym (front_of-tape H machine slot)
 
--- the last command on each reel took effect by the desk minute, and so by a later one
 pub floor-by : (H : History) (floor : Floor) (minute : ℕ) → IsFloor H floor → now_of H ≤ minute → AreReelsBy floor.reels minute
 floor-by H floor minute is_floor later name reel is = by (reel_at floor.reels name) (is_floor.reels name) is
   where
@@ -75,7 +69,6 @@ floor-there H floor name is_floor received = by (reel_at floor.reels name) (is_f
     by (Some reel) is_reel = refl
     by None is_reel = sym (ap is_some is_reel) ∙ received
 
--- a reel that is live on some slot, on the floor
 pub floor-mounted : (H : History) (floor : Floor) (reel : Name) → IsJudged Two H → IsFloor H floor
     → (nat_lt 0 (pieces_at floor.stock reel) && is_on (tape_at floor.tapes) reel (mount_at floor.mounts reel)) ≡ is_mounted H reel
 floor-mounted H floor reel judged is_floor =

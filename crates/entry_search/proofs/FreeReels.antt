@@ -30,7 +30,6 @@ none-left true true c d n is = ap (λ k. nat_lt 0 k && c && d) is
 none-left true false c d n is = refl
 none-left false b c d n is = refl
 
--- a reel of which nothing is told was not received
 untold : (H : History) (reel : Name) → reel_view H reel ≡ None → receipt_of H reel ≡ None
 untold H reel none = by (receipt_of H reel) none
   where
@@ -38,20 +37,17 @@ untold H reel none = by (receipt_of H reel) none
     by None none = refl
     by (Some receipt) none = cc
 
--- Such a reel is not free,
 pub untold-free : (H : History) (part reel : Name) → IsJudged Two H → reel_view H reel ≡ None → if_free H part reel ≡ None
 untold-free H part reel judged none =
     ap (λ b. if b then Some reel else None)
     (none-left (is_allowed H part (part_of H reel)) (not (is_mounted H reel)) (not (is_unbaked H reel)) (not (is_expired H reel (now_of H))) (left_of H reel)
     (unreceived-empty H reel judged (untold H reel none)))
 
--- and has no turn.
 pub untold-turn : (H : History) (part reel : Name) (command : Command) → IsJudged Two H → received_by command ≡ Some reel → reel_view H reel ≡ None
     → turn_by H part command ≡ None
 untold-turn H part reel command judged is none =
     ap (λ said. option_map (turn_of H) (option_and_then (if_free H part) said)) is ∙ ap (option_map (turn_of H)) (untold-free H part reel judged none)
 
--- a turn is put among turns as its reel among the reels
 insert-turn : (H : History) (reels : List Name) (reel : Name)
     → insert_key by_life (map (turn_of H) reels) (turn_of H reel) ≡ map (turn_of H) (insert_key (by_turn H) reels reel)
 insert-turn H [] reel = refl
@@ -65,11 +61,10 @@ insert-turn H (x ∷ xs) reel = by (by_turn H reel x) (insert-turn H xs reel)
     by Equal rest = refl
     by Greater rest = ap (λ ts. turn_of H x ∷ ts) rest
 
--- the free reels among the received ones of a list, in their order
+-- The free reels among those that G received, in order.
 abbrev pub free_among : History → Name → History → List Name
 free_among H part G = in_order (by_turn H) (filter (is_free H part) (reels_received G))
 
--- One reel more: it is put among the others, where it is free.
 pub turn-put : (H : History) (part : Name) (rest : List Name) (reel : Name) (turns : List (Left × Name))
     → turns ≡ map (turn_of H) (in_order (by_turn H) (filter (is_free H part) rest))
     → option_map_or (insert_key by_life turns) (option_map (turn_of H) (if_free H part reel)) turns
@@ -81,7 +76,6 @@ turn-put H part rest reel turns is = by (is_free H part reel)
     by true = ap (λ ts. insert_key by_life ts (turn_of H reel)) is ∙ insert-turn H (in_order (by_turn H) (filter (is_free H part) rest)) reel
     by false = is
 
--- One entry more: the reel that it receives is put among the others, where it is free.
 pub turns-next : (H G : History) (part : Name) (e : Entry) (turns : List (Left × Name)) → turns ≡ map (turn_of H) (free_among H part G)
     → option_map_or (insert_key by_life turns) (turn_by H part e.stamped.command) turns ≡ map (turn_of H) (free_among H part (e ∷ G))
 turns-next H G part e turns is = by (received_by e.stamped.command)
@@ -91,7 +85,6 @@ turns-next H G part e turns is = by (received_by e.stamped.command)
     by None = is
     by (Some reel) = turn-put H part (reels_received G) reel turns is
 
--- the views of turns are those of their reels
 pub views-of_turns : (H : History) (reels : List Name) → filter_map (λ (t : Left × Name). reel_view H t.1) (map (turn_of H) reels) ≡ filter_map (reel_view H) reels
 views-of_turns H [] = refl
 views-of_turns H (x ∷ xs) = ap (cons_option (reel_view H x)) (views-of_turns H xs)
@@ -100,7 +93,6 @@ one-more : {Y : Type 0} (y : Option Y) → option_to_list y ≡ cons_option y []
 one-more None = refl
 one-more (Some y) = refl
 
--- what is told of the elements so far, and of the next one
 pub told-next : {X Y : Type 0} (f : X → Option Y) (xs : List X) (i : ℕ) (x : X) (told new : List Y) (one : Option Y) → i < length xs → x ≡ get_or xs i x
     → told ≡ filter_map f (take i xs) → one ≡ f x → new ≡ told ++ option_to_list one → new ≡ filter_map f (take (i + 1) xs)
 told-next f xs i x told new one inside at is one_is new_is =

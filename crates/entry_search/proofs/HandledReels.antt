@@ -1,4 +1,4 @@
--- What an entry does to a reel.
+-- The effect of an entry on a reel.
 use Rattle.std.proofs.Common.{◌≡◌, ℕ, ◌+◌, ◌<◌, ◌≤◌, Bool, true, false, cond, Option, Some, None, List, [], ◌∷◌, ◌++◌, reverse, length, take, drop, get_or, refl, sym, ap, ◌∙◌, arith}
 use Rattle.std.specs.Option.{option_map_or}
 use Rattle.std.proofs.Math.Nat.{le-max_right}
@@ -29,7 +29,6 @@ out-of-bag : {P : Type 0} (b : Bool) → cond b (Some true) None ≡ Some false 
 out-of-bag true is = cc
 out-of-bag false is = cc
 
--- what leaves a received reel in its bag, and is no bake, seals it
 pub sealed : (H : History) (e : Entry) (name : Name) (receipt : Receipt) → IsNext Two H e → receipt_of H name ≡ Some receipt → open_by name e.stamped.command ≡ Some false
     → is_bake e.stamped.command ≡ false → e.stamped.command ≡ ReelSealed name
 sealed H e name receipt next was says no_bake = by e.stamped.command refl says no_bake
@@ -49,7 +48,6 @@ some-if : {X : Type 0} (b : Bool) (x y : X) → cond b (Some x) None ≡ Some y 
 some-if true x y is = cc
 some-if false x y is = cc
 
--- a receipt of the reel is its command
 pub received : (name : Name) (minute : ℕ) (command : Command) (receipt : Receipt) → receipt_by name minute command ≡ Some receipt
     → command ≡ ReelReceived name receipt.part receipt.lot receipt.moisture receipt.quantity
 received name minute (ReelReceived r part lot moisture quantity) receipt is =
@@ -59,11 +57,9 @@ received name minute (ReelReceived r part lot moisture quantity) receipt is =
     ∙ ap (λ (x : Receipt). ReelReceived name x.part x.lot x.moisture x.quantity) it
 received name minute _ receipt is = cc
 
--- the entries so far, the newest first
 pub so-far : (entries : List Entry) (i : ℕ) (e : Entry) → i < length entries → e ≡ get_or entries i e → reverse (take (i + 1) entries) ≡ e ∷ reverse (take i entries)
 so-far entries i e inside is = reverse-last (take (i + 1) entries) (take i entries) e (take-next entries i e inside is)
 
--- a list, the last element first: those after the i-th, that one, and those before it
 pub split-at : {X : Type 0} (xs : List X) (i : ℕ) (x : X) → i < length xs → x ≡ get_or xs i x → reverse xs ≡ reverse (drop (i + 1) xs) ++ x ∷ reverse (take i xs)
 split-at xs i x inside is =
     ap reverse split ∙ reverse-append (take i xs) (x ∷ drop (i + 1) xs)
@@ -73,12 +69,10 @@ split-at xs i x inside is =
     split : xs ≡ take i xs ++ x ∷ drop (i + 1) xs
     split = sym (take-append-drop i xs) ∙ ap (λ rest. take i xs ++ rest) (drop-next xs i x inside is)
 
--- the entries so far, and the next one, are a list that a desk can have
 pub judged-next : (entries : List Entry) (i : ℕ) (e : Entry) → i < length entries → e ≡ get_or entries i e → IsJudged Two (reverse entries) → IsJudged Two (e ∷ reverse (take i entries))
 judged-next entries i e inside is judged =
     judged-prefix (e ∷ reverse (take i entries)) (reverse entries) (reverse (drop (i + 1) entries), split-at entries i e inside is) judged
 
--- the reel's last command took effect by the next entry
 pub by-then : (H : History) (e : Entry) (name : Name) (found : Option Reel) → IsJudged Two (e ∷ H) → IsReelOf H name found → (reel : Reel) → found ≡ Some reel → reel.last ≤ e.effective
 by-then H e name None judged is_reel reel is = cc
 by-then H e name (Some found) judged is_reel reel is = omega (arith, is_reel.1, judged.0.effective, le-max_right e.stamped.minute (now_of H), ap (λ (o : Option Reel). option_map_or (λ (r : Reel). r.last) o 0) is)

@@ -1,4 +1,4 @@
--- The takes that are kept beside the entries.
+-- The takes stored with the entries.
 use Rattle.std.proofs.Common.{◌≡◌, ℕ, ◌+◌, ◌<◌, List, [], ◌∷◌, ◌++◌, reverse, length, take, drop, get_or, refl, sym, subst, ◌∙◌, arith}
 use Rattle.std.proofs.lemmas.List.{length-reverse, length-drop}
 use Rattle.desk_types.specs.declared.command.Entry.{Entry}
@@ -8,14 +8,12 @@ use Rattle.desk_types.specs.Outcome.{takes_by}
 use Rattle.entry_search.specs.Kept.{AreTakes}
 use Rattle.entry_search.proofs.HandledReels.{split-at}
 
--- there are as many as entries
 pub as-many : (H : History) (kept : List (List Take)) → AreTakes H kept → length H ≡ length kept
 as-many [] [] takes = refl
 as-many [] (t ∷ kept) takes = absurd takes
 as-many (e ∷ H) [] takes = absurd takes
 as-many (e ∷ H) (t ∷ kept) takes = omega (arith, as-many H kept takes.1)
 
--- those of the entries before the last ones
 takes-before : (later : List Entry) (laters : List (List Take)) (G : History) (kept : List (List Take)) → length later ≡ length laters
     → AreTakes (later ++ G) (laters ++ kept) → AreTakes G kept
 takes-before [] [] G kept eq takes = takes
@@ -23,7 +21,6 @@ takes-before [] (t ∷ laters) G kept eq takes = absurd (omega (arith, eq))
 takes-before (e ∷ later) [] G kept eq takes = absurd (omega (arith, eq))
 takes-before (e ∷ later) (t ∷ laters) G kept eq takes = takes-before later laters G kept (omega (arith, eq)) takes.1
 
--- the takes in an entry's place are those of the entry
 pub takes-at : (entries : List Entry) (kept : List (List Take)) (i : ℕ) (e : Entry) (t : List Take) → i < length entries → e ≡ get_or entries i e → t ≡ get_or kept i t
     → AreTakes (reverse entries) (reverse kept) → t ≡ takes_by (reverse (take i entries)) e.effective e.stamped.command
 takes-at entries kept i e t inside is_e is_t takes =

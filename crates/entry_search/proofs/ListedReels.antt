@@ -1,4 +1,4 @@
--- The live reels of slots, listed.
+-- The list of live reels on slots.
 use Rattle.std.proofs.Common.{◌≡◌, ℕ, ◌+◌, ◌<◌, true, None, List, [], ◌∷◌, ◌++◌, length, take, get_or, map, All, refl, sym, ap, ◌∙◌, arith, is_some, append_assoc}
 use Rattle.std.specs.Cmp.Lexicographic.{nat_list_eq_equiv}
 use Rattle.std.specs.List.{enumerate_from}
@@ -18,7 +18,6 @@ use Rattle.entry_search.proofs.FloorOfEntries.{floor-there}
 
 -- ---- reels on the floor
 
--- Each live reel of a slot is there.
 pub all-there : (H : History) (floor : Floor) (machine slot : Name) → IsJudged Two H → IsFloor H floor
     → All (λ reel. is_some (reel_at floor.reels reel) ≡ true) (live_on H machine slot)
 all-there H floor machine slot judged is_floor =
@@ -27,19 +26,16 @@ all-there H floor machine slot judged is_floor =
 
 -- ---- lists
 
--- where nothing is accepted, no sheet names a machine
 pub no-mounts : (H : History) (machine : Name) → desk_minute H ≡ None → mounts_on H machine ≡ None
 no-mounts [] machine none = refl
 no-mounts (e ∷ H) machine none = cc
 
--- one element more, with its place
 enumerate-push : {X : Type 0} (n : ℕ) (xs : List X) (x : X) → enumerate_from n (xs ++ x ∷ []) ≡ enumerate_from n xs ++ (n + length xs, x) ∷ []
 enumerate-push n [] x = let is : n ≡ n + 0 = omega arith in ap (λ k. (k, x) ∷ []) is
 enumerate-push n (y ∷ ys) x =
     let is : n + 1 + length ys ≡ n + length (y ∷ ys) = omega arith in
     ap (λ es. (n, y) ∷ es) (enumerate-push (n + 1) ys x ∙ ap (λ k. enumerate_from (n + 1) ys ++ (k, x) ∷ []) is)
 
--- the elements so far with their places, and the next one
 pub place-next : {X Y : Type 0} (f : ℕ × X → Y) (old now : List Y) (xs : List X) (i : ℕ) (x : X) → i < length xs → x ≡ get_or xs i x
     → now ≡ old ++ map f (enumerate_from 1 (take i xs)) → now ++ f (i + 1, x) ∷ [] ≡ old ++ map f (enumerate_from 1 (take (i + 1) xs))
 place-next f old now xs i x inside at is =

@@ -7,7 +7,6 @@ use Rattle.desk_types.specs.History.{History}
 use Rattle.desk_types.specs.Tape.{tape_of}
 use Rattle.desk_types.specs.Pieces.{left_of, live_on, first, front_of}
 
--- the first of those that pass a test
 first-filter : (p : Name → Bool) (xs : List Name) → first (filter p xs) ≡ find p xs
 first-filter p [] = refl
 first-filter p (x ∷ xs) = by (p x) (first-filter p xs)
@@ -16,7 +15,6 @@ first-filter p (x ∷ xs) = by (p x) (first-filter p xs)
     by true rest = refl
     by false rest = rest
 
--- the front of a slot is the first reel of its tape with pieces left
 pub front_of-tape : (H : History) (machine slot : Name) → front_of H machine slot ≡ find (λ reel. nat_lt 0 (left_of H reel)) (tape_of H machine slot)
 unfolding live_on
 front_of-tape H machine slot = first-filter (λ reel. nat_lt 0 (left_of H reel)) (tape_of H machine slot)

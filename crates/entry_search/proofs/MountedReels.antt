@@ -1,4 +1,4 @@
--- Mounted reels by the slot onto which each was last put.
+-- Mounted reels by the slot where each was last mounted.
 use Rattle.std.proofs.Common.{◌≡◌, nat_lt, Bool, true, false, Option, Some, None, [], ◌∷◌, refl, sym, ap, ◌∙◌}
 use Rattle.std.specs.Prelude.{◌&&◌, if◌then◌else◌, is_some}
 use Rattle.std.specs.Option.{option_or}
@@ -16,7 +16,6 @@ use Rattle.desk_laws.proofs.Mounted.{mounted-is}
 use Rattle.desk_laws.proofs.Places.{placed}
 use Rattle.entry_search.specs.Floor.{mount_by, last_mount, is_on}
 
--- a place after a command is the slot onto which it puts the reel, or else the place before it
 last-after : (reel : Name) (command : Command) (place last : Option (Name × Name)) (p : Name × Name) → (place ≡ Some p → last ≡ Some p)
     → place_after reel command place ≡ Some p → option_or (mount_by reel command) last ≡ Some p
 last-after reel (MaterialsLoaded m s r) place last p before is = by (same r reel) (is_at m s place) is
@@ -37,7 +36,6 @@ last-after reel (MaterialsUnloaded m s) place last p before is = by (is_at m s p
     by false is = before is
 last-after reel _ place last p before is = before is
 
--- a reel that has a place was last put there
 place-last : (H : History) (reel : Name) (p : Name × Name) → place_of H reel ≡ Some p → last_mount H reel ≡ Some p
 unfolding place_of
 place-last [] reel p is = cc
@@ -61,7 +59,6 @@ on-last H reel judged some = by (place_of H reel) refl (last_mount H reel) refl
         ∙ sym (placed H q.0 q.1 reel judged some ∙ ap (is_at q.0 q.1) is)
         ∙ ap (is_on (tape_of H) reel) (sym was)
 
--- A reel is mounted where it has pieces left and stands on the tape of the slot onto which it was last put.
 pub mounted-last : (H : History) (reel : Name) → IsJudged Two H → (nat_lt 0 (left_of H reel) && is_on (tape_of H) reel (last_mount H reel)) ≡ is_mounted H reel
 mounted-last H reel judged = by (nat_lt 0 (left_of H reel)) refl ∙ sym (mounted-is H reel judged)
   where

@@ -1,4 +1,4 @@
--- How many pieces a list may tell of.
+-- The greatest number of pieces in a history.
 use Rattle.std.proofs.Common.{◌≡◌, ℕ, ◌+◌, ◌-◌, ◌^◌, ◌≤◌, min, List, length, reverse, arith}
 use Rattle.std.proofs.lemmas.List.{length-reverse}
 use Rattle.desk_types.specs.declared.command.Entry.{Entry}
@@ -14,15 +14,13 @@ use Rattle.reels.specs.declared.reel.Usage.{Usage}
 use Rattle.reels.specs.declared.reel.Usage.TheVariants.{Placed, Scrapped}
 use Rattle.entry_search.specs.Totals.{total_of}
 
--- Reversed, a list is as long.
 pub few-reversed : (entries : List Entry) → length entries ≤ MOST_ENTRIES → length (reverse entries) ≤ MOST_ENTRIES
 few-reversed entries few = let same_length = length-reverse entries in omega (arith, same_length, few)
 
--- the greatest number of 64 bits
+-- The greatest 64-bit number.
 abbrev pub most : ℕ
 most = 2 ^ 64 - 1
 
--- All that a list tells of a reel fits into 64 bits.
 received-fits : (H : History) (reel : Name) → IsJudged Two H → length H ≤ MOST_ENTRIES → received_of H reel ≤ most
 received-fits H reel judged few = let range = received-range H reel judged in omega (arith, range, few)
 
@@ -30,7 +28,6 @@ pub total-fits : (usage : Usage) (H : History) (reel : Name) → IsJudged Two H 
 total-fits Placed H reel judged few = let all = balance H reel judged in let fits = received-fits H reel judged few in omega (arith, all, fits)
 total-fits Scrapped H reel judged few = let all = balance H reel judged in let fits = received-fits H reel judged few in omega (arith, all, fits)
 
--- The placed, the scrapped and the left pieces of a reel are the received ones, and fit.
 pub summed : (entries : List Entry) (reel : Name) (placed scrapped : ℕ) → IsJudged Two (reverse entries) → length entries ≤ MOST_ENTRIES
     → (length (reverse entries) ≤ MOST_ENTRIES → placed ≡ placed_of (reverse entries) reel)
     → (length (reverse entries) ≤ MOST_ENTRIES → scrapped ≡ scrapped_of (reverse entries) reel)

@@ -1,4 +1,4 @@
--- A reel as a desk tells it.
+-- The view of a reel.
 use Rattle.std.proofs.Common.{◌≡◌, ℕ, ◌-◌, ◌≤◌, Bool, Option, Some, None, [], ◌∷◌, is_some, refl, ap, ◌∙◌, arith, unwrap_or}
 use Rattle.std.specs.Option.{option_map, option_map_or}
 use Rattle.desk_types.specs.declared.command.Receipt.{Receipt}
@@ -12,12 +12,10 @@ use Rattle.desk_types.specs.View.{life_left, used_of, view_of, reel_view}
 use Rattle.reels.specs.declared.reel.Reel.{Reel}
 use Rattle.reels.specs.Reel.{StandsFor}
 
--- where nothing is accepted, no reel was received
 pub no-reel : (H : History) (name : Name) → desk_minute H ≡ None → reel_view H name ≡ None
 no-reel [] name none = refl
 no-reel (e ∷ H) name none = cc
 
--- what a reel has used is its exposure at the minute since which it is out of its bag, or at the desk minute
 used-is : (H : History) (name : Name) (found : Reel) → StandsFor H name found → found.last ≤ now_of H → found.used ≡ used_of H name
 used-is H name found stands by_now = by found.open_since refl ∙ ap (λ since. exposure_of H name (unwrap_or since (now_of H))) stands.open_since
   where
@@ -27,14 +25,12 @@ used-is H name found stands by_now = by found.open_since refl ∙ ap (λ since. 
         let none = ap (λ since. option_map_or (λ m. now_of H - m) since 0) is in
         omega (arith, exposure, none)
 
--- The pieces of the receipt are among the received ones, and the others were found.
 pub found-is : (H : History) (name : Name) (told : Receipt) (received : ℕ) → receipt_of H name ≡ Some told → received ≡ received_of H name
     → (told.quantity ≤ received) × (received - told.quantity ≡ found_of H name)
 found-is H name told received is received_is =
     let first : option_map_or (λ (r : Receipt). r.quantity) (receipt_of H name) 0 ≡ told.quantity = ap (λ o. option_map_or (λ (r : Receipt). r.quantity) o 0) is in
     (omega (arith, received_is, first), omega (arith, received_is, first))
 
--- A reel that stands for the list is told as the list says.
 pub viewed : (H : History) (name : Name) (found : Reel) (received new placed scrapped remaining : ℕ) (left : Left) (mounted is_open : Bool)
     → StandsFor H name found → found.last ≤ now_of H → received ≡ received_of H name → new ≡ found_of H name → placed ≡ placed_of H name → scrapped ≡ scrapped_of H name → remaining ≡ left_of H name
     → left ≡ life_left H name → mounted ≡ is_mounted H name → is_open ≡ is_some found.open_since

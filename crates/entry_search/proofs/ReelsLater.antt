@@ -1,4 +1,4 @@
--- What an entry leaves of a reel.
+-- A reel's pieces after one more entry.
 use Rattle.std.proofs.Common.{◌≡◌, ℕ, ◌+◌, ◌-◌, ◌≤◌, min, cond, Some, None, List, [], ◌∷◌, ◌++◌, reverse, length, map, unwrap_or, refl, sym, ap, ◌∙◌, arith}
 use Rattle.desk_types.specs.declared.command.Entry.{Entry}
 use Rattle.desk_types.specs.declared.take.Pick.{Pick}
@@ -13,7 +13,6 @@ use Rattle.std.proofs.lemmas.List.Sums.{sum_by-cons}
 use Rattle.entry_search.specs.Kept.{AreTakes, pieces_taken}
 use Rattle.entry_search.proofs.Ranges.{most}
 
--- the takes of picks are as many pieces as the picks
 pub pieces_taken-map : (H : History) (minute : ℕ) (picks : List Pick) (reel : Name) → pieces_taken (map (take_of H minute) picks) reel ≡ pieces_picked picks reel
 pieces_taken-map H minute [] reel = refl
 pieces_taken-map H minute (p ∷ ps) reel =
@@ -21,12 +20,10 @@ pieces_taken-map H minute (p ∷ ps) reel =
     ∙ ap (λ n. cond (same p.reel reel) p.quantity 0 + n) (pieces_taken-map H minute ps reel)
     ∙ sym (sum_by-cons (λ (q : Pick). cond (same q.reel reel) q.quantity 0) p ps)
 
--- an entry that tells the pieces of a reel
 left_of-told : (H : History) (e : Entry) (reel : Name) (pieces : ℕ) → pieces_by reel e.stamped.command ≡ Some pieces → left_of (e ∷ H) reel ≡ pieces
 unfolding left_of
 left_of-told H e reel pieces told = ap (λ o. unwrap_or o (left_of H reel - pieces_picked (picks_of H e.stamped.command) reel)) told
 
--- an entry that does not takes what its takes say
 left_of-pieces_taken : (H : History) (e : Entry) (takes : List Take) (reel : Name) → pieces_by reel e.stamped.command ≡ None
     → takes ≡ takes_by H e.effective e.stamped.command → left_of (e ∷ H) reel ≡ left_of H reel - pieces_taken takes reel
 unfolding left_of
@@ -34,7 +31,8 @@ left_of-pieces_taken H e takes reel none are =
     ap (λ o. unwrap_or o (left_of H reel - pieces_picked (picks_of H e.stamped.command) reel)) none
     ∙ ap (λ n. left_of H reel - n) (sym (ap (λ ts. pieces_taken ts reel) are ∙ pieces_taken-map H e.effective (picks_of H e.stamped.command) reel))
 
--- On the way back through the entries: these are to come, with their takes, and the others took so many pieces of the whole that is left.
+-- The loop over the entries, from the newest: later entries took `gone` of the reel's pieces, and
+-- `whole` is the result.
 pub record Going (H : History) (kept : List (List Take)) (gone whole : ℕ) (reel : Name) : Type 0 where
   pub takes : AreTakes H kept
   pub exact : ℕ
@@ -44,7 +42,6 @@ pub record Going (H : History) (kept : List (List Take)) (gone whole : ℕ) (ree
 pub going-first : (H : History) (kept : List (List Take)) (reel : Name) → AreTakes H kept → Going H kept 0 (left_of H reel) reel
 going-first H kept reel takes = record { takes = takes; exact = 0; gone_is = omega arith; whole_is = omega arith }
 
--- one entry back, which tells nothing
 pub going-back : (H : History) (e : Entry) (takes : List Take) (kept : List (List Take)) (gone more gone' whole : ℕ) (reel : Name)
     → Going (e ∷ H) (takes ∷ kept) gone whole reel → pieces_by reel e.stamped.command ≡ None → more ≡ min (pieces_taken takes reel) most → gone' ≡ min (gone + more) most
     → Going H kept gone' whole reel
@@ -57,14 +54,12 @@ going-back H e takes kept gone more gone' whole reel going none is_more is_gone 
       whole_is = omega (arith, going.whole_is, left);
     }
 
--- an entry that tells the pieces
 pub going-told : (H : History) (e : Entry) (kept : List (List Take)) (gone whole pieces : ℕ) (reel : Name)
     → Going (e ∷ H) kept gone whole reel → pieces_by reel e.stamped.command ≡ Some pieces → pieces ≤ GREATEST_QUANTITY → pieces - gone ≡ whole
 going-told H e kept gone whole pieces reel going told range =
     let left : left_of (e ∷ H) reel ≡ pieces = left_of-told H e reel pieces told in
     omega (arith, going.gone_is, going.whole_is, left)
 
--- no entry told any
 pub going-none : (kept : List (List Take)) (gone whole : ℕ) (reel : Name) → Going [] kept gone whole reel → 0 ≡ whole
 unfolding left_of
 going-none kept gone whole reel going = omega (arith, going.whole_is)

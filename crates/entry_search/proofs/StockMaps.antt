@@ -1,4 +1,4 @@
--- The pieces of reels in a map.
+-- The map of reels' pieces.
 use Rattle.std.proofs.Common.{◌≡◌, ℕ, ◌-◌, Bool, true, false, cond, Some, None, List, [], ◌∷◌, ◌++◌, refl, sym, ap, ◌∙◌, arith}
 use Rattle.std.specs.List.{find}
 use Rattle.std.specs.Option.{option_map_or}
@@ -7,7 +7,6 @@ use Rattle.desk_types.specs.Id.{Name, same}
 use Rattle.desk_types.proofs.Keys.{same-true}
 use Rattle.entry_search.specs.Floor.{count_or}
 
--- one reel has fewer pieces: they are taken off that one, and none off the others
 pub lowered : (x y n : ℕ) (old : Name → ℕ) (k : Name) → old k ≡ x → y ≡ x - n → (q : Name) → cond (same k q) y (old q) ≡ old q - cond (same k q) n 0
 lowered x y n old k was is q = by (same k q) refl
   where
@@ -15,7 +14,6 @@ lowered x y n old k was is q = by (same k q) refl
     by true one = is ∙ ap (λ m. m - n) (sym was ∙ ap old (same-true k q one))
     by false one = omega arith
 
--- what some rows and then one more say of a reel
 pub count_or-last : (rows : List CountRow) (row : CountRow) (reel : Name) (pieces : ℕ)
     → count_or (rows ++ row ∷ []) reel pieces ≡ count_or rows reel (cond (same row.reel reel) row.quantity pieces)
 count_or-last [] row reel pieces = by (same row.reel reel)

@@ -1,4 +1,4 @@
--- What became of the pieces of a reel, by the takes that are kept.
+-- A reel's placed and scrapped pieces, from the stored takes.
 use Rattle.std.proofs.Common.{◌≡◌, ℕ, ◌+◌, Bool, true, false, cond, List, [], ◌∷◌, ◌++◌, reverse, map, refl, sym, ap, ◌∙◌, arith}
 use Rattle.std.specs.Prelude.{◌&&◌}
 use Rattle.std.specs.List.{filter, sum_by}
@@ -17,7 +17,6 @@ use Rattle.reels.specs.declared.reel.Usage.{Usage}
 use Rattle.entry_search.specs.Kept.{AreTakes}
 use Rattle.entry_search.specs.Totals.{is_usage_of, total_of, taken_for}
 
--- the picks that pass a test, of one reel
 pieces_picked-filter : (test : Pick → Bool) (p : Pick) (ps : List Pick) (reel : Name)
     → pieces_picked (filter test (p ∷ ps)) reel ≡ cond (same p.reel reel && test p) p.quantity 0 + pieces_picked (filter test ps) reel
 pieces_picked-filter test p ps reel = by (test p)
@@ -28,7 +27,6 @@ pieces_picked-filter test p ps reel = by (test p)
         ∙ ap (λ b. cond b p.quantity 0 + pieces_picked (filter test ps) reel) (sym (and-true (same p.reel reel)))
     by false = let none = ap (λ b. cond b p.quantity 0) (and-false (same p.reel reel)) in omega (arith, none)
 
--- the takes of picks are as many pieces each way as the picks
 pub taken_for-map : (usage : Usage) (H : History) (minute : ℕ) (picks : List Pick) (reel : Name)
     → taken_for usage (map (take_of H minute) picks) reel ≡ pieces_picked (filter (λ p. is_usage_of usage p.purpose) picks) reel
 taken_for-map usage H minute [] reel = refl
@@ -37,14 +35,12 @@ taken_for-map usage H minute (p ∷ ps) reel =
     ∙ ap (λ n. cond (same p.reel reel && is_usage_of usage p.purpose) p.quantity 0 + n) (taken_for-map usage H minute ps reel)
     ∙ sym (pieces_picked-filter (λ p. is_usage_of usage p.purpose) p ps reel)
 
--- one entry's takes more
 total-next : (usage : Usage) (H : History) (picks : List Pick) (reel : Name)
     → pieces_picked (filter (λ p. is_usage_of usage p.purpose) (all_picks H ++ picks)) reel ≡ total_of usage H reel + pieces_picked (filter (λ p. is_usage_of usage p.purpose) picks) reel
 total-next usage H picks reel =
     ap (λ ps. pieces_picked ps reel) (filter-append (λ p. is_usage_of usage p.purpose) (all_picks H) picks)
     ∙ pieces_picked-append (filter (λ p. is_usage_of usage p.purpose) (all_picks H)) (filter (λ p. is_usage_of usage p.purpose) picks) reel
 
--- The kept takes of a reel that went one way are all of them.
 pub total-kept : (usage : Usage) (H : History) (kept : List (List Take)) (reel : Name) → AreTakes H kept
     → sum_by (λ takes. taken_for usage takes reel) (reverse kept) ≡ total_of usage H reel
 unfolding all_picks

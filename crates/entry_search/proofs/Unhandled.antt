@@ -18,30 +18,25 @@ if-none : {X Y : Type 0} (b : Bool) (x : X) (y : Y) → cond b (Some x) None ≡
 if-none true x y is = cc
 if-none false x y is = refl
 
--- a command that does not handle a reel does not receive it
 not-received : (name : Name) (minute : ℕ) (command : Command) → open_by name command ≡ None → receipt_by name minute command ≡ None
 not-received name minute (ReelReceived r part lot moisture quantity) none = if-none (same r name) false _ none
 not-received name minute _ none = refl
 
--- a reel stays as it is where an entry does not handle it
 pub reel-kept : (H : History) (e : Entry) (name : Name) (found : Option Reel) → open_by name e.stamped.command ≡ None → IsReelOf H name found → IsReelOf (e ∷ H) name found
 reel-kept H e name None none is_reel =
     ap (λ o. option_or o (receipt_of H name)) (not-received name e.effective e.stamped.command none) ∙ is_reel
 reel-kept H e name (Some reel) none is_reel =
     (StandsFor-untouched H e name reel is_reel.0 none, omega (arith, is_reel.1, le-max_right e.effective (now_of H)))
 
--- where a command handles no reel, it does not handle this one
 pub unhandled : (said : Option Bool) (handled : Option Name) (name : Name) → ((out : Bool) → said ≡ Some out → handled ≡ Some name) → handled ≡ None → said ≡ None
 unhandled None handled name names is = refl
 unhandled (Some out) handled name names is = let it = names out refl in cc
 
--- where a command handles a reel, it handles no other
 pub others-unhandled : (said : Option Bool) (handled : Option Name) (k name : Name) → ((out : Bool) → said ≡ Some out → handled ≡ Some name) → handled ≡ Some k
     → same k name ≡ false → said ≡ None
 others-unhandled None handled k name names is other = refl
 others-unhandled (Some out) handled k name names is other = let it = names out refl in let one = same-refl k in cc
 
--- reels after an entry that handles the reel k: that one is written, and the others stay
 pub reel-written : (H : History) (e : Entry) (k : Name) (old new : Name → Option Reel) (after : Option Reel) → ((q : Name) → IsReelOf H q (old q))
     → IsReelOf (e ∷ H) k after → ((q : Name) → same k q ≡ false → open_by q e.stamped.command ≡ None) → ((q : Name) → new q ≡ cond (same k q) after (old q))
     → (q : Name) → IsReelOf (e ∷ H) q (new q)

@@ -1,4 +1,4 @@
--- The turns of free reels: what is left to each, and its name.
+-- The turns of free reels: remaining floor life with the reel's name.
 use Rattle.std.specs.Prelude.{Option, Some, None, if◌then◌else◌}
 use Rattle.std.specs.Option.{option_and_then, option_map}
 use Rattle.std.specs.Ordering.{ordering_then}
@@ -10,18 +10,17 @@ use Rattle.desk_types.specs.History.{History}
 use Rattle.desk_types.specs.View.{life_left}
 use Rattle.desk_types.specs.Free.{received_by, is_free, by_left}
 
--- a reel with what is left to it
 abbrev pub turn_of : History → Name → Left × Name
 turn_of H reel = (life_left H reel, reel)
 
--- the order of turns: by what is left, and then by name
+-- The order of turns: by remaining floor life, then by name.
 abbrev pub by_life : Left × Name → Left × Name → Ordering
 by_life a b = ordering_then (by_left a.0 b.0) (by_name a.1 b.1)
 
--- the reel, where it is free for the part
+-- The reel if it is free for the part.
 abbrev pub if_free : History → Name → Name → Option Name
 if_free H part reel = if is_free H part reel then Some reel else None
 
--- the turn of the reel that the command receives, where it is free for the part
+-- The turn of the reel that the command receives, if it is free for the part.
 abbrev pub turn_by : History → Name → Command → Option (Left × Name)
 turn_by H part command = option_map (turn_of H) (option_and_then (if_free H part) (received_by command))

@@ -1,5 +1,5 @@
-//! The shop floor as the entries leave it: every reel, what is left of it, and every tape. It is
-//! made in one pass, for the commands and views that look at many slots or reels.
+//! The shop floor after the entries, computed in one pass for commands and views that need many
+//! slots or reels.
 
 mod mount_map;
 mod reel_map;
@@ -26,8 +26,8 @@ use reels::Reel;
 use std::alloc::{AllocError, Global};
 use std::collections::BTreeMap;
 
-/// The shop floor: reels by name, the pieces left of each, tapes by machine and slot, and the
-/// machine and slot onto which each reel was last put.
+/// The reels by name, the pieces left on each, the tapes by machine and slot, and the slot where
+/// each reel was last mounted.
 #[derive(Drop)]
 pub struct Floor {
     pub reels: BTreeMap<Id, Reel>,
@@ -36,7 +36,6 @@ pub struct Floor {
     pub mounts: BTreeMap<Id, (Id, Id)>,
 }
 
-/// The floor where nothing is accepted. Takes no memory.
 fn bare(alloc: Global) -> Floor
     ensures { IsFloor [] result }
 {
@@ -48,7 +47,6 @@ fn bare(alloc: Global) -> Floor
     }
 }
 
-/// The floor after an entry with its takes.
 fn note(alloc: Global, floor: &mut Floor, entry: &Entry, takes: &[Take]) -> Result<(), AllocError>
     requires { AreReelsBy floor.old.reels entry.now.effective }
     ensures { (H : History) → IsJudged Two (entry.now ∷ H)
@@ -62,7 +60,7 @@ fn note(alloc: Global, floor: &mut Floor, entry: &Entry, takes: &[Take]) -> Resu
     Ok(())
 }
 
-/// The floor as the entries leave it.
+/// Returns the floor after the entries.
 pub fn floor_of(alloc: Global, entries: &[Entry], takes: &[Takes]) -> Result<Floor, AllocError>
     requires judged { IsJudged Two (reverse entries.now) }
     requires takes { AreTakes (reverse entries.now) (reverse takes.now) }
@@ -75,7 +73,6 @@ pub fn floor_of(alloc: Global, entries: &[Entry], takes: &[Takes]) -> Result<Flo
     Ok(floor)
 }
 
-/// The first reel of a tape with pieces left.
 fn first_with_pieces(stock: &BTreeMap<Id, u64>, tape: &Tape) -> Option<Id>
     ensures { result ≡ find (λ reel. nat_lt 0 (pieces_at stock.now reel)) tape.now }
 {
@@ -88,7 +85,7 @@ fn first_with_pieces(stock: &BTreeMap<Id, u64>, tape: &Tape) -> Option<Id>
     None
 }
 
-/// The first live reel of the slot.
+/// Returns the slot's first live reel.
 pub fn front(floor: &Floor, machine: &Id, slot: &Id) -> Option<Id>
     ensures { (H : History) → IsFloor H floor.now → result ≡ front_of H machine.now slot.now }
 {
@@ -98,7 +95,6 @@ pub fn front(floor: &Floor, machine: &Id, slot: &Id) -> Option<Id>
     }
 }
 
-/// The reels of a tape with pieces left.
 fn with_pieces(alloc: Global, stock: &BTreeMap<Id, u64>, tape: &Tape) -> Result<Vec<Id>, AllocError>
     ensures { IfOk result (λ reels. reels.items ≡ filter (λ reel. nat_lt 0 (pieces_at stock.now reel)) tape.now) }
 {
@@ -112,7 +108,7 @@ fn with_pieces(alloc: Global, stock: &BTreeMap<Id, u64>, tape: &Tape) -> Result<
     Ok(live)
 }
 
-/// The live reels of the slot, the front first.
+/// Returns the slot's live reels, front first.
 pub fn live_on(alloc: Global, floor: &Floor, machine: &Id, slot: &Id) -> Result<Vec<Id>, AllocError>
     ensures { (H : History) → IsFloor H floor.now
         → IfOk result (λ reels. reels.items ≡ live_on H machine.now slot.now) }
@@ -123,14 +119,13 @@ pub fn live_on(alloc: Global, floor: &Floor, machine: &Id, slot: &Id) -> Result<
     }
 }
 
-/// The reel of this name, or none where it was not received.
+/// Returns the reel, or none if it wasn't received.
 pub fn reel_on(floor: &Floor, name: &Id) -> Option<Reel>
     ensures { result ≡ reel_at floor.now.reels name.now }
 {
     reel_in(&floor.reels, name)
 }
 
-/// Whether the reel stands on the tape of the slot onto which it was last put.
 fn is_on_tape(floor: &Floor, reel: &Id) -> bool
     ensures { result ≡ is_on (tape_at floor.now.tapes) reel.now (mount_at floor.now.mounts reel.now) }
 {
@@ -143,7 +138,7 @@ fn is_on_tape(floor: &Floor, reel: &Id) -> bool
     }
 }
 
-/// Whether the reel is live on some slot.
+/// Returns whether the reel is live on some slot.
 pub fn is_mounted(floor: &Floor, reel: &Id) -> bool
     ensures { (H : History) → IsJudged Two H → IsFloor H floor.now → result ≡ is_mounted H reel.now }
 {

@@ -1,4 +1,4 @@
-//! Reels, made by replaying the commands on them, oldest first.
+//! Reels, rebuilt by replaying the commands on them from the oldest on.
 
 ghost use Rattle.std.specs.Prelude.{◌≡◌, ◌≤◌, None, ◌∷◌, reverse};
 ghost use Rattle.std.specs.Option.{ForSome};
@@ -14,7 +14,7 @@ use crate::setup::receipt_by;
 use desk_types::{Command, Entry, Id};
 use reels::Reel;
 
-/// What the command says of the reel's bag: true where it leaves the reel out of it.
+/// Returns whether the command leaves the reel out of its bag, or none if it doesn't handle it.
 fn open_by(name: &Id, command: &Command) -> Option<bool>
     ensures { result ≡ open_by name.now command.now }
 {
@@ -29,7 +29,6 @@ fn open_by(name: &Id, command: &Command) -> Option<bool>
     }
 }
 
-/// The reel, where the entry receives it.
 fn received_reel(name: &Id, entry: &Entry) -> Option<Reel>
     ensures { (H : History) → IsJudged Two (entry.now ∷ H) → receipt_of H name.now ≡ None
         → IsReelOf (entry.now ∷ H) name.now result }
@@ -39,7 +38,6 @@ fn received_reel(name: &Id, entry: &Entry) -> Option<Reel>
     Some(Reel::receive(said.part, said.lot, said.moisture, said.quantity, at))
 }
 
-/// Does to a received reel what the entry does.
 fn handle(reel: &mut Reel, name: &Id, entry: &Entry)
     requires { reel.old.last ≤ entry.now.effective }
     ensures last { reel.new.last ≤ entry.now.effective }
@@ -55,14 +53,12 @@ fn handle(reel: &mut Reel, name: &Id, entry: &Entry)
     }
 }
 
-/// Whether the command bakes a reel.
 fn is_bake(command: &Command) -> bool
     ensures { result ≡ is_bake command.now }
 {
     matches!(command, Command::ReelBaked { .. })
 }
 
-/// The reel after an entry.
 pub fn reel_after(reel: Option<Reel>, name: &Id, entry: &Entry) -> Option<Reel>
     requires { ForSome reel (λ r. r.last ≤ entry.now.effective) }
     ensures { (H : History) → IsJudged Two (entry.now ∷ H) → IsReelOf H name.now reel
@@ -75,7 +71,7 @@ pub fn reel_after(reel: Option<Reel>, name: &Id, entry: &Entry) -> Option<Reel>
     Some(found)
 }
 
-/// The reel of this name, or none where it was not received. Takes no memory.
+/// Returns the reel, or none if it wasn't received. Takes no memory.
 pub fn reel_of(entries: &[Entry], name: &Id) -> Option<Reel>
     requires { IsJudged Two (reverse entries.now) }
     ensures { IsReelOf (reverse entries.now) name.now result }

@@ -1,4 +1,4 @@
-//! The reels that could be loaded for a part, looked up in the entries and their takes, oldest first.
+//! Searches for the free reels of a part. Entries and takes come oldest first.
 
 ghost use Rattle.std.specs.Prelude.{◌≡◌, ◌≤◌, not, ◌&&◌, Some, length, map, reverse, IfOk};
 ghost use Rattle.std.specs.List.{filter};
@@ -29,7 +29,7 @@ fn received_by(command: &Command) -> Option<Id>
     }
 }
 
-/// Whether a reel to which this is left is neither unbaked nor expired.
+/// Returns whether a reel with this floor life left is neither unbaked nor expired.
 pub fn is_usable(left: Left) -> bool
     ensures { (H : History) (reel : Name) → left ≡ life_left H reel
         → result ≡ (not (is_unbaked H reel) && not (is_expired H reel (now_of H))) }
@@ -41,7 +41,6 @@ pub fn is_usable(left: Left) -> bool
     }
 }
 
-/// Whether the reel could be loaded where a sheet says the part.
 fn is_free(entries: &[Entry], part: &Id, view: &ReelView) -> bool
     ensures { (reel : Name) → reel_view (reverse entries.now) reel ≡ Some view.now
         → result ≡ is_free (reverse entries.now) part.now reel }
@@ -52,7 +51,6 @@ fn is_free(entries: &[Entry], part: &Id, view: &ReelView) -> bool
         && is_usable(view.left)
 }
 
-/// The turn of the reel that the command receives, where it is free for the part.
 fn turn_by(entries: &[Entry], takes: &[Takes], part: &Id, command: &Command) -> Option<(Left, Id)>
     requires most { length entries.now ≤ MOST_ENTRIES }
     requires judged { IsJudged Two (reverse entries.now) }
@@ -67,7 +65,6 @@ fn turn_by(entries: &[Entry], takes: &[Takes], part: &Id, command: &Command) -> 
     Some((view.left, reel))
 }
 
-/// The turns of the free reels, in order.
 fn turns(
     alloc: Global,
     entries: &[Entry],
@@ -91,8 +88,7 @@ fn turns(
     turns.into_iter().collect(alloc)
 }
 
-/// The reels that could be loaded for the part at the desk minute, in the order in which they are
-/// used.
+/// Returns the reels that can be loaded for the part at the desk minute, in order of use.
 pub fn free_reels(
     alloc: Global,
     entries: &[Entry],

@@ -1,4 +1,4 @@
-//! The fronts of a machine's slots, as a verification looks at them.
+//! The front reels of a machine's slots, as verification uses them.
 
 ghost use Rattle.std.specs.Prelude.{◌≡◌, ◌≤◌, true, is_some, reverse, IfOk};
 ghost use Rattle.std.specs.Option.{option_map, ForSome};
@@ -19,7 +19,7 @@ use desk_types::{Entry, Front, FrontReel, Fronts, Id, Life, Listing, Minute, Tak
 use reels::Reel;
 use std::alloc::{AllocError, Global};
 
-/// How long a reel that stays out of its bag may still feed a slot.
+/// Returns how long a reel that stays out of its bag may still feed a slot.
 pub fn life(reel: &Reel, minute: Minute) -> Life
     requires { reel.now.last ≤ minute }
     ensures { (H : History) (name : Name) → StandsFor H name reel.now → result ≡ life_of H minute name }
@@ -33,7 +33,6 @@ pub fn life(reel: &Reel, minute: Minute) -> Life
     }
 }
 
-/// A received reel with its part and its life.
 fn front_reel(floor: &Floor, minute: Minute, reel: Option<Id>) -> Option<FrontReel>
     requires { AreReelsBy floor.now.reels minute }
     ensures { (H : History) → IsFloor H floor.now → ForSome reel (λ name. is_some (receipt_of H name) ≡ true)
@@ -48,7 +47,6 @@ fn front_reel(floor: &Floor, minute: Minute, reel: Option<Id>) -> Option<FrontRe
     })
 }
 
-/// The front reel of a slot with its part and its life.
 fn front_at(floor: &Floor, minute: Minute, machine: &Id, slot: &Id) -> Option<FrontReel>
     requires { AreReelsBy floor.now.reels minute }
     ensures { (H : History) → IsJudged Two H → IsFloor H floor.now
@@ -57,7 +55,7 @@ fn front_at(floor: &Floor, minute: Minute, machine: &Id, slot: &Id) -> Option<Fr
     front_reel(floor, minute, front(floor, machine, slot))
 }
 
-/// The slots of the selected product's sheet, in sheet order, each with its front reel at the desk
+/// Returns the slots of the selected product's sheet in order, each with its front reel at the desk
 /// minute.
 pub fn fronts(
     alloc: Global,

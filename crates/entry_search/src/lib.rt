@@ -1,8 +1,8 @@
-//! What a list of accepted entries says, found by searching it: the setup, boards in work, tapes,
-//! pieces, floor life, the shop floor in maps, and the views.
+//! The state after accepted entries, found by searching them: setup, boards in work, tapes, pieces,
+//! floor life, the shop floor as maps, and views.
 //!
-//! Entries come the oldest first, and beside each stand its takes. Each result is the definition's
-//! for that list.
+//! Entries come oldest first, each with its takes. Each result is the definition's for that
+//! history.
 #![tactic(auto)]
 
 pub mod floor;

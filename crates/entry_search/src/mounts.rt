@@ -1,4 +1,4 @@
-//! Where a reel stands, by the entries, oldest first.
+//! The slot of a reel. Entries come oldest first.
 
 ghost use Rattle.std.specs.Prelude.{◌≡◌, nat_lt, None, if◌then◌else◌, reverse};
 ghost use Rattle.desk_types.specs.declared.rules.Rules.TheVariants.{Two};
@@ -10,7 +10,6 @@ ghost use Rattle.entry_search.specs.Kept.{AreTakes};
 use crate::pieces::left_of;
 use desk_types::{Command, Entry, Id, Takes};
 
-/// A place, unless it is this slot.
 fn unless_at(machine: &Id, slot: &Id, place: Option<(Id, Id)>) -> Option<(Id, Id)>
     ensures { result ≡ (if is_at machine.now slot.now place then None else place) }
 {
@@ -21,7 +20,6 @@ fn unless_at(machine: &Id, slot: &Id, place: Option<(Id, Id)>) -> Option<(Id, Id
     Some((m, s))
 }
 
-/// The machine and slot of a reel after a command.
 fn place_after(reel: &Id, command: &Command, place: Option<(Id, Id)>) -> Option<(Id, Id)>
     ensures { result ≡ place_after reel.now command.now place }
 {
@@ -46,7 +44,6 @@ fn place_after(reel: &Id, command: &Command, place: Option<(Id, Id)>) -> Option<
     }
 }
 
-/// The machine and slot onto which the reel was last put, if it was not taken off since.
 #[tactic(auto, unfolding(desk_laws::specs::Place::place_of))]
 fn place(entries: &[Entry], reel: &Id) -> Option<(Id, Id)>
     ensures { result ≡ place_of (reverse entries.now) reel.now }
@@ -58,7 +55,6 @@ fn place(entries: &[Entry], reel: &Id) -> Option<(Id, Id)>
     place
 }
 
-/// Whether the reel has pieces left.
 fn has_pieces(entries: &[Entry], takes: &[Takes], reel: &Id) -> bool
     requires { AreTakes (reverse entries.now) (reverse takes.now) }
     ensures { result ≡ nat_lt 0 (left_of (reverse entries.now) reel.now) }
@@ -66,7 +62,7 @@ fn has_pieces(entries: &[Entry], takes: &[Takes], reel: &Id) -> bool
     left_of(entries, takes, reel) > 0
 }
 
-/// Whether the reel is live on some slot. Takes no memory.
+/// Returns whether the reel is live on some slot. Takes no memory.
 pub fn is_mounted(entries: &[Entry], takes: &[Takes], reel: &Id) -> bool
     requires judged { IsJudged Two (reverse entries.now) }
     requires takes { AreTakes (reverse entries.now) (reverse takes.now) }

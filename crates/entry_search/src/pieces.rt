@@ -1,4 +1,4 @@
-//! What is left of a reel, looked up in the entries and their takes, oldest first.
+//! The pieces left on a reel. Entries and takes come oldest first.
 
 ghost use Rattle.std.specs.Prelude.{◌≡◌, ◌-◌, ◌^◌, ◌≤◌, min, reverse, IfSome};
 ghost use Rattle.std.specs.Option.{option_map};
@@ -19,7 +19,7 @@ fn count_in(reel: &Id, rows: &[CountRow]) -> Option<u64>
     Some(row.quantity.get())
 }
 
-/// What a receipt or a count says that the reel has.
+/// Returns the reel's pieces according to a receipt or a count.
 fn told_by(reel: &Id, command: &Command) -> Option<u64>
     ensures value { result ≡ pieces_by reel.now command.now }
     ensures range { IfSome result (λ pieces. pieces ≤ GREATEST_QUANTITY) }
@@ -35,7 +35,7 @@ fn told_by(reel: &Id, command: &Command) -> Option<u64>
     }
 }
 
-/// How many pieces of the reel the takes are, or the greatest `u64` where they are more.
+/// Returns how many of the reel's pieces are taken, at most the greatest `u64`.
 fn pieces_taken(takes: &[Take], reel: &Id) -> u64
     ensures { result ≡ min (pieces_taken takes.now reel.now) (2 ^ 64 - 1) }
 {
@@ -48,7 +48,7 @@ fn pieces_taken(takes: &[Take], reel: &Id) -> u64
     pieces
 }
 
-/// The pieces left on the reel: what was told last, less what later entries took.
+/// Returns the pieces left on the reel: its last receipt or count, less later takes.
 pub fn left_of(entries: &[Entry], takes: &[Takes], reel: &Id) -> u64
     requires { AreTakes (reverse entries.now) (reverse takes.now) }
     ensures { result ≡ left_of (reverse entries.now) reel.now }

@@ -1,4 +1,4 @@
-//! Sets and lists that grow by what there may be.
+//! Adding optional elements to sets and lists.
 
 ghost use Rattle.std.specs.Prelude.{◌≡◌, ◌++◌, OnOk};
 ghost use Rattle.std.specs.BTreeSet.{insert_key};
@@ -7,7 +7,7 @@ ghost use Rattle.std.specs.Option.{option_map_or, option_to_list};
 use std::alloc::AllocError;
 use std::collections::BTreeSet;
 
-/// Puts the key into the set, where there is one.
+/// Inserts the key into the set, if there is one.
 pub fn insert_if<K: Ord + Drop>(set: &mut BTreeSet<K>, key: Option<K>) -> Result<(), AllocError>
     ensures { OnOk result (set.new.keys ≡ option_map_or (insert_key K.cmp set.old.keys) key set.old.keys) }
 {
@@ -17,7 +17,7 @@ pub fn insert_if<K: Ord + Drop>(set: &mut BTreeSet<K>, key: Option<K>) -> Result
     Ok(())
 }
 
-/// Puts the item at the end of the list, where there is one.
+/// Appends the item to the list, if there is one.
 pub fn push_if<T: Drop>(list: &mut Vec<T>, item: Option<T>) -> Result<(), AllocError>
     ensures { OnOk result (list.new.items ≡ list.old.items ++ option_to_list item) }
 {

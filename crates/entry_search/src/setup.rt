@@ -1,4 +1,4 @@
-//! The desk minute, alternates, sheets, selections and receipts, looked up in the entries, oldest first.
+//! The desk minute, alternates, sheets, selections and receipts. Entries come oldest first.
 
 ghost use Rattle.std.specs.Prelude.{◌≡◌, reverse};
 ghost use Rattle.std.specs.Option.{option_copied};
@@ -8,7 +8,7 @@ ghost use Rattle.desk_types.specs.Setup.{allows, is_alternate, is_allowed, sheet
 use desk_types::{Command, Entry, Id, Minute, Receipt, SheetRow, SheetRows};
 use setup_sheets::row_of;
 
-/// The greatest effective minute.
+/// Returns the greatest effective minute.
 pub fn desk_minute(entries: &[Entry]) -> Option<Minute>
     ensures { result ≡ desk_minute (reverse entries.now) }
 {
@@ -34,7 +34,6 @@ fn allows(part: &Id, alternate: &Id, command: &Command) -> bool
     }
 }
 
-/// Whether the alternate was named for the part.
 fn is_alternate(entries: &[Entry], part: &Id, alternate: &Id) -> bool
     ensures { result ≡ is_alternate (reverse entries.now) part.now alternate.now }
 {
@@ -44,7 +43,7 @@ fn is_alternate(entries: &[Entry], part: &Id, alternate: &Id) -> bool
         .any(|entry| allows(part, alternate, &entry.stamped.command))
 }
 
-/// Whether the other part may stand where a sheet says the part.
+/// Returns whether the other part may replace the part.
 pub fn is_allowed(entries: &[Entry], part: &Id, other: &Id) -> bool
     ensures { result ≡ is_allowed (reverse entries.now) part.now other.now }
 {
@@ -64,7 +63,7 @@ fn sheet_by<'a>(product: &Id, machine: &Id, command: &'a Command) -> Option<&'a 
     }
 }
 
-/// The last sheet of the product on the machine.
+/// Returns the product's last sheet on the machine.
 pub fn sheet_of<'a>(entries: &'a [Entry], product: &Id, machine: &Id) -> Option<&'a SheetRows>
     ensures { option_copied result ≡ sheet_of (reverse entries.now) product.now machine.now }
 {
@@ -90,7 +89,7 @@ fn selection_by(machine: &Id, command: &Command) -> Option<Id>
     }
 }
 
-/// The product that was last selected on the machine.
+/// Returns the product last selected on the machine.
 pub fn selected_on(entries: &[Entry], machine: &Id) -> Option<Id>
     ensures { result ≡ selected_on (reverse entries.now) machine.now }
 {
@@ -104,7 +103,7 @@ pub fn selected_on(entries: &[Entry], machine: &Id) -> Option<Id>
     None
 }
 
-/// The sheet of the selected product on the machine.
+/// Returns the selected product's sheet on the machine.
 pub fn sheet_on<'a>(entries: &'a [Entry], machine: &Id) -> Option<&'a SheetRows>
     ensures { option_copied result ≡ sheet_on (reverse entries.now) machine.now }
 {
@@ -112,7 +111,6 @@ pub fn sheet_on<'a>(entries: &'a [Entry], machine: &Id) -> Option<&'a SheetRows>
     sheet_of(entries, &product, machine)
 }
 
-/// The row for the slot in that sheet.
 pub fn row_on<'a>(entries: &'a [Entry], machine: &Id, slot: &Id) -> Option<&'a SheetRow>
     ensures { option_copied result ≡ row_on (reverse entries.now) machine.now slot.now }
 {
@@ -120,7 +118,6 @@ pub fn row_on<'a>(entries: &'a [Entry], machine: &Id, slot: &Id) -> Option<&'a S
     row_of(rows, slot)
 }
 
-/// What the command says of the reel's receipt, where it is that.
 pub fn receipt_by(reel: &Id, effective: Minute, command: &Command) -> Option<Receipt>
     ensures { result ≡ receipt_by reel.now effective command.now }
 {
@@ -142,7 +139,6 @@ pub fn receipt_by(reel: &Id, effective: Minute, command: &Command) -> Option<Rec
     }
 }
 
-/// What the reel's receipt said.
 pub fn receipt(entries: &[Entry], reel: &Id) -> Option<Receipt>
     ensures { result ≡ receipt_of (reverse entries.now) reel.now }
 {

@@ -1,4 +1,4 @@
-//! The live reels of a machine's slots, looked up on the shop floor.
+//! The live reels on a machine's slots, found on the shop floor.
 
 ghost use Rattle.std.specs.Prelude.{◌≡◌, ◌≤◌, ◌++◌, true, is_some, map, reverse, All, IfOk, OnOk};
 ghost use Rattle.std.specs.List.{enumerate_from};
@@ -26,7 +26,6 @@ fn defines_on(machine: &Id, command: &Command) -> bool
     }
 }
 
-/// Whether some sheet names the machine.
 fn has_sheet(entries: &[Entry], machine: &Id) -> bool
     ensures { result ≡ has_sheet (reverse entries.now) machine.now }
 {
@@ -49,7 +48,7 @@ fn slot_by(machine: &Id, command: &Command) -> Option<Id>
     }
 }
 
-/// The slots of the machine that were loaded, each once and in byte order.
+/// Returns the machine's loaded slots in byte order, without duplicates.
 fn loaded_slots(alloc: Global, entries: &[Entry], machine: &Id) -> Result<Vec<Id>, AllocError>
     ensures { IfOk result (λ slots. slots.items ≡ loaded_slots (reverse entries.now) machine.now) }
 {
@@ -60,7 +59,6 @@ fn loaded_slots(alloc: Global, entries: &[Entry], machine: &Id) -> Result<Vec<Id
     slots.into_iter().collect(alloc)
 }
 
-/// A received reel in its position on a slot.
 fn mount(floor: &Floor, minute: Minute, slot: &Id, position: u64, reel: &Id) -> Mount
     requires by_now { AreReelsBy floor.now.reels minute }
     requires received { is_some (reel_at floor.now.reels reel.now) ≡ true }
@@ -81,7 +79,7 @@ fn mount(floor: &Floor, minute: Minute, slot: &Id, position: u64, reel: &Id) -> 
     }
 }
 
-/// Tells the live reels of a slot, the front first.
+/// Appends a slot's live reels, front first.
 fn put_mounts(
     mounts: &mut Vec<Mount>,
     floor: &Floor,
@@ -100,7 +98,7 @@ fn put_mounts(
     Ok(())
 }
 
-/// The live reels of the machine's slots, by slot and then by position, or none where no sheet names
+/// Returns the live reels on the machine's slots, by slot and position, or none if no sheet is for
 /// the machine.
 pub fn slots_of(
     alloc: Global,

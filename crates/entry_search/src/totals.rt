@@ -1,4 +1,4 @@
-//! What became of the pieces of a reel, summed over the entries and their takes, oldest first.
+//! A reel's placed, scrapped and received pieces. Entries and takes come oldest first.
 
 ghost use Rattle.std.specs.Prelude.{◌≡◌, ◌-◌, ◌^◌, ◌≤◌, min, length, reverse};
 ghost use Rattle.desk_types.specs.declared.limits.TheConstants.{MOST_ENTRIES};
@@ -13,14 +13,12 @@ use crate::pieces::left_of;
 use desk_types::{Entry, Id, Purpose, Take, Takes};
 use reels::Usage;
 
-/// Whether a piece that was taken for this purpose was placed on a board.
 pub fn is_placed(purpose: &Purpose) -> bool
     ensures { result ≡ is_placed purpose.now }
 {
     matches!(purpose, Purpose::Placed { .. })
 }
 
-/// Whether pieces that were taken for this purpose went this way.
 fn is_usage_of(usage: Usage, purpose: &Purpose) -> bool
     ensures { result ≡ is_usage_of usage purpose.now }
 {
@@ -31,8 +29,7 @@ fn is_usage_of(usage: Usage, purpose: &Purpose) -> bool
     }
 }
 
-/// How many pieces of the reel the takes are that went this way, or the greatest `u64` where they
-/// are more.
+/// Returns how many of the reel's pieces are taken for this usage, at most the greatest `u64`.
 fn taken_for(takes: &[Take], reel: &Id, usage: Usage) -> u64
     ensures { result ≡ min (taken_for usage takes.now reel.now) (2 ^ 64 - 1) }
 {
@@ -45,8 +42,7 @@ fn taken_for(takes: &[Take], reel: &Id, usage: Usage) -> u64
     pieces
 }
 
-/// How many pieces of the reel went this way, where the takes are those of a list that a desk can
-/// have. Nothing is said of other takes.
+/// Returns the reel's pieces with this usage, for the takes of an accepted history.
 pub fn total(takes: &[Takes], reel: &Id, usage: Usage) -> u64
     ensures { (H : History) → IsJudged Two H → length H ≤ MOST_ENTRIES → AreTakes H (reverse takes.now)
         → result ≡ total_of usage H reel.now }
@@ -58,8 +54,7 @@ pub fn total(takes: &[Takes], reel: &Id, usage: Usage) -> u64
     pieces
 }
 
-/// How many pieces of the reel were received, those of its receipt and the found ones: as many as were
-/// placed, scrapped and are left together.
+/// Returns the reel's received pieces: the receipt's and those found later.
 pub fn received_of(entries: &[Entry], takes: &[Takes], reel: &Id) -> u64
     requires most { length entries.now ≤ MOST_ENTRIES }
     requires judged { IsJudged Two (reverse entries.now) }

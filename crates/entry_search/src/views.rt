@@ -1,4 +1,4 @@
-//! What a desk tells of reels, looked up in the entries and their takes, oldest first.
+//! The reported state of reels. Entries and takes come oldest first.
 
 ghost use Rattle.std.specs.Prelude.{◌≡◌, ◌≤◌, length, reverse};
 ghost use Rattle.desk_types.specs.declared.limits.TheConstants.{MOST_ENTRIES};
@@ -18,7 +18,7 @@ use crate::totals::{received_of, total};
 use desk_types::{Entry, Id, Left, Minute, ReelView, Takes};
 use reels::{Reel, Usage};
 
-/// The floor life that is left to a reel at the desk minute.
+/// Returns the reel's remaining floor life at the desk minute.
 pub fn life_left(reel: &Reel, minute: Minute) -> Left
     requires { reel.now.last ≤ minute }
     ensures { (H : History) (name : Name) → StandsFor H name reel.now → now_of H ≡ minute → result ≡ life_left H name }
@@ -32,7 +32,7 @@ pub fn life_left(reel: &Reel, minute: Minute) -> Left
     }
 }
 
-/// The reel at the desk minute, or none where it was not received. Takes no memory.
+/// Returns the reel at the desk minute, or none if it wasn't received. Takes no memory.
 pub fn reel_view(entries: &[Entry], takes: &[Takes], name: &Id) -> Option<ReelView>
     requires most { length entries.now ≤ MOST_ENTRIES }
     requires judged { IsJudged Two (reverse entries.now) }

@@ -1,4 +1,4 @@
-//! Boards in work, looked up in the entries, oldest first.
+//! Boards in work. Entries come oldest first.
 
 ghost use Rattle.std.specs.Prelude.{◌≡◌, reverse};
 ghost use Rattle.std.specs.Option.{option_and_then};
@@ -18,7 +18,7 @@ fn work_by(machine: &Id, command: &Command) -> Option<Option<Id>>
     }
 }
 
-/// The board in work on the machine.
+/// Returns the board in work on the machine.
 pub fn in_work_on(entries: &[Entry], machine: &Id) -> Option<Id>
     ensures { result ≡ in_work_on (reverse entries.now) machine.now }
 {
@@ -32,7 +32,6 @@ pub fn in_work_on(entries: &[Entry], machine: &Id) -> Option<Id>
     None
 }
 
-/// Whether the board is the one in work on the machine.
 pub fn is_in_work_on(entries: &[Entry], machine: &Id, board: &Id) -> bool
     ensures { result ≡ is_in_work_on (reverse entries.now) machine.now board.now }
 {
@@ -53,7 +52,7 @@ fn is_in_work_where_started(entries: &[Entry], board: &Id, command: &Command) ->
     }
 }
 
-/// Whether the board is in work on some machine.
+/// Returns whether the board is in work on some machine.
 pub fn is_in_work(entries: &[Entry], board: &Id) -> bool
     ensures { result ≡ is_in_work (reverse entries.now) board.now }
 {
@@ -73,7 +72,7 @@ fn start_by(board: &Id, command: &Command) -> Option<Id>
     }
 }
 
-/// The product of the board: what was selected at its first start.
+/// Returns the board's product: the one selected at its first start.
 pub fn product_of(entries: &[Entry], board: &Id) -> Option<Id>
     ensures { result ≡ product_of (reverse entries.now) board.now }
 {
@@ -88,7 +87,7 @@ pub fn product_of(entries: &[Entry], board: &Id) -> Option<Id>
     found
 }
 
-/// What is selected where the command starts the board.
+/// Returns the selected product if the command starts the board.
 fn product_by(before: &[Entry], board: &Id, command: &Command) -> Option<Id>
     ensures { result ≡ option_and_then (selected_on (reverse before.now)) (start_by board.now command.now) }
 {

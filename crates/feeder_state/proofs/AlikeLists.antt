@@ -28,14 +28,14 @@ use Rattle.desk_types.specs.Refusals.{first_refusal, part_refusal, alternate_ref
 use Rattle.desk_types.specs.Outcome.{reels_of, pieces_of, detail_of}
 use Rattle.desk_laws.proofs.Lives.{picks-live, designators-live, scrap-live}
 
--- what replies tell of a receipt: the part, the level and its label
+-- The parts of a receipt that replies depend on: the part, the level and its label.
 abbrev pub mark : Receipt → Name × (Level × ℕ)
 mark r = (r.part, (r.moisture.level, r.moisture.label))
 
 abbrev pub marks_of : History → Name → Option (Name × (Level × ℕ))
 marks_of H reel = option_map mark (receipt_of H reel)
 
--- Two lists leave the same, as far as replies tell of it.
+-- Two histories agree on everything that replies depend on.
 pub record AreAlike (G H : History) : Type 0 where
   pub minute : desk_minute G ≡ desk_minute H
   pub parts : is_part G ≡ is_part H
@@ -53,7 +53,7 @@ pub record AreAlike (G H : History) : Type 0 where
   pub live : live_on G ≡ live_on H
   pub mounted : is_mounted G ≡ is_mounted H
 
--- ---- what is told of a receipt by its mark
+-- ---- receipts by their marks
 
 marked : {X : Type 0} (f : Name × (Level × ℕ) → X) (d : X) (o : Option Receipt) → option_map_or (λ r. f (mark r)) o d ≡ option_map_or f (option_map mark o) d
 marked f d None = refl
@@ -163,7 +163,6 @@ designators G H machine board ds a =
     ∙ designators-live H (slot_on H machine) (is_placed_on H board) machine board [] [] ds in
     λ j. if option_map_or (same board) (a.running j machine) false then refused j else Some (NotInWork board)
 
--- The refusal of a command that takes effect at the minute.
 command-alike : (rules : Rules) (G H : History) (minute : ℕ) (command : Command) → AreAlike G H → now_of H ≤ minute
     → command_refusal rules G minute command ≡ command_refusal rules H minute command
 unfolding command_refusal part_refusal alternate_refusal definition_refusal selection_refusal receipt_refusal opening_refusal closing_refusal unload_refusal scrap_refusal start_refusal completion_refusal
@@ -210,7 +209,6 @@ command-alike rules G H minute (MaterialsScrapped machine s quantity) a le = λ 
 command-alike rules G H minute (CountsTaken rows) a le = counts rules G H [] rows a
 command-alike rules G H minute ClockSet a le = refl
 
--- The minute at which a command takes effect, and its refusal.
 pub effective-alike : (G H : History) (s : Stamped) → AreAlike G H → effective_minute G s.minute ≡ effective_minute H s.minute
 effective-alike G H s a = λ j. max s.minute (unwrap_or (a.minute j) 0)
 
@@ -221,7 +219,7 @@ refusal-alike rules G H s a le =
     ∙ ap (λ m. command_refusal rules H m s.command) (effective-alike G H s a) in
     λ j. if option_map_or (λ desk. nat_lt (desk + FURTHEST_AHEAD) s.minute) (a.minute j) false && not (is_clock s.command) then Some TooFarAhead else own j
 
--- ---- what is taken and told
+-- ---- takes and replies
 
 pub picks-alike : (G H : History) (command : Command) → AreAlike G H → picks_of G command ≡ picks_of H command
 picks-alike G H (MaterialsInstalled machine board ds) a =

@@ -42,13 +42,18 @@ use Rattle.desk_laws.proofs.Openings.{starts-by}
 use Rattle.desk_laws.proofs.BoardsInWork.{work-next, in_work-next}
 use Rattle.reels.proofs.StandingReels.{last_bake-untouched}
 use Rattle.reels.specs.Reel.{StandsFor}
+use Rattle.desk_types.specs.declared.row.BoardRow.{BoardRow}
+use Rattle.desk_types.specs.Tables.{Tables, tables_of}
+use Rattle.state_rows.specs.Kept.{unnumbered}
 use Rattle.feeder_state.specs.declared.desk.StateDesk.{StateDesk}
 use Rattle.feeder_state.specs.declared.held.Held.{Held}
-use Rattle.feeder_state.specs.Held.{IsHeldOf, held_at}
+use Rattle.feeder_state.specs.Held.{IsHeldOf}
 use Rattle.feeder_state.specs.State.{IsState}
-use Rattle.feeder_state.proofs.AcceptedChanges.{state-two}
+use Rattle.feeder_state.proofs.AcceptedChanges.{state-two, state-rows}
 use Rattle.feeder_state.proofs.AlikeLists.{AreAlike, mark, marks_of, effective-alike, refusal-alike, picks-alike, detail-alike}
 use Rattle.feeder_state.proofs.FloorTells.{absent-left, absent-mounted}
+use Rattle.feeder_state.proofs.RestoredWork.{is_at_work, busy-row, product-row}
+use Rattle.feeder_state.proofs.RowReels.{both-held}
 
 -- ---- floor life, one entry more
 
@@ -56,13 +61,13 @@ opens : {P : Type 0} (b : Bool) → (if b then Some true else None) ≡ Some fal
 opens true is = cc
 opens false is = cc
 
--- whether exposure begins anew with the command, where it puts a reel into its bag
+-- Whether exposure restarts with the command, if it puts a reel into its bag.
 abbrev is_anew : Command → Bool
 is_anew (ReelReceived reel part lot moisture quantity) = true
 is_anew (ReelBaked reel) = true
 is_anew _ = false
 
--- the exposure at a minute after a command that took effect at another, from the exposures before it
+-- The exposure at a minute after a command that took effect at another, from the exposures before it.
 abbrev exposed : Option Bool → Bool → ℕ → (ℕ → ℕ) → ℕ → ℕ
 exposed None anew at before minute = before minute
 exposed (Some true) anew at before minute = before at + (minute - at)
@@ -76,7 +81,6 @@ exposed-alike (Some true) anew at before other minute le alike = ap (λ n. n + (
 exposed-alike (Some false) true at before other minute le alike = refl
 exposed-alike (Some false) false at before other minute le alike = ap (λ n. n + 0) (alike at (omega arith))
 
--- a command that puts a reel into its bag
 into-bag : (H : History) (e : Entry) (reel : Name) (minute : ℕ) (command : Command) → IsJudged Two (e ∷ H) → exposure_starts H reel ≤ e.effective → e.effective ≤ minute
     → e.stamped.command ≡ command → open_by reel command ≡ Some false → exposure_of (e ∷ H) reel minute ≡ exposed (Some false) (is_anew command) e.effective (exposure_of H reel) minute
 into-bag H e reel minute (ReelReceived r part lot moisture quantity) (next, judged) start le is says = exposure-anew H e reel (ap (open_by reel) is ∙ says) starts minute
@@ -178,7 +182,6 @@ alike-next G H s a of_G of_H = record {
 
 -- ---- whole runs
 
--- the desk minute is a minute
 now-range : (rules : Rules) (H : History) → IsJudged rules H → now_of H ≤ GREATEST_MINUTE
 now-range rules [] judged = omega arith
 now-range rules (e ∷ H) (next, judged) = let before = now-range rules H judged in omega (arith, before, next.in_range.effective)
@@ -194,7 +197,7 @@ judged-accept rules H s judged range none = (
   judged,
 )
 
--- the replies to a command and those after it, by its refusal
+-- The replies to a command and those after it, by its refusal.
 abbrev answered : Rules → List Stamped → Stamped → History → Option Refusal → List Reply
 answered rules ss s H refusal = option_map_or Refused refusal (Accepted (change_of H s).detail) ∷ replies_to rules (option_map_or (λ _. H) refusal (accept H s)) ss
 
@@ -230,7 +233,7 @@ baked-untouched : (H : History) (reel : Name) → IsUntouched H reel → is_bake
 baked-untouched [] reel all = refl
 baked-untouched (e ∷ H) reel (none, all) = is_baked-quiet H e reel (IsQuiet-untouched reel e.effective e.stamped.command none) ∙ baked-untouched H reel all
 
--- what a state tells of a reel
+-- The facts of a state about a reel.
 record IsSame (G H : History) (reel : Name) : Type 0 where
   marks : marks_of G reel ≡ marks_of H reel
   baked : is_baked G reel ≡ is_baked H reel
@@ -265,13 +268,13 @@ same-held G H reel (Some held) of_G of_H in_G in_H = record {
 state-alike : (G H : History) (desk : StateDesk) → IsState G desk → IsState H desk → AreAlike G H
 state-alike G H desk of_G of_H = record {
   minute = minute;
-  parts = λ j part. (sym (of_G.setup.parts part) ∙ of_H.setup.parts part) j;
-  alternates = λ j p q. (sym (of_G.setup.alternates p q) ∙ of_H.setup.alternates p q) j;
+  parts = λ j. (same_rows j).parts;
+  alternates = λ j. (same_rows j).alternates;
   sheets = λ j product machine. (sym (of_G.setup.sheets product machine) ∙ of_H.setup.sheets product machine) j;
-  selections = λ j machine. (sym (of_G.setup.selections machine) ∙ of_H.setup.selections machine) j;
+  selections = λ j. (same_rows j).selected;
   running = λ j machine. (sym (of_G.work.running machine) ∙ of_H.work.running machine) j;
-  busy = λ j board. (sym (of_G.work.busy board) ∙ of_H.work.busy board) j;
-  products = λ j board. (sym (of_G.work.products board) ∙ of_H.work.products board) j;
+  busy = λ j board. (sym (busy-row G board two_G) ∙ ap (λ (t : Tables). option_map_or is_at_work (t.boards board) false) same_rows ∙ busy-row H board two_H) j;
+  products = λ j board. (sym (product-row G board) ∙ ap (λ (t : Tables). option_and_then (λ (r : BoardRow). Some r.product) (t.boards board)) same_rows ∙ product-row H board) j;
   placed = λ j board d. (sym (of_G.work.placed board d) ∙ of_H.work.placed board d) j;
   marks = λ j reel. (of_reel reel).marks j;
   baked = λ j reel. (of_reel reel).baked j;
@@ -284,9 +287,22 @@ state-alike G H desk of_G of_H = record {
     minute : desk_minute G ≡ desk_minute H
     minute = sym of_G.minute ∙ of_H.minute
 
+    two_G : IsJudged Two G
+    two_G = state-two G desk of_G
+
+    two_H : IsJudged Two H
+    two_H = state-two H desk of_H
+
+    same_rows : unnumbered (tables_of G) ≡ unnumbered (tables_of H)
+    same_rows = sym of_G.rows ∙ of_H.rows
+
+    at : ℕ
+    at = unwrap_or desk.minute 0
+
     of_reel : (reel : Name) → IsSame G H reel
     of_reel reel =
-        same-held G H reel (held_at desk.floor.reels reel) (state-two G desk of_G) (state-two H desk of_H) (of_G.floor.reels reel) (of_H.floor.reels reel)
+        let held = both-held G H desk.rows reel at (state-rows G desk of_G) (state-rows H desk of_H) (ap (λ o. unwrap_or o 0) (sym of_G.minute)) (ap (λ o. unwrap_or o 0) (sym of_H.minute)) in
+        same-held G H reel held.0 two_G two_H held.1 held.2
 
 -- Two lists that leave one state are answered alike.
 pub state-replies : (G H : History) (desk : StateDesk) (messages : List Stamped) → All IsStamped messages → IsState G desk → IsState H desk

@@ -1,4 +1,4 @@
--- Reels at rest: after one entry more, and as reels that are held.
+-- Reels at rest: after one entry more, and as rows have them.
 use Rattle.std.proofs.Common.{◌≡◌, ℕ, ◌+◌, ◌<◌, nat_lt, Bool, true, false, cond, not, Option, Some, None, is_some, List, [], ◌∷◌, take, get_or, length, refl, sym, ap, ◌∙◌}
 use Rattle.std.specs.Prelude.{◌&&◌, ◌||◌, ◌==◌}
 use Rattle.std.specs.BTreeMap.{is_at}
@@ -24,16 +24,15 @@ use Rattle.desk_laws.specs.Place.{mounted_after}
 use Rattle.desk_laws.proofs.Balance.{some-next, unreceived-empty}
 use Rattle.desk_laws.proofs.Mounted.{mounted-next}
 use Rattle.desk_laws.proofs.Mounts.{has}
-use Rattle.state_rows.specs.Kept.{row_at}
-use Rattle.feeder_state.specs.declared.held.Held.{Held}
-use Rattle.feeder_state.specs.Held.{is_live, IsHeldOf}
+use Rattle.desk_types.specs.declared.row.ReelRow.{ReelRow}
+use Rattle.state_rows.specs.Kept.{KeptRows, tables_in, row_at}
+use Rattle.feeder_state.specs.Rows.{AreRows}
 use Rattle.feeder_state.specs.Noted.{may_take}
-use Rattle.feeder_state.specs.Resting.{rests, held_rests, resting_after}
-use Rattle.feeder_state.proofs.RestoredWork.{has_such}
+use Rattle.feeder_state.specs.Resting.{rests, row_rests, resting_after}
+use Rattle.feeder_state.proofs.RowReels.{row-none, reels-row, row-left, mounts-row}
 
 -- ---- one entry more
 
--- what may be at rest after a command, where a reel has pieces left then and is not mounted
 step : (minute : ℕ) (reel : Name) (command : Command) (live : Name → Name → List Name) (left some mounted before : Bool) → left ≡ true
     → not (mounted_after left (λ m s. has (live m s) reel) reel command mounted) ≡ true → (receipt_by reel minute command ≡ None → some ≡ true)
     → ((some && not mounted) ≡ true → before ≡ true) → resting_after live reel command before ≡ true
@@ -68,7 +67,6 @@ step minute reel (CountsTaken counts) live left some mounted before has_left off
     was (and_from _ _ (had refl) (ap not (sym (and-true mounted)) ∙ ap (λ b. not (mounted && b)) (sym has_left) ∙ off))
 step minute reel _ live left some mounted before has_left off had was = was (and_from _ _ (had refl) off)
 
--- A reel that is at rest after an entry may be so by what its command says.
 pub rests-next : (H : History) (e : Entry) (reel : Name) (before : Bool) → IsJudged Two (e ∷ H) → (rests H reel ≡ true → before ≡ true) → rests (e ∷ H) reel ≡ true
     → resting_after (live_on H) reel e.stamped.command before ≡ true
 rests-next H e reel before judged was is =
@@ -82,11 +80,9 @@ kept live reel (MaterialsScrapped m s n) before may is = is
 kept live reel (CountsTaken counts) before may is = is
 kept live reel _ before may is = cc
 
--- A command that may take pieces puts no reel to rest.
 pub rests-taken : (H : History) (e : Entry) (reel : Name) → IsJudged Two (e ∷ H) → may_take e.stamped.command ≡ true → rests (e ∷ H) reel ≡ true → rests H reel ≡ true
 rests-taken H e reel judged may is = kept (live_on H) reel e.stamped.command (rests H reel) may (rests-next H e reel (rests H reel) judged (λ rest. rest) is)
 
--- A reel at rest has pieces left,
 pub rests-left : (H : History) (reel : Name) (left : ℕ) → left ≡ left_of H reel → rests H reel ≡ true → (left == 0) ≡ false
 rests-left H reel left is rest = by (left == 0) refl
   where
@@ -97,7 +93,6 @@ rests-left H reel left is rest = by (left == 0) refl
         cc
     by false some = some
 
--- and was received.
 pub rests-received : (H : History) (reel : Name) → IsJudged Two H → rests H reel ≡ true → is_some (receipt_of H reel) ≡ true
 rests-received H reel judged rest = by (receipt_of H reel) refl
   where
@@ -105,7 +100,6 @@ rests-received H reel judged rest = by (receipt_of H reel) refl
     by None none = let never = ap (λ n. nat_lt 0 n && not (is_mounted H reel)) (sym (unreceived-empty H reel judged none)) ∙ rest in cc
     by (Some receipt) says = refl
 
--- where a spent reel is taken out, the reels with pieces left stay as they were
 pub others-rest : (left : Name → ℕ) (spent r : Name) (new old : Bool) → (left spent == 0) ≡ true → (left r == 0) ≡ false → new ≡ cond (same spent r) false old → new ≡ old
 others-rest left spent r new old none some out = by (same spent r) refl out
   where
@@ -113,30 +107,37 @@ others-rest left spent r new old none some out = by (same spent r) refl out
     by true one out = let never = sym none ∙ ap (λ n. left n == 0) (same-true spent r one) ∙ some in cc
     by false away out = out
 
--- ---- reels that are held
+-- ---- reels that have rows
 
--- what is found in a list is among its entries
-such-there : {X : Type 0} (such : X → Bool) (key : Name) (es : List (Name × X)) (x : X) → row_at by_name es key ≡ Some x → such x ≡ true → has_such such key es ≡ true
-such-there such key [] x found is = cc
-such-there such key (e ∷ es) x found is =
-    by (same e.0 key) (sym (ap (λ b. cond b (Some e.1) (lookup (is_at (by_name key)) es)) (is_at-by_name key e.0 ∙ same-sym key e.0)) ∙ found) (λ later. such-there such key es x later is)
+abbrev pub has_resting : KeptRows → Name → List (Name × ReelRow) → Bool
+has_resting rows r es = list_any (λ (e : Name × ReelRow). row_rests rows e.0 e.1 && same e.0 r) es
+
+resting-there : (rows : KeptRows) (r : Name) (es : List (Name × ReelRow)) (row : ReelRow) → row_at by_name es r ≡ Some row → row_rests rows r row ≡ true → has_resting rows r es ≡ true
+resting-there rows r [] row found is = cc
+resting-there rows r (e ∷ es) row found is =
+    by (same e.0 r) refl (sym (ap (λ b. cond b (Some e.1) (lookup (is_at (by_name r)) es)) (is_at-by_name r e.0 ∙ same-sym r e.0)) ∙ found) (λ later. resting-there rows r es row later is)
   where
-    by : (b : Bool) → cond b (Some e.1) (lookup (is_at (by_name key)) es) ≡ Some x → (row_at by_name es key ≡ Some x → has_such such key es ≡ true)
-        → ((such e.1 && b) || has_such such key es) ≡ true
-    by true found rest = ap (λ b. (b && true) || has_such such key es) (ap (λ o. option_map_or such o true) found ∙ is)
-    by false found rest = ap (λ b. b || has_such such key es) (and-false (such e.1)) ∙ rest found
+    by : (b : Bool) → same e.0 r ≡ b → cond b (Some e.1) (lookup (is_at (by_name r)) es) ≡ Some row → (row_at by_name es r ≡ Some row → has_resting rows r es ≡ true)
+        → ((row_rests rows e.0 e.1 && b) || has_resting rows r es) ≡ true
+    by true here found rest =
+        ap (λ b. (b && true) || has_resting rows r es) (ap (λ n. row_rests rows n e.1) (same-true e.0 r here) ∙ ap (λ o. option_map_or (row_rests rows r) o true) found ∙ is)
+    by false here found rest = ap (λ b. b || has_resting rows r es) (and-false (row_rests rows e.0 e.1)) ∙ rest found
 
--- A reel at rest is among those that are held.
-pub rests-held : (H : History) (reel : Name) (es : List (Name × Held)) (found : Option Held) → IsJudged Two H → row_at by_name es reel ≡ found → IsHeldOf H reel found
-    → rests H reel ≡ true → has_such held_rests reel es ≡ true
-rests-held H reel es None judged is none rest = let never = sym (ap is_some none) ∙ rests-received H reel judged rest in cc
-rests-held H reel es (Some held) judged is is_held rest =
-    such-there held_rests reel es held is (
-    ap (λ n. nat_lt 0 n && not (is_live held)) is_held.remaining ∙ ap (λ b. nat_lt 0 (left_of H reel) && not b) is_held.mounted ∙ rest)
+pub rests-rows : (H : History) (rows : KeptRows) (reel : Name) (es : List (Name × ReelRow)) → AreRows H rows → ((r : Name) → row_at by_name es r ≡ (tables_in rows).reels r)
+    → rests H reel ≡ true → has_resting rows reel es ≡ true
+rests-rows H rows reel es are lists rest = by ((tables_in rows).reels reel) refl
+  where
+    by : (said : Option ReelRow) → (tables_in rows).reels reel ≡ said → has_resting rows reel es ≡ true
+    by None none =
+        let never = sym (ap is_some (row-none H reel (sym (reels-row H rows are reel) ∙ none))) ∙ rests-received H reel are.judged rest in cc
+    by (Some row) is =
+        let left = sym (ap (λ o. option_map_or (λ (r : ReelRow). r.remaining) o 0) is) ∙ row-left H rows are reel in
+        resting-there rows reel es row (lists reel ∙ is) (
+        ap (λ n. nat_lt 0 n && not (is_some ((tables_in rows).mounts reel))) left
+        ∙ ap (λ b. nat_lt 0 (left_of H reel) && not b) (mounts-row H rows are reel) ∙ rest)
 
 -- ---- names that are put in
 
--- one name more of a list
 pub put-next : (names : List Name) (i : ℕ) (x r : Name) (first now new : Bool) → i < length names → x ≡ get_or names i x
     → now ≡ (has (take i names) r || first) → new ≡ (same x r || now) → new ≡ (has (take (i + 1) names) r || first)
 put-next names i x r first now new inside is so_far one =

@@ -1,4 +1,4 @@
--- What is filled from the rows of a table, row after row.
+-- Maps that are filled from the rows of a table, row after row.
 use Rattle.std.proofs.Common.{◌≡◌, Bool, true, false, cond, Option, Some, None, is_some, List, [], ◌∷◌, refl, sym, ap, subst, ◌∙◌}
 use Rattle.std.specs.Prelude.{◌||◌}
 use Rattle.std.specs.BTreeMap.{is_at}
@@ -14,18 +14,18 @@ use Rattle.std.proofs.lemmas.Map.Entries.{lookup_head, lookup_tail}
 use Rattle.std.proofs.lemmas.Map.Lookups.{CmpEqualImpliesEq}
 use Rattle.state_rows.specs.Kept.{row_at, Lists}
 
--- each entry is a row of the table
+-- Each entry is a row of the table.
 abbrev pub AreOf : {K X : Type 0} → (K → Option X) → List (K × X) → Type 0
 AreOf {K} {X} table entries = AllByRecursion (λ (e : K × X). table e.0 ≡ Some e.1) entries
 
--- A map that is filled from the rows of a table: it has what the rows say of each key of which no row is left, and nothing else.
+-- A map filled from the rows of a table. For each key without a remaining row it has the values of the rows, and
+-- nothing else.
 pub record IsFilled {K X V : Type 0} (cmp : K → K → Ordering) (table : K → Option X) (value : X → Option V) (left : List (K × X)) (now : K → Option V) : Type 0 where
   pub each : AreOf table left
   pub done : (k : K) → row_at cmp left k ≡ None → now k ≡ option_and_then value (table k)
   pub sound : (k : K) → is_some (now k) ≡ true → now k ≡ option_and_then value (table k)
 
 module _ {K X : Type 0} (cmp : K → K → Ordering) (o : IsTotalOrder cmp) where
-  -- entries behind one are found where they were
   kept : (e : K × X) (all xs : List (K × X)) → AllByRecursion (λ k. cmp e.0 k ≡ Less) (keys_of xs) → AreOf (row_at cmp all) xs → AreOf (row_at cmp (e ∷ all)) xs
   kept e all [] above found = tt
   kept e all (x ∷ xs) (less, above) (first, found) =
@@ -40,16 +40,13 @@ module _ {K X : Type 0} (cmp : K → K → Ordering) (o : IsTotalOrder cmp) wher
   of-table found table is [] all = tt
   of-table found table is (e ∷ es) (first, all) = (sym (is e.0) ∙ first, of-table found table is es all)
 
-  -- The entries of a table's list are its rows.
   pub each-of : (es : List (K × X)) (table : K → Option X) → Lists cmp es table → AreOf table es
   each-of es table lists = of-table (row_at cmp es) table lists.rows es (each-found es lists.ascending)
 
-  -- no row is left of another key
   pub others : (e : K × X) (left : List (K × X)) (q : K) → is_at (cmp e.0) q ≡ false → row_at cmp left q ≡ None → row_at cmp (e ∷ left) q ≡ None
   others e left q away none = lookup_tail (is_at (cmp q)) e left ((eq_by_cmp_equiv o).symm q e.0 ∙ away) ∙ none
 
   module _ {V : Type 0} (exact : CmpEqualImpliesEq cmp) (table : K → Option X) (value : X → Option V) where
-    -- before the first row
     pub filled-first : (es : List (K × X)) (now : K → Option V) → Lists cmp es table → ((k : K) → now k ≡ None) → IsFilled cmp table value es now
     filled-first es now lists none = record {
       each = each-of es table lists;
@@ -60,11 +57,9 @@ module _ {K X : Type 0} (cmp : K → K → Ordering) (o : IsTotalOrder cmp) wher
     same-key : (k q : K) → is_at (cmp k) q ≡ true → k ≡ q
     same-key k q at = exact k q ((Equal-is (cmp k q)).0 at)
 
-    -- what the row says of its key
     said : (e : K × X) (left : List (K × X)) (q : K) → AreOf table (e ∷ left) → is_at (cmp e.0) q ≡ true → value e.1 ≡ option_and_then value (table q)
     said e left q each at = sym (ap (option_and_then value) (ap table (sym (same-key e.0 q at)) ∙ each.0))
 
-    -- a row is put in
     pub filled-put : (e : K × X) (left : List (K × X)) (now new : K → Option V) (v : V) → IsFilled cmp table value (e ∷ left) now → value e.1 ≡ Some v
         → ((q : K) → new q ≡ cond (is_at (cmp e.0) q) (Some v) (now q)) → IsFilled cmp table value left new
     filled-put e left now new v filled is put = record {
@@ -77,7 +72,6 @@ module _ {K X : Type 0} (cmp : K → K → Ordering) (o : IsTotalOrder cmp) wher
         by q true at before = sym is ∙ said e left q filled.each at
         by q false away before = before away
 
-    -- a row says nothing
     pub filled-skip : (e : K × X) (left : List (K × X)) (now : K → Option V) → IsFilled cmp table value (e ∷ left) now → value e.1 ≡ None → IsFilled cmp table value left now
     filled-skip e left now filled is = record {
       each = filled.each.1;
@@ -94,7 +88,6 @@ module _ {K X : Type 0} (cmp : K → K → Ordering) (o : IsTotalOrder cmp) wher
             absent None gone = refl
             absent (Some v) gone = cc
 
-    -- a row is done: what it says is put in, where it says something
     pub filled-next : (e : K × X) (left : List (K × X)) (now new : K → Option V) → IsFilled cmp table value (e ∷ left) now
         → ((q : K) → new q ≡ cond (is_at (cmp e.0) q) (option_or (value e.1) (now q)) (now q)) → IsFilled cmp table value left new
     filled-next e left now new filled put = by (value e.1) refl put
@@ -107,13 +100,11 @@ module _ {K X : Type 0} (cmp : K → K → Ordering) (o : IsTotalOrder cmp) wher
         by (Some v) is put = filled-put e left now new v filled is put
         by None is put = subst (IsFilled cmp table value left) (λ j q. sym (put q ∙ stays (is_at (cmp e.0) q) (now q)) j) (filled-skip e left now filled is)
 
-    -- all rows are done
     pub filled-last : (now : K → Option V) → IsFilled cmp table value [] now → (k : K) → now k ≡ option_and_then value (table k)
     filled-last now filled k = filled.done k refl
 
 -- ---- sets
 
--- one more is in that was left to be put in
 pub set-next : (now new here rest all : Bool) → new ≡ (here || now) → (now || (here || rest)) ≡ all → (new || rest) ≡ all
 set-next now new here rest all put before = ap (λ b. b || rest) put ∙ by here now rest ∙ before
   where

@@ -5,12 +5,10 @@ use Rattle.desk_types.specs.Tape.{tape_of}
 use Rattle.desk_types.specs.Pieces.{live_on, left_of}
 use Rattle.feeder_state.specs.Resting.{rests}
 
--- no reel is live where nothing is accepted
 pub live_on-none : (machine slot : Name) → [] ≡ live_on [] machine slot
 unfolding live_on tape_of
 live_on-none machine slot = refl
 
--- and none is at rest
 pub none-rests : (reel : Name) (b : Bool) → rests [] reel ≡ true → b ≡ true
 unfolding left_of
 none-rests reel b rest = cc

@@ -1,5 +1,5 @@
--- What is told of a floor.
-use Rattle.std.proofs.Common.{◌≡◌, ℕ, nat_lt, Bool, true, false, Option, Some, None, [], ◌∷◌, All, is_some, unwrap_or, refl, sym, ap, subst, ◌∙◌}
+-- The facts of a floor, from rows.
+use Rattle.std.proofs.Common.{◌≡◌, ℕ, nat_lt, Bool, true, false, Some, None, List, [], ◌∷◌, All, is_some, unwrap_or, refl, sym, ap, subst, ◌∙◌}
 use Rattle.std.specs.Prelude.{◌&&◌}
 use Rattle.std.specs.Option.{option_map}
 use Rattle.std.specs.Cmp.Lexicographic.{nat_list_eq_equiv}
@@ -8,7 +8,8 @@ use Rattle.desk_types.specs.declared.rules.Rules.TheVariants.{Two}
 use Rattle.desk_types.specs.Id.{Name}
 use Rattle.desk_types.specs.History.{History, desk_minute, now_of}
 use Rattle.desk_types.specs.Setup.{receipt_of}
-use Rattle.desk_types.specs.Pieces.{left_of, is_mounted}
+use Rattle.desk_types.specs.Pieces.{left_of, live_on, is_mounted}
+use Rattle.state_rows.specs.Kept.{KeptRows}
 use Rattle.desk_types.specs.View.{view_of, reel_view}
 use Rattle.desk_types.specs.Free.{free_reels}
 use Rattle.desk_types.specs.Judged.{IsJudged}
@@ -16,30 +17,20 @@ use Rattle.desk_laws.specs.Place.{place_of}
 use Rattle.desk_laws.proofs.Balance.{unreceived-empty}
 use Rattle.desk_laws.proofs.Mounted.{mounted-is}
 use Rattle.desk_laws.proofs.Mounts.{live-received}
-use Rattle.entry_search.specs.Floor.{tape_at}
-use Rattle.feeder_state.specs.declared.floor.Floor.{Floor}
-use Rattle.feeder_state.specs.declared.held.Held.{Held}
-use Rattle.feeder_state.specs.Floor.{IsFloor}
-use Rattle.feeder_state.specs.Held.{held_at, IsHeldOf}
-use Rattle.feeder_state.specs.Told.{IsTold}
+use Rattle.feeder_state.specs.Rows.{AreRowsAt}
 
 -- ---- reels
 
--- the desk minute of a list of which it is told
-pub told-now : (H : History) (floor : Floor) (minute : ℕ) → IsTold H floor (Some minute) → now_of H ≡ minute
-told-now H floor minute told = ap (λ o. unwrap_or o 0) (sym told.is_minute)
+pub told-now : (H : History) (minute : ℕ) (rows : KeptRows) → AreRowsAt H (Some minute) rows → now_of H ≡ minute
+told-now H minute rows told = ap (λ o. unwrap_or o 0) (sym told.minute_is)
 
--- a reel that is not held was not received, and nothing is told of it
-pub absent-view : (H : History) (name : Name) (found : Option Held) → IsHeldOf H name found → found ≡ None → reel_view H name ≡ None
-absent-view H name None is_held is = ap (option_map (view_of H name)) is_held
-absent-view H name (Some held) is_held is = cc
+pub absent-view : (H : History) (name : Name) → receipt_of H name ≡ None → reel_view H name ≡ None
+absent-view H name none = ap (option_map (view_of H name)) none
 
--- nothing is left of a reel that is not held
-pub absent-left : (H : History) (name : Name) → IsJudged Two H → IsHeldOf H name None → 0 ≡ left_of H name
+pub absent-left : (H : History) (name : Name) → IsJudged Two H → receipt_of H name ≡ None → 0 ≡ left_of H name
 absent-left H name judged none = sym (unreceived-empty H name judged none)
 
--- and it is on no slot
-pub absent-mounted : (H : History) (name : Name) → IsJudged Two H → IsHeldOf H name None → false ≡ is_mounted H name
+pub absent-mounted : (H : History) (name : Name) → IsJudged Two H → receipt_of H name ≡ None → false ≡ is_mounted H name
 absent-mounted H name judged none =
     by (is_some (place_of H name)) ∙ ap (λ n. is_some (place_of H name) && nat_lt 0 n) (absent-left H name judged none) ∙ sym (mounted-is H name judged)
   where
@@ -47,24 +38,11 @@ absent-mounted H name judged none =
     by true = refl
     by false = refl
 
--- ---- slots
+pub all-received : (H : History) (tape : List Name) (machine slot : Name) → IsJudged Two H → tape ≡ live_on H machine slot → All (λ name. is_some (receipt_of H name) ≡ true) tape
+all-received H tape machine slot judged is =
+    subst (All (λ name. is_some (receipt_of H name) ≡ true)) (sym is)
+    (All-from_any nat_list_eq_equiv (λ name. is_some (receipt_of H name) ≡ true) _ (λ name there. live-received H machine slot name judged there))
 
--- a received reel is held
-held-there : (H : History) (name : Name) (found : Option Held) → IsHeldOf H name found → is_some (receipt_of H name) ≡ true → is_some found ≡ true
-held-there H name None is_held received = sym (ap is_some is_held) ∙ received
-held-there H name (Some held) is_held received = refl
-
--- Each reel of a tape is held.
-pub all-held : (H : History) (floor : Floor) (machine slot : Name) → IsJudged Two H → IsFloor H floor
-    → All (λ name. is_some (held_at floor.reels name) ≡ true) (tape_at floor.tapes machine slot)
-all-held H floor machine slot judged is_floor =
-    subst (All (λ name. is_some (held_at floor.reels name) ≡ true)) (sym (is_floor.tapes machine slot))
-    (All-from_any nat_list_eq_equiv (λ name. is_some (held_at floor.reels name) ≡ true) _
-    (λ name is. held-there H name (held_at floor.reels name) (is_floor.reels name) (live-received H machine slot name judged is)))
-
--- ---- free reels
-
--- where nothing is accepted, no reel is free
 pub none-free : (H : History) (part : Name) → desk_minute H ≡ None → [] ≡ free_reels H part
 none-free [] part none = refl
 none-free (e ∷ H) part none = cc

@@ -71,11 +71,9 @@ by_turn-exact H a b is = exact_bytes a b (second (by_left (life_left H a) (life_
     second Equal y is = is
     second Greater y is = cc
 
--- the free reels among some reels, in their order
 abbrev pub free_in : History → Name → List Name → List Name
 free_in H part reels = in_order (by_turn H) (filter (λ r. is_free H part r) reels)
 
--- lists that have the same free reels
 free-same : (H : History) (part : Name) (xs ys : List Name) → ((r : Name) → is_free H part r ≡ true → has xs r ≡ has ys r) → free_in H part xs ≡ free_in H part ys
 free-same H part xs ys agree =
     in_order-same (by_turn H) (by_turn-total H) (by_turn-exact H) (filter (λ r. is_free H part r) xs) (filter (λ r. is_free H part r) ys)
@@ -85,7 +83,6 @@ free-same H part xs ys agree =
     where-free true a b is = is refl
     where-free false a b is = refl
 
--- one reel more
 pub turn-next : (H : History) (part : Name) (reels : List Name) (reel : Name) (turns : List (Left × Name)) → turns ≡ map (turn_of H) (free_in H part reels)
     → option_map_or (insert_key by_life turns) (option_map (turn_of H) (if_free H part reel)) turns ≡ map (turn_of H) (free_in H part (reels ++ reel ∷ []))
 turn-next H part reels reel turns is = turn-put H part reels reel turns is ∙ ap (map (turn_of H)) (free-same H part (reel ∷ reels) (reels ++ reel ∷ []) (λ r free. joined r))
@@ -101,7 +98,6 @@ turn-next H part reels reel turns is = turn-put H part reels reel turns is ∙ a
 
 -- ---- the reels at rest
 
--- a reel that was received is among the received ones
 received-has : (H : History) (r : Name) → is_some (receipt_of H r) ≡ has (reels_received H) r
 received-has [] r = refl
 received-has (e ∷ H) r = by e.stamped.command (received-has H r)
@@ -118,7 +114,6 @@ received-has (e ∷ H) r = by e.stamped.command (received-has H r)
         ∙ ap (λ b. b || has (reels_received H) r) (same-sym x r)
     by _ rest = rest
 
--- a reel that is free is at rest
 free-rests : (H : History) (part reel : Name) → is_free H part reel ≡ true → rests H reel ≡ true
 free-rests H part reel =
     by (is_allowed H part (part_of H reel)) (not (is_mounted H reel)) (nat_lt 0 (left_of H reel)) (not (is_unbaked H reel)) (not (is_expired H reel (now_of H)))
@@ -129,7 +124,7 @@ free-rests H part reel =
     by true false some c d is = cc
     by false off some c d is = cc
 
--- The free reels among those that may be at rest are those of the list.
+-- The free reels among those that may be at rest are those of the history.
 pub free-resting : (H : History) (part : Name) (resting : BTreeSet Name) → IsJudged Two H → ((r : Name) → rests H r ≡ true → is_resting resting r ≡ true)
     → free_in H part resting.keys ≡ free_in H part (reels_received H)
 free-resting H part resting judged all =

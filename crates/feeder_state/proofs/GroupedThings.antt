@@ -5,13 +5,11 @@ use Rattle.std.specs.List.{cons_option, list_any}
 use Rattle.std.proofs.lemmas.List.Folds.{list_any-append}
 use Rattle.desk_types.specs.Id.{Name, same}
 
--- One thing more is gathered where it is here; of another key the things are as before.
 pub grouped : {X : Type 0} (here : Bool) (at old new : List X) (x : X) (rest : List X) → new ≡ cond here (at ++ x ∷ []) old → (here ≡ true → at ≡ old)
     → new ++ rest ≡ old ++ cons_option (if here then Some x else None) rest
 grouped true at old new x rest put one = ap (λ l. l ++ rest) (put ∙ ap (λ l. l ++ x ∷ []) (one refl)) ∙ append_assoc old (x ∷ []) rest
 grouped false at old new x rest put one = ap (λ l. l ++ rest) put
 
--- The same of names, by what is among them.
 pub grouped-name : (here : Bool) (at old new : List Name) (x d : Name) (rest : Bool) → new ≡ cond here (at ++ x ∷ []) old → (here ≡ true → at ≡ old)
     → (list_any (same d) new || rest) ≡ (list_any (same d) old || ((here && same d x) || rest))
 grouped-name true at old new x d rest put one =

@@ -17,7 +17,7 @@ use Rattle.desk_types.proofs.Keys.{same-refl, same-true}
 use Rattle.desk_types.proofs.Tests.{swap-or}
 use Rattle.desk_laws.proofs.Mounts.{has, has-filter}
 
--- ---- what holds of all names
+-- ---- facts about all names
 
 all-at : (P : Name → Type 0) (names : List Name) (r : Name) → AllByRecursion P names → has names r ≡ true → P r
 all-at P [] r all there = cc
@@ -35,7 +35,6 @@ twice-or : (a b : Bool) → (a || (a || b)) ≡ (a || b)
 twice-or true b = refl
 twice-or false b = refl
 
--- what is neither before nor behind is the same
 level : (a b : Ordering) → a ≡ ordering_reverse b → is_gt a ≡ false → is_gt b ≡ false → a ≡ Equal
 level Less Less turned up down = cc
 level Less Equal turned up down = cc
@@ -44,7 +43,6 @@ level Equal b turned up down = refl
 level Greater b turned up down = cc
 
 module _ (R : Name → Name → Ordering) (o : IsTotalOrder R) (exact : CmpEqualImpliesEq R) where
-  -- the first of some names is behind none of them
   first-least : (x y : Name) (ys : List Name) → AllByRecursion (λ z. R y z ≡ Less) ys → has (y ∷ ys) x ≡ true → is_gt (R y x) ≡ false
   first-least x y ys before there = by (same x y) refl there
     where
@@ -52,7 +50,6 @@ module _ (R : Name → Name → Ordering) (o : IsTotalOrder R) (exact : CmpEqual
       by true here there = ap (λ z. is_gt (R y z)) (same-true x y here) ∙ ap is_gt (tied_itself o y)
       by false away there = ap is_gt (all-at (λ z. R y z ≡ Less) ys x before there)
 
-  -- and stands there once
   not-again : (x : Name) (xs : List Name) → AllByRecursion (λ z. R x z ≡ Less) xs → has xs x ≡ false
   not-again x xs before = by (has xs x) refl
     where
@@ -60,7 +57,6 @@ module _ (R : Name → Name → Ordering) (o : IsTotalOrder R) (exact : CmpEqual
       by true there = let itself = tied_itself o x in let less = all-at (λ z. R x z ≡ Less) xs x before there in cc
       by false away = away
 
-  -- Lists in the order with the same names are one.
   pub ordered-same : (xs ys : List Name) → IsStrictlySortedBy R xs → IsStrictlySortedBy R ys → ((r : Name) → has xs r ≡ has ys r) → xs ≡ ys
   unfolding IsStrictlySortedBy
   ordered-same [] [] up up' agree = refl
@@ -124,15 +120,13 @@ module _ (R : Name → Name → Ordering) (o : IsTotalOrder R) (exact : CmpEqual
   has-in_order [] r = refl
   has-in_order (x ∷ xs) r = has-put (in_order R xs) x r ∙ ap (λ b. same r x || b) (has-in_order xs r)
 
-  -- Put in order, names are the same list in whichever order they stood before.
   pub in_order-same : (xs ys : List Name) → ((r : Name) → has xs r ≡ has ys r) → in_order R xs ≡ in_order R ys
   in_order-same xs ys agree =
       ordered-same (in_order R xs) (in_order R ys) (in_order-ordered xs) (in_order-ordered ys)
       (λ r. has-in_order xs r ∙ agree r ∙ sym (has-in_order ys r))
 
-  -- ---- what is told of names in order
+  -- ---- results for names in order
 
-  -- names of which nothing is told add nothing
   told-some : {X : Type 0} (tell : Name → List X) (some : Name → Bool) → ((r : Name) → some r ≡ false → tell r ≡ []) → (names : List Name)
       → flat_map tell names ≡ flat_map tell (filter (λ r. some r) names)
   told-some tell some none [] = refl
@@ -143,7 +137,6 @@ module _ (R : Name → Name → Ordering) (o : IsTotalOrder R) (exact : CmpEqual
       by true is rest = rw rest refl
       by false is rest = rw (none x is) rest
 
-  -- The same is told of lists in the order with the same names of which something is told.
   pub told-same : {X : Type 0} (tell : Name → List X) (some : Name → Bool) → ((r : Name) → some r ≡ false → tell r ≡ []) → (xs ys : List Name)
       → IsStrictlySortedBy R xs → IsStrictlySortedBy R ys → ((r : Name) → some r ≡ true → has xs r ≡ has ys r) → flat_map tell xs ≡ flat_map tell ys
   told-same tell some none xs ys up up' agree =

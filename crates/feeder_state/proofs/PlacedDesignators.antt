@@ -25,7 +25,6 @@ use Rattle.feeder_state.proofs.FilledMaps.{AreOf, each-of}
 
 -- ---- lists of one table
 
--- what is found is among the rows
 found-any : {K X : Type 0} (cmp : K → K → Ordering) (test : X → Bool) (key : K) (x : X) (es : List (K × X)) → row_at cmp es key ≡ Some x → test x ≡ true → list_any (λ e. test e.1) es ≡ true
 found-any {X = X} cmp test key x [] is passes = cc
 found-any {X = X} cmp test key x (e ∷ es) is passes = by (is_at (cmp key) e.0) is (λ rest. found-any cmp test key x es rest passes)
@@ -50,7 +49,6 @@ weaker : {K X : Type 0} (f g : K → Option X) → ((k : K) → f k ≡ g k) →
 weaker f g is [] each = tt
 weaker f g is (e ∷ es) (first, each) = (sym (is e.0) ∙ first, weaker f g is es each)
 
--- Two lists of one table have the same rows.
 pub any-same : {K X : Type 0} (cmp : K → K → Ordering) → IsTotalOrder cmp → (test : X → Bool) (table : K → Option X) (xs ys : List (K × X)) → Lists cmp xs table → Lists cmp ys table
     → list_any (λ e. test e.1) xs ≡ list_any (λ e. test e.1) ys
 any-same cmp o test table xs ys of_xs of_ys =
@@ -59,11 +57,9 @@ any-same cmp o test table xs ys of_xs of_ys =
 
 -- ---- placed designators
 
--- whether the row is of the designator of the board
 abbrev pub is_of : Name → Name → PlacementRow → Bool
 is_of board d row = same board row.board && same d row.designator
 
--- whether a row is
 abbrev pub is_spot : Name → Name → List ((ℕ × ℕ) × PlacementRow) → Bool
 is_spot board d entries = list_any (λ (e : (ℕ × ℕ) × PlacementRow). is_of board d e.1) entries
 
@@ -74,7 +70,6 @@ spots-any : (board d : Name) (ps : List Placement) → is_spot board d (map entr
 spots-any board d [] = refl
 spots-any board d (p ∷ ps) = ap (λ b. (same board p.board && same d p.designator) || b) (spots-any board d ps)
 
--- A designator of a board is placed exactly where a row is of it.
 pub rows-placed : (H : History) (board d : Name) (es : List ((ℕ × ℕ) × PlacementRow)) → IsJudged Two H → Lists by_piece es (λ k. placement_row H k.0 k.1) → is_spot board d es ≡ is_placed_on H board d
 rows-placed H board d es judged lists =
     any-same by_piece by_piece-total (is_of board d) (λ k. placement_row H k.0 k.1) es (piece_entries H) lists (pieces-listed H judged)

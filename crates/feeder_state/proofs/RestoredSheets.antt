@@ -35,11 +35,9 @@ use Rattle.feeder_state.proofs.FilledMaps.{AreOf, each-of}
 
 -- ---- the rows of one sheet
 
--- the rows of a sheet among rows with their keys
 abbrev pub rows_in : Name → Name → List ((Name × Name × ℕ) × SheetRow) → List SheetRow
 rows_in product machine entries = filter_map (λ (e : (Name × Name × ℕ) × SheetRow). if same e.0.0 product && same e.0.1 machine then Some e.1 else None) entries
 
--- the same with their places
 abbrev placed_in : Name → Name → List ((Name × Name × ℕ) × SheetRow) → List (ℕ × SheetRow)
 placed_in product machine entries =
     filter_map (λ (e : (Name × Name × ℕ) × SheetRow). if◌then◌else◌ {A = Option (ℕ × SheetRow)} (same e.0.0 product && same e.0.1 machine) (Some (e.0.2, e.1)) None) entries
@@ -54,7 +52,6 @@ placed-rows product machine (e ∷ es) = by (same e.0.0 product && same e.0.1 ma
     by true rest = ap (λ rows. e.1 ∷ rows) rest
     by false rest = rest
 
--- Where the keys are in order, so are the places of a sheet.
 placed-ordered : (product machine : Name) (es : List ((Name × Name × ℕ) × SheetRow)) → IsStrictlySortedBy by_sheet_place (keys_of es)
     → IsStrictlySortedBy nat_cmp (keys_of (placed_in product machine es))
 unfolding IsStrictlySortedBy
@@ -101,7 +98,6 @@ same-place a b = by (nat_lt a b) refl (a == b) refl
     by false is true at = refl
     by false is false at = refl
 
--- A place of the sheet is found where its key is.
 placed-found : (product machine : Name) (es : List ((Name × Name × ℕ) × SheetRow)) (k : ℕ)
     → row_at nat_cmp (placed_in product machine es) k ≡ row_at by_sheet_place es (product, machine, k)
 placed-found product machine [] k = refl
@@ -124,7 +120,6 @@ placed-found product machine (e ∷ es) k =
 
 -- ---- rows at places from n on
 
--- no place is found before those that are there
 none-before : (n k : ℕ) (xs : List (ℕ × SheetRow)) → k ≤ n → AllByRecursion (λ q. nat_cmp n q ≡ Less) (keys_of xs) → row_at nat_cmp xs k ≡ None
 none-before n k [] le all = refl
 none-before n k (x ∷ xs) le (first, all) = ap (λ b. cond b (Some x.1) (row_at nat_cmp xs k)) away ∙ none-before n k xs le all
@@ -137,7 +132,6 @@ none-before n k (x ∷ xs) le (first, all) = ap (λ b. cond b (Some x.1) (row_at
     away : is_eq (nat_cmp k x.0) ≡ false
     away = same-place k x.0 ∙ ne_eqb k x.0 (λ one. let below = less (nat_lt n x.0) refl (n == x.0) first in omega (arith, one, below, le))
 
--- Rows that are found at the places from n on as those of a list are that list.
 from-place : (n : ℕ) (rows : List SheetRow) (xs : List (ℕ × SheetRow)) → IsStrictlySortedBy nat_cmp (keys_of xs) → ((k : ℕ) → row_at nat_cmp xs k ≡ at_place n rows k)
     → map (λ (x : ℕ × SheetRow). x.1) xs ≡ rows
 unfolding IsStrictlySortedBy
@@ -177,7 +171,6 @@ from-place n (r ∷ rs) (x ∷ xs) (above, up) agree =
 
 -- ---- all of a sheet's rows
 
--- A sheet has as many rows as it may have.
 sheet-range : (H : History) (product machine : Name) (rows : List SheetRow) → IsJudged Two H → sheet_of H product machine ≡ Some rows → IsListLength (length rows)
 sheet-range [] product machine rows judged is = cc
 sheet-range (e ∷ H) product machine rows (next, judged) is = by (sheet_by product machine e.stamped.command) refl is (sheet-range H product machine rows judged)
@@ -195,7 +188,6 @@ sheet-range (e ∷ H) product machine rows (next, judged) is = by (sheet_by prod
     by None says is before = before is
     by (Some rs) says is before = named e.stamped.command next.in_range.stamped.command (says ∙ is)
 
--- The rows of the table give each sheet again.
 pub sheet-again : (H : History) (product machine : Name) (es : List ((Name × Name × ℕ) × SheetRow)) → IsJudged Two H
     → Lists by_sheet_place es (λ k. sheet_row H k.0 k.1 k.2) → sheet_in (rows_in product machine es) ≡ sheet_of H product machine
 sheet-again H product machine es judged lists = by (sheet_of H product machine) refl
@@ -238,7 +230,6 @@ sheet-has (e ∷ H) product machine rows is = by e.stamped.command is (sheet-has
     by (SheetDefined p m rs) is before = here (same p product) (same m machine) rs is before
     by _ is before = before is
 
--- the machine has a sheet of some product
 record HasSheet (H : History) (machine : Name) : Type 0 where
   product : Name
   rows : List SheetRow
@@ -270,7 +261,6 @@ has-sheet (e ∷ H) machine has = by e.stamped.command refl has (has-sheet H mac
     by (SheetDefined p m rs) command has rest = here p m rs command (same m machine) refl has rest
     by _ command has rest = before (rest has)
 
--- whether a row is of the machine
 abbrev pub is_for : Name → List ((Name × Name × ℕ) × SheetRow) → Bool
 is_for machine entries = list_any (λ (e : (Name × Name × ℕ) × SheetRow). same e.0.1 machine) entries
 
@@ -299,7 +289,6 @@ found-for product machine place row (e ∷ es) is =
     by true false c on is rest = or_right (same e.0.1 machine) (is_for machine es) (rest is)
     by false false c on is rest = or_right (same e.0.1 machine) (is_for machine es) (rest is)
 
--- A machine has a sheet exactly where a row is of it.
 pub rows-for : (H : History) (machine : Name) (es : List ((Name × Name × ℕ) × SheetRow)) → IsJudged Two H → Lists by_sheet_place es (λ k. sheet_row H k.0 k.1 k.2)
     → is_for machine es ≡ has_sheet H machine
 rows-for H machine es judged lists = iff _ _ (row-has H machine es (each-of by_sheet_place by_sheet_place-total es (λ k. sheet_row H k.0 k.1 k.2) lists)) (λ has. back (has-sheet H machine has))
@@ -311,9 +300,6 @@ rows-for H machine es judged lists = iff _ _ (row-has H machine es (each-of by_s
         by [] is few = absurd (omega (arith, few.0))
         by (r ∷ rs) is few = found-for sheet.product machine 1 r es (lists.rows (sheet.product, machine, 1) ∙ ap (λ o. option_and_then (λ rows. at_place 1 rows 1) o) is)
 
--- ---- groups
-
--- what a group gives is what its rows give
 pub group-sheet : (found : Option (List SheetRow)) → option_and_then sheet_in found ≡ sheet_in (unwrap_or found [])
 group-sheet None = refl
 group-sheet (Some rows) = refl

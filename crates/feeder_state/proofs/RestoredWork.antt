@@ -18,7 +18,6 @@ use Rattle.desk_types.specs.Tables.{board_row, work_machine}
 use Rattle.state_rows.proofs.DesksOfRows.{machine_in, work-on_row, in_work-row}
 use Rattle.feeder_state.proofs.FilledMaps.{AreOf, others}
 
--- the product of a board by its row
 pub product-row : (H : History) (board : Name) → option_and_then (λ (r : BoardRow). Some r.product) (board_row H board) ≡ product_of H board
 product-row H board = by (product_of H board)
   where
@@ -28,11 +27,9 @@ product-row H board = by (product_of H board)
 
 -- ---- rows with a property
 
--- whether a row of the key has the property
 abbrev pub has_such : {X : Type 0} → (X → Bool) → Name → List (Name × X) → Bool
 has_such such key entries = list_any (λ e. such e.1 && same e.0 key) entries
 
--- Where the rows are of a table, some row of the key has the property where the table's has.
 pub such-found : {X : Type 0} (such : X → Bool) (key : Name) (table : Name → Option X) (es : List (Name × X)) → AreOf table es
     → has_such such key es ≡ (is_some (row_at by_name es key) && option_map_or such (table key) false)
 such-found such key table [] each = refl
@@ -62,7 +59,6 @@ such-found such key table (e ∷ es) (first, each) =
         ∙ both (such e.1) (is_some (row_at by_name es key)) (option_map_or such (table key) false) (sym (ap (λ o. option_map_or such o false) found))
     by false away rest = ap (λ b. b || has_such such key es) (and-false (such e.1)) ∙ rest
 
--- where the list is all of the table
 pub such-all : {X : Type 0} (such : X → Bool) (key : Name) (table : Name → Option X) (es : List (Name × X)) → AreOf table es → ((k : Name) → row_at by_name es k ≡ table k)
     → has_such such key es ≡ option_map_or such (table key) false
 such-all such key table es each found =
@@ -72,7 +68,6 @@ such-all such key table es each found =
     by None = refl
     by (Some x) = refl
 
--- what is among the things of a key
 pub among-group : (d key : Name) (entries : List (Name × List Name)) → option_map_or (list_any (same d)) (row_at by_name entries key) false ≡ list_any (same d) (unwrap_or (row_at by_name entries key) [])
 among-group d key entries = by (row_at by_name entries key)
   where
@@ -94,7 +89,7 @@ busy-row H board judged = by (board_row H board) ∙ sym (in_work-row H board ju
 
 -- ---- boards on machines
 
--- what is in work on a machine is there where no row of its board is left, and nothing else is
+-- The map has the boards in work that have no remaining row, and nothing else.
 pub record IsRunning (left : List (Name × BoardRow)) (work now : Option Name) : Type 0 where
   pub done : (board : Name) → work ≡ Some board → row_at by_name left board ≡ None → now ≡ Some board
   pub sound : (board : Name) → now ≡ Some board → work ≡ Some board
@@ -106,7 +101,6 @@ running-first H machine es now judged found none = record {
   sound = λ board is. cc;
 }
 
--- one row more
 pub running-next : (H : History) (machine board : Name) (row : BoardRow) (left : List (Name × BoardRow)) (now new : Option Name) → IsJudged Two H → board_row H board ≡ Some row
     → IsRunning ((board, row) ∷ left) (in_work_on H machine) now → new ≡ option_map_or (λ m. cond (same m machine) (Some board) now) row.machine now
     → IsRunning left (in_work_on H machine) new

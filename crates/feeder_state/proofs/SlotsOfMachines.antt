@@ -31,11 +31,9 @@ use Rattle.feeder_state.proofs.NamesInOrder.{in_order-ordered, told-same}
 pub by_pair-total : IsTotalOrder by_pair
 by_pair-total = then_total (on_total (λ (k : Name × Name). k.0) nat_list_cmp_total) (on_total (λ (k : Name × Name). k.1) nat_list_cmp_total)
 
--- the slots of the machine among machines with slots
 abbrev pub slots_among : Name → List (Name × Name) → List Name
 slots_among machine keys = filter_map (λ (k : Name × Name). if same k.0 machine then Some k.1 else None) keys
 
--- Where the pairs are in order, so are the slots.
 slots-ordered : (machine : Name) (keys : List (Name × Name)) → IsStrictlySortedBy by_pair keys → IsStrictlySortedBy by_name (slots_among machine keys)
 unfolding IsStrictlySortedBy
 slots-ordered machine [] up = tt
@@ -62,7 +60,6 @@ slots-ordered machine (k ∷ ks) (before, up) = by (same k.0 machine) refl (slot
     by true here rest = (later here ks before, rest)
     by false away rest = rest
 
--- A slot of the machine is among them where something is found there.
 slot-there : {V : Type 0} (machine slot : Name) (entries : List ((Name × Name) × V))
     → has (slots_among machine (keys_of entries)) slot ≡ is_some (lookup (is_at (by_pair (machine, slot))) entries)
 slot-there machine slot [] = refl
@@ -84,7 +81,6 @@ slot-there machine slot (e ∷ entries) =
 
 -- ---- slots with live reels
 
--- whether the slot has a live reel
 abbrev is_taken : History → Name → Name → Bool
 is_taken H machine slot = is_some (first (live_on H machine slot))
 
@@ -112,7 +108,7 @@ set-in_order (x ∷ xs) = ap (λ names. insert_key by_name names x) (set-in_orde
 set-ordered : (names : List Name) → IsStrictlySortedBy by_name (set_of names)
 set-ordered names = subst (IsStrictlySortedBy by_name) (set-in_order names) (in_order-ordered by_name nat_list_cmp_total exact_bytes names)
 
--- What is told of the slots in the map is what is told of those that were ever loaded.
+-- The slots in the map give the same result as all slots that were ever loaded.
 pub told-loaded : (H : History) (machine : Name) (tapes : BTreeMap (Name × Name) (List Name)) → IsStrictlySortedBy by_pair (keys_of tapes.entries)
     → ((slot : Name) → tape_at tapes machine slot ≡ live_on H machine slot)
     → flat_map (slot_mounts H machine) (slots_among machine (keys_of tapes.entries)) ≡ flat_map (slot_mounts H machine) (loaded_slots H machine)

@@ -8,7 +8,6 @@ use Rattle.std.proofs.lemmas.List.Sorted.{list_any-IsPermutation}
 use Rattle.std.proofs.lemmas.List.Folds.{list_any-append}
 use Rattle.desk_types.specs.Id.{Name, same}
 
--- what old names and some more have when they are sorted together
 pub gathered : (old more both all : List Name) → both ≡ old ++ more → IsPermutation both all → (d : Name)
     → list_any (same d) all ≡ (list_any (same d) more || list_any (same d) old)
 gathered old more both all joined moved d =

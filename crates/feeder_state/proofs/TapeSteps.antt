@@ -34,7 +34,6 @@ use Rattle.feeder_state.specs.Spending.{is_spent_by}
 
 -- ---- filters
 
--- tests that agree on the reels keep the same of them
 filter-on : (p q : Name → Bool) (reels : List Name) → ((r : Name) → has reels r ≡ true → p r ≡ q r) → filter p reels ≡ filter q reels
 filter-on p q [] agree = refl
 filter-on p q (x ∷ xs) agree =
@@ -45,7 +44,6 @@ filter-on p q (x ∷ xs) agree =
     later true b is = refl
     later false b is = is
 
--- what all of them pass keeps all
 pub all-kept : (p : Name → Bool) (reels : List Name) → ((r : Name) → has reels r ≡ true → p r ≡ true) → filter p reels ≡ reels
 all-kept p reels passes = filter-on p (λ r. true) reels passes ∙ all reels
   where
@@ -55,7 +53,6 @@ all-kept p reels passes = filter-on p (λ r. true) reels passes ∙ all reels
 
 -- ---- entries that take pieces
 
--- of the picks off a live reel, one comes off its slot
 pieces_picked-there : (H : History) (machine slot reel : Name) (picks : List Pick) → AllByRecursion (IsOnItsSlot (live_on H)) picks → has (live_on H machine slot) reel ≡ true
     → 0 < pieces_picked picks reel → list_any (λ (p : Pick). comes_off p.purpose machine slot && same p.reel reel) picks ≡ true
 pieces_picked-there H machine slot reel [] alone live some = absurd (omega (arith, some))
@@ -71,7 +68,6 @@ pieces_picked-there H machine slot reel (p ∷ ps) alone live some =
     by false one all rest =
         ap (λ b. b || list_any (λ (q : Pick). comes_off q.purpose machine slot && same q.reel reel) ps) (and-false (comes_off p.purpose machine slot)) ∙ rest (omega (arith, all, some))
 
--- a take comes off where its pick does
 spent-map : (H : History) (minute : ℕ) (left : Name → ℕ) (machine slot reel : Name) (picks : List Pick)
     → list_any (is_spent_by left machine slot reel) (map (take_of H minute) picks) ≡ (list_any (λ (p : Pick). comes_off p.purpose machine slot && same p.reel reel) picks && (left reel == 0))
 spent-map H minute left machine slot reel [] = refl
@@ -106,7 +102,6 @@ zero-is n true is = by (n == 0) refl
     by true none = let more = ltb-true 0 n is in let empty : n ≡ 0 = eqb-true n 0 none in absurd (omega (arith, more, empty))
 zero-is n false is = let few = ltb-false 0 n is in let none : n ≡ 0 = omega (arith, few) in ap (λ m. m == 0) none
 
--- The live reels without those that the takes spent are the live reels after the entry.
 pub lives-taken : (H : History) (e : Entry) (command : Command) (at : ℕ) (takes : List Take) (left : Name → ℕ) (machine slot : Name) → IsNoted H e command at takes
     → may_take command ≡ true → ((r : Name) → left r ≡ left_of (e ∷ H) r)
     → filter (λ r. not (list_any (is_spent_by left machine slot r) takes)) (live_on H machine slot) ≡ live_on (e ∷ H) machine slot
@@ -149,7 +144,6 @@ takes-none H name (MaterialsScrapped machine slot quantity) is = cc
 takes-none H name (CountsTaken counts) is = cc
 takes-none H name _ is = (refl, refl)
 
--- a reel with pieces left keeps them
 some-stay : (H : History) (e : Entry) (name : Name) → IsJudged Two (e ∷ H) → may_take e.stamped.command ≡ false → nat_lt 0 (left_of H name) ≡ true → nat_lt 0 (left_of (e ∷ H) name) ≡ true
 some-stay H e name (next, judged) is some = by (receipt_by name e.effective e.stamped.command) refl
   where
@@ -164,7 +158,6 @@ some-stay H e name (next, judged) is some = by (receipt_by name e.effective e.st
         let more = ltb-true 0 (left_of H name) some in
         absurd (omega (arith, empty, more))
 
--- the reels that an accepted command leaves on a slot had pieces left
 had-pieces : (H : History) (minute : ℕ) (machine slot : Name) (command : Command) → command_refusal Two H minute command ≡ None
     → (r : Name) → has (tape_after machine slot command (live_on H machine slot)) r ≡ true → nat_lt 0 (left_of H r) ≡ true
 unfolding command_refusal
@@ -204,7 +197,6 @@ had-pieces H minute machine slot (MaterialsUnloaded m s) accepted r = by (same m
     by false there = live-pieces H machine slot r there
 had-pieces H minute machine slot _ accepted r = live-pieces H machine slot r
 
--- What a command makes of the live reels that takes no pieces are the live reels after it.
 pub lives-kept : (H : History) (e : Entry) (machine slot : Name) → IsJudged Two (e ∷ H) → may_take e.stamped.command ≡ false
     → tape_after machine slot e.stamped.command (live_on H machine slot) ≡ live_on (e ∷ H) machine slot
 lives-kept H e machine slot judged is =

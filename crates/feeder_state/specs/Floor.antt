@@ -1,15 +1,13 @@
--- The shop floor as the list left it.
+-- The shop floor of a history, in addition to the rows.
 use Rattle.std.specs.Prelude.{◌≡◌, true}
 use Rattle.desk_types.specs.Id.{Name}
 use Rattle.desk_types.specs.History.{History}
 use Rattle.desk_types.specs.Pieces.{live_on}
 use Rattle.entry_search.specs.Floor.{tape_at}
 use Rattle.feeder_state.specs.declared.floor.Floor.{Floor}
-use Rattle.feeder_state.specs.Held.{AreHeld}
 use Rattle.feeder_state.specs.Resting.{rests, is_resting}
 
--- Each reel is as the list left it, each tape holds the live reels of its slot, and each reel at rest is among those that may be.
+-- Each tape holds the live reels of its slot, and each reel at rest is among those that may be.
 pub record IsFloor (H : History) (floor : Floor) : Type 0 where
-  pub reels : AreHeld H floor.reels
   pub tapes : (machine slot : Name) → tape_at floor.tapes machine slot ≡ live_on H machine slot
   pub resting : (reel : Name) → rests H reel ≡ true → is_resting floor.resting reel ≡ true

@@ -1,32 +1,37 @@
--- Reels as the list left them, each with whether it is on a slot.
-use Rattle.std.specs.Prelude.{◌≡◌, ℕ, ◌≤◌, nat_lt, Bool, ◌&&◌, Option, Some, None}
-use Rattle.std.specs.Option.{option_map_or, ForSome}
-use Rattle.std.specs.BTreeMap as tree
-use Rattle.std.specs.BTreeMap.{BTreeMap}
-use Rattle.desk_types.specs.Id.{Name, by_name}
+-- Reels as rows have them, each with whether it is on a slot.
+use Rattle.std.specs.Prelude.{◌≡◌, ℕ, ◌-◌, ◌≤◌, nat_lt, nat_le, ◌==◌, Bool, ◌&&◌, Option, Some, None}
+use Rattle.std.specs.Option.{option_map}
+use Rattle.desk_types.specs.declared.limits.TheConstants.{GREATEST_LABEL}
+use Rattle.desk_types.specs.Id.{Name}
 use Rattle.desk_types.specs.History.{History, now_of}
 use Rattle.desk_types.specs.Setup.{receipt_of}
 use Rattle.desk_types.specs.Pieces.{left_of, placed_of, scrapped_of, found_of, is_mounted}
+use Rattle.reels.specs.declared.reel.Reel.{Reel}
 use Rattle.reels.specs.Reel.{StandsFor}
+use Rattle.desk_types.specs.declared.row.ReelRow.{ReelRow}
 use Rattle.feeder_state.specs.declared.held.Held.{Held}
 
--- the reel of this name
-abbrev pub held_at : BTreeMap Name Held → Name → Option Held
-held_at reels name = tree.get by_name reels name
-
--- the pieces left of a reel, where it is there
-abbrev pub left_in : Option Held → ℕ
-left_in held = option_map_or (λ (h : Held). h.reel.remaining) held 0
-
--- the pieces left of the reel of this name
-abbrev pub left_at : BTreeMap Name Held → Name → ℕ
-left_at reels name = left_in (held_at reels name)
-
--- whether the reel is on a slot and has pieces left
+-- Whether the reel is on a slot and has pieces left.
 abbrev pub is_live : Held → Bool
 is_live held = held.on_slot && nat_lt 0 held.reel.remaining
 
--- The reel is as the list left the reel of this name: its receipt and its floor life, its pieces, and whether it is mounted.
+-- Whether each received piece was placed or scrapped, or remains.
+abbrev pub balances : ReelRow → Bool
+balances row = nat_le row.placed row.received && (nat_le row.scrapped (row.received - row.placed) && (row.remaining == row.received - row.placed - row.scrapped))
+
+-- Whether the reel was out no longer than since the first minute.
+abbrev pub times_fit : ℕ → ReelRow → Bool
+times_fit minute row = by row.open_since
+  where
+    by : Option ℕ → Bool
+    by (Some since) = nat_le row.used since && nat_le since minute
+    by None = nat_le row.used minute
+
+-- Whether a reel with these found pieces can be made of the row at the minute.
+abbrev pub is_reel : ℕ → ℕ → ReelRow → Bool
+is_reel found minute row = ((nat_le row.label GREATEST_LABEL && nat_le found row.received) && balances row) && times_fit minute row
+
+-- The reel is that of the history under this name: its receipt, its floor life, its pieces, and whether it is mounted.
 pub record IsHeld (H : History) (name : Name) (held : Held) : Type 0 where
   pub stands : StandsFor H name held.reel
   pub by_now : held.reel.last ≤ now_of H
@@ -36,15 +41,11 @@ pub record IsHeld (H : History) (name : Name) (held : Held) : Type 0 where
   pub found : held.reel.found ≡ found_of H name
   pub mounted : is_live held ≡ is_mounted H name
 
--- the reel of this name, or none where it was not received
+-- The reel of this name, if it was received.
 abbrev pub IsHeldOf : History → Name → Option Held → Type 0
 IsHeldOf H name None = receipt_of H name ≡ None
 IsHeldOf H name (Some held) = IsHeld H name held
 
--- each reel is as the list left it
-abbrev pub AreHeld : History → BTreeMap Name Held → Type 0
-AreHeld H reels = (name : Name) → IsHeldOf H name (held_at reels name)
-
--- the last command on each reel took effect by the minute
-abbrev pub AreHeldBy : BTreeMap Name Held → ℕ → Type 0
-AreHeldBy reels minute = (name : Name) → ForSome (held_at reels name) (λ held. held.reel.last ≤ minute)
+-- The reel, with whether it is mounted.
+abbrev pub with_mount : History → Name → Option Reel → Option Held
+with_mount H name reel = option_map (λ (r : Reel). record { reel = r; on_slot = is_mounted H name }) reel

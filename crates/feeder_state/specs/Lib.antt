@@ -1,12 +1,10 @@
 pub mod Floor
-pub mod Handling
 pub mod Held
 pub mod Noted
 pub mod Resting
 pub mod Restored
+pub mod Rows
 pub mod Setup
 pub mod Spending
 pub mod State
-pub mod Taking
-pub mod Told
 pub mod Work

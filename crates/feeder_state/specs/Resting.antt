@@ -1,5 +1,5 @@
 -- Reels at rest: those that have pieces left and are on no slot.
-use Rattle.std.specs.Prelude.{Bool, false, not, ◌&&◌, ◌||◌, nat_lt, List, if◌then◌else◌}
+use Rattle.std.specs.Prelude.{Bool, false, not, is_some, ◌&&◌, ◌||◌, nat_lt, List, if◌then◌else◌}
 use Rattle.std.specs.List.{list_any}
 use Rattle.std.specs.BTreeSet.{BTreeSet, contains}
 use Rattle.desk_types.specs.declared.command.Command.{Command}
@@ -7,23 +7,29 @@ use Rattle.desk_types.specs.declared.command.Command.TheVariants.{ReelReceived, 
 use Rattle.desk_types.specs.Id.{Name, same, by_name}
 use Rattle.desk_types.specs.History.{History}
 use Rattle.desk_types.specs.Pieces.{left_of, is_mounted}
+use Rattle.desk_types.specs.declared.row.ReelRow.{ReelRow}
+use Rattle.state_rows.specs.Kept.{KeptRows, tables_in}
 use Rattle.feeder_state.specs.declared.held.Held.{Held}
 use Rattle.feeder_state.specs.Held.{is_live}
 
--- whether the reel has pieces left and is on no slot
+-- Whether the reel has pieces left and is on no slot.
 abbrev pub rests : History → Name → Bool
 rests H reel = nat_lt 0 (left_of H reel) && not (is_mounted H reel)
 
--- the same of a reel that is held
+-- The same of a reel that is held.
 abbrev pub held_rests : Held → Bool
 held_rests held = nat_lt 0 held.reel.remaining && not (is_live held)
 
--- whether the reel is in the set of those that may be at rest
+-- The same of a reel's row.
+abbrev pub row_rests : KeptRows → Name → ReelRow → Bool
+row_rests rows name row = nat_lt 0 row.remaining && not (is_some ((tables_in rows).mounts name))
+
+-- Whether the reel is in the set of those that may be at rest.
 abbrev pub is_resting : BTreeSet Name → Name → Bool
 is_resting resting reel = contains by_name resting reel
 
--- whether a reel may be at rest after a command, from whether it might before: a receipt and an unload put reels to rest, a load and a
--- splice end the rest of one
+-- Whether a reel may be at rest after a command, from whether it might before: a receipt and an unload put reels to rest, a load and a
+-- splice end the rest of one.
 abbrev pub resting_after : (Name → Name → List Name) → Name → Command → Bool → Bool
 resting_after live reel (ReelReceived r part lot moisture quantity) before = same r reel || before
 resting_after live reel (MaterialsUnloaded m s) before = list_any (same reel) (live m s) || before

@@ -1,4 +1,4 @@
--- The setup in maps.
+-- Sheets in maps.
 use Rattle.std.specs.Prelude.{◌≡◌, Bool, Option, List}
 use Rattle.std.specs.BTreeMap as tree
 use Rattle.std.specs.BTreeMap.{BTreeMap}
@@ -7,28 +7,19 @@ use Rattle.desk_types.specs.declared.sheet.SheetRow.{SheetRow}
 use Rattle.desk_types.specs.Id.{Name, by_name}
 use Rattle.desk_types.specs.Pair.{by_pair}
 use Rattle.desk_types.specs.History.{History}
-use Rattle.desk_types.specs.Setup.{is_part, sheet_of, selected_on}
+use Rattle.desk_types.specs.Setup.{sheet_of}
 use Rattle.desk_types.specs.View.{has_sheet}
-use Rattle.setup_sheets.specs.Names.{is_among}
-use Rattle.setup_sheets.specs.Alternates.{AreAlternates}
 use Rattle.feeder_state.specs.declared.setup.Setup.{Setup}
 
--- the rows that the map has for the product on the machine
+-- The rows that the map has for the product on the machine.
 abbrev pub sheet_at : BTreeMap (Name × Name) (List SheetRow) → Name → Name → Option (List SheetRow)
 sheet_at sheets product machine = tree.get by_pair sheets (product, machine)
 
--- the product that the map has for the machine
-abbrev pub selected_at : BTreeMap Name Name → Name → Option Name
-selected_at selections machine = tree.get by_name selections machine
-
--- whether the machine is among those that some sheet names
+-- Whether the machine is among those that some sheet names.
 abbrev pub is_sheeted : BTreeSet Name → Name → Bool
 is_sheeted sheeted machine = contains by_name sheeted machine
 
--- The setup is as the list left it.
+-- The sheets are those of the history.
 pub record IsSetup (H : History) (setup : Setup) : Type 0 where
-  pub parts : (part : Name) → is_among setup.parts part ≡ is_part H part
-  pub alternates : AreAlternates H setup.alternates
   pub sheets : (product machine : Name) → sheet_at setup.sheets product machine ≡ sheet_of H product machine
   pub sheeted : (machine : Name) → is_sheeted setup.sheeted machine ≡ has_sheet H machine
-  pub selections : (machine : Name) → selected_at setup.selections machine ≡ selected_on H machine

@@ -1,21 +1,24 @@
--- The lists for which a state stands.
+-- The histories that a state represents.
 use Rattle.std.specs.Prelude.{◌≡◌}
 use Rattle.desk_types.specs.History.{History, desk_minute}
 use Rattle.desk_types.specs.Judged.{IsJudged}
 use Rattle.desk_types.specs.declared.rules.Rules.{Rules}
 use Rattle.feeder_state.specs.declared.desk.StateDesk.{StateDesk}
+use Rattle.desk_types.specs.Tables.{tables_of}
+use Rattle.state_rows.specs.Kept.{tables_in, unnumbered}
 use Rattle.feeder_state.specs.Floor.{IsFloor}
 use Rattle.feeder_state.specs.Setup.{IsSetup}
 use Rattle.feeder_state.specs.Work.{IsWork}
 
--- The list is one that a desk of these rules can come to have, and the minute, the setup, the floor and the work are as it left them.
+-- A desk of these rules can come to have the list, which left the minute, the rows, the sheets, the floor and the work.
 pub record IsState (H : History) (desk : StateDesk) : Type 0 where
   pub judged : IsJudged desk.rules H
   pub minute : desk.minute ≡ desk_minute H
+  pub rows : unnumbered (tables_in desk.rows) ≡ unnumbered (tables_of H)
   pub setup : IsSetup H desk.setup
   pub floor : IsFloor H desk.floor
   pub work : IsWork H desk.work
 
--- the rules that the desk keeps
+-- The rules that the desk keeps.
 abbrev pub rules_of : StateDesk → Rules
 rules_of desk = desk.rules

@@ -1,39 +1,22 @@
 -- Boards in work, in maps.
 use Rattle.std.specs.Prelude.{◌≡◌, Bool, Option, List, [], unwrap_or}
-use Rattle.std.specs.Option.{option_and_then}
 use Rattle.std.specs.List.{list_any}
 use Rattle.std.specs.BTreeMap as tree
 use Rattle.std.specs.BTreeMap.{BTreeMap}
-use Rattle.std.specs.BTreeSet.{BTreeSet, contains}
-use Rattle.desk_types.specs.declared.command.Command.{Command}
 use Rattle.desk_types.specs.Id.{Name, same, by_name}
 use Rattle.desk_types.specs.History.{History}
-use Rattle.desk_types.specs.Work.{in_work_on, is_in_work, start_by, product_of, is_placed_on}
+use Rattle.desk_types.specs.Work.{in_work_on, is_placed_on}
 use Rattle.feeder_state.specs.declared.work.Work.{Work}
 
--- the board that the map has on the machine
+-- The board that the map has on the machine.
 abbrev pub running_at : BTreeMap Name Name → Name → Option Name
 running_at running machine = tree.get by_name running machine
 
--- whether the board is among those in work
-abbrev pub is_busy : BTreeSet Name → Name → Bool
-is_busy busy board = contains by_name busy board
-
--- the product that the map has for the board
-abbrev pub product_at : BTreeMap Name Name → Name → Option Name
-product_at products board = tree.get by_name products board
-
--- what is selected, where the command starts the board
-abbrev pub product_by : Option Name → Name → Command → Option Name
-product_by selected board command = option_and_then (λ (machine : Name). selected) (start_by board command)
-
--- whether the map has the designator on the board
+-- Whether the map has the designator on the board.
 abbrev pub is_placed_at : BTreeMap Name (List Name) → Name → Name → Bool
 is_placed_at placed board designator = list_any (same designator) (unwrap_or (tree.get by_name placed board) [])
 
--- The work is as the list left it.
+-- The work is that of the history.
 pub record IsWork (H : History) (work : Work) : Type 0 where
   pub running : (machine : Name) → running_at work.running machine ≡ in_work_on H machine
-  pub busy : (board : Name) → is_busy work.busy board ≡ is_in_work H board
-  pub products : (board : Name) → product_at work.products board ≡ product_of H board
   pub placed : (board designator : Name) → is_placed_at work.placed board designator ≡ is_placed_on H board designator

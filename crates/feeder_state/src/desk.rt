@@ -1,39 +1,42 @@
 //! The desk that keeps the current state.
 
-ghost use Rattle.std.specs.Prelude.{◌≡◌, ◌∷◌, [], IfOk, OnOk};
+ghost use Rattle.std.specs.Prelude.{◌≡◌, [], IfOk, OnOk};
+ghost use Rattle.std.specs.Option.{option_copied};
 ghost use Rattle.desk_types.specs.declared.rules.Rules.TheVariants.{Two};
 ghost use Rattle.desk_types.specs.History.{History, accept, desk_minute};
-ghost use Rattle.desk_types.specs.declared.command.Command.TheVariants.{WorkStarted};
-ghost use Rattle.desk_types.specs.Id.{Name};
-ghost use Rattle.desk_types.specs.Setup.{selected_on};
+ghost use Rattle.desk_types.specs.Setup.{sheet_on};
 ghost use Rattle.desk_types.specs.Desk.{HasRoom, IsChange};
+ghost use Rattle.desk_types.specs.Tables.{tables_of};
+ghost use Rattle.desk_types.specs.Edits.{with_edits};
+ghost use Rattle.state_rows.specs.Kept.{tables_in, but_placements, unnumbered};
 ghost use Rattle.feeder_state.specs.Restored.{AreRowsOf};
 ghost use Rattle.feeder_state.specs.State.{IsState, rules_of};
 
 use crate::floor::{Floor, floor_of};
 use crate::free::free_reels;
+use crate::held::reel_now;
 use crate::setup::{Setup, setup_of};
 use crate::views::{reel_view, slots_of};
 use crate::work::{Work, work_of};
 use desk_types::{
-    Change, Command, Designator, Desk, Fronts, Id, JudgeFault, Minute, Mounts, ReelView, ReelViews,
-    Rules, SheetRow, SheetRows, Stamped,
+    Change, Designator, Desk, Fronts, Id, JudgeFault, Minute, Mounts, ReelView, ReelViews, Rules,
+    SheetRow, SheetRows, Stamped,
 };
 use judging::fronts::fronts;
 use judging::{Facts, judge};
 use reels::Reel;
 use setup_sheets::{Alternates, Parts, Sheet};
-use state_rows::RowSet;
+use state_rows::{KeepsRows, RowEdit, RowSet, Views, edits_for};
 use std::alloc::{AllocError, Global};
 
-/// A desk that keeps what is so now, in maps, and no list of commands: it looks names up, and searches
-/// through no commands. It stands for each list, judged by its rules, that leaves things as it keeps
-/// them.
+/// A desk that keeps the current state, in rows and indexes, and no list of commands. It looks names up and searches no
+/// commands. It represents every history, judged by its rules, that leads to this state.
 #[derive(Drop)]
 pub struct StateDesk {
     alloc: Global,
     rules: Rules,
     minute: Option<Minute>,
+    rows: RowSet,
     setup: Setup,
     floor: Floor,
     work: Work,
@@ -57,6 +60,7 @@ impl StateDesk {
             alloc,
             rules,
             minute: None,
+            rows: RowSet::new(alloc),
             setup: Setup::new(alloc),
             floor: Floor::new(alloc),
             work: Work::new(alloc),
@@ -74,47 +78,62 @@ impl StateDesk {
         ensures stands { (H : History) → AreRowsOf H rows.now → minute ≡ desk_minute H → IfOk result (IsState H) }
         ensures rules { IfOk result (λ desk. rules_of desk ≡ Two) }
     {
-        let Some(now) = minute else {
+        let Some(_) = minute else {
             return Ok(StateDesk::new(alloc));
         };
+        let copy = rows.clone()?;
         let setup = setup_of(alloc, rows)?;
-        let floor = floor_of(alloc, rows, now)?;
+        let floor = floor_of(alloc, rows)?;
         let work = work_of(alloc, rows)?;
         Ok(StateDesk {
             alloc,
             rules: Rules::Two,
             minute,
+            rows: copy,
             setup,
             floor,
             work,
         })
     }
 
-    /// What is selected on the machine of a start.
-    fn selected_at_start(&self, command: &Command) -> Option<Id>
-        ensures { (H : History) → IsState H self.now → (machine board : Name) → command.now ≡ WorkStarted machine board
-            → result ≡ selected_on H machine }
+    #[tactic(auto, using(crate::proofs::AcceptedChanges::of_state))]
+    fn sheet_on(&self, machine: &Id) -> Option<&Sheet>
+        ensures { (H : History) → IsState H self.now → option_copied result ≡ sheet_on H machine.now }
     {
-        match command {
-            Command::WorkStarted { machine, .. } => self.setup.selected_on(machine),
-            _ => None,
-        }
+        let product = self.rows.selected_on(machine)?;
+        self.setup.sheet(&product, machine)
     }
 
-    /// Accepts what was judged. After an `Err` nothing is known of the desk: drop it.
+    /// Accepts a judged change. After an `Err` drop the desk, whose state is unknown.
     fn accept(&mut self, change: Change) -> Result<(), AllocError>
         requires room { HasRoom (λ desk H. IsState H desk) self.old 1 }
         requires judged { (H : History) → IsState H self.old → IsChange self.old.rules H change.stamped change }
         ensures stands { (H : History) → IsState H self.old → OnOk result (IsState (accept H change.stamped) self.new) }
         ensures rules { OnOk result (self.new.rules ≡ self.old.rules) }
     {
+        let edits = edits_for(self.alloc, self, &change, 0)?;
+        self.apply(change, edits.as_slice())
+    }
+
+    /// Accepts a judged change by its edits. After an `Err` drop the desk, whose state is unknown.
+    fn apply(&mut self, change: Change, edits: &[RowEdit]) -> Result<(), AllocError>
+        requires room { HasRoom (λ desk H. IsState H desk) self.old 1 }
+        requires judged { (H : History) → IsState H self.old → IsChange self.old.rules H change.stamped change }
+        requires lead { (H : History) → IsState H self.old
+            → unnumbered (with_edits edits.now (tables_of H)) ≡ unnumbered (tables_of (accept H change.stamped)) }
+        ensures stands { (H : History) → IsState H self.old → OnOk result (IsState (accept H change.stamped) self.new) }
+        ensures rules { OnOk result (self.new.rules ≡ self.old.rules) }
+        ensures rows { OnOk result (tables_in self.new.rows
+            ≡ but_placements (with_edits edits.now (tables_in self.old.rows)) (tables_in self.old.rows)) }
+    {
         change.stamped.ranges_hold();
         let _ = change.minute.get();
         let command = &change.stamped.command;
-        let selected = self.selected_at_start(command);
         self.minute = Some(change.minute);
-        self.floor.note(self.alloc, command, change.minute, change.takes.as_slice())?;
-        self.work.note(self.alloc, selected, command)?;
+        self.rows.apply_but_placements(edits)?;
+        self.floor
+            .note(self.alloc, &self.rows, command, change.takes.as_slice())?;
+        self.work.note(self.alloc, command)?;
         self.setup.note(self.alloc, change.stamped.command)?;
         Ok(())
     }
@@ -142,15 +161,15 @@ impl Facts for StateDesk {
     }
 
     fn parts(&self) -> &Parts {
-        self.setup.parts()
+        self.rows.part_set()
     }
 
     fn alternates(&self) -> &Alternates {
-        self.setup.alternates()
+        self.rows.alternate_set()
     }
 
     fn selected_on(&self, machine: &Id) -> Option<Id> {
-        self.setup.selected_on(machine)
+        self.rows.selected_on(machine)
     }
 
     fn sheet_of(&self, product: &Id, machine: &Id) -> Option<&SheetRows> {
@@ -158,27 +177,33 @@ impl Facts for StateDesk {
     }
 
     fn look_ups_on(&self, machine: &Id) -> Option<&Sheet> {
-        self.setup.sheet_on(machine)
+        self.sheet_on(machine)
     }
 
     fn row_on(&self, machine: &Id, slot: &Id) -> Option<&SheetRow> {
-        self.setup.row_on(machine, slot)
+        let sheet = self.sheet_on(machine)?;
+        sheet.row(slot)
     }
 
     fn slot_on(&self, machine: &Id, designator: &Designator) -> Option<Id> {
-        self.setup.slot_on(machine, designator)
+        let sheet = self.sheet_on(machine)?;
+        sheet.slot(designator)
     }
 
     fn reel(&self, reel: &Id) -> Option<Reel> {
-        self.floor.reel(reel)
+        let minute = self.minute?;
+        reel_now(&self.rows, minute, reel)
     }
 
     fn left_of(&self, reel: &Id) -> u64 {
-        self.floor.left_of(reel)
+        match self.rows.reel(reel) {
+            Some(row) => row.remaining,
+            None => 0,
+        }
     }
 
     fn is_mounted(&self, reel: &Id) -> bool {
-        self.floor.is_mounted(reel)
+        self.rows.is_mounted(reel)
     }
 
     fn reel_count(&self, machine: &Id, slot: &Id) -> usize {
@@ -194,11 +219,15 @@ impl Facts for StateDesk {
     }
 
     fn is_in_work(&self, board: &Id) -> bool {
-        self.work.is_in_work(board)
+        match self.rows.board(board) {
+            Some(row) => row.machine.is_some(),
+            None => false,
+        }
     }
 
     fn product_of(&self, board: &Id) -> Option<Id> {
-        self.work.product_of(board)
+        let row = self.rows.board(board)?;
+        Some(row.product)
     }
 
     fn placed_on(&self, board: &Id) -> Option<&[Designator]> {
@@ -207,6 +236,45 @@ impl Facts for StateDesk {
 
     fn is_placed_on(&self, board: &Id, designator: &Designator) -> bool {
         self.work.is_placed_on(board, designator)
+    }
+}
+
+#[tactic(auto, using(crate::proofs::AcceptedChanges::of_state))]
+impl Views for StateDesk {
+    ghost use Rattle.feeder_state.specs.State.{IsState};
+
+    ghost Stands = { λ desk H. IsState H desk };
+
+    ghost kept_rules = { λ desk. desk.rules };
+
+    fn is_judged(&self) {
+        let _ = &self.rules;
+    }
+
+    fn selected(&self, machine: &Id) -> Option<Id> {
+        self.rows.selected_on(machine)
+    }
+
+    fn sheet_of(&self, product: &Id, machine: &Id) -> Result<Option<SheetRows>, AllocError> {
+        match self.setup.sheet_of(product, machine) {
+            Some(rows) => Ok(Some(rows.clone()?)),
+            None => Ok(None),
+        }
+    }
+
+    fn reel(&self, reel: &Id) -> Option<ReelView> {
+        reel_view(&self.rows, self.minute, reel)
+    }
+
+    fn slots_of(&self, machine: &Id) -> Result<Option<Mounts>, AllocError> {
+        slots_of(
+            self.alloc,
+            &self.rows,
+            &self.floor,
+            self.minute,
+            self.setup.has_sheet(machine),
+            machine,
+        )
     }
 }
 
@@ -243,7 +311,7 @@ impl Desk for StateDesk {
     }
 
     fn selected(&self, machine: &Id) -> Option<Id> {
-        self.setup.selected_on(machine)
+        self.rows.selected_on(machine)
     }
 
     fn sheet_of(&self, product: &Id, machine: &Id) -> Result<Option<SheetRows>, AllocError> {
@@ -258,12 +326,13 @@ impl Desk for StateDesk {
     }
 
     fn reel(&self, reel: &Id) -> Option<ReelView> {
-        reel_view(&self.floor, self.minute, reel)
+        reel_view(&self.rows, self.minute, reel)
     }
 
     fn slots_of(&self, machine: &Id) -> Result<Option<Mounts>, AllocError> {
         slots_of(
             self.alloc,
+            &self.rows,
             &self.floor,
             self.minute,
             self.setup.has_sheet(machine),
@@ -274,10 +343,23 @@ impl Desk for StateDesk {
     fn free_reels(&self, part: &Id) -> Result<ReelViews, AllocError> {
         free_reels(
             self.alloc,
+            &self.rows,
             &self.floor,
             self.minute,
-            self.setup.alternates(),
+            self.rows.alternate_set(),
             part,
         )
+    }
+}
+
+impl KeepsRows for StateDesk {
+    ghost kept_rows = { λ desk. desk.rows };
+
+    fn rows(&self) -> &RowSet {
+        &self.rows
+    }
+
+    fn settle_edits(&mut self, change: Change, edits: &[RowEdit]) -> Result<(), AllocError> {
+        self.apply(change, edits)
     }
 }

@@ -1,48 +1,12 @@
 //! Single facts of the floor, each found by one look-up or two, with no memory taken.
 
 ghost use Rattle.std.specs.Prelude.{◌≡◌, length, slice_get};
-ghost use Rattle.desk_types.specs.declared.rules.Rules.TheVariants.{Two};
-ghost use Rattle.desk_types.specs.History.{History};
-ghost use Rattle.desk_types.specs.Judged.{IsJudged};
-ghost use Rattle.desk_types.specs.Pieces.{left_of, is_mounted};
 ghost use Rattle.entry_search.specs.Floor.{tape_at};
-ghost use Rattle.entry_search.specs.Life.{IsReelOf};
-ghost use Rattle.feeder_state.specs.Floor.{IsFloor};
 
 use crate::floor::Floor;
-use crate::views::is_live;
 use desk_types::Id;
-use reels::Reel;
 
 impl Floor {
-    /// The reel of this name, or none where it was not received.
-    pub fn reel(&self, name: &Id) -> Option<Reel>
-        ensures { (H : History) → IsFloor H self.now → IsReelOf H name.now result }
-    {
-        let held = self.reels.get(name)?;
-        Some(held.reel)
-    }
-
-    /// The pieces left of the reel, 0 where it was not received.
-    pub fn left_of(&self, name: &Id) -> u64
-        ensures { (H : History) → IsJudged Two H → IsFloor H self.now → result ≡ left_of H name.now }
-    {
-        match self.reels.get(name) {
-            Some(held) => held.reel.remaining,
-            None => 0,
-        }
-    }
-
-    /// Whether the reel is live on some slot.
-    pub fn is_mounted(&self, name: &Id) -> bool
-        ensures { (H : History) → IsJudged Two H → IsFloor H self.now → result ≡ is_mounted H name.now }
-    {
-        match self.reels.get(name) {
-            Some(held) => is_live(held),
-            None => false,
-        }
-    }
-
     /// How many live reels the slot has.
     pub fn reel_count(&self, machine: &Id, slot: &Id) -> usize
         ensures { result ≡ length (tape_at self.now.tapes machine.now slot.now) }
@@ -53,7 +17,7 @@ impl Floor {
         }
     }
 
-    /// The live reel of the slot before which so many stand, the front at index 0.
+    /// Returns the live reel of the slot at this index. The front has index 0.
     pub fn reel_at(&self, machine: &Id, slot: &Id, index: usize) -> Option<Id>
         ensures { result ≡ slice_get (tape_at self.now.tapes machine.now slot.now) index }
     {

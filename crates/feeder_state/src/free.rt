@@ -10,10 +10,11 @@ ghost use Rattle.desk_types.specs.Free.{reels_received, is_free, by_turn, in_ord
 ghost use Rattle.setup_sheets.specs.Alternates.{AreAlternates};
 ghost use Rattle.entry_search.specs.Turns.{turn_of, if_free};
 ghost use Rattle.feeder_state.specs.Held.{IsHeld};
-ghost use Rattle.feeder_state.specs.Told.{IsTold};
+ghost use Rattle.feeder_state.specs.Rows.{AreRowsAt};
+ghost use Rattle.feeder_state.specs.Floor.{IsFloor};
 
 use crate::floor::Floor;
-use crate::held::Held;
+use crate::held::{Held, find};
 use crate::resting::is_at_rest;
 use crate::views::{is_live, reel_view_at};
 use desk_types::{Id, Left, Listing, Minute, ReelView, ReelViews};
@@ -21,10 +22,11 @@ use entry_search::free::is_usable;
 use entry_search::sets::{insert_if, push_if};
 use entry_search::views::life_left;
 use setup_sheets::{Alternates, allowed};
+use state_rows::RowSet;
 use std::alloc::{AllocError, Global};
 use std::collections::BTreeSet;
 
-/// Whether a reel to which this is left could be loaded where a sheet says the part.
+/// Returns whether a reel with this left could be loaded where a sheet requires the part.
 fn is_free(alternates: &Alternates, part: &Id, held: &Held, left: Left) -> bool
     ensures { (H : History) (name : Name) → AreAlternates H alternates.now → IsHeld H name held.now
         → left ≡ life_left H name → result ≡ is_free H part.now name }
@@ -35,7 +37,6 @@ fn is_free(alternates: &Alternates, part: &Id, held: &Held, left: Left) -> bool
         && is_usable(left)
 }
 
-/// The turn of a received reel, where it is free for the part.
 fn turn_of(
     held: &Held,
     minute: Minute,
@@ -56,75 +57,76 @@ fn turn_of(
     Some((left, *name))
 }
 
-/// The turn of the reel of this name, where it is free for the part.
 fn turn_at(
-    floor: &Floor,
+    rows: &RowSet,
     minute: Minute,
     alternates: &Alternates,
     part: &Id,
     name: &Id,
 ) -> Option<(Left, Id)>
-    ensures { (H : History) → IsTold H floor.now (Some minute) → AreAlternates H alternates.now
+    ensures { (H : History) → AreRowsAt H (Some minute) rows.now → AreAlternates H alternates.now
         → result ≡ option_map (turn_of H) (if_free H part.now name.now) }
 {
-    let held = floor.reels.get(name)?;
-    turn_of(held, minute, alternates, part, name)
+    match find(rows, minute, name) {
+        Some(held) => turn_of(&held, minute, alternates, part, name),
+        None => None,
+    }
 }
 
 /// The turns of the free reels, which are among those that may be at rest. The set orders them,
 /// whichever reel is looked at first.
 fn turns(
     alloc: Global,
+    rows: &RowSet,
     floor: &Floor,
     minute: Minute,
     alternates: &Alternates,
     part: &Id,
 ) -> Result<BTreeSet<(Left, Id)>, AllocError>
-    ensures { (H : History) → IsTold H floor.now (Some minute) → AreAlternates H alternates.now
+    ensures { (H : History) → AreRowsAt H (Some minute) rows.now → IsFloor H floor.now → AreAlternates H alternates.now
         → IfOk result
         (λ turns. turns.keys ≡ map (turn_of H)
         (in_order (by_turn H) (filter (is_free H part.now) (reels_received H)))) }
 {
     let mut turns = BTreeSet::new(alloc);
     for name in &floor.resting {
-        insert_if(&mut turns, turn_at(floor, minute, alternates, part, name))?;
+        insert_if(&mut turns, turn_at(rows, minute, alternates, part, name))?;
     }
     Ok(turns)
 }
 
-/// Tells the reels of turns in their order.
 fn views_of(
     alloc: Global,
-    floor: &Floor,
+    rows: &RowSet,
     minute: Minute,
     turns: &BTreeSet<(Left, Id)>,
 ) -> Result<Vec<ReelView>, AllocError>
-    ensures { (H : History) → IsTold H floor.now (Some minute)
+    ensures { (H : History) → AreRowsAt H (Some minute) rows.now
         → IfOk result (λ views. views.items ≡ filter_map (λ turn. reel_view H turn.1) turns.now.keys) }
 {
     let mut views = Vec::new(alloc);
     for turn in turns {
-        push_if(&mut views, reel_view_at(floor, minute, &turn.1))?;
+        push_if(&mut views, reel_view_at(rows, minute, &turn.1))?;
     }
     Ok(views)
 }
 
-/// The reels that could be loaded for the part at the desk minute, in the order in which they are
-/// used.
+/// Returns the reels that could be loaded for the part at the desk minute, in the order of use.
 pub fn free_reels(
     alloc: Global,
+    rows: &RowSet,
     floor: &Floor,
     minute: Option<Minute>,
     alternates: &Alternates,
     part: &Id,
 ) -> Result<ReelViews, AllocError>
-    ensures { (H : History) → IsTold H floor.now minute → AreAlternates H alternates.now
+    ensures { (H : History) → AreRowsAt H minute rows.now → IsFloor H floor.now → AreAlternates H alternates.now
         → IfOk result (λ reels. reels ≡ free_reels H part.now) }
 {
     let Some(minute) = minute else {
         return Ok(Listing::new(Vec::new(alloc)));
     };
-    let turns = turns(alloc, floor, minute, alternates, part)?;
-    let views = views_of(alloc, floor, minute, &turns)?;
+    let turns = turns(alloc, rows, floor, minute, alternates, part)?;
+    let views = views_of(alloc, rows, minute, &turns)?;
     Ok(Listing::new(views))
 }

@@ -8,7 +8,7 @@ use std::alloc::{AllocError, Global};
 use std::collections::BTreeMap;
 use std::marker::Model;
 
-/// The things of one key, in the order in which they came.
+/// The items of one key, in the order of insertion.
 #[derive(Drop)]
 pub struct Group<T> {
     pub items: Vec<T>,

@@ -1,4 +1,4 @@
-//! The desk that keeps the current state: maps, and no list of commands.
+//! The desk that keeps the current state: rows and indexes, and no list of commands.
 #![tactic(auto)]
 
 mod desk;
@@ -8,7 +8,6 @@ mod free;
 mod groups;
 mod held;
 mod maps;
-mod noting;
 mod placed;
 mod resting;
 mod same_state;

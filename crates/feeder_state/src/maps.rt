@@ -8,7 +8,7 @@ use desk_types::Id;
 use std::alloc::AllocError;
 use std::collections::BTreeMap;
 
-/// Puts a value to a name, and gives what was there.
+/// Writes a value under a name, and returns the old one.
 pub fn put<V: Drop>(map: &mut BTreeMap<Id, V>, name: Id, value: V) -> Result<Option<V>, AllocError>
     ensures { (n : Name)
         → OnOk result (tree.get by_name map.new n ≡ (if same name n then Some value else tree.get by_name map.old n)) }

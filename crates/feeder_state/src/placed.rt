@@ -53,9 +53,8 @@ impl Placed {
         self.names.as_slice()
     }
 
-    /// Puts designators in: all are copied into a new piece of memory of their size and sorted. The
-    /// old ones are in order already, so the sort goes over them once. Without memory it is as
-    /// before.
+    /// Inserts designators: all are copied into a new allocation of their size and sorted. The old ones are already in
+    /// order, so the sort passes over them once. If memory is refused, nothing changes.
     pub fn add_all(&mut self, designators: &[Designator]) -> Result<(), AllocError>
         ensures ok { (d : Name)
             → OnOk result

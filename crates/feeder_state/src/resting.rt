@@ -2,19 +2,20 @@
 
 ghost use Rattle.std.specs.Prelude.{◌≡◌, ◌||◌, ◌==◌, true, false, IfOk, OnOk};
 ghost use Rattle.std.specs.List.{list_any};
-ghost use Rattle.desk_types.specs.declared.rules.Rules.TheVariants.{Two};
 ghost use Rattle.desk_types.specs.Id.{Name, same};
 ghost use Rattle.desk_types.specs.History.{History};
-ghost use Rattle.desk_types.specs.Judged.{IsJudged};
 ghost use Rattle.entry_search.specs.Floor.{tape_at};
-ghost use Rattle.feeder_state.specs.Held.{IsHeld, AreHeld, left_at};
-ghost use Rattle.feeder_state.specs.Resting.{rests, held_rests, is_resting, resting_after};
+ghost use Rattle.feeder_state.specs.Held.{IsHeld};
+ghost use Rattle.feeder_state.specs.Restored.{AreRowsOf};
+ghost use Rattle.feeder_state.specs.Rows.{left_at};
+ghost use Rattle.feeder_state.specs.Resting.{rests, held_rests, row_rests, is_resting, resting_after};
 
 use crate::held::Held;
 use crate::tapes::is_spent;
 use crate::views::is_live;
-use desk_types::{Command, Id, Take};
+use desk_types::{Command, Id, ReelRow, Take};
 use entry_search::floor::Tape;
+use state_rows::RowSet;
 use std::alloc::{AllocError, Global};
 use std::collections::{BTreeMap, BTreeSet};
 
@@ -27,7 +28,6 @@ pub fn is_at_rest(held: &Held) -> bool
     held.reel.remaining > 0 && !is_live(held)
 }
 
-/// Puts in the reels of a tape.
 fn put_tape(resting: &mut BTreeSet<Id>, tape: &Tape) -> Result<(), AllocError>
     ensures { (r : Name)
         → OnOk result (is_resting resting.new r ≡ (list_any (same r) tape.now || is_resting resting.old r)) }
@@ -38,7 +38,6 @@ fn put_tape(resting: &mut BTreeSet<Id>, tape: &Tape) -> Result<(), AllocError>
     Ok(())
 }
 
-/// Puts in the reels of a slot.
 fn put_slot(
     resting: &mut BTreeSet<Id>,
     tapes: &BTreeMap<(Id, Id), Tape>,
@@ -82,46 +81,45 @@ pub fn note_resting(
     Ok(())
 }
 
-/// Takes the reel out, where it has no pieces left.
-fn end_rest(reels: &BTreeMap<Id, Held>, resting: &mut BTreeSet<Id>, reel: &Id)
-    ensures { (r : Name) → (left_at reels.now r == 0) ≡ false → is_resting resting.new r ≡ is_resting resting.old r }
+fn end_rest(rows: &RowSet, resting: &mut BTreeSet<Id>, reel: &Id)
+    ensures { (r : Name) → (left_at rows.now r == 0) ≡ false → is_resting resting.new r ≡ is_resting resting.old r }
 {
-    if is_spent(reels, reel) {
+    if is_spent(rows, reel) {
         resting.remove(reel);
     }
 }
 
-/// Takes out the reels of takes that have no pieces left. The others stay as they were.
-fn end_each(reels: &BTreeMap<Id, Held>, resting: &mut BTreeSet<Id>, takes: &[Take])
-    ensures { (r : Name) → (left_at reels.now r == 0) ≡ false → is_resting resting.new r ≡ is_resting resting.old r }
+fn end_each(rows: &RowSet, resting: &mut BTreeSet<Id>, takes: &[Take])
+    ensures { (r : Name) → (left_at rows.now r == 0) ≡ false → is_resting resting.new r ≡ is_resting resting.old r }
 {
     for take in takes {
-        end_rest(reels, resting, &take.reel);
+        end_rest(rows, resting, &take.reel);
     }
 }
 
 /// Takes out the reels that a command left with no pieces: only a count takes pieces of reels at rest.
-pub fn end_rests(
-    reels: &BTreeMap<Id, Held>,
-    resting: &mut BTreeSet<Id>,
-    command: &Command,
-    takes: &[Take],
-)
-    ensures { (r : Name) → (left_at reels.now r == 0) ≡ false → is_resting resting.new r ≡ is_resting resting.old r }
+pub fn end_rests(rows: &RowSet, resting: &mut BTreeSet<Id>, command: &Command, takes: &[Take])
+    ensures { (r : Name) → (left_at rows.now r == 0) ≡ false → is_resting resting.new r ≡ is_resting resting.old r }
 {
     if let Command::CountsTaken { .. } = command {
-        end_each(reels, resting, takes);
+        end_each(rows, resting, takes);
     }
 }
 
-/// The reels at rest among some reels.
-pub fn resting_of(alloc: Global, reels: &BTreeMap<Id, Held>) -> Result<BTreeSet<Id>, AllocError>
-    ensures { (H : History) → IsJudged Two H → AreHeld H reels.now → (r : Name)
+fn row_rests(rows: &RowSet, name: &Id, row: &ReelRow) -> bool
+    ensures { result ≡ row_rests rows.now name.now row.now }
+{
+    row.remaining > 0 && !rows.is_mounted(name)
+}
+
+/// The reels at rest.
+pub fn resting_of(alloc: Global, rows: &RowSet) -> Result<BTreeSet<Id>, AllocError>
+    ensures { (H : History) → AreRowsOf H rows.now → (r : Name)
         → IfOk result (λ resting. rests H r ≡ true → is_resting resting r ≡ true) }
 {
     let mut resting = BTreeSet::new(alloc);
-    for (name, held) in reels {
-        if is_at_rest(held) {
+    for (name, row) in rows.reels() {
+        if row_rests(rows, name, row) {
             resting.insert(*name)?;
         }
     }

@@ -9,9 +9,9 @@ ghost use Rattle.feeder_state.specs.contracts.desk.StateDeskDesk.TheImpl.{ghosts
 
 use crate::desk::StateDesk;
 
-/// Two lists for which one desk stands are answered alike: the replies to commands that come one after
-/// the other are the same, however many they are and whether or not memory would be found for them. The
-/// values of the commands are in their ranges, as those of every command that a program holds.
+/// Two histories that one desk represents are answered alike: they give the same replies to any number of later
+/// commands, whether or not memory suffices for them. The commands' values are in their ranges, as in every command
+/// that a program holds.
 pub fn same_state_same_replies(desk: &StateDesk)
     ensures { (G H : History) (messages : List Stamped) → state.Stands desk.now G → state.Stands desk.now H
         → All IsStamped messages

@@ -1,20 +1,18 @@
 //! The live reels of slots.
 
-ghost use Rattle.std.specs.Prelude.{◌≡◌, not, ◌&&◌, ◌==◌, nat_lt, All};
+ghost use Rattle.std.specs.Prelude.{◌≡◌, not, ◌&&◌, ◌==◌};
 ghost use Rattle.std.specs.List.{list_any, filter, IsDistinct};
-ghost use Rattle.desk_types.specs.declared.take.Take.{Take as Taking};
 ghost use Rattle.desk_types.specs.Id.{Name, same};
-ghost use Rattle.desk_laws.specs.Slots.{comes_off};
 ghost use Rattle.entry_search.specs.Floor.{tape_at};
-ghost use Rattle.feeder_state.specs.Held.{left_at};
+ghost use Rattle.feeder_state.specs.Rows.{left_at};
 ghost use Rattle.feeder_state.specs.Spending.{is_spent_by};
 
-use crate::held::Held;
 use desk_types::{Id, Purpose, Take};
 use entry_search::floor::Tape;
+use state_rows::RowSet;
 use std::collections::{BTreeMap, VecDeque};
 
-/// Takes a reel off the reels of a slot, among which it stands once at most. Mostly it is the first.
+/// Removes a reel from the reels of a slot, where it occurs at most once. It is usually the first.
 fn remove(tape: &mut VecDeque<Id>, reel: &Id)
     requires { IsDistinct same tape.old.items }
     ensures { tape.new.items ≡ filter (λ r. not (same reel.now r)) tape.old.items }
@@ -27,7 +25,6 @@ fn remove(tape: &mut VecDeque<Id>, reel: &Id)
     }
 }
 
-/// Takes a reel off a slot.
 fn drop_reel(tapes: &mut BTreeMap<(Id, Id), Tape>, machine: Id, slot: Id, reel: &Id)
     requires { IsDistinct same (tape_at tapes.old machine slot) }
     ensures { (m s : Name)
@@ -40,23 +37,22 @@ fn drop_reel(tapes: &mut BTreeMap<(Id, Id), Tape>, machine: Id, slot: Id, reel: 
 }
 
 /// Whether the reel has no pieces left.
-pub fn is_spent(reels: &BTreeMap<Id, Held>, reel: &Id) -> bool
-    ensures { result ≡ (left_at reels.now reel.now == 0) }
+pub fn is_spent(rows: &RowSet, reel: &Id) -> bool
+    ensures { result ≡ (left_at rows.now reel.now == 0) }
 {
-    match reels.get(reel) {
-        Some(held) => held.reel.remaining == 0,
+    match rows.reel(reel) {
+        Some(row) => row.remaining == 0,
         None => true,
     }
 }
 
-/// Takes the reel of a take off its slot, where that spent it.
-fn drop_spent(reels: &BTreeMap<Id, Held>, tapes: &mut BTreeMap<(Id, Id), Tape>, take: &Take)
+fn drop_spent(rows: &RowSet, tapes: &mut BTreeMap<(Id, Id), Tape>, take: &Take)
     requires { (m s : Name) → IsDistinct same (tape_at tapes.old m s) }
     ensures { (m s : Name)
-        → tape_at tapes.new m s ≡ filter (λ r. not (is_spent_by (left_at reels.now) m s r take.now))
+        → tape_at tapes.new m s ≡ filter (λ r. not (is_spent_by (left_at rows.now) m s r take.now))
         (tape_at tapes.old m s) }
 {
-    if !is_spent(reels, &take.reel) {
+    if !is_spent(rows, &take.reel) {
         return;
     }
     match take.purpose {
@@ -67,17 +63,13 @@ fn drop_spent(reels: &BTreeMap<Id, Held>, tapes: &mut BTreeMap<(Id, Id), Tape>, 
 }
 
 /// Takes the reels that takes spent off their slots.
-pub fn drop_all_spent(
-    reels: &BTreeMap<Id, Held>,
-    tapes: &mut BTreeMap<(Id, Id), Tape>,
-    takes: &[Take],
-)
+pub fn drop_all_spent(rows: &RowSet, tapes: &mut BTreeMap<(Id, Id), Tape>, takes: &[Take])
     requires { (m s : Name) → IsDistinct same (tape_at tapes.old m s) }
     ensures { (m s : Name)
-        → tape_at tapes.new m s ≡ filter (λ r. not (list_any (is_spent_by (left_at reels.now) m s r) takes.now))
+        → tape_at tapes.new m s ≡ filter (λ r. not (list_any (is_spent_by (left_at rows.now) m s r) takes.now))
         (tape_at tapes.old m s) }
 {
     for take in takes {
-        drop_spent(reels, tapes, take);
+        drop_spent(rows, tapes, take);
     }
 }

@@ -1,19 +1,21 @@
-//! What the desk tells of reels and of the slots of machines.
+//! The desk's views of reels and of the slots of machines.
 
 ghost use Rattle.std.specs.Prelude.{◌≡◌, ◌++◌, true, is_some, Some, map, All, IfOk, OnOk};
 ghost use Rattle.std.specs.List.{flat_map, enumerate_from};
 ghost use Rattle.desk_types.specs.History.{History, now_of};
 ghost use Rattle.desk_types.specs.View.{has_sheet as is_on_sheet, reel_view, mount_of, slot_mounts, loaded_slots, mounts_on};
-ghost use Rattle.feeder_state.specs.Held.{held_at, is_live, IsHeld, AreHeld};
-ghost use Rattle.feeder_state.specs.Told.{IsTold};
+ghost use Rattle.feeder_state.specs.Floor.{IsFloor};
+ghost use Rattle.desk_types.specs.Setup.{receipt_of};
+ghost use Rattle.feeder_state.specs.Held.{is_live, IsHeld};
+ghost use Rattle.feeder_state.specs.Rows.{AreRowsAt};
 
 use crate::floor::Floor;
-use crate::held::Held;
+use crate::held::{Held, find};
 use desk_types::{Id, Listing, Minute, Mount, Mounts, ReelView};
 use entry_search::floor::Tape;
 use entry_search::views::life_left;
+use state_rows::RowSet;
 use std::alloc::{AllocError, Global};
-use std::collections::BTreeMap;
 
 /// Whether the reel is on a slot and has pieces left.
 pub fn is_live(held: &Held) -> bool
@@ -22,7 +24,6 @@ pub fn is_live(held: &Held) -> bool
     held.on_slot && held.reel.remaining > 0
 }
 
-/// The received reel of this name, at the desk minute.
 fn view_of(held: &Held, minute: Minute, name: &Id) -> ReelView
     ensures { (H : History) → IsHeld H name.now held.now → now_of H ≡ minute → reel_view H name.now ≡ Some result }
 {
@@ -47,25 +48,26 @@ fn view_of(held: &Held, minute: Minute, name: &Id) -> ReelView
     }
 }
 
-/// The reel at this desk minute, or none where it was not received.
-pub fn reel_view_at(floor: &Floor, minute: Minute, name: &Id) -> Option<ReelView>
-    ensures { (H : History) → IsTold H floor.now (Some minute) → result ≡ reel_view H name.now }
+/// Returns the reel at this desk minute, if it was received.
+pub fn reel_view_at(rows: &RowSet, minute: Minute, name: &Id) -> Option<ReelView>
+    ensures { (H : History) → AreRowsAt H (Some minute) rows.now → result ≡ reel_view H name.now }
 {
-    let held = floor.reels.get(name)?;
-    Some(view_of(held, minute, name))
-}
-
-/// The reel at the desk minute, or none where it was not received. Takes no memory.
-pub fn reel_view(floor: &Floor, minute: Option<Minute>, name: &Id) -> Option<ReelView>
-    ensures { (H : History) → IsTold H floor.now minute → result ≡ reel_view H name.now }
-{
-    match minute {
-        Some(minute) => reel_view_at(floor, minute, name),
+    match find(rows, minute, name) {
+        Some(held) => Some(view_of(&held, minute, name)),
         None => None,
     }
 }
 
-/// A received reel in its position on a slot.
+/// Returns the reel at the desk minute, if it was received. Takes no memory.
+pub fn reel_view(rows: &RowSet, minute: Option<Minute>, name: &Id) -> Option<ReelView>
+    ensures { (H : History) → AreRowsAt H minute rows.now → result ≡ reel_view H name.now }
+{
+    match minute {
+        Some(minute) => reel_view_at(rows, minute, name),
+        None => None,
+    }
+}
+
 fn mount_of(held: &Held, minute: Minute, slot: &Id, position: u64, name: &Id) -> Mount
     ensures { (H : History) → IsHeld H name.now held.now → now_of H ≡ minute
         → result ≡ mount_of H slot.now (position, name.now) }
@@ -81,58 +83,59 @@ fn mount_of(held: &Held, minute: Minute, slot: &Id, position: u64, name: &Id) ->
     }
 }
 
-/// Tells the reels of a tape, the front first, each of which is held.
+/// Returns the reels of a tape, the front first. Each of them was received.
 fn put_tape(
     mounts: &mut Vec<Mount>,
-    reels: &BTreeMap<Id, Held>,
+    rows: &RowSet,
     minute: Minute,
     slot: &Id,
     tape: &Tape,
 ) -> Result<(), AllocError>
-    ensures { (H : History) → AreHeld H reels.now → now_of H ≡ minute
-        → All (λ name. is_some (held_at reels.now name) ≡ true) tape.now
+    ensures { (H : History) → AreRowsAt H (Some minute) rows.now
+        → All (λ name. is_some (receipt_of H name) ≡ true) tape.now
         → OnOk result (mounts.new.items ≡ mounts.old.items ++ map (mount_of H slot.now) (enumerate_from 1 tape.now)) }
 {
     for index in 0..tape.reels.len() {
         let name = &tape.reels[index];
-        if let Some(held) = reels.get(name) {
-            mounts.push(mount_of(held, minute, slot, index as u64 + 1, name))?;
+        if let Some(held) = find(rows, minute, name) {
+            mounts.push(mount_of(&held, minute, slot, index as u64 + 1, name))?;
         }
     }
     Ok(())
 }
 
-/// Tells the live reels of the machine's slots, slot after slot. It goes over the slots of all
-/// machines.
+/// Goes over the slots of all machines.
 fn put_slots(
     mounts: &mut Vec<Mount>,
+    rows: &RowSet,
     floor: &Floor,
     minute: Minute,
     machine: &Id,
 ) -> Result<(), AllocError>
-    ensures { (H : History) → IsTold H floor.now (Some minute)
+    ensures { (H : History) → AreRowsAt H (Some minute) rows.now → IsFloor H floor.now
         → OnOk result
         (mounts.new.items ≡ mounts.old.items ++ flat_map (slot_mounts H machine.now) (loaded_slots H machine.now)) }
 {
     for (key, tape) in &floor.tapes {
         if key.0 == *machine {
-            put_tape(mounts, &floor.reels, minute, &key.1, tape)?;
+            put_tape(mounts, rows, minute, &key.1, tape)?;
         }
     }
     Ok(())
 }
 
-/// The live reels of the machine's slots, by slot and then by position, or none where no sheet names
-/// the machine. The given `has_sheet` tells whether one does.
+/// Returns the live reels of the machine's slots, by slot and then by position, or `None` if no sheet names the
+/// machine, as `has_sheet` says.
 pub fn slots_of(
     alloc: Global,
+    rows: &RowSet,
     floor: &Floor,
     minute: Option<Minute>,
     has_sheet: bool,
     machine: &Id,
 ) -> Result<Option<Mounts>, AllocError>
-    ensures { (H : History) → IsTold H floor.now minute → has_sheet ≡ is_on_sheet H machine.now
-        → IfOk result (λ mounts. mounts ≡ mounts_on H machine.now) }
+    ensures { (H : History) → AreRowsAt H minute rows.now → IsFloor H floor.now
+        → has_sheet ≡ is_on_sheet H machine.now → IfOk result (λ mounts. mounts ≡ mounts_on H machine.now) }
 {
     if !has_sheet {
         return Ok(None);
@@ -141,6 +144,6 @@ pub fn slots_of(
         return Ok(None);
     };
     let mut mounts = Vec::new(alloc);
-    put_slots(&mut mounts, floor, minute, machine)?;
+    put_slots(&mut mounts, rows, floor, minute, machine)?;
     Ok(Some(Listing::new(mounts)))
 }

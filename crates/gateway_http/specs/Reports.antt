@@ -7,7 +7,7 @@ use Rattle.report_texts.specs.Kit.{kit_list}
 use Rattle.report_texts.specs.Slots.{slot_list}
 use Rattle.trace_reports.specs.Reports.{board_trace, lot_trace, overdue_list}
 
--- the text of each report of a list, where there is one; there always is an overdue list
+-- The text of each report on a history, if there is one. The overdue list always exists.
 abbrev pub report_of : Reports
 report_of (BoardTrace board detail) H = board_trace detail H board
 report_of (LotTrace lot detail) H = lot_trace detail H lot

@@ -6,22 +6,23 @@ ghost use Rattle.trace_reports.specs.Reports.{Answers};
 ghost use Rattle.gateway_http.specs.Stores.{store_of};
 
 use desk_answers::{Answer, Owner};
-use desk_types::{Desk, Stamped, Text};
+use desk_types::{Stamped, Text};
 use http_answers::{ReportedOwner, Unavailable};
 use http_routes::Report;
 use line_schema::LineStore;
 use sqlite::Alter;
+use state_rows::KeepsRows;
 use std::alloc::Global;
 use trace_reports::{
     ReportFault, board_trace, kit_list, lot_trace, overdue_list, reel_card, slot_list,
 };
 
-/// A line's store, with the reports of its list.
-pub struct ReportedStore<S: Alter, D: Desk + Drop> {
+/// A line's store, with the reports on its history.
+pub struct ReportedStore<S: Alter, D: KeepsRows + Drop> {
     store: LineStore<S, D>,
 }
 
-impl<S: Alter, D: Desk + Drop> ReportedStore<S, D> {
+impl<S: Alter, D: KeepsRows + Drop> ReportedStore<S, D> {
     /// The store with its reports.
     pub fn new(store: LineStore<S, D>) -> ReportedStore<S, D>
         ensures { store_of result ≡ store }
@@ -29,7 +30,7 @@ impl<S: Alter, D: Desk + Drop> ReportedStore<S, D> {
         ReportedStore { store }
     }
 
-    /// Gives the store back.
+    /// Returns the store.
     pub fn into_store(self) -> LineStore<S, D>
         ensures { result ≡ store_of self }
     {
@@ -38,8 +39,7 @@ impl<S: Alter, D: Desk + Drop> ReportedStore<S, D> {
     }
 }
 
-/// As the store itself.
-impl<S: Alter, D: Desk + Drop> Owner for ReportedStore<S, D> {
+impl<S: Alter, D: KeepsRows + Drop> Owner for ReportedStore<S, D> {
     ghost use Rattle.std.specs.Prelude.{◌≡◌, true};
     ghost use Rattle.sqlite.specs.State.{HasCleanDisk};
     ghost use Rattle.desk_types.specs.declared.rules.Rules.TheVariants.{Two};
@@ -60,8 +60,7 @@ impl<S: Alter, D: Desk + Drop> Owner for ReportedStore<S, D> {
     }
 }
 
-/// The reports of the list for which the store stands.
-impl<S: Alter, D: Desk + Drop> ReportedOwner for ReportedStore<S, D> {
+impl<S: Alter, D: KeepsRows + Drop> ReportedOwner for ReportedStore<S, D> {
     ghost use Rattle.gateway_http.specs.Reports.{report_of};
 
     ghost reports = { report_of };
@@ -88,7 +87,6 @@ impl<S: Alter, D: Desk + Drop> ReportedOwner for ReportedStore<S, D> {
     }
 }
 
-/// The report, or none where it is not found.
 fn if_found(told: Result<Text, ReportFault>) -> Result<Option<Text>, Unavailable>
     ensures { (kind : Kind) (text : Option (List ℕ)) → Answers kind text told → IfOk result (λ found. found ≡ text) }
 {

@@ -1,4 +1,4 @@
--- Calls one after the other.
+-- Several calls in sequence.
 use Rattle.std.proofs.Common.{List, [], ◌∷◌, refl, sym, subst}
 use Rattle.desk_answers.specs.Ledger.{Ledger, ForLists}
 use Rattle.http_answers.specs.Requests.{Reports}

@@ -1,4 +1,4 @@
--- Any number of calls on one desk, one after the other.
+-- Any number of calls on one desk, in sequence.
 use Rattle.std.specs.Prelude.{◌≡◌, ℕ, Bool, List, [], ◌∷◌, Option, Result, Ok, Err, IfOk}
 use Rattle.desk_types.specs.declared.command.Stamped.{Stamped}
 use Rattle.desk_types.specs.History.{History}
@@ -20,15 +20,22 @@ use Rattle.http_answers.specs.Gateways.{AnswersGet}
 use Rattle.http_answers.specs.Requests.{Reports, request_rule}
 use Rattle.http_answers.specs.declared.reported.Unavailable.{Unavailable}
 
--- how a feed or a connection ended: how much was answered, and the fault where there was one
+-- The end of a feed or connection: the counts of answers, and the fault, if any.
 abbrev pub Ended : Type 0
 Ended = Result Served ServeFault
 
--- how an import ended: whether its answer counts as refused, or its line could not be written
+-- The end of an import: whether its answer counts as refused, or that writing it failed.
 abbrev pub ImportEnded : Type 0
 ImportEnded = Result Bool WriteFailed
 
--- A call: `feed` with its input's bytes and the output's bytes before and after; `serve` with these and what was left of the input; `command` with its answer; `ask` with the target and its answer; `report` with what it returned; an import with its options, its file's bytes and the output's bytes before and after. Bytes are none where the reader or the writer doesn't know them.
+-- A call with its results. Bytes that a reader or writer doesn't know are left out.
+--
+-- - `fed`: the input's bytes, and the output's before and after.
+-- - `connected`: the same, and the rest of the input.
+-- - `commanded`: the command and its answer.
+-- - `asked`: the target and its answer.
+-- - `reported`: the report and its result.
+-- - `imported`: the options, the file's bytes, and the output's before and after.
 pub data Call : Type 0 where
   fed : Option (List ℕ) → Option (List ℕ) → Option (List ℕ) → Ended → Call
   connected : Option (List ℕ) → Option (List ℕ) → Option (List ℕ) → Option (List ℕ) → Ended → Call
@@ -37,24 +44,25 @@ pub data Call : Type 0 where
   reported : Report → Result (Option (List ℕ)) Unavailable → Call
   imported : Import → Option (List ℕ) → Option (List ℕ) → Option (List ℕ) → ImportEnded → Call
 
--- the lines were answered by the list G, and the list after them is H
+-- The lines were answered from the ledger G, and H is the history after them.
 abbrev pub Feeds : Ledger → Option (List ℕ) → Option (List ℕ) → Option (List ℕ) → Ended → History → Type 0
 Feeds G input out out' (Ok served) H = lines.AnsweredAll G.rules G.greatest input G.history out H out' served
 Feeds G input out out' (Err fault) H = lines.AnsweredUpTo G.rules G.greatest input G.history out H out' fault
 
--- so were the requests
+-- The same for requests.
 abbrev pub Serves : Rule → History → Option (List ℕ) → Option (List ℕ) → Option (List ℕ) → Option (List ℕ) → Ended → History → Type 0
 Serves rule G input left out out' (Ok served) H = requests.AnsweredAll rule input G out H out' served
 Serves rule G input left out out' (Err (Read served)) H = requests.AnsweredFront rule input left G out H out' served
 Serves rule G input left out out' (Err (TooManyReads served)) H = requests.AnsweredFront rule input left G out H out' served
 Serves rule G input left out out' (Err (Write served)) H = requests.AnsweredInto rule input G out H out' served
 
--- the one command of an import, or the first fault of its file, was answered by the list G, and the list after it is H
+-- An import's command, or its file's first fault, was answered from the ledger G, and H is the
+-- history after it.
 abbrev pub Imports : Ledger → Import → Option (List ℕ) → Option (List ℕ) → Option (List ℕ) → ImportEnded → History → Type 0
 Imports G import bytes out out' (Ok refused) H = (said : Result Stamped ImportFault) × file.IsSaidBy import bytes said × file.IsAnswered said out out' refused G H
 Imports G import bytes out out' (Err fault) H = (said : Result Stamped ImportFault) × file.IsSaidBy import bytes said × file.IsCutOff said out out' G H
 
--- the call was answered by the list before it, with these reports, and the list after it is H
+-- The call was answered from the ledger G with these reports, and H is the history after it.
 abbrev pub IsAnswered : Reports → Ledger → Call → History → Type 0
 IsAnswered reports G (fed input out out' ended) H = Feeds G input out out' ended H
 IsAnswered reports G (connected input left out out' ended) H = Serves (request_rule reports G.rules G.greatest) G.history input left out out' ended H
@@ -63,16 +71,17 @@ IsAnswered reports G (asked target told) H = AnswersGet reports G target told ×
 IsAnswered reports G (reported report result) H = IfOk result (λ text. text ≡ reports report G.history) × (H ≡ G.history)
 IsAnswered reports G (imported import bytes out out' ended) H = Imports G import bytes out out' ended H
 
--- each call was answered by the list that the one before it left
+-- Each call was answered from the history that the one before it left.
 abbrev pub AnswersByTheList : Reports → Ledger → List Call → History → Type 0
 AnswersByTheList reports G [] H = H ≡ G.history
 AnswersByTheList reports G (call ∷ calls) H = (H₁ : History) × IsAnswered reports G call H₁ × AnswersByTheList reports (record G { history = H₁ }) calls H
 
--- what a call does to an owner of a list, where what that keeps the list in told the truth: it answers by the list before, and stands for the list after
+-- If its storage has not lied, the owner answers a call from its history and then represents the
+-- history after it.
 abbrev pub CallsOnce : {S : Type 0} → Reports → (S → Ledger → Type 0) → (S → Type 0) → S → Call → S → Type 0
 CallsOnce reports Stands Trusts old call new = (Trusts new → Trusts old) × ForLists Stands Trusts old new (λ G H. IsAnswered reports G call H)
 
--- calls one after the other, on one owner
+-- Several calls on one owner, in sequence.
 abbrev pub Calls : {S : Type 0} → Reports → (S → Ledger → Type 0) → (S → Type 0) → S → List Call → S → Type 0
 Calls reports Stands Trusts old [] new = new ≡ old
 Calls reports Stands Trusts old (call ∷ calls) new = (mid : _) × CallsOnce reports Stands Trusts old call mid × Calls reports Stands Trusts mid calls new

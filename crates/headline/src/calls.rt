@@ -1,6 +1,6 @@
-//! The calls that the program makes, each with what it says of the list of its owner.
+//! The program's calls, each with its effect on the owner's history.
 //!
-//! The body of each function here is that very call, so its clause follows from the call's contract alone.
+//! The body of each function is the call itself, so its clause follows from the call's contract.
 
 ghost use Rattle.std.specs.Prelude.{◌^◌, ◌<◌, Some};
 ghost use Rattle.desk_types.specs.Wire.{inner_of, reads_of, failures_of};
@@ -19,7 +19,7 @@ use served::{ServeFault, Served, WriteFailed};
 use std::alloc::Global;
 use std::io::{Read, Write};
 
-/// A call of `feed`.
+/// Calls `feed`.
 pub fn feed<R: Read, W: Write, L: ReportedOwner>(
     alloc: Global,
     input: &mut Wire<R>,
@@ -37,7 +37,7 @@ pub fn feed<R: Read, W: Write, L: ReportedOwner>(
     desk_feed::feed(alloc, input, output, owner)
 }
 
-/// A call of `serve`: a connection.
+/// Calls `serve` for a connection.
 pub fn serve<R: Read, W: Write, L: ReportedOwner>(
     alloc: Global,
     input: &mut Wire<R>,
@@ -55,7 +55,7 @@ pub fn serve<R: Read, W: Write, L: ReportedOwner>(
     http_stream::serve(alloc, input, output, gateway)
 }
 
-/// A call of `command`.
+/// Calls `command`.
 pub fn command<L: ReportedOwner>(owner: &mut L, stamped: &Stamped) -> Answer
     requires ready { L.Ready owner.old }
     ensures { CallsOnce L.reports L.Stands L.Trusts owner.old (commanded stamped.now result) owner.new }
@@ -63,7 +63,7 @@ pub fn command<L: ReportedOwner>(owner: &mut L, stamped: &Stamped) -> Answer
     owner.command(stamped)
 }
 
-/// A call of `ask`: a GET without a connection.
+/// Calls `ask`: a GET without a connection.
 pub fn ask<L: ReportedOwner>(alloc: Global, gateway: &mut Gateway<L>, target: &[u8]) -> Response
     requires ready { L.Ready (owner_of gateway.old) }
     ensures { CallsOnce L.reports L.Stands L.Trusts (owner_of gateway.old) (asked target.now (response_told result))
@@ -72,7 +72,7 @@ pub fn ask<L: ReportedOwner>(alloc: Global, gateway: &mut Gateway<L>, target: &[
     gateway.ask(alloc, target)
 }
 
-/// A call of `report`.
+/// Calls `report`.
 pub fn report<L: ReportedOwner>(
     alloc: Global,
     owner: &mut L,
@@ -84,7 +84,7 @@ pub fn report<L: ReportedOwner>(
     owner.report(alloc, asked)
 }
 
-/// A call of `serve_import`: an import of a file with these bytes.
+/// Calls `serve_import` with a file's bytes.
 pub fn import<W: Write, L: ReportedOwner>(
     alloc: Global,
     output: &mut Wire<W>,

@@ -1,8 +1,8 @@
-//! For proofs alone: nothing of it runs but its tests. The headline: what any number of calls on one desk
-//! answer, and what its list and tables then are.
+//! The headline: the answers of any number of calls on one desk, and its history and tables after
+//! them. This crate is for proofs; only its tests run.
 //!
-//! `specs/Calls.antt` says what a call answers and what calls one after the other do. `feed`, `serve`,
-//! `command`, `ask`, `report` and `import` show it of each call that the program makes.
+//! `specs/Calls.antt` defines the effect of one call and of several in sequence. `feed`, `serve`,
+//! `command`, `ask`, `report` and `import` show it for each call that the program makes.
 #![tactic(auto)]
 
 mod calls;
@@ -19,9 +19,9 @@ ghost use Rattle.headline.specs.Calls.{AnswersByTheList, Call, Calls};
 pub use calls::{ask, command, feed, import, report, serve};
 use http_answers::ReportedOwner;
 
-/// A law: for every stream of requests, in whatever pieces and with repeats and refusals, every answer
-/// is that of the list of accepted commands alone. That list is lawful and consistent, and what was
-/// called stands for it; a store stands for a list by its tables.
+/// A law: for every stream of requests, in whatever pieces and with repeats and refusals, the
+/// history of accepted commands alone determines every answer. That history is lawful and
+/// consistent, and the called owner represents it; a store represents a history by its tables.
 pub fn headline<L: ReportedOwner>(first: &L, last: &L)
     ensures { (calls : List Call) → Calls L.reports L.Stands L.Trusts first.now calls last.now → (G : Ledger)
         → L.Stands first.now G → L.Trusts last.now

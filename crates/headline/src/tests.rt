@@ -1,4 +1,4 @@
-//! Each call once, on an owner that stands for no list.
+//! Each call once, on an owner that represents no history.
 
 use crate::{ask, command, feed, headline, import, report, serve};
 use desk_answers::{Answer, Owner};
@@ -12,7 +12,7 @@ use std::test::Fail;
 const PART: &str =
     "{\"MessageName\":\"TraceDesk.PartDefined\",\"UniqueID\":\"u1\",\"Source\":\"S\",\"TimeStamp\":\"1970-01-01T00:00:00Z\",\"MessageBody\":{\"PartNumber\":\"P\"}}\n";
 
-/// It answers each command that the desk is full, and finds no report.
+/// Answers each command that the desk is full, and finds no report.
 #[derive(Drop)]
 struct Full;
 
@@ -42,7 +42,7 @@ impl ReportedOwner for Full {
     }
 }
 
-/// A feed of one message, and the command of it.
+/// A feed of one message, and its command.
 #[test]
 fn commands(rt: HostRuntime) -> Result<(), Fail> {
     let mut owner = Full;
@@ -68,7 +68,7 @@ fn commands(rt: HostRuntime) -> Result<(), Fail> {
     Ok(())
 }
 
-/// An import of a file with a fault, and a report that is not found.
+/// An import of a faulty file, and a report that isn't found.
 #[test]
 fn files(rt: HostRuntime) -> Result<(), Fail> {
     let mut owner = Full;
@@ -89,7 +89,7 @@ fn files(rt: HostRuntime) -> Result<(), Fail> {
     Ok(())
 }
 
-/// A connection with one request, and the same question without one.
+/// A connection with one request, and the same request without a connection.
 #[test]
 fn reports(rt: HostRuntime) -> Result<(), Fail> {
     let mut gateway = Gateway::new(Full, RouteTable::new(rt.alloc())?);

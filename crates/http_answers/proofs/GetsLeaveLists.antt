@@ -1,4 +1,4 @@
--- A GET leaves the list.
+-- A GET leaves the history unchanged.
 use Rattle.std.proofs.Common.{◌≡◌, ◌∙◌, ℕ, List, [], Option, Some, None, Result, Ok, Err, ok_or, refl, codes, Bool, true, false, inl, inr}
 use Rattle.std.specs.Prelude.{⊤}
 use Rattle.cfx_profile.specs.Fault.{◌>>=◌}
@@ -19,7 +19,7 @@ use Rattle.http_answers.specs.Gateways.{AnswersGet}
 use Rattle.http_answers.specs.Repeats.{get_of}
 use Rattle.http_answers.specs.Requests.{Reports, asked_outcome, outcome_of, request_rule}
 
--- a report is asked, or nothing
+-- The request is for a report, or has a fault.
 abbrev Asks : Result Asked AskFault → Type 0
 Asks (Ok (asks.Report report)) = ⊤
 Asks (Ok asks.Message) = ⊥
@@ -58,7 +58,6 @@ pub get-stays : (reports : Reports) (L : Ledger) (target : List ℕ) → (outcom
 unfolding asked_of
 get-stays reports L target = stays reports L [] (asked_of (codes "GET") target) (by-path (route_of (path_of target)) (query_of target))
 
--- so what a gateway told of a GET is what the rule says of it, or Unavailable, and the list is as it was
 pub get-told : (reports : Reports) (G : Ledger) (target : List ℕ) (told : Told) (H : History)
     → AnswersRequest (request_rule reports G.rules G.greatest) (get_of target) G.history told H → AnswersGet reports G target told × (H ≡ G.history)
 get-told reports G target told H (mark, is, after) = by mark is after

@@ -1,4 +1,4 @@
--- A repeat leaves the list.
+-- A repeat leaves the history unchanged.
 use Rattle.std.proofs.Common.{◌≡◌, ℕ, List, Bool, true, false, not, Option, Some, None, is_some, Result, Ok, Err, refl}
 use Rattle.std.specs.Option.{option_map_or}
 use Rattle.cfx_profile.specs.Message.{said_in}

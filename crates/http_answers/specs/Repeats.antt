@@ -1,4 +1,4 @@
--- Requests whose command was accepted before, and requests that are questions.
+-- Requests whose command was accepted before, and GET requests.
 use Rattle.std.specs.Prelude.{Bool, false, not, ℕ, List, [], Option, Some, None, Result, Ok, Err, codes}
 use Rattle.std.specs.Option.{option_map_or}
 use Rattle.cfx_profile.specs.Message.{said_in}
@@ -22,18 +22,18 @@ use Rattle.http_answers.specs.Requests.{stamped_by}
 
 -- ---- repeats
 
--- the command of a message
+-- The command in a message.
 abbrev pub message_command : Result Said MessageFault → Option Stamped
 message_command (Ok (says.Ignored name)) = None
 message_command (Ok (says.Asked s)) = Some s
 message_command (Err fault) = None
 
--- the command of a file
+-- The command in a file.
 abbrev pub file_command : Stamp → Result Command ImportFault → Option Stamped
 file_command stamp (Ok command) = Some (stamped_by stamp command)
 file_command stamp (Err fault) = None
 
--- the command that a request with this body asks, where it asks one
+-- The command in a request with this body, if it has one.
 abbrev pub command_asked : List ℕ → Result Asked AskFault → Option Stamped
 command_asked body (Ok asks.Message) = message_command (said_in body)
 command_asked body (Ok (asks.ImportSetup stamp product machine)) = file_command stamp (setup_said product machine body)
@@ -41,16 +41,16 @@ command_asked body (Ok (asks.ImportCounts stamp)) = file_command stamp (counts_s
 command_asked body (Ok (asks.Report report)) = None
 command_asked body (Err fault) = None
 
--- the command was accepted before, in the same message
+-- The same message was accepted before.
 abbrev pub is_known : History → Stamped → Bool
 is_known H s = option_map_or (λ answer. not (is_refused answer)) (earlier_answer H s) false
 
--- the request is a repeat: it asks a command that was accepted before, in the same message or file
+-- The request is a repeat: its command was accepted before, from the same message or file.
 abbrev pub is_repeat : Repeats
 is_repeat H r = option_map_or (is_known H) (command_asked r.body (asked_of r.method r.target)) false
 
--- ---- questions
+-- ---- GET requests
 
--- a GET of a target, which has no body
+-- A GET of a target, without a body.
 abbrev pub get_of : List ℕ → Request
 get_of target = record { method = codes "GET"; target = target; body = [] }

@@ -14,7 +14,7 @@ use Rattle.http_stream.specs.declared.response.Status.TheVariants.{Ok, BadReques
 use Rattle.imports.specs.declared.fault.ImportFault.{ImportFault}
 use Rattle.imports.specs.declared.fault.ImportFault.TheVariants as file
 
--- of the answer to a command
+-- The status of the answer to a command.
 abbrev pub command_status : Answer → Status
 command_status (answer.Accepted n text) = Ok
 command_status (answer.Refused refusal) = Conflict
@@ -22,7 +22,7 @@ command_status (answer.IdReused n) = Conflict
 command_status answer.DeskFull = Conflict
 command_status answer.Unavailable = ServiceUnavailable
 
--- of a message that says no command
+-- The status for a message that can't be read.
 abbrev pub message_fault_status : MessageFault → Status
 message_fault_status message.NotJson = BadRequest
 message_fault_status message.NotObject = BadRequest
@@ -32,7 +32,7 @@ message_fault_status (message.BodyMember m) = UnprocessableEntity
 message_fault_status (message.OverLimit m) = UnprocessableEntity
 message_fault_status message.NoMemory = ServiceUnavailable
 
--- of a file that says no command
+-- The status for a file that can't be read.
 abbrev pub import_fault_status : ImportFault → Status
 import_fault_status file.BadHeader = UnprocessableEntity
 import_fault_status (file.BadRow line) = UnprocessableEntity
@@ -40,12 +40,11 @@ import_fault_status (file.BadField line column) = UnprocessableEntity
 import_fault_status file.OverLimit = UnprocessableEntity
 import_fault_status file.NoMemory = ServiceUnavailable
 
--- the method that is allowed
 abbrev pub allow_of : Method → Allow
 allow_of method.Get = allow.Get
 allow_of method.Post = allow.Post
 
--- of a request that asks nothing
+-- The status for a request that can't be read.
 abbrev pub request_fault_status : AskFault → Status
 request_fault_status request.NoPath = NotFound
 request_fault_status (request.BadMethod m) = MethodNotAllowed (allow_of m)

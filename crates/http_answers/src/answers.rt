@@ -1,4 +1,4 @@
-//! What each request is answered.
+//! Answers to requests.
 
 ghost use Rattle.std.specs.Prelude.{◌≡◌, IfOk};
 ghost use Rattle.cfx_profile.specs.Message.{said_in};
@@ -21,7 +21,6 @@ use imports::{ImportFault, read_counts, read_setup};
 use report_texts::not_found_text;
 use std::alloc::Global;
 
-/// An answer in JSON.
 fn json(status: Status, text: Text) -> Response
     ensures { response_told result ≡ json status text }
 {
@@ -32,7 +31,7 @@ fn json(status: Status, text: Text) -> Response
     }
 }
 
-/// The answer to a request.
+/// Answers a request.
 pub fn answer_request<L: ReportedOwner>(
     alloc: Global,
     owner: &mut L,
@@ -63,14 +62,12 @@ pub fn answer_request<L: ReportedOwner>(
     }
 }
 
-/// The answer to a request that asks nothing.
 fn answer_fault(alloc: Global, fault: AskFault) -> Result<Response, Unavailable>
     ensures { IfOk result (λ response. response_told response ≡ json (request_fault_status fault) (fault_text fault)) }
 {
     Ok(json(request_fault_status(fault), fault.write_text(alloc)?))
 }
 
-/// The answer to a message.
 fn answer_message<L: Owner>(
     alloc: Global,
     owner: &mut L,
@@ -89,7 +86,6 @@ fn answer_message<L: Owner>(
     }
 }
 
-/// The answer to a setup file.
 fn answer_setup<L: Owner>(
     alloc: Global,
     owner: &mut L,
@@ -111,7 +107,6 @@ fn answer_setup<L: Owner>(
     }
 }
 
-/// The answer to a count file.
 fn answer_counts<L: Owner>(
     alloc: Global,
     owner: &mut L,
@@ -142,7 +137,7 @@ fn stamped_by(stamp: Stamp, command: Command) -> Stamped
     }
 }
 
-/// The answer to a command. Of an accepted one it takes no memory beyond that of its judgement.
+/// Answers a command. An accepted one takes no memory beyond its judgement.
 #[tactic(auto, using(desk_answers::proofs::Refusing::refused_leaves))]
 fn answer_command<L: Owner>(
     alloc: Global,
@@ -161,7 +156,6 @@ fn answer_command<L: Owner>(
     }
 }
 
-/// A report, or that it is not found.
 fn answer_report<L: ReportedOwner>(
     alloc: Global,
     owner: &mut L,
@@ -183,7 +177,6 @@ fn answer_report<L: ReportedOwner>(
     }
 }
 
-/// The answer where what a report is about is not found.
 fn answer_none(alloc: Global, about: Option<report_texts::Kind>) -> Result<Response, Unavailable>
     ensures { IfOk result (λ response. response_told response ≡ none_told about) }
 {
@@ -193,7 +186,6 @@ fn answer_none(alloc: Global, about: Option<report_texts::Kind>) -> Result<Respo
     }
 }
 
-/// What a report is about; none of the overdue list, which each owner has.
 fn kind_of(report: Report) -> Option<report_texts::Kind>
     ensures { result ≡ kind_of report }
 {

@@ -1,4 +1,4 @@
-//! An owner behind the routes of the gateway.
+//! The gateway: an owner with HTTP routes.
 
 ghost use Rattle.std.specs.Prelude.{◌≡◌};
 ghost use Rattle.desk_answers.specs.Ledger.{Ledger};
@@ -11,22 +11,21 @@ use http_routes::RouteTable;
 use http_stream::{Handler, Response};
 use std::alloc::Global;
 
-/// An owner behind the routes of the gateway. The routes are made once and serve any number of
-/// connections.
+/// An owner with HTTP routes. The routes are built once for any number of connections.
 pub struct Gateway<L> {
     owner: L,
     routes: RouteTable,
 }
 
 impl<L> Gateway<L> {
-    /// The owner behind these routes.
+    /// Returns the gateway of an owner.
     pub fn new(owner: L, routes: RouteTable) -> Gateway<L>
         ensures { owner_of result ≡ owner }
     {
         Gateway { owner, routes }
     }
 
-    /// Gives the owner back.
+    /// Returns the owner.
     pub fn into_owner(self) -> L
         ensures { result ≡ owner_of self }
     {
@@ -37,7 +36,7 @@ impl<L> Gateway<L> {
 }
 
 impl<L: ReportedOwner> Gateway<L> {
-    /// The answer to a GET of this target, or Unavailable. The list stays.
+    /// Answers a GET of this target, possibly with Unavailable. The history is unchanged.
     pub fn ask(&mut self, alloc: Global, target: &[u8]) -> Response
         requires ready { L.Ready (owner_of self.old) }
         ensures ready { L.Ready (owner_of self.new) }
@@ -51,7 +50,7 @@ impl<L: ReportedOwner> Gateway<L> {
     }
 }
 
-/// It answers by the rule of the gateway, with the reports of its owner.
+/// It answers by the gateway's rule, with its owner's reports.
 impl<L: ReportedOwner> Handler for Gateway<L> {
     ghost use Rattle.http_answers.specs.Requests.{request_rule};
 

@@ -1,4 +1,4 @@
-//! Laws of the gateway's rule. They are for proofs, and do nothing when they run.
+//! Laws of the gateway's rule. They are for proofs and do nothing at run time.
 
 ghost use Rattle.std.specs.Prelude.{◌≡◌, ℕ, List};
 ghost use Rattle.desk_types.specs.History.{History};
@@ -7,14 +7,14 @@ ghost use Rattle.http_stream.specs.Repeats.{LeavesTheList};
 ghost use Rattle.http_answers.specs.Repeats.{is_repeat, get_of};
 ghost use Rattle.http_answers.specs.Requests.{Reports, request_rule};
 
-/// A message or a file whose command was accepted before leaves the list, by the rule of every
-/// gateway. So the law of `http_stream` that repeats act once holds of the gateway.
+/// A message or file whose command was accepted before leaves the history unchanged. So the law of
+/// `http_stream` that repeats act once applies to the gateway.
 pub fn repeats_leave_the_list()
     ensures { (reports : Reports) (rules : Rules) (greatest : ℕ)
         → LeavesTheList (request_rule reports rules greatest) is_repeat }
 {}
 
-/// A GET leaves the list.
+/// A GET leaves the history unchanged.
 pub fn questions_leave_the_list()
     ensures { (reports : Reports) (rules : Rules) (greatest : ℕ) (H : History) (target : List ℕ)
         → (request_rule reports rules greatest H (get_of target)).after ≡ H }

@@ -1,7 +1,7 @@
-//! What the routes of the gateway answer, over any owner of a list that returns reports.
+//! The answers of the gateway's routes, for any owner with reports.
 //!
-//! `specs/Requests.antt` says on one page what each request is answered and which list it leaves. The
-//! proofs here know no table and no file.
+//! `specs/Requests.antt` defines the answer to each request and the history after it. The proofs
+//! here use no table and no file.
 #![tactic(auto)]
 
 mod answers;

@@ -1,12 +1,12 @@
-//! An owner that gives reports.
+//! An owner with reports.
 
 use desk_answers::Owner;
 use desk_types::Text;
 use http_routes::Report;
 use std::alloc::{AllocError, Global};
 
-/// Memory was refused, or a database failed that keeps the list. The list is as before, and it may be
-/// asked again.
+/// Out of memory, or the storage failed. The history is unchanged, and the request can be sent
+/// again.
 #[derive(Clone, Copy, Debug, PartialEq, Eq)]
 pub struct Unavailable;
 
@@ -20,16 +20,16 @@ impl From<AllocError> for Unavailable {
     }
 }
 
-/// What answers commands, and returns reports of those that it accepted.
+/// Answers commands and returns reports of those accepted.
 pub trait ReportedOwner: Owner {
     ghost use Rattle.std.specs.Prelude.{◌≡◌, IfOk};
     ghost use Rattle.desk_answers.specs.Ledger.{Ledger};
     ghost use Rattle.http_answers.specs.Requests.{Reports};
 
-    /// What its reports tell of a list.
+    /// The reports of a history.
     ghost reports: { Reports };
 
-    /// Gives a report; none where what it is about is not found. The list stays.
+    /// Returns a report, or none if its subject isn't found. The history is unchanged.
     fn report(&mut self, alloc: Global, asked: Report) -> Result<Option<Text>, Unavailable>
         requires ready { Self.Ready self.old }
         ensures ready { Self.Ready self.new }

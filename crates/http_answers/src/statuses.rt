@@ -8,7 +8,7 @@ use http_routes::{AskFault, Method};
 use http_stream::{Allow, Status};
 use imports::ImportFault;
 
-/// Of a request that asks nothing.
+/// Returns the status for a request that can't be read.
 pub fn request_fault_status(fault: AskFault) -> Status
     ensures { result ≡ request_fault_status fault }
 {
@@ -20,7 +20,6 @@ pub fn request_fault_status(fault: AskFault) -> Status
     }
 }
 
-/// The method that is allowed, as an answer tells it.
 fn allow_of(method: Method) -> Allow
     ensures { result ≡ allow_of method }
 {
@@ -30,7 +29,7 @@ fn allow_of(method: Method) -> Allow
     }
 }
 
-/// Of a message that says no command.
+/// Returns the status for a message that can't be read.
 pub fn message_fault_status(fault: &MessageFault) -> Status
     ensures { result ≡ message_fault_status fault.now }
 {
@@ -44,7 +43,7 @@ pub fn message_fault_status(fault: &MessageFault) -> Status
     }
 }
 
-/// Of a file that says no command.
+/// Returns the status for a file that can't be read.
 pub fn import_fault_status(fault: &ImportFault) -> Status
     ensures { result ≡ import_fault_status fault.now }
 {

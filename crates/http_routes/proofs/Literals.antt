@@ -1,4 +1,4 @@
--- A router of paths with no parameter finds the row whose path is asked, and no other.
+-- A router of paths without parameters finds exactly the row with the requested path.
 use Rattle.std.proofs.Common.{◌≡◌, ◌∙◌, ℕ, zero, suc, ◌-◌, ◌<◌, List, [], ◌∷◌, length, map, Option, Some, None, option_map, Bool, true, false, cond, refl, sym, ap, rules, arith, ◌==◌}
 use Rattle.std.proofs.lemmas.Bool.Decides.{nat_tests}
 use Rattle.std.specs.List.{find}
@@ -10,12 +10,12 @@ use Rattle.http_routes.specs.declared.routes.Route.{Route}
 use Rattle.http_routes.specs.Routes.{route_path, row, routes, table, route_of}
 
 module _ {K : Type 0} where
-  -- every row is bytes alone
+  -- No row has a parameter.
   abbrev AreLiteral : RowsOf K → Type 0
   AreLiteral [] = Unit {0}
   AreLiteral ((t, k) ∷ rest) = IsText t × AreLiteral rest
 
-  -- the row whose text is the path
+  -- The row whose text is the path.
   abbrev row_at : List ℕ → RowsOf K → Option K
   row_at path [] = None
   row_at path ((t, k) ∷ rest) = cond (same_text t path) (Some k) (row_at path rest)
@@ -88,7 +88,6 @@ row_at-routes path (r ∷ rs) = by (same (route_path r) path) refl (row_at-route
     by true e later = rw e refl
     by false e later = rw e later
 
--- what a router of all routes finds
 pub first-table : (path : List ℕ) → option_map (λ e. e.value) (first table path) ≡ route_of path
 unfolding route_of
 first-table path = ap (option_map (λ e. e.value)) (first-literal path table table-literal) ∙ row_at-routes path routes

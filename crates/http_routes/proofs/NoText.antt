@@ -1,4 +1,4 @@
--- A path that is no text is that of no route.
+-- A path that isn't UTF-8 belongs to no route.
 use Rattle.std.proofs.Common.{◌≡◌, ℕ, List, [], ◌∷◌, Bool, true, false, cond, Some, None, refl, subst}
 use Rattle.std.specs.List.{find}
 use Rattle.std.specs.Str.{IsUtf8, is_utf8, chars}

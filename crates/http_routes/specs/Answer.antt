@@ -1,4 +1,5 @@
--- The answers to requests that ask nothing: one compact JSON object each, its members in byte order of their names.
+-- Answers to requests that can't be read. Each is one compact JSON object with its members in byte
+-- order of their names.
 use Rattle.std.specs.Prelude.{ℕ, List, codes}
 use Rattle.serde_json.specs.Data.{Data}
 use Rattle.serde_json.specs.Written.{compact_text}
@@ -7,13 +8,12 @@ use Rattle.http_routes.specs.declared.fault.AskFault.{AskFault}
 use Rattle.http_routes.specs.declared.fault.AskFault.TheVariants.{NoPath, BadMethod, BadQuery, NoMemory}
 use Rattle.http_routes.specs.Parameter.{parameter_text}
 
--- the answer to a fault of what is asked
+-- The answer to a fault.
 abbrev pub fault_answer : AskFault → Data
 fault_answer NoPath = not_found (codes "Path")
 fault_answer (BadMethod method) = faulty (codes "BadMethod")
 fault_answer (BadQuery p) = faulty_at (codes "BadQuery") (parameter_text p)
 fault_answer NoMemory = unavailable
 
--- its text
 unfoldable pub fault_text : AskFault → List ℕ
 fault_text fault = compact_text (fault_answer fault)

@@ -1,4 +1,4 @@
--- What a request asks, by its method and its target.
+-- The content of a request, from its method and its target.
 use Rattle.std.specs.Prelude.{ℕ, ◌+◌, ◌==◌, Bool, List, take, drop, Result, Ok, Err, ok_or, if◌then◌else◌}
 use Rattle.std.specs.List.{position_or_len}
 use Rattle.cfx_profile.specs.Fault.{◌>>=◌}
@@ -23,51 +23,49 @@ use Rattle.http_routes.specs.Values.{detail_of, boards_of}
 
 -- ---- the target
 
--- whether a byte is `?`
 abbrev pub is_mark : ℕ → Bool
 is_mark byte = byte == 0x3f
 
--- the target up to the first `?`, as it is written
+-- The raw target up to the first `?`.
 unfoldable pub path_of : List ℕ → List ℕ
 path_of target = take (position_or_len is_mark target) target
 
--- the rest after it
+-- The rest after it.
 unfoldable pub query_of : List ℕ → List ℕ
 query_of target = drop (position_or_len is_mark target + 1) target
 
 -- ---- one parameter
 
--- its value, where it stands just once
+-- The parameter's value, if it occurs exactly once.
 unfoldable pub parameter_value : Parameter → List ℕ → Result (List ℕ) AskFault
 parameter_value p query = ok_or (value_of (parameter_text p) query) (BadQuery p)
 
--- an id
 unfoldable pub id_in : Parameter → List ℕ → Result Name AskFault
 id_in p query = do
   text ← parameter_value p query
   ok_or (id_of text) (BadQuery p)
 
--- the minute of a time text
+-- The minute of a time text.
 unfoldable pub minute_in : List ℕ → Result ℕ AskFault
 minute_in query = do
   text ← parameter_value parameter.Time query
   ok_or (minute_of text) (BadQuery parameter.Time)
 
--- one digit, 1 to 4
+-- One digit, 1 to 4.
 unfoldable pub detail_in : List ℕ → Result TraceDetail AskFault
 detail_in query = do
   text ← parameter_value parameter.Detail query
   ok_or (detail_of text) (BadQuery parameter.Detail)
 
--- 1 to 6 digits, 1 to 100,000
+-- 1 to 6 digits, 1 to 100,000.
 unfoldable pub boards_in : List ℕ → Result ℕ AskFault
 boards_in query = do
   text ← parameter_value parameter.Boards query
   ok_or (boards_of text) (BadQuery parameter.Boards)
 
--- ---- the parameters of each route, in their order
+-- ---- the parameters of each route, in order
 
--- what stands on the command of a file
+-- The parameters of an import's command.
 unfoldable pub stamp_in : List ℕ → Result Stamp AskFault
 stamp_in query = do
   uid ← id_in parameter.Id query
@@ -75,7 +73,8 @@ stamp_in query = do
   minute ← minute_in query
   Ok (record { uid = uid; source = source; minute = minute })
 
--- what is asked of a route; the first parameter that is missing, stands twice or is not of its form is the fault
+-- The content of a request to a route; the first parameter that is missing, repeated or invalid is
+-- the fault.
 unfoldable pub asked_at : Route → List ℕ → Result Asked AskFault
 asked_at route.Messages query = Ok asks.Message
 asked_at route.ImportSetup query = do
@@ -109,11 +108,11 @@ asked_at route.Overdue query = Ok (asks.Report report.OverdueList)
 
 -- ---- a request
 
--- the route, where this is its method
+-- The route, if this is its method.
 abbrev pub by_method : List ℕ → Route → Result Route AskFault
 by_method method route = if same method (method_text (route_method route)) then Ok route else Err (BadMethod (route_method route))
 
--- what a request asks, or the first fault: of its path, of its method, of a parameter
+-- The content of a request, or its first fault: of path, method, then parameters.
 unfoldable pub asked_of : List ℕ → List ℕ → Result Asked AskFault
 asked_of method target = do
   found ← ok_or (route_of (path_of target)) NoPath

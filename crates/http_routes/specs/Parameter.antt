@@ -1,9 +1,8 @@
--- The parameters of queries that are read, by their names.
+-- The parameters of queries, by name.
 use Rattle.std.specs.Prelude.{ℕ, List, codes}
 use Rattle.http_routes.specs.declared.parameter.Parameter.{Parameter}
 use Rattle.http_routes.specs.declared.parameter.Parameter.TheVariants.{Id, Source, Time, Product, Machine, Board, Lot, Detail, Reel, Boards}
 
--- the name of a parameter
 abbrev pub parameter_text : Parameter → List ℕ
 parameter_text Id = codes "id"
 parameter_text Source = codes "source"

@@ -9,12 +9,11 @@ use Rattle.http_routes.specs.declared.routes.Method.TheVariants.{Get, Post}
 use Rattle.http_routes.specs.declared.routes.Route.{Route}
 use Rattle.http_routes.specs.declared.routes.Route.TheVariants.{Messages, ImportSetup, ImportCounts, TraceBoard, TraceLot, Reel, Slots, Kit, Overdue}
 
--- a method as a request spells it
+-- The method as written in a request.
 abbrev pub method_text : Method → List ℕ
 method_text Get = codes "GET"
 method_text Post = codes "POST"
 
--- the path of a route
 abbrev pub route_path : Route → List ℕ
 route_path Messages = codes "/messages"
 route_path ImportSetup = codes "/imports/setup"
@@ -26,7 +25,7 @@ route_path Slots = codes "/slots"
 route_path Kit = codes "/kit"
 route_path Overdue = codes "/overdue"
 
--- the one method by which a route is asked
+-- The only method of a route.
 abbrev pub route_method : Route → Method
 route_method Messages = Post
 route_method ImportSetup = Post
@@ -38,20 +37,19 @@ route_method Slots = Get
 route_method Kit = Get
 route_method Overdue = Get
 
--- all routes, by their paths in byte order
+-- All routes, by path in byte order.
 abbrev pub routes : List Route
 routes = ImportCounts ∷ ImportSetup ∷ Kit ∷ Messages ∷ Overdue ∷ Reel ∷ Slots ∷ TraceBoard ∷ TraceLot ∷ []
 
--- the route whose path this is, byte by byte
+-- The route with this path, byte by byte.
 unfoldable pub route_of : List ℕ → Option Route
 route_of path = find (λ route. same (route_path route) path) routes
 
--- ---- as `matchit` has them
+-- ---- the routes in `matchit`
 
--- a route: a path with no parameter in it
+-- A route: a path without parameters.
 abbrev pub row : Route → List ℕ × RouteOf Route
 row route = (route_path route, record { pattern = route_path route; text = route_path route; names = []; value = route })
 
--- a router of all routes
 abbrev pub table : RowsOf (RouteOf Route)
 table = map row routes

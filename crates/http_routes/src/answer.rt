@@ -1,4 +1,4 @@
-//! The answers to requests that ask nothing.
+//! Answers to requests that can't be read.
 
 ghost use Rattle.std.specs.Prelude.{◌≡◌, IfOk, false};
 ghost use Rattle.serde_json.specs.View.{view};
@@ -11,7 +11,8 @@ use serde_json::{Value, json};
 use std::alloc::{AllocError, Global};
 
 impl AskFault {
-    /// The text of the answer to the fault, as `{"Answer":"Faulty","Fault":"BadQuery","Member":"detail"}`.
+    /// Returns the text of the answer to the fault, such as
+    /// `{"Answer":"Faulty","Fault":"BadQuery","Member":"detail"}`.
     #[tactic(auto, unfolding(crate::specs::Answer::fault_text))]
     pub fn write_text(&self, alloc: Global) -> Result<Text, AllocError>
         ensures { IfOk result (λ text. text ≡ fault_text self.now) }

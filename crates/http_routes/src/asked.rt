@@ -1,4 +1,4 @@
-//! What a request asks.
+//! The content of a request.
 
 ghost use Rattle.std.specs.Prelude.{◌≡◌, ◌≢◌, Ok, Err, IfOk, IfErr};
 ghost use Rattle.std.specs.Cow.{cow_str_bytes};
@@ -17,17 +17,16 @@ use desk_types::{Boards, Id, Minute, TraceDetail};
 use std::alloc::Global;
 use std::borrow::CowStr;
 
-/// What stands on the command of a file, as the envelope's members on that of a message.
+/// The data of an import's command that a message has in its envelope.
 #[derive(Clone, Copy, Debug, PartialEq, Eq)]
 pub struct Stamp {
-    /// The UniqueID.
     pub uid: Id,
     pub source: Id,
-    /// The own minute.
+    /// The minute of the sender's clock.
     pub minute: Minute,
 }
 
-/// What a request asks, with its parameters.
+/// The content of a request, with its parameters.
 #[derive(Clone, Copy, Debug, PartialEq, Eq)]
 pub enum Asked {
     /// `POST /messages`: the body is a message.
@@ -42,19 +41,18 @@ pub enum Asked {
     ImportCounts {
         stamp: Stamp,
     },
-    /// A report.
     Report(Report),
 }
 
-/// What a report is asked about: one variant a route, with its parameters.
+/// A report with its parameters, one variant for each route.
 #[derive(Clone, Copy, Debug, PartialEq, Eq)]
 pub enum Report {
-    /// `GET /trace/board`: what is on a board.
+    /// `GET /trace/board`: the pieces on a board.
     BoardTrace {
         board: Id,
         detail: TraceDetail,
     },
-    /// `GET /trace/lot`: which boards hold a piece of a lot.
+    /// `GET /trace/lot`: the boards with a piece from a lot.
     LotTrace {
         lot: Id,
         detail: TraceDetail,
@@ -63,25 +61,25 @@ pub enum Report {
     ReelCard {
         reel: Id,
     },
-    /// `GET /slots`: what is mounted on a machine.
+    /// `GET /slots`: the reels mounted on a machine.
     SlotList {
         machine: Id,
     },
-    /// `GET /kit`: the reels for so many boards of a product.
+    /// `GET /kit`: the reels for a number of boards of a product.
     KitList {
         product: Id,
         machine: Id,
         boards: Boards,
     },
-    /// `GET /overdue`: the pieces that were placed past their floor life.
+    /// `GET /overdue`: the pieces placed from expired reels.
     OverdueList,
 }
 
 impl RouteTable {
-    /// What a request of this method asks with its target.
+    /// Reads a request's method and target.
     ///
-    /// The path is looked at before the method, and the method before the parameters; they are read
-    /// in the order of the route, and others are skipped.
+    /// Path, method and parameters are checked in this order. Parameters are read in the order of
+    /// the route; any others are skipped.
     #[tactic(auto, unfolding(crate::specs::Asked::asked_of))]
     pub fn read_request(
         &self,
@@ -98,7 +96,6 @@ impl RouteTable {
     }
 }
 
-/// The path and the query.
 fn cut_target(target: &[u8]) -> (&[u8], &[u8])
     ensures path { result.0.now ≡ path_of target.now }
     ensures query { result.1.now ≡ query_of target.now }
@@ -109,14 +106,12 @@ fn cut_target(target: &[u8]) -> (&[u8], &[u8])
     }
 }
 
-/// Where the first `?` is.
 fn first_mark(target: &[u8]) -> Option<usize>
     ensures { result ≡ position is_mark target.now }
 {
     target.iter().position(|byte| *byte == b'?')
 }
 
-/// The route, where this is its method.
 fn by_method(route: Route, method: &[u8]) -> Result<Route, AskFault>
     ensures { result ≡ by_method method.now route }
 {
@@ -128,7 +123,6 @@ fn by_method(route: Route, method: &[u8]) -> Result<Route, AskFault>
     }
 }
 
-/// The parameters of a route, in their order.
 #[tactic(auto, unfolding(crate::specs::Asked::asked_at))]
 fn read_parameters(alloc: Global, route: Route, query: &[u8]) -> Result<Asked, AskFault>
     ensures { IsAsked (asked_at route query.now) result }
@@ -233,7 +227,6 @@ fn boards_in(alloc: Global, query: &[u8]) -> Result<Boards, AskFault>
     boards_of(text.as_str()).ok_or(AskFault::BadQuery(Parameter::Boards))
 }
 
-/// The value of a parameter, where it stands just once.
 #[tactic(auto, unfolding(crate::specs::Asked::parameter_value))]
 fn parameter_value<'a>(
     alloc: Global,

@@ -1,24 +1,23 @@
-//! Why a request asks nothing.
+//! Faults of requests.
 
 use crate::parameter::Parameter;
 use crate::routes::Method;
 use std::alloc::AllocError;
 
-/// Why a request asks nothing: the first of these that applies.
+/// Why a request can't be read: the first of these that applies.
 #[derive(Clone, Copy, Debug, PartialEq, Eq)]
 pub enum AskFault {
     /// No route has the path.
     NoPath,
-    /// The path is asked by this method alone.
+    /// The path only allows this method.
     BadMethod(Method),
-    /// The parameter is missing, stands twice, or is not of its form: the first such in the order of
-    /// the route's parameters.
+    /// The parameter is missing, repeated or invalid. It is the first such one in the route's
+    /// order.
     BadQuery(Parameter),
-    /// Memory was refused. This may come in the place of any other answer.
+    /// There was too little memory. This can replace any other result.
     NoMemory,
 }
 
-/// Where memory is refused while a request is read, it asks nothing.
 impl From<AllocError> for AskFault {
     ghost use Rattle.std.specs.Prelude.{◌≡◌};
     ghost use Rattle.http_routes.specs.declared.fault.AskFault.TheVariants.{NoMemory};

@@ -1,7 +1,7 @@
-//! What a request asks: its route, by its path and its method, and the route's parameters.
+//! Reading a request: its route, from path and method, and the route's parameters.
 //!
-//! `specs/Routes.antt` and `specs/Asked.antt` say on two pages what a method and a target ask;
-//! `specs/Answer.antt` says the texts of the answers to requests that ask nothing.
+//! `specs/Routes.antt` and `specs/Asked.antt` define the content of a request; `specs/Answer.antt`
+//! defines the answers to faults.
 #![tactic(auto)]
 
 mod answer;

@@ -3,14 +3,14 @@
 ghost use Rattle.std.specs.Prelude.{◌≡◌};
 ghost use Rattle.http_routes.specs.Parameter.{parameter_text};
 
-/// A parameter of a query that some route reads.
+/// A parameter that some route reads.
 #[derive(Clone, Copy, Debug, PartialEq, Eq)]
 pub enum Parameter {
-    /// The UniqueID of the command that a file makes.
+    /// The UniqueID of the import's command.
     Id,
-    /// Who sends the file.
+    /// The sender of the file.
     Source,
-    /// When the file is sent, by the sender's clock.
+    /// The time by the sender's clock.
     Time,
     Product,
     Machine,
@@ -22,7 +22,7 @@ pub enum Parameter {
 }
 
 impl Parameter {
-    /// Its name in a query.
+    /// Returns the parameter's name in a query.
     pub fn as_str(self) -> &'static str
         ensures { result.now ≡ parameter_text self }
     {

@@ -7,10 +7,10 @@ ghost use Rattle.http_routes.specs.Query.{value_of};
 use std::alloc::{AllocError, Global};
 use std::borrow::CowStr;
 
-/// The value of this name, where the name stands just once in the query.
+/// Returns the name's value if the name occurs exactly once in the query.
 ///
-/// The query is pairs between `&`, as a web form is written (URL Standard, section 5): in names and
-/// values `+` is a space, and `%` with two digits a byte. For bytes that are no UTF-8 stands U+FFFD.
+/// A query has pairs separated by `&`, encoded like a web form (URL Standard, section 5): `+` is a
+/// space, and `%` with two digits a byte. U+FFFD replaces invalid UTF-8.
 #[tactic(auto, unfolding(crate::specs::Query::value_of))]
 pub fn value_of<'a>(
     alloc: Global,

@@ -1,4 +1,4 @@
-//! The routes that are served.
+//! The routes.
 
 ghost use Rattle.std.specs.Prelude.{◌≡◌, IfOk};
 ghost use Rattle.http_routes.specs.Routes.{method_text, route_method, route_of, table};
@@ -6,7 +6,7 @@ ghost use Rattle.http_routes.specs.Routes.{method_text, route_method, route_of, 
 use matchit::{InsertError, Router};
 use std::alloc::{AllocError, Global};
 
-/// A method by which routes are asked.
+/// A method of a route.
 #[derive(Clone, Copy, Debug, PartialEq, Eq)]
 pub enum Method {
     Get,
@@ -14,7 +14,7 @@ pub enum Method {
 }
 
 impl Method {
-    /// The method as a request spells it.
+    /// Returns the method as written in a request.
     pub fn as_str(self) -> &'static str
         ensures { result.now ≡ method_text self }
     {
@@ -25,7 +25,6 @@ impl Method {
     }
 }
 
-/// A route.
 #[derive(Clone, Copy, Debug, PartialEq, Eq)]
 pub enum Route {
     Messages,
@@ -40,7 +39,7 @@ pub enum Route {
 }
 
 impl Route {
-    /// The one method by which it is asked.
+    /// Returns the only method of the route.
     pub fn method(self) -> Method
         ensures { result ≡ route_method self }
     {
@@ -56,7 +55,7 @@ impl Route {
     }
 }
 
-/// The routes, to be looked up by their paths. It is made once and serves any number of requests.
+/// The routes by path. Built once for any number of requests.
 #[derive(Drop)]
 pub struct RouteTable {
     router: Router<Route>,
@@ -64,7 +63,7 @@ pub struct RouteTable {
 }
 
 impl RouteTable {
-    /// All nine routes.
+    /// Returns the table of all routes.
     pub fn new(alloc: Global) -> Result<RouteTable, AllocError> {
         match make_router(alloc) {
             Ok(router) => Ok(RouteTable { router }),
@@ -72,7 +71,7 @@ impl RouteTable {
         }
     }
 
-    /// The route of a path, which may be any bytes.
+    /// Returns the route of a path, which may be any bytes.
     pub fn route_of(&self, path: &[u8]) -> Option<Route>
         ensures { result ≡ route_of path.now }
     {

@@ -1,4 +1,4 @@
-//! The numbers that are asked with.
+//! The numbers in requests.
 
 ghost use Rattle.std.specs.Prelude.{◌≡◌, ◌≤◌};
 ghost use Rattle.std.specs.Char.{is_ascii_digit};
@@ -7,7 +7,7 @@ ghost use Rattle.http_routes.specs.Values.{is_numeral, number_of, detail_of, boa
 
 use desk_types::{Boards, TraceDetail};
 
-/// The detail that a text is: one digit.
+/// Reads a detail level of one digit.
 pub fn detail_of(text: &str) -> Option<TraceDetail>
     ensures { result ≡ detail_of text.now }
 {
@@ -15,14 +15,13 @@ pub fn detail_of(text: &str) -> Option<TraceDetail>
     TraceDetail::new(u8::try_from(number).ok()?)
 }
 
-/// The number of boards that a text of 1 to 6 digits is.
+/// Reads a number of boards of 1 to 6 digits.
 pub fn boards_of(text: &str) -> Option<Boards>
     ensures { result ≡ boards_of text.now }
 {
     Boards::new(number_of(text, 6)?)
 }
 
-/// The number that a text of 1 to so many digits is.
 #[tactic(auto, unfolding(crate::specs::Values::number_of))]
 fn number_of(text: &str, most_digits: usize) -> Option<u64>
     requires { most_digits ≤ 9 }
@@ -34,7 +33,6 @@ fn number_of(text: &str, most_digits: usize) -> Option<u64>
     text.parse::<u64>().ok()
 }
 
-/// Whether a text is 1 to so many digits.
 fn is_numeral(text: &[u8], most_digits: usize) -> bool
     ensures { result ≡ is_numeral most_digits text.now }
 {

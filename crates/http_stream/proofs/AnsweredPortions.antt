@@ -1,4 +1,4 @@
--- Portions that are answered one after another.
+-- Portions answered one after another.
 use Rattle.std.proofs.Common.{◌≡◌, ◌∙◌, ◌+◌, ℕ, Bool, true, false, cond, List, [], ◌∷◌, ◌++◌, sym, ap, refl, subst, Option, append-nil, length, length-append, arith, count_by, Result, Err}
 use Rattle.std.specs.List.{flat_map}
 use Rattle.std.proofs.lemmas.Grind.{flat_map-append, common_steps}
@@ -21,7 +21,6 @@ one_counted : (b : Bool) (n m : ℕ) (a : Answer) → a.refused ≡ b → m ≡ 
 one_counted true n m a e h = grind (arith, common_steps, e, h)
 one_counted false n m a e h = grind (arith, common_steps, e, h)
 
--- one portion was answered
 pub one_answered : (rule : Rule) (mark : Bool) (H H' : History) (p : Portion) (out out' : Option (List ℕ)) (s s' : Served)
     → H' ≡ (answer rule mark H p).after → Appends out out' (answer rule mark H p).bytes
     → s'.answered ≡ s.answered + 1 → s'.refused ≡ cond (answer rule mark H p).refused (s.refused + 1) s.refused
@@ -58,7 +57,6 @@ count_by-append : (t : Answer → Bool) (xs ys : List Answer) → count_by t (xs
 count_by-append t [] ys = grind (arith, common_steps)
 count_by-append t (x ∷ xs) ys = grind (arith, common_steps, count_by-append t xs ys)
 
--- portions, and then more, were answered
 pub answered_more : (rule : Rule) (ps qs : List Portion) (ms ns : List Bool) (H₀ H₁ H₂ : History) (out₀ out₁ out₂ : Option (List ℕ)) (s₀ s₁ s₂ : Served)
     → Answered rule ps ms H₀ out₀ s₀ H₁ out₁ s₁ → Answered rule qs ns H₁ out₁ s₁ H₂ out₂ s₂
     → Answered rule (ps ++ qs) (ms ++ ns) H₀ out₀ s₀ H₂ out₂ s₂
@@ -74,6 +72,5 @@ answered_more rule ps qs ms ns H₀ H₁ H₂ out₀ out₁ out₂ s₀ s₁ s�
       refused = omega (arith, a.refused, b.refused, ap (count_by is_refused) all, count_by-append is_refused (answers rule ms H₀ ps) (answers rule ns H₁ qs));
     }
 
--- a fault's count is the one that it was made with
 pub same_write : (a b : Served) → ◌≡◌ {A = Result Served ServeFault} (Err (Write a)) (Err (Write b)) → a ≡ b
 same_write a b e = cc

@@ -1,16 +1,14 @@
--- What goes out as a body.
+-- Bytes taken as a body.
 use Rattle.std.proofs.Common.{◌≡◌, ◌∙◌, ◌<◌, ◌≤◌, ◌+◌, ℕ, List, [], ◌∷◌, ◌++◌, sym, ap, take, drop, length, length-append, Option, Some, None, arith, append_assoc, append-nil}
 use Rattle.std.proofs.lemmas.List.{length-take, take-append-drop, take-append-le}
 use Rattle.std.specs.Io.KnownBytes.{prepend_known, Consumes}
 use borrow.Rule.Slice.PartMut.{put_mid, post_of}
 use Rattle.std.proofs.Math.Seq.{take-append-add}
 
--- what is given first, and what is left
 pub split_front : (bytes pend front rest : List ℕ) (n : ℕ) → bytes ≡ pend → front ≡ take n bytes → rest ≡ drop n pend → pend ≡ front ++ rest
 split_front bytes pend front rest n same first left =
     sym (take-append-drop n pend) ∙ ap (λ l. l ++ drop n pend) (ap (take n) (sym same) ∙ sym first) ∙ ap (λ l. front ++ l) (sym left)
 
--- a front of what is pending goes out, and then bytes of the reader: none of them, or nothing is pending any more
 pub body_goes : (xs front ys more : List ℕ) (a b : Option (List ℕ)) → xs ≡ front ++ ys → (0 < length more → ys ≡ []) → Consumes a b more
     → Consumes (prepend_known xs a) (prepend_known ys b) (front ++ more)
 body_goes xs front ys more None b e none p = tt
@@ -21,13 +19,11 @@ body_goes xs front ys (m ∷ ms) (Some us) (Some vs) e none p =
     let nil = none (omega arith) in
     ap (λ l. l ++ us) (e ∙ ap (λ l. front ++ l) nil ∙ append-nil front) ∙ ap (λ l. front ++ l) p ∙ sym (append_assoc front (m ∷ ms) vs) ∙ ap (λ l. (front ++ m ∷ ms) ++ (l ++ vs)) (sym nil)
 
--- all that is pending goes out, and then bytes of the reader
 pub all_goes : (xs front more : List ℕ) (a b : Option (List ℕ)) → xs ≡ front → Consumes a b more → Consumes (prepend_known xs a) b (front ++ more)
 all_goes xs front more None b e p = tt
 all_goes xs front more (Some us) None e p = absurd p
 all_goes xs front more (Some us) (Some vs) e p = ap (λ l. l ++ us) e ∙ ap (λ l. front ++ l) p ∙ sym (append_assoc front more vs)
 
--- what is read behind the first bytes stands behind them
 pub take-put_mid_some : (room more : List ℕ) (got k n : ℕ) → got ≤ length room → n ≤ length more → take (got + n) (put_mid got k room more) ≡ take got room ++ take n more
 take-put_mid_some room more got k n le few =
     let e : length (take got room) ≡ got = omega (arith, length-take got room) in

@@ -8,11 +8,11 @@ use Rattle.http_stream.specs.Cut.{Portion, IsPortion, Leads}
 use Rattle.http_stream.specs.Stream.{RuleBy, AnsweredInto, Breaks, Serves}
 use Rattle.http_stream.proofs.AnsweredPortions.{none_answered, answered_more}
 
--- the portions were answered
+-- The portions were answered.
 abbrev pub Goes : {S : Type 0} → RuleBy → (S → Ledger → Type 0) → (S → Type 0) → List Portion → S → Option (List ℕ) → Served → S → Option (List ℕ) → Served → Type 0
 Goes rule Stands Trusts ps old out s new out' s' = ForLists Stands Trusts old new (λ G H. Serves (rule G.rules G.greatest) ps G.history out s H out' s')
 
--- one more was, and only the first bytes of its answer went out
+-- One more portion was answered, and part of its answer was sent.
 abbrev pub Stops : {S : Type 0} → RuleBy → (S → Ledger → Type 0) → (S → Type 0) → Portion → S → Option (List ℕ) → Served → S → Option (List ℕ) → Served → Type 0
 Stops rule Stands Trusts p old out s new out' s' = ForLists Stands Trusts old new (λ G H. Breaks (rule G.rules G.greatest) p G.history out s H out' s')
 

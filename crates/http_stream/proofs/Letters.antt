@@ -1,6 +1,5 @@
 -- The parts of an answer's head.
 use Rattle.std.proofs.Common.{◌≡◌, ◌++◌, ℕ, List, [], append_assoc}
 
--- one after another
 pub joined : (a b k d n e f : List ℕ) → [] ++ a ++ b ++ k ++ d ++ n ++ e ++ f ++ n ≡ a ++ b ++ (k ++ d ++ n) ++ e ++ f ++ n
 joined a b k d n e f = simp append_assoc

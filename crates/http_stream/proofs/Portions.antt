@@ -1,4 +1,4 @@
--- What stands at the front of a stream, from what was seen of it.
+-- The portion at the start of a stream, from the searched bytes.
 use Rattle.std.proofs.Common.{◌≡◌, ◌∙◌, ◌<◌, ◌≤◌, ℕ, true, false, List, [], ◌∷◌, ◌++◌, min, sym, ap, refl, subst, take, drop, length, length-append, Option, Some, None, IfSome, Ok, Err, arith, inl, inr, append_assoc, append-nil}
 use Rattle.std.proofs.lemmas.List.{length-take, take-append-drop, take-append-le, take-take, take_min, drop-append-le}
 use Rattle.std.specs.Io.KnownBytes.{prepend_known, Consumes, Keeps, IsAtEnd}
@@ -13,11 +13,10 @@ use Rattle.http_stream.specs.Bodies.{ReadsFewer}
 use Rattle.http_stream.specs.Cut.{Portion, whole, bad_head, head_too_large, unread, starved, IsPortion, EndsInside, ReadsInside, TakesPortion, PortionsGone, Leads, IsCut, is_last}
 use Rattle.httparse.specs.Spans.{span_bytes}
 
--- what is looked at is the window of what is pending
 pub window_is : (bytes pend : List ℕ) (n : ℕ) → bytes ≡ pend → n ≡ min HEAD_LIMIT (length bytes) → take n bytes ≡ window pend
 window_is bytes pend n same least = ap (λ k. take k bytes) least ∙ take_min HEAD_LIMIT bytes ∙ ap (take HEAD_LIMIT) same
 
--- ---- what is known of the bytes at hand stays known of more bytes
+-- ---- results that hold for more bytes
 
 never-more : (p q : List ℕ) → NeverHasRequest p → NeverHasRequest (p ++ q)
 never-more p q never more = subst HasNoRequest (sym (append_assoc p q more)) (never (q ++ more))
@@ -33,7 +32,6 @@ bad-more : (p q : List ℕ) → IsBadHead p → IsBadHead (p ++ q)
 bad-more p q (inl never) = inl (never-more p q never)
 bad-more p q (inr e) = inr (exceeds-more MOST_HEADERS p q e.0, overflows-more MOST_HEADERS p q e.1)
 
--- the window of more bytes is the window, and maybe more
 window-more : (n : ℕ) (p q : List ℕ) → take n (p ++ q) ≡ take n p ++ drop (length (take n p)) (take n (p ++ q))
 window-more n p q =
     let m = length (take n p) in
@@ -67,9 +65,8 @@ takes_large a pend (Some us) k long un =
     keeps_takes a (Some (pend ++ us)) (Some (pend ++ us)) head_too_large k
     (omega (arith, long, length-append pend us), subst IsUnfinished (sym (take-append-le HEAD_LIMIT pend us long)) un)
 
--- ---- behind a head
+-- ---- after a head
 
--- the stream begins with the head that was seen
 takes_head : (bytes more us : List ℕ) (head : Head) (h : RequestHead) → IsHeadOf bytes head h → length bytes ≤ HEAD_LIMIT
     → TakesHead ((bytes ++ more) ++ us) h ((drop head.len bytes ++ more) ++ us)
 takes_head bytes more us head h is few =
@@ -77,7 +74,7 @@ takes_head bytes more us head h is few =
     ap (λ l. (l ++ more) ++ us) is.reads.1 ∙ simp append_assoc in
     ((is.reads.0, e), omega (arith, is.len, is.in_bytes, few), is.few)
 
--- what was seen of the bytes at hand: the window, which begins with this head; and what is left of them behind it
+-- The searched bytes are the window and start with this head; `behind` follows it.
 pub record Sees (pend bytes behind : List ℕ) (head : Head) (h : RequestHead) : Type 0 where
   pub is : IsHeadOf bytes head h
   pub all : bytes ≡ window pend
@@ -124,7 +121,7 @@ ends_in_body pend bytes behind head h (Some us) (Some zs) n gone s e few p end =
     let all : behind ++ us ≡ gone = p ∙ ap (λ l. gone ++ l) end ∙ append-nil gone in
     inr (h, behind ++ us, n, (head_of pend bytes behind us head h s, sym s.is.body ∙ e), omega (arith, few, ap length all))
 
--- ---- what was read of a portion that is not all read
+-- ---- incomplete portions
 
 keeps_consumes : (a b c : Option (List ℕ)) (bytes : List ℕ) → Keeps a b → Consumes b c bytes → Consumes a c bytes
 keeps_consumes None b c bytes k p = tt
@@ -135,7 +132,6 @@ keeps_consumes (Some xs) (Some ys) (Some zs) bytes k p = sym k ∙ p
 pub keeps_inside : (a b c : Option (List ℕ)) → Keeps a b → ReadsInside b c → ReadsInside a c
 keeps_inside a b c k (bytes, gone, inside) = (bytes, keeps_consumes a b c bytes k gone, inside)
 
--- the pending bytes are no whole head
 pub stops_in_head : (a : Option (List ℕ)) (pend : List ℕ) (known new : Option (List ℕ)) → Keeps a (prepend_known pend known) → Keeps known new → length pend < HEAD_LIMIT → IsUnfinished pend
     → ReadsInside a new
 stops_in_head a pend known new k l short un = (pend, keeps_consumes a (prepend_known pend known) new pend k (pending_goes pend known new l), inl (short, un))
@@ -145,7 +141,6 @@ stops_in_head a pend known new k l short un = (pend, keeps_consumes a (prepend_k
     pending_goes pend (Some us) None l = absurd l
     pending_goes pend (Some us) (Some vs) l = ap (λ l. pend ++ l) (sym l)
 
--- behind the head is no whole body
 pub stops_in_body : (pend bytes behind : List ℕ) (head : Head) (h : RequestHead) (known new : Option (List ℕ)) (n : ℕ) → Sees pend bytes behind head h
     → head.body ≡ Ok n → ReadsFewer (prepend_known behind known) new n → ReadsInside (prepend_known pend known) new
 stops_in_body pend bytes behind head h known new n s e (gone, few, p) =
@@ -158,7 +153,7 @@ stops_in_body pend bytes behind head h known new n s e (gone, few, p) =
     body_goes (Some us) (Some zs) p =
         (head_of pend bytes behind us head h s).0.1 ∙ ap (λ l. print_request h ++ l) p ∙ sym (append_assoc (print_request h) gone zs)
 
--- ---- portions one after another
+-- ---- several portions
 
 leads_more : (a b c : List ℕ) (ps : List Portion) (p : Portion) → Leads a ps b → IsPortion b p c → is_last p ≡ false → Leads a (ps ++ p ∷ []) c
 leads_more a b c [] p e is going = (c, subst (λ l. IsPortion l p c) e is, going, refl)
@@ -172,21 +167,18 @@ cut_end : (a b : List ℕ) (ps : List Portion) → Leads a ps b → EndsInside b
 cut_end a b [] e end = subst EndsInside e end
 cut_end a b (q ∷ qs) w end = (w.0, w.1, inr (w.2, cut_end w.0 b qs w.3 end))
 
--- one portion more is gone
 pub portions_go : (a b c : Option (List ℕ)) (ps : List Portion) (p : Portion) → PortionsGone a ps b → TakesPortion b p c → is_last p ≡ false → PortionsGone a (ps ++ p ∷ []) c
 portions_go None b c ps p g t going = tt
 portions_go (Some xs) None c ps p g t going = absurd g
 portions_go (Some xs) (Some ys) None ps p g t going = absurd t
 portions_go (Some xs) (Some ys) (Some zs) ps p g t going = leads_more xs ys zs ps p g t going
 
--- the last portion is gone
 pub last_goes : (a b c : Option (List ℕ)) (ps : List Portion) (p : Portion) → PortionsGone a ps b → TakesPortion b p c → is_last p ≡ true → IfSome a (λ bytes. IsCut bytes (ps ++ p ∷ []))
 last_goes None b c ps p g t ends = tt
 last_goes (Some xs) None c ps p g t ends = absurd g
 last_goes (Some xs) (Some ys) None ps p g t ends = absurd t
 last_goes (Some xs) (Some ys) (Some zs) ps p g t ends = cut_last xs ys zs ps p g t ends
 
--- the stream ends
 pub end_comes : (a b : Option (List ℕ)) (ps : List Portion) → PortionsGone a ps b → IfSome b EndsInside → IfSome a (λ bytes. IsCut bytes ps)
 end_comes None b ps g end = tt
 end_comes (Some xs) None ps g end = absurd g
@@ -204,7 +196,6 @@ next_first (Some xs) None c ps p g t = absurd g
 next_first (Some xs) (Some ys) None ps p g t = absurd t
 next_first (Some xs) (Some ys) (Some zs) ps p g t = (ys, zs, g, t)
 
--- at the start none is gone
 pub start_gone : (a : Option (List ℕ)) → PortionsGone a [] a
 start_gone None = tt
 start_gone (Some xs) = refl

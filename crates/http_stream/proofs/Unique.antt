@@ -1,4 +1,4 @@
--- Outside of one corner a stream begins with one portion.
+-- A stream starts with exactly one portion, outside one open case.
 use Rattle.std.proofs.Common.{◌≡◌, ◌∙◌, ◌<◌, ◌+◌, ◌-◌, ℕ, Bool, true, false, List, [], ◌∷◌, ◌++◌, sym, ap, refl, subst, take, length, length-append, Result, Ok, Err, arith, inl, inr, ◌⊎◌, append-nil}
 use Rattle.std.proofs.lemmas.List.{take_all, append_cancel_left}
 use Rattle.std.proofs.Math.Seq.{take-append-add, take-append_seam}
@@ -56,7 +56,6 @@ same_whole r s e f a b c d =
 short_window : (input : List ℕ) → (length input < HEAD_LIMIT) × IsUnfinished input → IsUnfinished (window input)
 short_window input u = subst IsUnfinished (sym (take_all HEAD_LIMIT input (omega (arith, u.0)))) u.1
 
--- the stream ends inside a request, or begins with a portion, and not both, but for memory that was refused
 pub ends_or_begins : (input : List ℕ) (p : Portion) (l : List ℕ) → EndsInside input → IsPortion input p l → is_starved p ≡ false → IsOpen input
 ends_or_begins input (whole r e) l (inl u) is st = absurd (not_unfinished input is.0 (r.body ++ l) is.1.0 (short_window input u))
 ends_or_begins input (whole r e) l (inr w) is st =
@@ -73,7 +72,6 @@ ends_or_begins input (unread r e) l (inl u) is st = absurd (not_unfinished input
 ends_or_begins input (unread r e) l (inr w) is st = absurd (ok_err w.2 e (sym w.3.1 ∙ same_length input w.0 is.0 w.1 is.1 w.3.0 is.2 ∙ is.3))
 ends_or_begins input starved l end is st = cc
 
--- two portions that a stream begins with are one, but in the corner
 pub one_portion : (input : List ℕ) (p q : Portion) (l m : List ℕ) → IsPortion input p l → IsPortion input q m → is_starved p ≡ false → is_starved q ≡ false → IsOpen input ⊎ IsOnePortion p l q m
 one_portion input (whole r e) (whole s f) l m a b st su =
     let same = same_head input a.0 b.0 (r.body ++ l) (s.body ++ m) a.1.0 b.1.0 in

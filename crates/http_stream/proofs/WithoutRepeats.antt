@@ -1,4 +1,5 @@
--- Where no portion is marked and no repeat ends its connection, the list after a stream is that after the stream without its repeats.
+-- If no portion is marked and no repeat ends its connection, removing the repeats keeps the final
+-- history.
 use Rattle.std.proofs.Common.{◌≡◌, ◌∙◌, ◌⊎◌, ℕ, Bool, true, false, if◌then◌else◌, List, [], ◌∷◌, ◌++◌, refl, sym, ap, subst, inl, inr, append_assoc}
 use Rattle.std.proofs.lemmas.List.{append_cancel_right}
 use Rattle.desk_types.specs.History.{History}
@@ -7,9 +8,8 @@ use Rattle.http_stream.specs.Cut.{Portion, whole, bad_head, head_too_large, unre
 use Rattle.http_stream.specs.Repeats.{Repeats, LeavesTheList, NoRepeatEnds, IsCutWithout, is_repeat, after_portion, after_all, without_repeats}
 use Rattle.http_stream.specs.Stream.{Rule}
 
--- ---- the list
+-- ---- the history
 
--- a repeat leaves the list
 repeat_leaves : (rule : Rule) (again : Repeats) → LeavesTheList rule again → (H : History) (p : Portion) → is_repeat again H p ≡ true → after_portion rule H p ≡ H
 repeat_leaves rule again leaves H (whole r ends) is = leaves H r is
 repeat_leaves rule again leaves H bad_head is = refl
@@ -31,7 +31,6 @@ same_list rule again leaves H (p ∷ ps) =
 
 -- ---- the bytes
 
--- a portion that isn't the last may be followed by anything
 other_rest : (input bytes rest other : List ℕ) (p : Portion) → IsPortion input p rest → is_last p ≡ false → input ≡ bytes ++ rest → IsPortion (bytes ++ other) p other
 other_rest input bytes rest other (whole r ends) is going cut =
     let h = is.0 in
@@ -62,7 +61,7 @@ cut_without rule again H input fewer (p ∷ ps) w = by (λ left k. cut_without r
     by later (inr (going, bytes, cut, inl r)) = rw r.0 (later fewer r.1)
     by later (inr (going, bytes, cut, inr k)) = rw (k.0, k.2) (k.1, other_rest input bytes w.0 k.1 p w.1 going cut, inr (going, later k.1 k.3))
 
--- ---- there is such a stream
+-- ---- such a stream exists
 
 own_bytes : (input rest : List ℕ) (p : Portion) → IsPortion input p rest → is_last p ≡ false → (bytes : List ℕ) × (input ≡ bytes ++ rest)
 own_bytes input rest (whole r ends) is going = (print_request is.0 ++ r.body, is.1.0.0.1 ∙ sym (append_assoc (print_request is.0) r.body rest))

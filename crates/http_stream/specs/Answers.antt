@@ -14,55 +14,53 @@ use Rattle.http_stream.specs.declared.response.Response.{Response}
 use Rattle.http_stream.specs.declared.response.Status.{Status}
 use Rattle.http_stream.specs.declared.response.Status.TheVariants as status
 
--- ---- what is told
+-- ---- content
 
--- what a request is answered
+-- The answer to a request.
 pub record Told : Type 0 where
   pub status : Status
   pub kind : Kind
   pub body : List ℕ
 
--- a fault by its name
+-- A fault by name.
 abbrev pub faulty : Status → List ℕ → Told
 faulty s name = record { status = s; kind = Json; body = codes "{\"Answer\":\"Faulty\",\"Fault\":\"" ++ name ++ codes "\"}" }
 
--- memory was refused, or a store failed
+-- Out of memory, or the storage failed.
 abbrev pub unavailable : Told
 unavailable = record { status = status.ServiceUnavailable; kind = Json; body = codes "{\"Answer\":\"Unavailable\"}" }
 
--- bytes with which no head can begin
+-- Bytes that can't start a head.
 abbrev pub told_bad_head : Told
 told_bad_head = faulty status.BadRequest (codes "BadHead")
 
--- as many bytes as a head may have, and no whole head
+-- The head limit is reached without a whole head.
 abbrev pub told_head_too_large : Told
 told_head_too_large = faulty status.HeaderFieldsTooLarge (codes "HeadTooLarge")
 
--- a head whose body isn't read
+-- A head whose body can't be read.
 abbrev pub told_length : LengthFault → Told
 told_length length_fault.LengthRequired = faulty status.LengthRequired (codes "LengthRequired")
 told_length length_fault.BadLength = faulty status.BadRequest (codes "BadLength")
 told_length length_fault.BodyTooLarge = faulty status.PayloadTooLarge (codes "BodyTooLarge")
 
--- the bytes of a body
 abbrev pub body_of : Body → List ℕ
 body_of (Made text) = text
 body_of Fixed = unavailable.body
 
--- what a response tells
+-- The answer in a response.
 abbrev pub response_told : Response → Told
 response_told response = record { status = response.status; kind = response.kind; body = body_of response.body }
 
--- what the answer to a portion tells
+-- The answer to a portion.
 abbrev pub reply_told : Reply → Told
 reply_told (reply.Response response) = response_told response
 reply_told reply.BadHead = told_bad_head
 reply_told reply.HeadTooLarge = told_head_too_large
 reply_told (reply.Length fault) = told_length fault
 
--- ---- its status
+-- ---- status
 
--- the number of a status
 abbrev pub code_of : Status → ℕ
 code_of status.Ok = 200
 code_of status.Accepted = 202
@@ -76,11 +74,11 @@ code_of status.UnprocessableEntity = 422
 code_of status.HeaderFieldsTooLarge = 431
 code_of status.ServiceUnavailable = 503
 
--- whether an answer counts as refused: all do but those with 200 and 202
+-- Whether an answer counts as refused: all except 200 and 202 do.
 abbrev pub is_refused : Status → Bool
 is_refused s = not (code_of s == 200) && not (code_of s == 202)
 
--- ---- how it is written
+-- ---- encoding
 
 abbrev pub line_end : List ℕ
 line_end = codes "\r\n"
@@ -88,7 +86,7 @@ line_end = codes "\r\n"
 abbrev pub line : List ℕ → List ℕ
 line bytes = bytes ++ line_end
 
--- the version, the number of the status and its phrase
+-- The version, the status code and its phrase.
 unfoldable pub status_line : Status → List ℕ
 status_line s = line (codes "HTTP/1.1 " ++ decimal (code_of s) ++ codes " " ++ unwrap_or (reason_phrase (code_of s)) [])
 
@@ -99,21 +97,21 @@ type_line Csv = line (codes "Content-Type: text/csv")
 unfoldable pub length_line : List ℕ → List ℕ
 length_line body = line (codes "Content-Length: " ++ decimal (length body))
 
--- the one method that the path has, where another was asked
+-- The method that the path allows, if another was used.
 unfoldable pub allow_line : Status → List ℕ
 allow_line (status.MethodNotAllowed Get) = line (codes "Allow: GET")
 allow_line (status.MethodNotAllowed Post) = line (codes "Allow: POST")
 allow_line other = []
 
--- the connection ends after this answer
+-- The connection ends after this answer.
 unfoldable pub close_line : Bool → List ℕ
 close_line true = line (codes "Connection: close")
 close_line false = []
 
--- all before the body
+-- Everything before the body.
 unfoldable pub head_bytes : Bool → Told → List ℕ
 head_bytes closes told = status_line told.status ++ type_line told.kind ++ length_line told.body ++ allow_line told.status ++ close_line closes ++ line_end
 
--- the answer, with its body where one is sent
+-- The answer, with its body if one is sent.
 unfoldable pub answer_bytes : Bool → Bool → Told → List ℕ
 answer_bytes closes has_body told = head_bytes closes told ++ (if has_body then told.body else [])

@@ -1,4 +1,4 @@
--- How a stream of bytes is cut into requests.
+-- Cutting a stream of bytes into requests.
 use Rattle.std.specs.Prelude.{◌≡◌, ◌<◌, ◌≤◌, ◌⊎◌, ℕ, Bool, true, false, List, [], ◌∷◌, ◌++◌, length, codes, Ok, Err, Option, Some, None}
 use Rattle.std.specs.Str.{bytes_eq}
 use Rattle.httparse.specs.Grammar.{RequestHead}
@@ -9,26 +9,26 @@ use Rattle.http_stream.specs.Heads.{window, TakesHead, IsBadHead, IsUnfinished, 
 
 -- ---- one portion
 
--- what is read of a request
+-- A request's parts.
 pub record Request : Type 0 where
   pub method : List ℕ
   pub target : List ℕ
   pub body : List ℕ
 
--- What stands at the front of a stream and is answered: a whole request, and whether the connection ends after it; or, as the last of a connection,
--- bytes that begin no head, a head that is too large, a head whose body isn't read (with its method),
--- or a request for whose body memory was refused.
+-- The next part of a stream that gets an answer: a whole request, and whether the connection ends
+-- after it. The others end the connection: a bad head, one that is too large, one whose body can't
+-- be read (with its method), or a request without memory for its body.
 pub data Portion : Type 0 where
   whole : Request → Bool → Portion
   bad_head head_too_large : Portion
   unread : List ℕ → LengthFault → Portion
   starved : Portion
 
--- the stream begins with a head that names so long a body
+-- The stream starts with a head, whose body has this length.
 abbrev pub TakesLength : List ℕ → RequestHead → List ℕ → ℕ → Type 0
 TakesLength input h rest n = TakesHead input h rest × (body_length h.method (headers_of h) ≡ Ok n)
 
--- the stream begins with this portion, and this is left of it after a whole request
+-- The stream starts with this portion; after a whole request, this is left of it.
 abbrev pub IsPortion : List ℕ → Portion → List ℕ → Type 0
 IsPortion input (whole r ends) left = (h : RequestHead) × TakesLength input h (r.body ++ left) (length r.body)
     × (r.method ≡ h.method) × (r.target ≡ h.target) × (ends ≡ closes h.minor (headers_of h))
@@ -37,12 +37,12 @@ IsPortion input head_too_large left = (HEAD_LIMIT ≤ length input) × IsUnfinis
 IsPortion input (unread method fault) left = (h : RequestHead) × (rest : List ℕ) × TakesHead input h rest × (body_length h.method (headers_of h) ≡ Err fault) × (method ≡ h.method)
 IsPortion input starved left = (h : RequestHead) × (rest : List ℕ) × (n : ℕ) × TakesLength input h rest n × (0 < n)
 
--- the stream ends before a head is whole, or before its body is; a stream without a byte does too
+-- The stream ends inside a head or body, or has no bytes.
 abbrev pub EndsInside : List ℕ → Type 0
 EndsInside input = ((length input < HEAD_LIMIT) × IsUnfinished input)
     ⊎ ((h : RequestHead) × (rest : List ℕ) × (n : ℕ) × TakesLength input h rest n × (length rest < n))
 
--- the connection ends after the answer
+-- Whether the connection ends after the answer.
 abbrev pub is_last : Portion → Bool
 is_last (whole r ends) = ends
 is_last bad_head = true
@@ -50,35 +50,35 @@ is_last head_too_large = true
 is_last (unread method fault) = true
 is_last starved = true
 
--- the method is HEAD, whose answers have no body
+-- Whether the method is HEAD, whose answers have no body.
 abbrev pub is_head : List ℕ → Bool
 is_head method = bytes_eq method (codes "HEAD")
 
--- ---- portions one after the other
+-- ---- several portions
 
--- the stream begins with these portions, none of which is the last, and goes on with what is left
+-- The stream starts with these portions, none of them the last, and continues with the rest.
 abbrev pub Leads : List ℕ → List Portion → List ℕ → Type 0
 Leads input [] left = left ≡ input
 Leads input (p ∷ ps) left = (rest : List ℕ) × IsPortion input p rest × (is_last p ≡ false) × Leads rest ps left
 
--- the stream is cut into these portions, up to the last one or to its end
+-- The stream is cut into these portions, up to the last one or its end.
 abbrev pub IsCut : List ℕ → List Portion → Type 0
 IsCut input [] = EndsInside input
 IsCut input (p ∷ ps) = (rest : List ℕ) × IsPortion input p rest × (((is_last p ≡ true) × (ps ≡ [])) ⊎ ((is_last p ≡ false) × IsCut rest ps))
 
--- ---- a reader's bytes, where they are known
+-- ---- a reader's bytes, if known
 
--- what was read of them is no whole portion
+-- The bytes read are no whole portion.
 abbrev pub ReadsInside : Option (List ℕ) → Option (List ℕ) → Type 0
 ReadsInside old new = (bytes : List ℕ) × Consumes old new bytes × EndsInside bytes
 
--- this portion is gone
+-- This portion was taken.
 abbrev pub TakesPortion : Option (List ℕ) → Portion → Option (List ℕ) → Type 0
 TakesPortion None p new = Unit {0}
 TakesPortion (Some input) p None = ⊥
 TakesPortion (Some input) p (Some left) = IsPortion input p left
 
--- these portions are gone
+-- These portions were taken.
 abbrev pub PortionsGone : Option (List ℕ) → List Portion → Option (List ℕ) → Type 0
 PortionsGone None ps new = Unit {0}
 PortionsGone (Some input) ps None = ⊥

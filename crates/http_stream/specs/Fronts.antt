@@ -1,4 +1,4 @@
--- What stands at the front of a reader's bytes.
+-- The start of a reader's bytes.
 use Rattle.std.specs.Prelude.{◌≡◌, ℕ, ◌<◌, ◌≤◌, List, length, Option}
 use Rattle.std.specs.List.{slice_range}
 use Rattle.std.specs.Io.KnownBytes.{IsAtEnd}
@@ -12,11 +12,11 @@ use Rattle.http_stream.specs.declared.front.Front.TheVariants as front
 use Rattle.http_stream.specs.Heads.{window, IsBadHead, IsUnfinished}
 use Rattle.http_stream.specs.Looks.{IsHeadOf}
 
--- the bytes that were looked at
+-- The bytes searched for a head.
 abbrev pub seen_bytes : List ℕ → Seen → List ℕ
 seen_bytes bytes seen = slice_range bytes seen.from seen.to
 
--- what was seen at the front of the pending bytes, none of which went out; at the end no more come
+-- The result of searching the pending bytes, without taking any.
 abbrev pub IsFront : Block → Option (List ℕ) → Front → Type 0
 IsFront block known (front.Head seen) = (h : RequestHead) × IsHeadOf (seen_bytes block.bytes seen) seen.head h
     × (seen_bytes block.bytes seen ≡ window (pending_bytes block)) × (seen.from ≤ seen.to) × (seen.to ≤ BLOCK)

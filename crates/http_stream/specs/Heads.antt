@@ -1,4 +1,4 @@
--- The head of a request: where it stands in a stream of bytes, and what it says.
+-- The head of a request: its place in a stream of bytes, and its content.
 use Rattle.std.specs.Prelude.{◌≤◌, ◌⊎◌, ℕ, Bool, ◌&&◌, ◌||◌, ◌==◌, nat_lt, nat_le, List, [], ◌∷◌, map, take, length, codes, Result, Ok, Err, if◌then◌else◌}
 use Rattle.std.specs.Char.{is_ascii_digit}
 use Rattle.std.specs.List.{list_any, list_all, slice_split}
@@ -10,58 +10,60 @@ use Rattle.desk_types.specs.declared.limits.TheConstants.{HEAD_LIMIT, LONGEST_IN
 use Rattle.http_stream.specs.declared.head.LengthFault.{LengthFault}
 use Rattle.http_stream.specs.declared.head.LengthFault.TheVariants.{LengthRequired, BadLength, BodyTooLarge}
 
--- ---- where it stands
+-- ---- place
 
--- the bytes that are looked at for a head
+-- The bytes that are searched for a head.
 abbrev pub window : List ℕ → List ℕ
 window input = take HEAD_LIMIT input
 
--- the stream begins with a head that lies in the window and has no more header lines than may be; the rest follows it
+-- The stream starts with a head within the window and the limit of header lines, followed by the
+-- rest.
 abbrev pub TakesHead : List ℕ → RequestHead → List ℕ → Type 0
 TakesHead input h rest = ReadsRequest input h rest × (length (print_request h) ≤ HEAD_LIMIT) × (length h.fields ≤ MOST_HEADERS)
 
--- no head can begin with these bytes, or each that can has too many header lines
+-- No head can start with these bytes, or any that does has too many header lines.
 abbrev pub IsBadHead : List ℕ → Type 0
 IsBadHead bytes = NeverHasRequest bytes ⊎ (RequestExceeds MOST_HEADERS bytes × RequestOverflows MOST_HEADERS bytes)
 
--- No whole head is there, and one may still come. The head grammar says so too of bytes that end inside a target with which no head can begin.
+-- There is no whole head, but more bytes might complete one. This also holds for bytes that end
+-- inside a target that can't be part of a head.
 abbrev pub IsUnfinished : List ℕ → Type 0
 IsUnfinished bytes = HasNoRequest bytes × MayBecomeRequest bytes
 
--- ---- what it says
+-- ---- content
 
--- the names of the header lines, and their values without the spaces and tabs around them
+-- The header names, with values trimmed of spaces and tabs.
 abbrev pub headers_of : RequestHead → List (List ℕ × List ℕ)
 headers_of h = map name_and_value h.fields
 
--- the values under a name, in any case
+-- The values under a name, ignoring case.
 abbrev pub values_of : List ℕ → List (List ℕ × List ℕ) → List (List ℕ)
 values_of name [] = []
 values_of name (f ∷ headers) = if str_eq_ignore_ascii_case f.0 name then f.1 ∷ values_of name headers else values_of name headers
 
--- 1 to 19 digits
 abbrev pub is_length : List ℕ → Bool
 is_length value = nat_lt 0 (length value) && nat_le (length value) 19 && list_all is_ascii_digit value
 
--- the length that a value of Content-Length gives
+-- The length in a value of Content-Length.
 abbrev pub length_in : List ℕ → Result ℕ LengthFault
 length_in value = if is_length value then (if nat_lt LONGEST_INPUT (digits_value 10 value) then Err BodyTooLarge else Ok (digits_value 10 value)) else Err BadLength
 
--- the length that the values of Transfer-Encoding and those of Content-Length give; a POST must have a length, and without one any other method has no body
+-- The length from Transfer-Encoding and Content-Length values; without one, POST is a fault and
+-- other methods have no body.
 abbrev pub length_by : Bool → List (List ℕ) → List (List ℕ) → Result ℕ LengthFault
 length_by is_post (coding ∷ codings) lengths = Err LengthRequired
 length_by is_post [] [] = if is_post then Err LengthRequired else Ok 0
 length_by is_post [] (value ∷ []) = length_in value
 length_by is_post [] (value ∷ other ∷ values) = Err BadLength
 
--- how many bytes the body has, or why it isn't read
+-- The length of the body, or why it can't be read.
 abbrev pub body_length : List ℕ → List (List ℕ × List ℕ) → Result ℕ LengthFault
 body_length method headers = length_by (bytes_eq method (codes "POST")) (values_of (codes "Transfer-Encoding") headers) (values_of (codes "Content-Length") headers)
 
--- an element between commas, without the spaces and tabs around it, is `close` in any case
+-- Whether a comma-separated element is `close`, ignoring case and surrounding spaces and tabs.
 abbrev pub has_close : List ℕ → Bool
 has_close value = list_any (λ part. str_eq_ignore_ascii_case (trim_ows part) (codes "close")) (slice_split (λ b. b == 44) value)
 
--- the connection ends after the answer: the request is of version 1.0, or says so
+-- Whether the connection ends after the answer: the version is 1.0, or a header asks for it.
 abbrev pub closes : ℕ → List (List ℕ × List ℕ) → Bool
 closes minor headers = minor == 0 || list_any has_close (values_of (codes "Connection") headers)

@@ -1,4 +1,4 @@
--- What the code keeps of a portion.
+-- The stored parts of a portion.
 use Rattle.std.specs.Prelude.{◌≤◌, List, ℕ, length}
 use Rattle.httparse.specs.Spans.{span_bytes, IsWithin}
 use Rattle.http_stream.specs.declared.front.Seen.{Seen}
@@ -7,19 +7,18 @@ use Rattle.http_stream.specs.declared.portion.Taken.TheVariants as taken
 use Rattle.http_stream.specs.Cut.{Request, Portion, whole, bad_head, head_too_large, unread, starved}
 use Rattle.http_stream.specs.Fronts.{seen_bytes}
 
--- the method of a head that was seen in the block
+-- The head's method, from the block.
 abbrev pub method_of : List ℕ → Seen → List ℕ
 method_of block seen = span_bytes (seen_bytes block seen) seen.head.method
 
--- its target
+-- The head's target, from the block.
 abbrev pub target_of : List ℕ → Seen → List ℕ
 target_of block seen = span_bytes (seen_bytes block seen) seen.head.target
 
--- a request with this body
 abbrev pub request_of : List ℕ → Seen → List ℕ → Request
 request_of block seen body = record { method = method_of block seen; target = target_of block seen; body = body }
 
--- the portion
+-- The portion that the code took.
 abbrev pub portion_of : List ℕ → Taken → Portion
 portion_of block (taken.Whole seen bytes) = whole (request_of block seen bytes.items) seen.head.closes
 portion_of block taken.BadHead = bad_head
@@ -27,12 +26,12 @@ portion_of block taken.HeadTooLarge = head_too_large
 portion_of block (taken.Unread seen fault) = unread (method_of block seen) fault
 portion_of block taken.Starved = starved
 
--- the places that were seen lie in the block
+-- The searched bytes lie in the block.
 abbrev pub IsSeen : List ℕ → Seen → Type 0
 IsSeen block seen = (seen.from ≤ seen.to) × (seen.to ≤ length block)
     × IsWithin (length (seen_bytes block seen)) seen.head.method × IsWithin (length (seen_bytes block seen)) seen.head.target
 
--- so do those of a portion
+-- The same for a portion.
 abbrev pub IsTaken : List ℕ → Taken → Type 0
 IsTaken block (taken.Whole seen bytes) = IsSeen block seen
 IsTaken block taken.BadHead = Unit {0}

@@ -1,4 +1,4 @@
--- What a stream of requests is answered.
+-- The answers to a stream of requests.
 use Rattle.std.specs.Prelude.{◌≡◌, ℕ, ◌+◌, Bool, true, false, not, List, [], ◌∷◌, length, Option, Some, IfSome, count_by}
 use Rattle.std.specs.List.{flat_map}
 use Rattle.std.specs.Io.KnownBytes.{Appends}
@@ -12,21 +12,21 @@ use Rattle.http_stream.specs.Cut.{Request, Portion, whole, bad_head, head_too_la
 
 -- ---- one portion
 
--- what a request is answered, and the list after it
+-- The answer to a request, and the history after it.
 pub record Outcome : Type 0 where
   pub told : Told
   pub after : History
 
--- what each whole request is answered after each list
+-- The outcome of each whole request after each history.
 abbrev pub Rule : Type 0
 Rule = History → Request → Outcome
 
--- the outcome of a whole request: where it is marked it is answered Unavailable and leaves the list, and else it is by the rule
+-- The outcome of a whole request: the rule's or, if marked, Unavailable with the history unchanged.
 abbrev pub request_outcome : Rule → Bool → History → Request → Outcome
 request_outcome rule true H r = record { told = unavailable; after = H }
 request_outcome rule false H r = rule H r
 
--- the outcome of a portion: only a whole request changes the list
+-- The outcome of a portion; only a whole request changes the history.
 abbrev pub outcome : Rule → Bool → History → Portion → Outcome
 outcome rule mark H (whole r ends) = request_outcome rule mark H r
 outcome rule mark H bad_head = record { told = told_bad_head; after = H }
@@ -34,7 +34,7 @@ outcome rule mark H head_too_large = record { told = told_head_too_large; after 
 outcome rule mark H (unread method fault) = record { told = told_length fault; after = H }
 outcome rule mark H starved = record { told = unavailable; after = H }
 
--- its answer has its body: an answer to the method HEAD has none, where the method is known
+-- Whether the answer has a body: answers to the method HEAD don't, if the method is known.
 abbrev pub has_body : Portion → Bool
 has_body (whole r ends) = not (is_head r.method)
 has_body (unread method fault) = not (is_head method)
@@ -42,7 +42,7 @@ has_body bad_head = true
 has_body head_too_large = true
 has_body starved = true
 
--- the bytes of an answer, whether it counts as refused, and the list after it
+-- The bytes of an answer, whether it counts as refused, and the history after it.
 pub record Answer : Type 0 where
   pub bytes : List ℕ
   pub refused : Bool
@@ -55,17 +55,17 @@ answer rule mark H p = record {
   after = (outcome rule mark H p).after;
 }
 
--- ---- portions one after the other
+-- ---- several portions
 
--- Each portion has a mark: whether it was answered Unavailable after it was read.
+-- A portion's mark is whether it was answered Unavailable after it was read.
 
--- the answers to the portions, each by the list before it
+-- The answers to the portions, each from the history before it.
 abbrev pub answers : Rule → List Bool → History → List Portion → List Answer
 answers rule [] H ps = []
 answers rule (m ∷ ms) H [] = []
 answers rule (m ∷ ms) H (p ∷ ps) = answer rule m H p ∷ answers rule ms (answer rule m H p).after ps
 
--- the list after them all
+-- The history after the portions.
 abbrev pub list_after : Rule → List Bool → History → List Portion → History
 list_after rule [] H ps = H
 list_after rule (m ∷ ms) H [] = H
@@ -73,7 +73,7 @@ list_after rule (m ∷ ms) H (p ∷ ps) = list_after rule ms (answer rule m H p)
 
 -- ---- a run
 
--- the portions were answered, each as its mark says: so many bytes went out, so the list went on, and so many were counted
+-- The portions were answered according to their marks, with this output, history and counts.
 pub record Answered (rule : Rule) (ps : List Portion) (marks : List Bool) (H : History) (out : Option (List ℕ)) (before : Served) (H' : History) (out' : Option (List ℕ)) (after : Served) : Type 0 where
   pub each : length marks ≡ length ps
   pub bytes : Appends out out' (flat_map (λ a. a.bytes) (answers rule marks H ps))
@@ -81,17 +81,18 @@ pub record Answered (rule : Rule) (ps : List Portion) (marks : List Bool) (H : H
   pub answered : after.answered ≡ before.answered + length ps
   pub refused : after.refused ≡ before.refused + count_by (λ (a : Answer). a.refused) (answers rule marks H ps)
 
--- all that the reader's bytes, where they are known, are cut into was answered
+-- All portions of the reader's bytes, if known, were answered.
 abbrev pub AnsweredAll : Rule → Option (List ℕ) → History → Option (List ℕ) → History → Option (List ℕ) → Served → Type 0
 AnsweredAll rule input H out H' out' served = (ps : List Portion) × (marks : List Bool)
     × IfSome input (λ bytes. IsCut bytes ps) × Answered rule ps marks H out none_served H' out' served
 
--- the first portions of them were answered, each whole, and nothing else went out; what was read of the next is not all of it
+-- The first portions were answered, each whole, and nothing else was sent; the bytes read next are
+-- no whole portion.
 abbrev pub AnsweredFront : Rule → Option (List ℕ) → Option (List ℕ) → History → Option (List ℕ) → History → Option (List ℕ) → Served → Type 0
 AnsweredFront rule input input' H out H' out' served = (ps : List Portion) × (marks : List Bool)
     × IfSome input (λ bytes. (left : List ℕ) × Leads bytes ps left × ReadsInside (Some left) input') × Answered rule ps marks H out none_served H' out' served
 
--- the first portions of them were answered, each whole; then one more was answered, and of that answer only the first bytes went out
+-- The first portions were answered, each whole, then the first bytes of one more answer were sent.
 abbrev pub AnsweredInto : Rule → Option (List ℕ) → History → Option (List ℕ) → History → Option (List ℕ) → Served → Type 0
 AnsweredInto rule input H out H' out' served = (ps : List Portion) × (marks : List Bool) × (p : Portion) × (mark : Bool) × (H₁ : History) × (out₁ : Option (List ℕ))
     × IfSome input (λ bytes. (left : List ℕ) × (rest : List ℕ) × Leads bytes ps left × IsPortion left p rest) × Answered rule ps marks H out none_served H₁ out₁ served
@@ -99,22 +100,22 @@ AnsweredInto rule input H out H' out' served = (ps : List Portion) × (marks : L
 
 -- ---- a handler
 
--- the rule of a handler by the rules and the greatest number of its list
+-- A handler's rule, from the rules and greatest number of its ledger.
 abbrev pub RuleBy : Type 0
 RuleBy = Rules → ℕ → Rule
 
--- the request is answered so, as some mark says
+-- The request has this answer, for some mark.
 abbrev pub AnswersRequest : Rule → Request → History → Told → History → Type 0
 AnswersRequest rule r H told H' = (mark : Bool) × (told ≡ (request_outcome rule mark H r).told) × (H' ≡ (request_outcome rule mark H r).after)
 
--- the portion is answered so, as some mark says
+-- The portion has this answer, for some mark.
 abbrev pub AnswersPortion : Rule → Portion → History → Told → History → Type 0
 AnswersPortion rule p H told H' = (mark : Bool) × (told ≡ (outcome rule mark H p).told) × (H' ≡ (outcome rule mark H p).after)
 
--- the portions were answered
+-- The portions were answered.
 abbrev pub Serves : Rule → List Portion → History → Option (List ℕ) → Served → History → Option (List ℕ) → Served → Type 0
 Serves rule ps H out s H' out' s' = (marks : List Bool) × Answered rule ps marks H out s H' out' s'
 
--- only the first bytes of the answer to the portion went out
+-- Only the first bytes of the answer to the portion were sent.
 abbrev pub Breaks : Rule → Portion → History → Option (List ℕ) → Served → History → Option (List ℕ) → Served → Type 0
 Breaks rule p H out s H' out' s' = (mark : Bool) × (s' ≡ s) × (H' ≡ (answer rule mark H p).after) × SendsFront out out' (answer rule mark H p).bytes

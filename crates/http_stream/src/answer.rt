@@ -1,4 +1,4 @@
-//! The bytes of an answer, and how they go out.
+//! Writing answers.
 
 ghost use Rattle.std.specs.Prelude.{◌≡◌, ◌<◌, ◌≤◌, ◌+◌, ◌^◌, ◌++◌, take, length, OnOk, OnErr};
 ghost use Rattle.std.specs.Io.KnownBytes.{Appends};
@@ -20,8 +20,7 @@ struct Letter {
     end: usize,
 }
 
-/// Writes an answer: all of it but a body that isn't sent, whose length is told all the same. Takes
-/// no memory.
+/// Writes an answer. A body that isn't sent still counts in its length. Takes no memory.
 #[tactic(auto, unfolding(crate::specs::Answers::answer_bytes))]
 pub fn send_answer<W: Write>(
     wire: &mut Wire<W>,
@@ -54,7 +53,6 @@ impl Letter {
         }
     }
 
-    /// Joins a text to its end.
     fn put(&mut self, text: &[u8])
         requires room { self.old.end + length text.now ≤ ONE_WRITE }
         ensures bytes { take self.new.end self.new.block ≡ take self.old.end self.old.block ++ text.now }
@@ -64,7 +62,6 @@ impl Letter {
         self.end += text.len();
     }
 
-    /// All but the body.
     fn put_head(&mut self, reply: &Reply, closes: bool)
         requires empty { self.old.end ≡ 0 }
         ensures bytes { take self.new.end self.new.block ≡ head_bytes closes (reply_told reply.now) }
@@ -81,7 +78,7 @@ impl Letter {
         self.put(b"\r\n");
     }
 
-    /// Writes what is there and a body: in one write where both fit, which is most of the speed.
+    /// Writes the buffer and a body, in one write if both fit, which gives most of the speed.
     fn send_with<W: Write>(&mut self, wire: &mut Wire<W>, body: &[u8]) -> Result<(), WriteFailed>
         requires short { self.old.end ≤ ONE_WRITE }
         requires few_failures { failures_of wire.old < 2 ^ 63 }

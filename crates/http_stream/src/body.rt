@@ -1,4 +1,4 @@
-//! The body of a request, from behind its head.
+//! Reading the body of a request.
 
 ghost use Rattle.std.specs.Prelude.{◌≡◌, ◌<◌, ◌≤◌, ℕ, List, length, true, false, IfOk, OnOk, OnErr, Ok};
 ghost use Rattle.std.specs.Io.KnownBytes.{Consumes, IsAtEnd};
@@ -12,7 +12,7 @@ use served::{Block, ReadFault};
 use std::alloc::Global;
 use std::io::Read;
 
-/// What became of a body.
+/// The result of taking a body.
 #[derive(Drop)]
 pub enum BodyTaken {
     Whole(Vec<u8>),
@@ -20,7 +20,7 @@ pub enum BodyTaken {
     NoMemory,
 }
 
-/// Takes a body of so many bytes from behind a head.
+/// Takes a body of this many bytes.
 pub fn take_body<R: Read>(
     alloc: Global,
     block: &mut Block,
@@ -54,7 +54,7 @@ pub fn take_body<R: Read>(
     }
 }
 
-/// Fills the room with the bytes at the front; false at the end.
+/// Fills the room with bytes from the front. Returns false at the end.
 fn fill<R: Read>(
     block: &mut Block,
     wire: &mut Wire<R>,
@@ -87,7 +87,7 @@ fn fill<R: Read>(
     read_whole(wire, rest, most_reads)
 }
 
-/// Reads as many bytes as there is room for; false at the end.
+/// Reads as many bytes as there is room for. Returns false at the end.
 fn read_whole<R: Read>(
     wire: &mut Wire<R>,
     room: &mut [u8],

@@ -1,4 +1,4 @@
-//! What stands at the front of a reader's bytes.
+//! The start of a reader's bytes.
 
 ghost use Rattle.std.specs.Prelude.{◌≤◌, IfOk, OnOk, OnErr};
 ghost use Rattle.std.specs.Io.KnownBytes.{Keeps};
@@ -13,16 +13,16 @@ use desk_types::{HEAD_LIMIT, Wire};
 use served::{Block, ReadFault};
 use std::io::Read;
 
-/// A head, and where in the block the bytes stand that were looked at, which begin with it.
+/// A head, and the place in the block of the searched bytes, which start with it.
 #[derive(Clone, Copy, Drop)]
 pub struct Seen {
     pub from: usize,
-    /// Behind the last byte that was looked at.
+    /// The place after the last searched byte.
     pub to: usize,
     pub head: Head,
 }
 
-/// What stands at the front.
+/// The result of a search for a head.
 #[derive(Clone, Copy, Drop)]
 pub enum Front {
     Head(Seen),
@@ -31,7 +31,7 @@ pub enum Front {
     End,
 }
 
-/// Looks for a head at the front, and reads until it is told what stands there.
+/// Searches for a head, and reads until the result is certain.
 pub fn find_front<R: Read>(
     block: &mut Block,
     wire: &mut Wire<R>,

@@ -1,4 +1,4 @@
-//! The head of a request, and what it says of its body and its connection.
+//! The head of a request, with the length of its body and the end of its connection.
 
 ghost use Rattle.std.specs.Prelude.{true, ◌≡◌, ◌<◌, ◌≤◌, ◌==◌, ℕ, List, All, map, take, length, drop, min, slice_range, codes, ◌+◌};
 ghost use Rattle.std.specs.Str.{str_eq_ignore_ascii_case};
@@ -14,40 +14,40 @@ use desk_types::{LONGEST_INPUT, MOST_HEADERS};
 use httparse::Status;
 use httparse::spans::{EMPTY_HEADER_SPAN, HeaderSpan, Span, parse_request};
 
-/// Why a body isn't read.
+/// Why a body can't be read.
 #[derive(Clone, Copy, Debug, PartialEq, Eq, Drop)]
 pub enum LengthFault {
     /// There is a Transfer-Encoding, or a POST has no Content-Length.
     LengthRequired,
-    /// There are two Content-Lengths, or the one isn't 1 to 19 digits.
+    /// There are several Content-Lengths, or the value isn't 1 to 19 digits.
     BadLength,
-    /// It is longer than a body may be.
+    /// The body is over the limit.
     BodyTooLarge,
 }
 
-/// What is kept of a head. Its places are counted from its first byte.
+/// The stored parts of a head. Places count from its first byte.
 #[derive(Clone, Copy, Drop)]
 pub struct Head {
     pub len: usize,
     pub method: Span,
     pub target: Span,
-    /// How many bytes of a body follow it, or why they aren't read.
+    /// The number of bytes of its body, or why it can't be read.
     pub body: Result<usize, LengthFault>,
     /// Whether the connection ends after its answer.
     pub closes: bool,
 }
 
-/// What one look at the bytes at hand shows.
+/// The result of searching the available bytes.
 #[derive(Drop)]
 pub enum Glance {
     Head(Head),
-    /// No whole head, and one may still come.
+    /// No whole head yet, but more bytes might complete one.
     Unfinished,
-    /// No head can begin so, or it has too many header lines.
+    /// No head can start like this, or it has too many header lines.
     Bad,
 }
 
-/// Which values stand under a name.
+/// The values under a name.
 #[derive(Clone, Copy, Drop)]
 pub enum Values {
     None,
@@ -55,7 +55,7 @@ pub enum Values {
     More,
 }
 
-/// Looks for a head at the front of the bytes. It copies none of them and takes no memory.
+/// Searches for a head at the start of the bytes. Copies no bytes and takes no memory.
 pub fn look(bytes: &[u8]) -> Glance
     ensures head { (head : _) → result ≡ Glance.Head head → (h : RequestHead) × IsHeadOf bytes.now head h }
     ensures unfinished { result ≡ Glance.Unfinished → IsUnfinished bytes.now }
@@ -80,7 +80,6 @@ pub fn look(bytes: &[u8]) -> Glance
     }
 }
 
-/// How many bytes the body has, or why it isn't read.
 fn body_length(bytes: &[u8], method: &[u8], headers: &[HeaderSpan]) -> Result<usize, LengthFault>
     requires within { All (IsHeaderWithin (length bytes.now)) headers.now }
     ensures { result ≡ body_length method.now (map (header_bytes bytes.now) headers.now) }
@@ -96,7 +95,6 @@ fn body_length(bytes: &[u8], method: &[u8], headers: &[HeaderSpan]) -> Result<us
     }
 }
 
-/// The values under a name, in any case.
 fn values_of(bytes: &[u8], headers: &[HeaderSpan], name: &[u8]) -> Values
     requires within { All (IsHeaderWithin (length bytes.now)) headers.now }
     ensures { HasValues bytes.now result (values_of name.now (map (header_bytes bytes.now) headers.now)) }
@@ -108,7 +106,6 @@ fn values_of(bytes: &[u8], headers: &[HeaderSpan], name: &[u8]) -> Values
     found
 }
 
-/// The values with those of one line more.
 fn next_values(bytes: &[u8], found: Values, header: &HeaderSpan, name: &[u8]) -> Values
     requires within { IsHeaderWithin (length bytes.now) header.now }
     ensures { (vs : List (List ℕ)) → HasValues bytes.now found vs
@@ -125,14 +122,13 @@ fn next_values(bytes: &[u8], found: Values, header: &HeaderSpan, name: &[u8]) ->
     }
 }
 
-/// The same letters, in any case.
+/// Returns whether the names are equal, ignoring case.
 fn is_name(a: &[u8], b: &[u8]) -> bool
     ensures { result ≡ str_eq_ignore_ascii_case a.now b.now }
 {
     a.eq_ignore_ascii_case(b)
 }
 
-/// The length that a value of Content-Length gives.
 fn length_in(value: &[u8]) -> Result<usize, LengthFault>
     ensures { result ≡ length_in value.now }
 {
@@ -147,7 +143,6 @@ fn length_in(value: &[u8]) -> Result<usize, LengthFault>
     }
 }
 
-/// 1 to 19 digits.
 fn is_length(value: &[u8]) -> bool
     ensures test { result ≡ is_length value.now }
     ensures digits { result ≡ true → All (λ b. (48 ≤ b) × (b ≤ 57)) value.now }
@@ -155,7 +150,6 @@ fn is_length(value: &[u8]) -> bool
     !value.is_empty() && value.len() <= 19 && all_digits(value)
 }
 
-/// All are digits.
 fn all_digits(value: &[u8]) -> bool
     ensures test { result ≡ list_all is_ascii_digit value.now }
     ensures digits { result ≡ true → All (λ b. (48 ≤ b) × (b ≤ 57)) value.now }
@@ -163,8 +157,7 @@ fn all_digits(value: &[u8]) -> bool
     value.iter().all(|b| b.is_ascii_digit())
 }
 
-/// The number that digits write, but never more than one above the longest body: so it can't
-/// overflow, whatever their number.
+/// Returns the number in the digits, at most one over the longest body, so it can't overflow.
 fn capped_value(digits: &[u8]) -> usize
     requires digits { All (λ b. (48 ≤ b) × (b ≤ 57)) digits.now }
     ensures { result ≡ min (digits_value 10 digits.now) (LONGEST_INPUT + 1) }
@@ -176,7 +169,6 @@ fn capped_value(digits: &[u8]) -> usize
     value
 }
 
-/// Some header line of Connection has the element `close`.
 fn any_close(bytes: &[u8], headers: &[HeaderSpan]) -> bool
     requires within { All (IsHeaderWithin (length bytes.now)) headers.now }
     ensures { result ≡ list_any has_close (values_of (codes "Connection") (map (header_bytes bytes.now) headers.now)) }
@@ -188,7 +180,6 @@ fn any_close(bytes: &[u8], headers: &[HeaderSpan]) -> bool
     any
 }
 
-/// The line is one of Connection with the element `close`.
 fn closes_by(bytes: &[u8], header: &HeaderSpan) -> bool
     requires within { IsHeaderWithin (length bytes.now) header.now }
     ensures { result ≡ closes_by (header_bytes bytes.now header.now) }
@@ -196,7 +187,6 @@ fn closes_by(bytes: &[u8], header: &HeaderSpan) -> bool
     is_name(header.name.of(bytes), b"Connection") && has_close(header.value.of(bytes))
 }
 
-/// An element between commas is `close`.
 fn has_close(value: &[u8]) -> bool
     ensures { result ≡ has_close value.now }
 {
@@ -205,14 +195,12 @@ fn has_close(value: &[u8]) -> bool
         .any(|part| is_name(trim_ows(part), b"close"))
 }
 
-/// Without the spaces and tabs at both ends.
 fn trim_ows(part: &[u8]) -> &[u8]
     ensures { result.now ≡ trim_ows part.now }
 {
     trim(part, 0, part.len()).of(part)
 }
 
-/// The place of what is left of a range without the spaces and tabs at both ends.
 fn trim(buf: &[u8], mut start: usize, mut end: usize) -> Span
     requires ordered { start ≤ end }
     requires in_range { end ≤ length buf.now }
@@ -228,7 +216,6 @@ fn trim(buf: &[u8], mut start: usize, mut end: usize) -> Span
     Span { start, end }
 }
 
-/// A space or a tab.
 fn is_blank(b: u8) -> bool
     ensures { result ≡ is_ows b }
 {

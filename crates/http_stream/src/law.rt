@@ -1,4 +1,4 @@
-//! Laws of streams: how far the bytes decide what a stream is cut into, and that repeats act once.
+//! Laws of streams: the bytes determine the requests, and repeats act once.
 
 ghost use Rattle.std.specs.Prelude.{◌≡◌, ◌⊎◌, ℕ, List, false};
 ghost use Rattle.desk_types.specs.History.{History};
@@ -7,9 +7,9 @@ ghost use Rattle.http_stream.specs.Repeats.{Repeats, LeavesTheList, NoRepeatEnds
 ghost use Rattle.http_stream.specs.Stream.{Rule};
 ghost use Rattle.http_stream.specs.Unique.{IsOpen, IsClear, IsOnePortion, NoneStarved, is_starved};
 
-/// A law: but in one open corner of the head grammar, a stream begins with one portion alone or ends
-/// inside a request, unless memory was refused. So its bytes alone decide how it is cut, where no
-/// request of it begins in that corner.
+/// A law: outside the one open case of the head grammar, a stream starts with exactly one portion
+/// or ends inside a request, unless memory runs out. So the bytes alone determine the cuts of a
+/// stream without such requests.
 pub fn bytes_decide()
     ensures one { (input : List ℕ) (p q : Portion) (l m : List ℕ) → IsPortion input p l → IsPortion input q m
         → is_starved p ≡ false → is_starved q ≡ false → IsOpen input ⊎ IsOnePortion p l q m }
@@ -20,9 +20,8 @@ pub fn bytes_decide()
         → IsClear input → ps ≡ qs }
 {}
 
-/// A law, of each rule and each test of repeats by which a repeat leaves the list: where no portion is
-/// marked and no repeat ends its connection, the list after a stream is that after the stream
-/// without the bytes of its repeats.
+/// A law, for every rule under which repeats leave the history unchanged: if no portion is marked
+/// and no repeat ends its connection, removing the repeats' bytes keeps the final history.
 pub fn repeats_act_once()
     ensures left_out { (rule : Rule) (again : Repeats) (H : History) (input : List ℕ) (ps : List Portion)
         → IsCut input ps → NoRepeatEnds rule again H ps → (fewer : List ℕ) × IsCutWithout rule again H input ps fewer }

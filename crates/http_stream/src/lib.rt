@@ -1,9 +1,8 @@
-//! HTTP over any reader and any writer: requests in, answers out.
+//! HTTP for any reader and writer.
 //!
-//! `serve` cuts what a reader gives into requests, hands each whole one to a `Handler`, and writes
-//! the answers one after the other. What the bytes are cut into and what each portion is answered
-//! stands in `specs/`: `Heads` and `Cut` for the input, `Answers` for the bytes that go out,
-//! `Stream` for a whole connection. How the reads cut the bytes decides nothing.
+//! `serve` cuts the input into requests, passes each whole one to a `Handler`, and writes the
+//! answers in order. The definitions are in `specs/`: `Heads` and `Cut` for the input, `Answers`
+//! for the output, `Stream` for a whole connection. The sizes of reads don't matter.
 #![tactic(auto)]
 
 mod answer;

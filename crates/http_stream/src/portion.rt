@@ -1,4 +1,4 @@
-//! One portion of a stream at a time.
+//! Taking a stream's portions one by one.
 
 ghost use Rattle.std.specs.Prelude.{◌≡◌, ◌<◌, false, IfOk, IfSome, OnErr, MatchOption};
 ghost use Rattle.desk_types.specs.Wire.{inner_of, reads_of};
@@ -16,20 +16,20 @@ use served::{Block, ReadFault};
 use std::alloc::Global;
 use std::io::Read;
 
-/// What stood at the front and is answered.
+/// The portion that was taken.
 #[derive(Drop)]
 pub enum Taken {
     /// A whole request: its head, and the bytes of its body.
     Whole(Seen, Vec<u8>),
     BadHead,
     HeadTooLarge,
-    /// A head whose body isn't read.
+    /// A head whose body can't be read.
     Unread(Seen, LengthFault),
-    /// Memory was refused for a body.
+    /// There was too little memory for a body.
     Starved,
 }
 
-/// Takes the next portion; none where the input ends inside a request or before one.
+/// Takes the next portion, or none if the input ends inside or before a request.
 pub fn take_portion<R: Read>(
     alloc: Global,
     block: &mut Block,
@@ -58,7 +58,6 @@ pub fn take_portion<R: Read>(
     }
 }
 
-/// Takes the request whose head was seen.
 fn take_request<R: Read>(
     alloc: Global,
     block: &mut Block,
@@ -94,7 +93,7 @@ fn take_request<R: Read>(
     }
 }
 
-/// The method of a head that was seen in the block.
+/// Returns the head's method from the block.
 pub fn method_of(block: &[u8], seen: Seen) -> &[u8]
     requires seen { IsSeen block.now seen }
     ensures { result.now ≡ method_of block.now seen }
@@ -102,7 +101,7 @@ pub fn method_of(block: &[u8], seen: Seen) -> &[u8]
     seen.head.method.of(&block[seen.from..seen.to])
 }
 
-/// The target of a head that was seen in the block.
+/// Returns the head's target from the block.
 pub fn target_of(block: &[u8], seen: Seen) -> &[u8]
     requires seen { IsSeen block.now seen }
     ensures { result.now ≡ target_of block.now seen }

@@ -1,4 +1,4 @@
-//! What a portion of a stream is answered: the handler's response, or a fault of the stream's own.
+//! The answer to a portion: the handler's response, or a fault of the stream.
 
 ghost use Rattle.std.specs.Prelude.{◌≡◌, [], if◌then◌else◌};
 ghost use Rattle.http_stream.specs.Answers.{Told, reply_told};
@@ -6,7 +6,7 @@ ghost use Rattle.http_stream.specs.Answers.{Told, reply_told};
 use crate::head::LengthFault;
 use crate::response::{Kind, Response, Status};
 
-/// What a portion is answered. The faults take no memory.
+/// The answer to a portion. The faults take no memory.
 #[derive(Drop)]
 pub enum Reply {
     Response(Response),
@@ -16,7 +16,7 @@ pub enum Reply {
 }
 
 impl Reply {
-    /// The status.
+    /// Returns the status.
     pub fn status(&self) -> Status
         ensures { result ≡ (reply_told self.now).status }
     {
@@ -29,7 +29,7 @@ impl Reply {
         }
     }
 
-    /// What the body is.
+    /// Returns the kind of the body.
     pub fn kind(&self) -> Kind
         ensures { result ≡ (reply_told self.now).kind }
     {
@@ -39,7 +39,7 @@ impl Reply {
         }
     }
 
-    /// The body.
+    /// Returns the body.
     pub fn body(&self) -> &[u8]
         ensures { result.now ≡ (reply_told self.now).body }
     {
@@ -59,7 +59,7 @@ impl Reply {
         }
     }
 
-    /// The body where one is sent.
+    /// Returns the body, or no bytes if none is sent.
     pub fn sent_body(&self, has_body: bool) -> &[u8]
         ensures { result.now ≡ (if has_body then (reply_told self.now).body else []) }
     {

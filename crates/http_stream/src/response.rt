@@ -1,18 +1,18 @@
-//! What a request is answered.
+//! The answer to a request.
 
 ghost use Rattle.std.specs.Prelude.{◌≡◌, ◌≤◌, length};
 ghost use Rattle.http_stream.specs.Answers.{code_of, is_refused, status_line, body_of, response_told, unavailable};
 
 use desk_types::Text;
 
-/// The statuses that an answer may have.
+/// The status of an answer.
 #[derive(Clone, Copy, Debug, PartialEq, Eq, Drop)]
 pub enum Status {
     Ok,
     Accepted,
     BadRequest,
     NotFound,
-    /// The path has another method: this one alone.
+    /// The path only allows this other method.
     MethodNotAllowed(Allow),
     Conflict,
     LengthRequired,
@@ -22,14 +22,14 @@ pub enum Status {
     ServiceUnavailable,
 }
 
-/// The one method that a path has.
+/// The one method that a path allows.
 #[derive(Clone, Copy, Debug, PartialEq, Eq, Drop)]
 pub enum Allow {
     Get,
     Post,
 }
 
-/// What the bytes of a body are.
+/// The media type of a body.
 #[derive(Clone, Copy, Debug, PartialEq, Eq, Drop)]
 pub enum Kind {
     Json,
@@ -39,13 +39,13 @@ pub enum Kind {
 /// The body of an answer.
 #[derive(Drop)]
 pub enum Body {
-    /// A text that took memory.
+    /// A text in allocated memory.
     Made(Text),
-    /// The text of an answer where memory was refused. It takes none.
+    /// The fixed text of the answer when out of memory.
     Fixed,
 }
 
-/// What a request is answered: the status, and the body with its kind.
+/// The answer to a request: a status, and a body with its kind.
 #[derive(Drop)]
 pub struct Response {
     pub status: Status,
@@ -54,7 +54,7 @@ pub struct Response {
 }
 
 impl Response {
-    /// The answer when out of memory, or where a store failed. Takes no memory.
+    /// Returns the answer when out of memory or after the storage failed. Takes no memory.
     pub fn unavailable() -> Response
         ensures { response_told result ≡ unavailable }
     {
@@ -67,7 +67,7 @@ impl Response {
 }
 
 impl Body {
-    /// The bytes.
+    /// Returns the bytes.
     pub fn as_slice(&self) -> &[u8]
         ensures { result.now ≡ body_of self.now }
     {
@@ -79,7 +79,7 @@ impl Body {
 }
 
 impl Status {
-    /// The number of the status.
+    /// Returns the status code.
     pub fn code(self) -> u16
         ensures { result ≡ code_of self }
     {
@@ -98,14 +98,14 @@ impl Status {
         }
     }
 
-    /// Whether an answer with it counts as refused: every one does but 200 and 202.
+    /// Returns whether the status counts as refused: all except 200 and 202 do.
     pub fn is_refused(self) -> bool
         ensures { result ≡ is_refused self }
     {
         !matches!(self, Status::Ok | Status::Accepted)
     }
 
-    /// The first line of an answer.
+    /// Returns the status line.
     pub fn line(self) -> &'static str
         ensures line { result.now ≡ status_line self }
         ensures short { length result.now ≤ 64 }

@@ -1,4 +1,4 @@
-//! Requests in, answers out.
+//! Serving a connection.
 
 ghost use Rattle.std.specs.Prelude.{◌≡◌, ◌+◌, ◌^◌, ◌<◌, ◌≤◌, ◌∷◌, [], true, IfOk, OnOk, OnErr, Err};
 ghost use Rattle.desk_types.specs.Wire.{inner_of, reads_of, failures_of};
@@ -19,26 +19,26 @@ use served::{Block, ReadFault, ServeFault, Served, WriteFailed};
 use std::alloc::Global;
 use std::io::{Read, Write};
 
-/// What answers whole requests, by a list that it keeps and may change.
+/// Answers whole requests from a history that it stores.
 pub trait Handler {
     ghost use Rattle.std.specs.Prelude.{◌≡◌};
     ghost use Rattle.desk_answers.specs.Ledger.{Ledger, ForLists};
     ghost use Rattle.http_stream.specs.Answers.{response_told};
     ghost use Rattle.http_stream.specs.Stream.{RuleBy, AnswersRequest};
 
-    /// The rule by which it answers after each list, by the rules and the greatest number.
+    /// The handler's rule, from its rules and greatest number.
     ghost rule: { RuleBy };
 
-    /// The rules, the greatest number and the list for which it stands.
+    /// The rules, the greatest number and the history that the handler represents.
     ghost Stands: { Self → Ledger → Type 0 };
 
-    /// What is asked at each call, and holds again after it.
+    /// The condition that each call requires and restores.
     ghost Ready: { Self → Type 0 };
 
-    /// What it keeps the list in told the truth so far, as an honest disk does.
+    /// The handler's storage has not lied so far, like an honest disk.
     ghost Trusts: { Self → Type 0 };
 
-    /// Answers a request. Unavailable may stand in the place of any answer, and then the list stays.
+    /// Answers a request, possibly with Unavailable, which leaves the history unchanged.
     fn handle(&mut self, alloc: Global, method: &[u8], target: &[u8], body: &[u8]) -> Response
         requires ready { Ready self.old }
         ensures ready { Ready self.new }
@@ -49,7 +49,7 @@ pub trait Handler {
             (response_told result) H) };
 }
 
-/// What a portion is answered, and how the answer is written.
+/// The answer to a portion, and how it is written.
 #[derive(Drop)]
 struct Told {
     reply: Reply,
@@ -57,12 +57,12 @@ struct Told {
     has_body: bool,
 }
 
-/// Serves a connection: answers its requests, each before the next is read, to the end of the input
-/// or up to the one that ends the connection.
+/// Serves a connection: answers its requests, each before reading the next, up to the end of input
+/// or of the connection.
 ///
-/// A request that the input doesn't hold whole has no answer. Where memory is refused for a body,
-/// its request is answered 503 and ends the connection. After Write a prefix of the next answer may
-/// have gone out, and what its request asked may be done.
+/// A request that the input doesn't contain whole has no answer. A request without memory for its
+/// body is answered 503 and ends the connection. After a write fault, part of one more answer may
+/// have been sent, and its request may be done.
 pub fn serve<R: Read, W: Write, A: Handler>(
     alloc: Global,
     input: &mut Wire<R>,
@@ -119,7 +119,7 @@ pub fn serve<R: Read, W: Write, A: Handler>(
     }
 }
 
-/// Answers a portion, writes the answer, and says whether it is the last.
+/// Answers a portion, writes the answer, and returns whether it is the last.
 fn serve_portion<W: Write, A: Handler>(
     alloc: Global,
     output: &mut Wire<W>,
@@ -153,7 +153,6 @@ fn serve_portion<W: Write, A: Handler>(
     Ok(told.closes)
 }
 
-/// What a portion is answered.
 fn answer_portion<A: Handler>(alloc: Global, handler: &mut A, block: &[u8], taken: Taken) -> Told
     requires taken { IsTaken block.now taken }
     requires ready { A.Ready handler.old }
@@ -190,7 +189,7 @@ fn answer_portion<A: Handler>(alloc: Global, handler: &mut A, block: &[u8], take
     }
 }
 
-/// The last answer of a connection, with its body.
+/// Returns the last answer of a connection, with its body.
 fn last(reply: Reply) -> Told
     ensures { result ≡ record { reply = reply; closes = true; has_body = true } }
 {
@@ -201,7 +200,6 @@ fn last(reply: Reply) -> Told
     }
 }
 
-/// Whether answers to a method have no body.
 fn is_head(method: &[u8]) -> bool
     ensures { result ≡ is_head method.now }
 {

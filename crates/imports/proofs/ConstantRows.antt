@@ -1,4 +1,4 @@
--- The numbers of the rules, computed.
+-- Worked cases of the limits of files.
 use Rattle.std.specs.Prelude.{◌≡◌, Some, None, [], ◌∷◌, codes, refl}
 use Rattle.imports.specs.File.{quantity_of, designators_of}
 

@@ -1,11 +1,10 @@
--- Rows that are read one after the other.
+-- Reading rows one after another.
 use Rattle.std.proofs.Common.{◌≡◌, refl, sym, ap, ◌∙◌, ℕ, suc, ◌+◌, ◌<◌, List, [], ◌∷◌, ◌++◌, length, map, take, drop, get_or, take-append-drop, append_assoc, Result, Ok, Err, arith}
 use Rattle.std.proofs.lemmas.List.{take_more, map-append, length-map, length-take-le}
 use Rattle.cfx_profile.proofs.Readings.{first_of_each, both, both-nothing, both-first}
 use Rattle.imports.specs.declared.fault.ImportFault.{ImportFault}
 use Rattle.imports.specs.File.{Record, row_at, each}
 
--- the lines go on where the first list ends
 each-append : {X : Type 0} (reading : ℕ → Record → Result X ImportFault) (line : ℕ) (rs ss : List Record)
     → each reading line (rs ++ ss) ≡ both (each reading line rs) (each reading (line + length rs) ss)
 unfolding first_of_each
@@ -17,11 +16,9 @@ each-append reading line (r ∷ rs) ss =
     ap (first_of_each (row_at reading line r)) (each-append reading (suc line) rs ss ∙ ap (λ n. both (each reading (suc line) rs) (each reading n ss)) next)
     ∙ both-first (row_at reading line r) (each reading (suc line) rs) _
 
--- so many records before one at a place
 before : {R : Type 0} (view : R → Record) (rs : List R) (i : ℕ) → i < length rs → length (map view (take i rs)) ≡ i
 before view rs i inside = length-map (take i rs) view ∙ length-take-le i rs (omega arith)
 
--- one more row
 pub each-more : {R X : Type 0} (view : R → Record) (reading : ℕ → Record → Result X ImportFault) (line : ℕ) (rs : List R) (i : ℕ) (r : R) (xs : List X) (x : X)
     → i < length rs → r ≡ get_or rs i r → each reading line (map view (take i rs)) ≡ Ok xs → row_at reading (line + i) (view r) ≡ Ok x
     → each reading line (map view (take (i + 1) rs)) ≡ Ok (xs ++ x ∷ [])
@@ -29,7 +26,6 @@ unfolding both
 each-more view reading line rs i r xs x inside here rows row =
     rw (take_more rs i r inside, sym here, map-append view (take i rs) (r ∷ []), each-append reading line (map view (take i rs)) (view r ∷ []), rows, before view rs i inside, row) refl
 
--- the first row at fault
 pub each-fault : {R X : Type 0} (view : R → Record) (reading : ℕ → Record → Result X ImportFault) (line : ℕ) (rs : List R) (i : ℕ) (r : R) (xs : List X) (fault : ImportFault)
     → i < length rs → r ≡ get_or rs i r → each reading line (map view (take i rs)) ≡ Ok xs → row_at reading (line + i) (view r) ≡ Err fault
     → each reading line (map view rs) ≡ Err fault

@@ -1,11 +1,10 @@
--- Records that were read one by one are the front of the list of records.
+-- Records read one by one are the first of all records.
 use Rattle.std.proofs.Common.{◌≡◌, ◌≤◌, ℕ, zero, suc, refl, sym, ap, ◌∙◌, subst, List, [], ◌∷◌, length, None, arith, ◌⊎◌, inl, inr}
 use Rattle.csv.specs.Machine.{next_record}
 use Rattle.csv.specs.Reading.{Reached, records_from, records_next}
 use Rattle.csv.specs.declared.parser.Config.{Config}
 use Rattle.csv.specs.declared.parser.State.{State}
 
--- the first n records, where reading stopped at the end of the text or after n of them
 pub first-of_reached : (cfg : Config) (n : ℕ) (s : State) (xs : List ℕ) (rows : List (List (List ℕ))) (s2 : State) (ys : List ℕ)
     → length rows ≤ n → Reached cfg s xs rows s2 ys → (next_record cfg s2 [] [] ys ≡ None) ⊎ (length rows ≡ n) → rows ≡ records_from cfg n s xs
 unfolding Reached records_from

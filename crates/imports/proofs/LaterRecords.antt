@@ -1,4 +1,4 @@
--- Records behind the first ones change nothing of what a file says.
+-- Later records don't change the content of a file.
 use Rattle.std.proofs.Common.{◌≡◌, ◌≤◌, ◌<◌, ◌+◌, ◌++◌, ◌⊎◌, ◌∙◌, ℕ, zero, suc, Bool, refl, ap, List, [], ◌∷◌, length, Option, Some, None, Result, Ok, Err, inl, inr, arith}
 use Rattle.std.specs.Prelude.{nat_le, if◌then◌else◌}
 use Rattle.std.proofs.lemmas.Bool.{cases_Bool}
@@ -14,7 +14,6 @@ use Rattle.imports.specs.declared.records.TheConstants.{MOST_RECORDS}
 use Rattle.imports.specs.declared.rows.TheConstants.{FIRST_ROW, LAST_ROW}
 use Rattle.imports.specs.File.{Record, row_at, each, some_rows, rows_of}
 
--- what is read first is all of it, or the front of what is read when reading goes on
 front_of : (cfg : Config) (m n : ℕ) (s : State) (xs : List ℕ) → m ≤ n
     → (records_from cfg n s xs ≡ records_from cfg m s xs)
     ⊎ ((rest : List Record) × (records_from cfg n s xs ≡ records_from cfg m s xs ++ rest) × (length (records_from cfg m s xs) ≡ m))
@@ -33,7 +32,7 @@ front_of cfg (suc m) (suc n) s xs fits = go (λ p. front_of cfg m n p.1 p.2 (ome
       | inr more ↦ inr (more.0, ap (λ l. p.0 ∷ l) more.1, ap suc more.2)
     ]
 
--- no record behind the last line that may be a row changes what is said
+-- Records behind the last possible row change nothing.
 each_front : {X : Type 0} (reading : ℕ → Record → Result X ImportFault) (line : ℕ) (rs ss : List Record) → line ≤ suc LAST_ROW → suc LAST_ROW < line + length rs
     → each reading line (rs ++ ss) ≡ each reading line rs
 each_front reading line [] ss before behind = absurd (omega arith)

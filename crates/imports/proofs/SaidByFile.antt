@@ -1,4 +1,4 @@
--- A command is said by its file.
+-- Reading the file of a command gives that command.
 use Rattle.std.proofs.Common.{◌≡◌, ◌∙◌, refl, sym, ap, ℕ, zero, suc, ◌+◌, ◌≤◌, ◌<◌, ◌^◌, List, [], ◌∷◌, ◌++◌, length, map, All, Bool, true, false, Some, None, Ok, Result, arith, decimal, if◌then◌else◌}
 use Rattle.std.specs.Prelude.{nat_le, ◌==◌}
 use Rattle.std.specs.List.{join_with_byte}
@@ -35,7 +35,7 @@ use Rattle.desk_types.proofs.Numerals.{own}
 
 -- ---- records
 
--- a record of at least two fields
+-- A record of at least two fields.
 abbrev IsLong : Record → Type 0
 IsLong fields = (a : List ℕ) × (b : List ℕ) × (rest : Record) × (fields ≡ a ∷ b ∷ rest)
 
@@ -43,7 +43,6 @@ no_more : next_record default_config st.StartRecord [] [] [] ≡ None
 unfolding next_record
 no_more = refl
 
--- records are read back from their text
 read_back : (n : ℕ) (rs : List Record) → All IsLong rs → length rs ≤ n → records_from default_config n st.StartRecord (records_text rs) ≡ rs
 unfolding records_from
 read_back zero [] long fits = refl
@@ -81,7 +80,6 @@ pieces_read n fits =
 no_space : (b : ℕ) → is_designator_byte b ≡ true → (b == 0x20) ≡ false
 no_space b is = grind (arith, nat_tests)
 
--- words with a space between neighbours
 words_split : (words : List Name) → 1 ≤ length words → All IsDesignator words → words_of (join_with_byte 0x20 words) ≡ words
 words_split [] some all = absurd (omega (arith, some))
 words_split (w ∷ []) some all = slice_split_none (λ b. b == 0x20) w (λ k d inside. no_space _ ((All-head IsDesignator w [] all).marks k d inside))
@@ -126,7 +124,6 @@ unfolding sheet_row three_texts field_at
 sheet_read line row is =
     rw (id_text row.slot is.slot, id_text row.part is.part, words_text row.designators is.designators.each, id_read row.slot is.slot, id_read row.part is.part, words_read row.designators is.designators) refl
 
--- rows that are read at any line are read one after the other
 each_read : {X : Type 0} (reading : ℕ → Record → Result X ImportFault) (fields : X → Record) (Fits : X → Type 0)
     → ((line : ℕ) (x : X) → Fits x → reading line (fields x) ≡ Ok x)
     → (line : ℕ) (xs : List X) → All Fits xs → line + length xs ≤ suc LAST_ROW → each reading line (map fields xs) ≡ Ok xs
@@ -142,7 +139,6 @@ some_read (x ∷ xs) some = refl
 
 -- ---- files
 
--- rows are read back from the file of their header and their records
 file_read : {X : Type 0} (is_header : Record → Bool) (reading : ℕ → Record → Result X ImportFault) (header : Record) (fields : X → Record) (Fits : X → Type 0)
     → is_header header ≡ true → IsLong header → ((x : X) → IsLong (fields x))
     → ((rest : List ℕ) → strip_bom (row_text default_writer header ++ rest) ≡ row_text default_writer header ++ rest)

@@ -1,4 +1,5 @@
--- The answers to files that are not taken: one compact JSON object each, its members in byte order of their names.
+-- Answers to rejected files. Each is one compact JSON object with its members in byte order of
+-- their names.
 use Rattle.std.specs.Prelude.{ℕ, List, codes}
 use Rattle.serde_json.specs.Data.{Data, unsigned, string, number, object, member, no_members}
 use Rattle.serde_json.specs.Written.{compact_text}
@@ -6,14 +7,14 @@ use Rattle.cfx_profile.specs.Answer.{faulty, unavailable}
 use Rattle.imports.specs.declared.fault.ImportFault.{ImportFault}
 use Rattle.imports.specs.declared.fault.ImportFault.TheVariants.{BadHeader, BadRow, BadField, OverLimit, NoMemory}
 
--- a fault of one record
+-- A fault of one record.
 abbrev pub faulty_row : ℕ → Data
 faulty_row line =
     object (member (codes "Answer") (string (codes "Faulty"))
     (member (codes "Fault") (string (codes "BadRow"))
     (member (codes "Line") (number (unsigned line)) no_members)))
 
--- a fault of one field
+-- A fault of one field.
 abbrev pub faulty_field : ℕ → ℕ → Data
 faulty_field line column =
     object (member (codes "Answer") (string (codes "Faulty"))
@@ -21,7 +22,6 @@ faulty_field line column =
     (member (codes "Fault") (string (codes "BadField"))
     (member (codes "Line") (number (unsigned line)) no_members))))
 
--- the answer to a fault
 abbrev pub fault_answer : ImportFault → Data
 fault_answer BadHeader = faulty (codes "BadHeader")
 fault_answer (BadRow line) = faulty_row line
@@ -29,6 +29,5 @@ fault_answer (BadField line column) = faulty_field line column
 fault_answer OverLimit = faulty (codes "OverLimit")
 fault_answer NoMemory = unavailable
 
--- the text of the answer to a fault
 unfoldable pub fault_text : ImportFault → List ℕ
 fault_text fault = compact_text (fault_answer fault)

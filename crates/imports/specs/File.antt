@@ -1,4 +1,5 @@
--- What a setup file and a count file say: a command, or the first fault. Records are judged in order, and their fields from left to right.
+-- The content of setup and count files: a command, or the first fault. Records are judged in order,
+-- and their fields from left to right.
 use Rattle.std.specs.Prelude.{ℕ, suc, ◌==◌, ◌&&◌, nat_le, Bool, if◌then◌else◌, Option, Some, None, ok_or, Result, Ok, Err, List, [], ◌∷◌, length, unwrap_or, codes}
 use Rattle.std.specs.List.{list_all, slice_split}
 use Rattle.std.specs.Char.{is_ascii_digit}
@@ -22,27 +23,28 @@ use Rattle.imports.specs.declared.rows.TheConstants.{FIRST_ROW, LAST_ROW}
 
 -- ---- records
 
--- a record: its fields in order, each by its bytes
+-- A record's fields, each as bytes.
 abbrev pub Record : Type 0
 Record = List (List ℕ)
 
--- the first 5,002 records that `csv` reads in the bytes after a byte order mark: the header, 5,000 rows, and one that is too many
+-- The first 5,002 records that `csv` reads after an optional byte order mark: header, 5,000 rows,
+-- one too many.
 abbrev pub records_of : List ℕ → List Record
 records_of bytes = records_from default_config MOST_RECORDS st.StartRecord (strip_bom bytes)
 
--- the field at a place, from 0; no bytes where there is none
+-- The field at a place, from 0, or no bytes.
 abbrev pub field : Record → ℕ → List ℕ
 field fields place = unwrap_or (field_at fields place) []
 
--- the field, where it is text
+-- The field, if it is UTF-8.
 abbrev pub text_of : List ℕ → Option (List ℕ)
 text_of bytes = if is_utf8 bytes then Some bytes else None
 
--- the fields of a record of two, where each is text
+-- The fields of a record with two, if both are UTF-8.
 unfoldable pub two_texts : Record → Option (List ℕ × List ℕ)
 two_texts fields = if length fields == 2 && is_utf8 (field fields 0) && is_utf8 (field fields 1) then Some (field fields 0, field fields 1) else None
 
--- the fields of a record of three, where each is text
+-- The fields of a record with three, if all are UTF-8.
 unfoldable pub three_texts : Record → Option (List ℕ × List ℕ × List ℕ)
 three_texts fields =
     if length fields == 3 && is_utf8 (field fields 0) && is_utf8 (field fields 1) && is_utf8 (field fields 2)
@@ -50,19 +52,16 @@ three_texts fields =
 
 -- ---- fields
 
--- the words of a text, with one space between neighbours
+-- The text's words, separated by single spaces.
 abbrev pub words_of : List ℕ → List (List ℕ)
 words_of text = slice_split (λ byte. byte == 0x20) text
 
--- 1 to 5,000 designators
 unfoldable pub designators_of : List ℕ → Option (List Name)
 designators_of text = if list_all is_designator (words_of text) && nat_le (length (words_of text)) LONGEST_LIST then Some (words_of text) else None
 
--- 1 to 8 digits
 abbrev pub is_number : List ℕ → Bool
 is_number text = nat_le 1 (length text) && nat_le (length text) MOST_DIGITS && list_all is_ascii_digit text
 
--- 0 to 10,000,000 pieces
 unfoldable pub quantity_of : List ℕ → Option ℕ
 quantity_of text = if is_number text && nat_le (digits_value 10 text) GREATEST_QUANTITY then Some (digits_value 10 text) else None
 
@@ -71,7 +70,7 @@ quantity_of text = if is_number text && nat_le (digits_value 10 text) GREATEST_Q
 abbrev pub is_setup_header : Record → Bool
 is_setup_header fields = length fields == 3 && same (field fields 0) (codes "slot") && same (field fields 1) (codes "part") && same (field fields 2) (codes "designators")
 
--- a row of a sheet
+-- A sheet's row.
 unfoldable pub sheet_row : ℕ → Record → Result SheetRow ImportFault
 sheet_row line fields = do
   row ← ok_or (three_texts fields) (BadRow line)
@@ -85,7 +84,7 @@ sheet_row line fields = do
 abbrev pub is_counts_header : Record → Bool
 is_counts_header fields = length fields == 2 && same (field fields 0) (codes "reel") && same (field fields 1) (codes "quantity")
 
--- a row of a count
+-- A count's row.
 unfoldable pub count_row : ℕ → Record → Result CountRow ImportFault
 count_row line fields = do
   row ← ok_or (two_texts fields) (BadRow line)
@@ -95,11 +94,11 @@ count_row line fields = do
 
 -- ---- files
 
--- what the record at a line is read as, up to the last line that may be a row
+-- The row of a record, up to the last possible line.
 abbrev pub row_at : {X : Type 0} → (ℕ → Record → Result X ImportFault) → ℕ → Record → Result X ImportFault
 row_at reading line fields = if nat_le line LAST_ROW then reading line fields else Err OverLimit
 
--- what each record is read as, the first at this line, or the first fault
+-- The rows of the records from this line on, or the first fault.
 abbrev pub each : {X : Type 0} → (ℕ → Record → Result X ImportFault) → ℕ → List Record → Result (List X) ImportFault
 each reading line [] = Ok []
 each reading line (fields ∷ rest) = do
@@ -107,27 +106,26 @@ each reading line (fields ∷ rest) = do
   xs ← each reading (suc line) rest
   Ok (x ∷ xs)
 
--- at least one row
 abbrev pub some_rows : {X : Type 0} → List X → Result (List X) ImportFault
 some_rows [] = Err (BadRow FIRST_ROW)
 some_rows (x ∷ xs) = Ok (x ∷ xs)
 
--- the rows of records whose first is a header
+-- The rows of records, after their header.
 abbrev pub rows_of : {X : Type 0} → (Record → Bool) → (ℕ → Record → Result X ImportFault) → List Record → Result (List X) ImportFault
 rows_of is_header reading [] = Err BadHeader
 rows_of is_header reading (first ∷ rest) = if is_header first then each reading FIRST_ROW rest >>= some_rows else Err BadHeader
 
--- the rows of a file, which is at most 1,048,576 bytes long
+-- The rows of a file of at most 1,048,576 bytes.
 unfoldable pub file_rows : {X : Type 0} → (Record → Bool) → (ℕ → Record → Result X ImportFault) → List ℕ → Result (List X) ImportFault
 file_rows is_header reading bytes = if nat_le (length bytes) LONGEST_INPUT then rows_of is_header reading (records_of bytes) else Err OverLimit
 
--- what a setup file says: the sheet of this product on this machine
+-- The content of a setup file: this product's sheet on this machine.
 unfoldable pub setup_said : Name → Name → List ℕ → Result Command ImportFault
 setup_said product machine bytes = do
   rows ← file_rows is_setup_header sheet_row bytes
   Ok (command.SheetDefined product machine rows)
 
--- what a count file says
+-- The content of a count file.
 unfoldable pub counts_said : List ℕ → Result Command ImportFault
 counts_said bytes = do
   counts ← file_rows is_counts_header count_row bytes

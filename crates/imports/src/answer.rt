@@ -1,4 +1,4 @@
-//! The answers to files that are not taken.
+//! Answers to rejected files.
 
 ghost use Rattle.std.specs.Prelude.{◌≡◌, IfOk, false};
 ghost use Rattle.serde_json.specs.View.{view};
@@ -12,7 +12,8 @@ use serde_json::{Value, json};
 use std::alloc::{AllocError, Global};
 
 impl ImportFault {
-    /// The text of the answer to the fault, as `{"Answer":"Faulty","Column":3,"Fault":"BadField","Line":2}`.
+    /// Returns the text of the answer, such as
+    /// `{"Answer":"Faulty","Column":3,"Fault":"BadField","Line":2}`.
     #[tactic(auto, unfolding(crate::specs::Answer::fault_text))]
     pub fn write_text(&self, alloc: Global) -> Result<Text, AllocError>
         ensures { IfOk result (λ text. text ≡ fault_text self.now) }

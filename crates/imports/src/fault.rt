@@ -1,25 +1,24 @@
-//! Why a file is not taken.
+//! Faults of files.
 
 use std::alloc::AllocError;
 
-/// Why a file is not taken: its first fault. Lines are records, and the header is line 1; columns
+/// Why a file is rejected: its first fault. Lines are records, and the header is line 1; columns
 /// count from 1.
 #[derive(Clone, Copy, Debug, PartialEq, Eq)]
 pub enum ImportFault {
-    /// The first record is not the header, or there is no record.
+    /// The first record is not the header, or the file has no record.
     BadHeader,
-    /// The record at this line has a field that is no text, or another number of fields than the
-    /// header. At line 2 also: there is no such record.
+    /// The record at this line has a field that isn't UTF-8, or not as many fields as the header.
+    /// At line 2 also: the record is missing.
     BadRow(u64),
-    /// The field at this line and column is not of its form.
+    /// The field at this line and column has another form.
     BadField(u64, u64),
-    /// The file is longer than 1,048,576 bytes, or has 5,000 rows after the header and one record more.
+    /// The file has over 1,048,576 bytes, or over 5,000 rows.
     OverLimit,
-    /// Memory was refused. This may come in the place of any other answer.
+    /// There was too little memory. This can replace any other result.
     NoMemory,
 }
 
-/// Where memory is refused while a file is read, the file is not taken.
 impl From<AllocError> for ImportFault {
     ghost use Rattle.std.specs.Prelude.{◌≡◌};
     ghost use Rattle.imports.specs.declared.fault.ImportFault.TheVariants.{NoMemory};

@@ -11,7 +11,7 @@ use csv::ByteRecord;
 use desk_types::{Bounded, CountedQuantity, Designator, Designators, Id, MOST_DIGITS};
 use std::alloc::{AllocError, Global};
 
-/// The field of a record at a place, from 0; no bytes where it has none.
+/// Returns the record's field at a place, from 0, or no bytes.
 pub fn field(row: &ByteRecord, place: usize) -> &[u8]
     ensures { result.now ≡ field (fields_of row.now) place }
 {
@@ -21,28 +21,26 @@ pub fn field(row: &ByteRecord, place: usize) -> &[u8]
     }
 }
 
-/// The field as text.
+/// Returns the field if it is UTF-8.
 pub fn text_at(row: &ByteRecord, place: usize) -> Option<&str>
     ensures { option_map (λ text. text.now) result ≡ text_of (field (fields_of row.now) place) }
 {
     str::from_utf8(field(row, place)).ok()
 }
 
-/// The id that a text is.
 pub fn id_of(text: &str) -> Option<Id>
     ensures { result ≡ id_of text.now }
 {
     Id::read(text.as_bytes())
 }
 
-/// The designator that a text is.
 fn designator_of(text: &str) -> Option<Designator>
     ensures { result ≡ designator_of text.now }
 {
     Designator::read(text.as_bytes())
 }
 
-/// The designators that a text lists, with one space between neighbours.
+/// Reads designators separated by single spaces.
 #[tactic(auto, unfolding(crate::specs::File::designators_of))]
 pub fn designators_of(alloc: Global, text: &str) -> Result<Option<Designators>, AllocError>
     ensures { IfOk result (λ found. found ≡ designators_of text.now) }
@@ -57,7 +55,7 @@ pub fn designators_of(alloc: Global, text: &str) -> Result<Option<Designators>, 
     Ok(Bounded::new(found))
 }
 
-/// The quantity that a text of 1 to 8 digits is.
+/// Reads a quantity of 1 to 8 digits.
 #[tactic(auto, unfolding(crate::specs::File::quantity_of))]
 pub fn quantity_of(text: &str) -> Option<CountedQuantity>
     ensures { result ≡ quantity_of text.now }
@@ -68,7 +66,6 @@ pub fn quantity_of(text: &str) -> Option<CountedQuantity>
     CountedQuantity::new(text.parse::<u64>().ok()?)
 }
 
-/// Whether a text is 1 to 8 digits.
 fn is_number(text: &[u8]) -> bool
     ensures { result ≡ is_number text.now }
 {

@@ -1,4 +1,4 @@
-//! Files as commands.
+//! Reading files as commands.
 
 ghost use Rattle.imports.specs.Fault.{IsSaid};
 ghost use Rattle.imports.specs.File.{file_rows, setup_said, counts_said};
@@ -9,11 +9,11 @@ use crate::rows::{Row, rows_of};
 use desk_types::{Bounded, Command, Id, LONGEST_INPUT};
 use std::alloc::Global;
 
-/// The sheet of a product on a machine that a setup file says.
+/// Reads a setup file as a product's sheet on a machine.
 ///
-/// The header is `slot,part,designators`; designators have one space between neighbours. The text is
-/// CSV as RFC 4180 has it and as `csv` reads it: blank lines are no records, a carriage
-/// return or a line feed alone ends one too, and a byte order mark at the start is dropped.
+/// The header is `slot,part,designators`, with single spaces between designators. The text is CSV
+/// (RFC 4180) as `csv` reads it. Blank lines are skipped, a carriage return or line feed alone also
+/// ends a record, and a leading byte order mark is dropped.
 #[tactic(auto, unfolding(crate::specs::File::setup_said))]
 pub fn read_setup(
     alloc: Global,
@@ -30,9 +30,9 @@ pub fn read_setup(
     })
 }
 
-/// The counts that a count file says.
+/// Reads a count file.
 ///
-/// The header is `reel,quantity`. The text is read as that of a setup file.
+/// The header is `reel,quantity`. The text is read like a setup file's.
 #[tactic(auto, unfolding(crate::specs::File::counts_said))]
 pub fn read_counts(alloc: Global, bytes: &[u8]) -> Result<Command, ImportFault>
     ensures said { IsSaid (counts_said bytes.now) result }
@@ -42,7 +42,6 @@ pub fn read_counts(alloc: Global, bytes: &[u8]) -> Result<Command, ImportFault>
     })
 }
 
-/// The rows of a file.
 #[tactic(auto, unfolding(crate::specs::File::file_rows))]
 fn file_rows<T: Row>(alloc: Global, bytes: &[u8]) -> Result<Bounded<T>, ImportFault>
     ensures { IsSaid (file_rows T.header T.said bytes.now) result }

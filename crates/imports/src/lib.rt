@@ -1,7 +1,7 @@
-//! Setup files and count files: what a CSV file says, as one command.
+//! Reading a setup file or a count file (CSV) as one command.
 //!
-//! A setup file is a sheet, a count file a count of reels. `specs/File.antt` says on one page what a
-//! file says, over the records that `csv` reads.
+//! A setup file is a sheet, and a count file is a count of reels. `specs/File.antt` defines the
+//! content of a file from the records that `csv` reads.
 #![tactic(auto)]
 
 mod answer;

@@ -11,18 +11,16 @@ use csv::{ByteRecord, Reader, ReaderBuilder};
 use desk_types::LONGEST_LIST;
 use std::alloc::{AllocError, Global};
 
-/// The most records of a file that are looked at: the header, the longest list, and one that is too
-/// many.
+/// The most records of a file that are read: the header, the longest list, and one too many.
 pub const MOST_RECORDS: usize = LONGEST_LIST + 2;
 
-/// The first records of the bytes.
 pub fn first_records(alloc: Global, bytes: &[u8]) -> Result<Vec<ByteRecord>, AllocError>
     ensures { IfOk result (λ records. map fields_of records.items ≡ records_of bytes.now) }
 {
     let rdr = reader(alloc, bytes);
     let mut records = Vec::new(alloc);
     for row in rdr.into_byte_records() {
-        // nothing is refused but memory: bytes are read, and their records may have any length
+        // Only memory can run out here: records are bytes of any length.
         let Ok(record) = row else {
             return Err(AllocError);
         };
@@ -34,7 +32,7 @@ pub fn first_records(alloc: Global, bytes: &[u8]) -> Result<Vec<ByteRecord>, All
     Ok(records)
 }
 
-/// A reader with no header row, whose records may have any number of fields.
+/// Returns a reader without a header row, for records with any number of fields.
 fn reader<'a>(alloc: Global, bytes: &'a [u8]) -> Reader<&'a [u8]>
     ensures config { reader_config result ≡ default_config }
     ensures ready { Ready result }

@@ -15,10 +15,10 @@ use std::alloc::{AllocError, Global};
 /// The line of the first record after the header.
 pub const FIRST_ROW: u64 = 2;
 
-/// The last line that may be a row.
+/// The last line that can be a row.
 pub const LAST_ROW: u64 = LONGEST_LIST as u64 + 1;
 
-/// A row of a file of some kind.
+/// A row of one kind of file.
 pub trait Row: Drop + Sized {
     ghost use Rattle.std.specs.Prelude.{Bool, ℕ, List, Result};
     ghost use Rattle.imports.specs.declared.fault.ImportFault.{ImportFault};
@@ -27,11 +27,11 @@ pub trait Row: Drop + Sized {
 
     ghost said: { ℕ → List (List ℕ) → Result Self ImportFault };
 
-    /// Whether a record is the header of such files.
+    /// Returns whether a record is the header of such files.
     fn is_header(row: &ByteRecord) -> bool
         ensures { result ≡ header (fields_of row.now) };
 
-    /// The row that the record at a line is.
+    /// Reads the record at a line as a row.
     fn read(alloc: Global, line: u64, row: &ByteRecord) -> Result<Self, ImportFault>
         ensures { IsSaid (said line (fields_of row.now)) result };
 }
@@ -43,7 +43,6 @@ fn put<T: Drop>(rows: &mut Vec<T>, row: T) -> Result<(), AllocError>
     Ok(())
 }
 
-/// The rows that the records after the header are.
 fn each<T: Row>(alloc: Global, records: &[ByteRecord]) -> Result<Listing<T>, ImportFault>
     ensures said { IsSaid (each T.said FIRST_ROW (map fields_of records.now)) result }
     ensures bound { IfOk result (λ rows. length rows ≤ LONGEST_LIST) }
@@ -61,7 +60,7 @@ fn each<T: Row>(alloc: Global, records: &[ByteRecord]) -> Result<Listing<T>, Imp
     Ok(Listing::new(rows))
 }
 
-/// The rows that the records of a file say.
+/// Reads the rows of a file from its records.
 pub fn rows_of<T: Row>(alloc: Global, records: &[ByteRecord]) -> Result<Bounded<T>, ImportFault>
     ensures { IsSaid (rows_of T.header T.said (map fields_of records.now)) result }
 {
@@ -74,7 +73,6 @@ pub fn rows_of<T: Row>(alloc: Global, records: &[ByteRecord]) -> Result<Bounded<
     }
 }
 
-/// The two fields of a record of text.
 #[tactic(auto, unfolding(crate::specs::File::two_texts))]
 fn two_texts(row: &ByteRecord) -> Option<(&str, &str)>
     ensures { option_map (λ t. (t.0.now, t.1.now)) result ≡ two_texts (fields_of row.now) }
@@ -85,7 +83,6 @@ fn two_texts(row: &ByteRecord) -> Option<(&str, &str)>
     Some((text_at(row, 0)?, text_at(row, 1)?))
 }
 
-/// The three fields of a record of text.
 #[tactic(auto, unfolding(crate::specs::File::three_texts))]
 fn three_texts(row: &ByteRecord) -> Option<(&str, &str, &str)>
     ensures { option_map (λ t. (t.0.now, t.1.now, t.2.now)) result ≡ three_texts (fields_of row.now) }

@@ -1,4 +1,4 @@
--- What the slots of a machine feed, piece after piece.
+-- The state of a machine's slots after each piece.
 use Rattle.std.proofs.Common.{◌≡◌, ℕ, ◌+◌, ◌-◌, ◌<◌, ◌≤◌, Bool, true, false, cond, nat_lt, Option, Some, None, List, [], ◌∷◌, ◌++◌, refl, sym, ap, subst, ◌∙◌, arith}
 use Rattle.std.specs.Prelude.{IfSome, ◌==◌}
 use Rattle.std.specs.Option.{option_map, option_map_or}
@@ -23,7 +23,7 @@ use Rattle.judging.specs.declared.placing.Feed.{Feed}
 use Rattle.judging.specs.declared.placing.Given.TheVariants.{Reel, Nothing}
 use Rattle.judging.specs.Placing.{IsFed, IsFeeding, feed_at, one_less, given_by, live_past, live_next, reel_in_hand}
 
--- ---- one pick more
+-- ---- one more pick
 
 pieces_picked-one : (p : Pick) (reel : Name) → pieces_picked (p ∷ []) reel ≡ cond (same p.reel reel) p.quantity 0
 pieces_picked-one p reel = by (same p.reel reel)
@@ -46,36 +46,31 @@ module _ (picks : List Pick) (p : Pick) where
       let one : pieces_picked (p ∷ []) reel ≡ p.quantity = pieces_picked-one p reel ∙ ap (λ b. cond b p.quantity 0) (ap (λ x. same x reel) own ∙ same-refl reel) in
       omega (arith, pieces_picked-append picks (p ∷ []) reel, one)
 
-  -- spent reels stay spent
   spent-still : (pieces : Name → ℕ) (reels : List Name) → AllByRecursion (λ r. pieces r ≤ pieces_picked picks r) reels → AllByRecursion (λ r. pieces r ≤ pieces_picked (picks ++ p ∷ []) r) reels
   spent-still pieces [] all = tt
   spent-still pieces (r ∷ rs) (none, all) = let more = picked-grows r in (omega (arith, none, more), spent-still pieces rs all)
 
-  -- reels that are not the pick's stay untouched
   untouched-still : (reels : List Name) → AllByRecursion (λ r. same p.reel r ≡ false) reels → AllByRecursion (λ r. pieces_picked picks r ≡ 0) reels
       → AllByRecursion (λ r. pieces_picked (picks ++ p ∷ []) r ≡ 0) reels
   untouched-still [] away all = tt
   untouched-still (r ∷ rs) (other, away) (none, all) = (picked-same r other ∙ none, untouched-still rs away all)
 
--- a reel that is not among others is none of them
 all-other : (x : Name) (reels : List Name) → has reels x ≡ false → AllByRecursion (λ r. same x r ≡ false) reels
 all-other x [] absent = tt
 all-other x (r ∷ rs) absent = let both = or_parts (same x r) (has rs x) absent in (both.0, all-other x rs both.1)
 
--- a reel that stands once is none of those behind it
 passed-others : (before : List Name) (x : Name) (after : List Name) → IsDistinct same (before ++ x ∷ after) → AllByRecursion (λ r. same x r ≡ false) after
 unfolding IsDistinct
 passed-others [] x after distinct = distinct.0
 passed-others (b ∷ bs) x after distinct = passed-others bs x after distinct.1
 
--- ---- a slot
+-- ---- one slot
 
--- the reel in hand has nothing left, where there is one
+-- The current reel, if any, has nothing left.
 abbrev pub IsEmptyHanded : Option Feed → Type 0
 IsEmptyHanded feed = IfSome feed (λ f. f.pieces ≡ 0)
 
 module _ (pieces : Name → ℕ) (live reels : List Name) (picks : List Pick) where
-  -- a pick off another reel than the slot's changes nothing
   fed-elsewhere : (feed : Option Feed) (p : Pick) → has live p.reel ≡ false → IsFed pieces live reels picks feed → IsFed pieces live reels (picks ++ p ∷ []) feed
   fed-elsewhere feed p absent is =
       let next = live_next pieces reels feed in
@@ -95,7 +90,6 @@ module _ (pieces : Name → ℕ) (live reels : List Name) (picks : List Pick) wh
       hand None away was = tt
       hand (Some f) away was = was ∙ ap (λ n. pieces f.reel - n) (sym (picked-same picks p f.reel away.0))
 
-  -- a piece off the reel in hand
   fed-here : (f : Feed) (p : Pick) → p.reel ≡ f.reel → p.quantity ≡ 1 → IsDistinct same live → IsFed pieces live reels picks (Some f)
       → IsFed pieces live reels (picks ++ p ∷ []) (Some (one_less f))
   fed-here f p own one distinct is =
@@ -109,14 +103,12 @@ module _ (pieces : Name → ℕ) (live reels : List Name) (picks : List Pick) wh
         untouched = untouched-still picks p next away is.untouched;
       }
 
-  -- nothing is found among spent reels
   search-past : (spent rest : List Name) → AllByRecursion (λ r. pieces r ≤ pieces_picked picks r) spent
       → find (λ r. nat_lt (pieces_picked picks r) (pieces r)) (spent ++ rest) ≡ find (λ r. nat_lt (pieces_picked picks r) (pieces r)) rest
   search-past [] rest all = refl
   search-past (r ∷ rs) rest (none, all) =
       ap (λ b. cond b (Some r) (find (λ x. nat_lt (pieces_picked picks x) (pieces x)) (rs ++ rest))) (le-ltb (pieces_picked picks r) (pieces r) none) ∙ search-past rs rest all
 
-  -- the reel in hand is the first with a piece left, where it has one
   pub fed-front : (f : Feed) → 0 < f.pieces → IsFed pieces live reels picks (Some f) → find (λ r. nat_lt (pieces_picked picks r) (pieces r)) live ≡ Some f.reel
   fed-front f some is =
       let next = live_past pieces reels f.passed in
@@ -125,7 +117,6 @@ module _ (pieces : Name → ℕ) (live reels : List Name) (picks : List Pick) wh
       ∙ search-past is.spent (f.reel ∷ next) is.none_left
       ∙ ap (λ b. cond b (Some f.reel) (find (λ r. nat_lt (pieces_picked picks r) (pieces r)) next)) (lt-ltb (pieces_picked picks f.reel) (pieces f.reel) left)
 
-  -- it is spent, where it has nothing left
   hand-spent : (feed : Option Feed) → IsEmptyHanded feed → IfSome feed (λ f. f.pieces ≡ pieces f.reel - pieces_picked picks f.reel)
       → AllByRecursion (λ r. pieces r ≤ pieces_picked picks r) (reel_in_hand feed)
   hand-spent None none was = tt
@@ -137,7 +128,6 @@ module _ (pieces : Name → ℕ) (live reels : List Name) (picks : List Pick) wh
   reels-past : (feed : Option Feed) (is : IsFed pieces live reels picks feed) → live ≡ (is.spent ++ reel_in_hand feed) ++ live_next pieces reels feed
   reels-past feed is = is.reels_are ∙ sym (append_assoc is.spent (reel_in_hand feed) (live_next pieces reels feed))
 
-  -- then the first live reel behind it comes in hand
   pub fed-next : (feed : Option Feed) (f : Feed) → IsEmptyHanded feed → f.pieces ≡ pieces f.reel → live_next pieces reels feed ≡ f.reel ∷ live_past pieces reels f.passed
       → IsFed pieces live reels picks feed → IsFed pieces live reels picks (Some f)
   fed-next feed f none told next is =
@@ -150,7 +140,6 @@ module _ (pieces : Name → ℕ) (live reels : List Name) (picks : List Pick) wh
         untouched = untouched.1;
       }
 
-  -- and there is no piece left where there is no live reel behind it
   pub fed-none : (feed : Option Feed) → IsEmptyHanded feed → live_next pieces reels feed ≡ [] → IsFed pieces live reels picks feed
       → find (λ r. nat_lt (pieces_picked picks r) (pieces r)) live ≡ None
   fed-none feed none next is =
@@ -160,7 +149,6 @@ module _ (pieces : Name → ℕ) (live reels : List Name) (picks : List Pick) wh
 
 -- ---- all slots of a machine
 
--- a reel is live on one slot of a machine
 one-place : (H : History) (machine slot s reel : Name) → IsJudged Two H → has (live_on H machine slot) reel ≡ true → has (live_on H machine s) reel ≡ true → same slot s ≡ true
 one-place H machine slot s reel judged here there =
     let one = one-slot H machine slot machine s reel judged (Contains-from_any same-true reel (live_on H machine slot) here)
@@ -171,7 +159,6 @@ hand-there : (spent next : List Name) (reel : Name) → has (spent ++ reel ∷ n
 hand-there spent next reel =
     list_any-append (same reel) spent (reel ∷ next) ∙ or_right (has spent reel) (has (reel ∷ next) reel) (or_left (same reel reel) (has next reel) (same-refl reel))
 
--- What is known before the first pick.
 pub feeds-first : (live : Name → List Name) (pieces : Name → ℕ) (reels : Name → List Name) (feeds : BTreeMap Name Feed)
     → ((slot : Name) → filter (λ reel. nat_lt 0 (pieces reel)) (reels slot) ≡ live slot) → ((slot : Name) → feed_at feeds slot ≡ None)
     → IsFeeding live pieces reels [] feeds
@@ -187,7 +174,6 @@ feeds-first live pieces reels feeds are empty = λ slot. subst (λ o. IsFed piec
     nothing [] = tt
     nothing (r ∷ rs) = (refl, nothing rs)
 
--- What is known after one piece more, off the reel in hand of a slot.
 pub feeds-next : (H : History) (machine : Name) (reels : Name → List Name) (picks : List Pick) (old new : BTreeMap Name Feed) (slot : Name) (f : Feed) (p : Pick)
     → IsJudged Two H → ((s : Name) → IsDistinct same (live_on H machine s)) → p.reel ≡ f.reel → p.quantity ≡ 1
     → IsFeeding (live_on H machine) (left_of H) reels picks old → IsFed (left_of H) (live_on H machine slot) (reels slot) picks (Some f)
@@ -210,9 +196,8 @@ feeds-next H machine reels picks old new slot f p judged distinct own one is her
     by s false other =
         fed-elsewhere (left_of H) (live_on H machine s) (reels s) picks (feed_at old s) p (absent s (has (live_on H machine s) p.reel) refl other) (is s)
 
--- ---- what the reel in hand gives
+-- ---- a piece from the current reel
 
--- it gives itself where it has pieces left
 pub given_by-reel : (o : Option Feed) (reel : Name) → given_by o ≡ Reel reel → (f : Feed) × (o ≡ Some f) × (reel ≡ f.reel) × (0 < f.pieces)
 given_by-reel None reel is = cc
 given_by-reel (Some f) reel is = by (f.pieces == 0) refl is
@@ -221,7 +206,6 @@ given_by-reel (Some f) reel is = by (f.pieces == 0) refl is
     by true none is = cc
     by false some is = let more = eqb-false f.pieces 0 some in (f, refl, cc, omega (arith, more))
 
--- and nothing where it has none
 pub given_by-nothing : (o : Option Feed) (past : ℕ) → given_by o ≡ Nothing past → IsEmptyHanded o × (past ≡ option_map_or (λ (f : Feed). f.passed) o 0)
 given_by-nothing None past is = (tt, cc)
 given_by-nothing (Some f) past is = by (f.pieces == 0) refl is
@@ -230,18 +214,15 @@ given_by-nothing (Some f) past is = by (f.pieces == 0) refl is
     by true none is = (eqb-true f.pieces 0 none, cc)
     by false some is = cc
 
--- ---- what is written
+-- ---- updates of the map
 
--- a piece less of what is in hand of a slot
 pub less-written : (old : BTreeMap Name Feed) (slot : Name) (f less : Feed) → feed_at old slot ≡ Some f → less ≡ one_less f → (s : Name)
     → cond (same slot s) (Some less) (feed_at old s) ≡ cond (same slot s) (option_map one_less (feed_at old s)) (feed_at old s)
 less-written old slot f less was is s = name-changed (Some f) (Some less) (feed_at old) (option_map one_less) slot was (ap Some (sym is)) s
 
--- no pieces are none less
 pub none-less : (f : Feed) → f.pieces ≡ 0 → f ≡ one_less f
 none-less f none = ap (λ n. record { reel = f.reel; pieces = n; passed = f.passed }) (let same_pieces : f.pieces ≡ f.pieces - 1 = omega (arith, none) in same_pieces)
 
--- another reel comes in hand
 pub other-written : (old left : BTreeMap Name Feed) (slot : Name) (f : Feed) (s : Name)
     → feed_at left s ≡ cond (same slot s) (option_map one_less (feed_at old s)) (feed_at old s)
     → cond (same slot s) (Some f) (feed_at left s) ≡ cond (same slot s) (Some f) (feed_at old s)

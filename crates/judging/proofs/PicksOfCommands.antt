@@ -1,4 +1,4 @@
--- The pieces that commands take: whose they are, and how many.
+-- The picks of commands: their reels and their number.
 use Rattle.std.proofs.Common.{◌≡◌, ℕ, ◌+◌, ◌-◌, ◌*◌, ◌^◌, ◌≤◌, min, nat_lt, Bool, true, false, Option, Some, None, List, [], ◌∷◌, ◌++◌, length, refl, ap, arith}
 use Rattle.std.specs.Prelude.{is_some, if◌then◌else◌}
 use Rattle.std.specs.Option.{option_and_then, option_map, option_to_list}
@@ -26,9 +26,9 @@ use Rattle.desk_laws.proofs.Picks.{find-passes}
 use Rattle.entry_search.specs.Floor.{IsKnownReel}
 use Rattle.desk_laws.proofs.Ranges.{left-range}
 
--- ---- whose they are
+-- ---- reels
 
--- each pick is of a reel that has pieces
+-- Each pick is of a reel with pieces.
 abbrev HaveSome : (Name → ℕ) → List Pick → Type 0
 HaveSome pieces picks = AllByRecursion (λ (p : Pick). nat_lt 0 (pieces p.reel) ≡ true) picks
 
@@ -97,7 +97,6 @@ picks-some H (MaterialsScrapped machine slot n) = scrap-some (left_of H) (Reject
 picks-some H (CountsTaken rows) = count-some (left_of H) rows
 picks-some H _ = tt
 
--- a reel that has pieces was received
 some-known : (H : History) (reel : Name) → IsJudged Two H → nat_lt 0 (left_of H reel) ≡ true → IsKnownReel H reel
 some-known H reel judged some = by (receipt_of H reel) refl
   where
@@ -109,11 +108,10 @@ known : (H : History) (picks : List Pick) → IsJudged Two H → HaveSome (left_
 known H [] judged all = tt
 known H (p ∷ ps) judged (some, all) = (some-known H p.reel judged some, known H ps judged all)
 
--- Each pick of a command is of a received reel.
 pub picks-known : (H : History) (command : Command) → IsJudged Two H → AllByRecursion (λ (p : Pick). IsKnownReel H p.reel) (picks_of H command)
 picks-known H command judged = known H (picks_of H command) judged (picks-some H command)
 
--- ---- how many
+-- ---- number
 
 off-pieces : (reel : Name) (n : ℕ) (purpose : Purpose) → pieces_of (pieces_off reel n purpose) ≡ n
 off-pieces reel n purpose = by (nat_lt 0 n) refl
@@ -125,7 +123,6 @@ off-pieces reel n purpose = by (nat_lt 0 n) refl
 pieces-append : (before after : List Pick) → pieces_of (before ++ after) ≡ pieces_of before + pieces_of after
 pieces-append before after = sum_by-append (λ (p : Pick). p.quantity) before after
 
--- a scrap takes no more than it names
 scrap-within : (pieces : Name → ℕ) (purpose : Purpose) (tape : List Name) (n : ℕ) → pieces_of (scrap_picks pieces purpose tape n) ≤ n
 scrap-within pieces purpose [] n = omega arith
 scrap-within pieces purpose (r ∷ rs) n =
@@ -134,7 +131,6 @@ scrap-within pieces purpose (r ∷ rs) n =
     let rest = scrap-within pieces purpose rs (n - pieces r) in
     omega (arith, both, first, rest)
 
--- a count takes no more than its reels have
 count-within : (pieces : Name → ℕ) (rows : List CountRow) → ((r : Name) → pieces r ≤ GREATEST_QUANTITY)
     → pieces_of (count_picks pieces rows) ≤ length rows * GREATEST_QUANTITY
 count-within pieces [] few = omega arith
@@ -144,11 +140,10 @@ count-within pieces (row ∷ rows) few =
     let rest = count-within pieces rows few in
     omega (arith, both, first, rest, few row.reel)
 
--- the greatest number of 64 bits
+-- The greatest 64-bit number.
 abbrev most : ℕ
 most = 2 ^ 64 - 1
 
--- what a scrap or a count takes fits into 64 bits
 pub scrap-fits : (H : History) (machine slot : Name) (n : ℕ) → n ≤ GREATEST_QUANTITY
     → min (pieces_of (picks_of H (MaterialsScrapped machine slot n))) most ≡ pieces_of (picks_of H (MaterialsScrapped machine slot n))
 scrap-fits H machine slot n range =

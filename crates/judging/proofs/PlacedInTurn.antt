@@ -1,4 +1,4 @@
--- Designators that are placed one after the other.
+-- Designators placed one after another.
 use Rattle.std.proofs.Common.{◌≡◌, ℕ, ◌+◌, ◌<◌, Bool, false, nat_lt, Option, Some, None, List, [], ◌∷◌, ◌++◌, take, drop, get_or, length, refl, sym, ap, ◌∙◌}
 use Rattle.std.specs.Option.{option_or, option_to_list}
 use Rattle.std.specs.List.{find}
@@ -12,21 +12,20 @@ use Rattle.desk_types.proofs.LoopSteps.{take-next, drop-next}
 use Rattle.judging.specs.declared.placing.Feeder.{Feeder}
 use Rattle.judging.specs.Placing.{Bench, Before, next_pick, next_refusal, pick_of}
 
--- ---- one designator more
+-- ---- one more designator
 
--- the definition's refusal and picks on a bench
+-- The definition's refusal and picks in this context.
 abbrev pub refusal_on : Bench → List Pick → List Name → List Name → Option Refusal
 refusal_on bench = designators_refusal bench.slot_of bench.tape bench.pieces bench.placed bench.machine bench.board
 
 abbrev pub picks_on : Bench → List Pick → List Name → List Pick
 picks_on bench = install_picks bench.slot_of bench.tape bench.pieces bench.machine bench.board
 
--- before the designator in a place, after these picks
+-- The state before the designator at a place, after these picks.
 abbrev pub before_at : List Name → List Pick → ℕ → Before
 before_at ds picks i = record { picks = picks; designators = take i ds }
 
 module _ (bench : Bench) (ds : List Name) where
-  -- a designator that is placed leaves the refusal to those after it
   pub refusal-next : (picks : List Pick) (i : ℕ) (d : Name) (pick : Pick) → i < length ds → d ≡ get_or ds i d
       → next_refusal bench (before_at ds picks i) d ≡ None → next_pick bench (before_at ds picks i) d ≡ Some pick
       → refusal_on bench (picks ++ pick ∷ []) (take (i + 1) ds) (drop (i + 1) ds) ≡ refusal_on bench picks (take i ds) (drop i ds)
@@ -36,14 +35,12 @@ module _ (bench : Bench) (ds : List Name) where
       ∙ ap (λ o. option_or o (refusal_on bench (picks ++ option_to_list (next_pick bench (before_at ds picks i) d)) (take i ds ++ d ∷ []) (drop (i + 1) ds))) (sym none)
       ∙ ap (refusal_on bench picks (take i ds)) (sym (drop-next ds i d inside is))
 
-  -- a faulty one is the refusal
   pub refusal-here : (picks : List Pick) (i : ℕ) (d : Name) (refusal : Refusal) → i < length ds → d ≡ get_or ds i d
       → next_refusal bench (before_at ds picks i) d ≡ Some refusal → refusal_on bench picks (take i ds) (drop i ds) ≡ Some refusal
   refusal-here picks i d refusal inside is faulty =
       ap (refusal_on bench picks (take i ds)) (drop-next ds i d inside is)
       ∙ ap (λ o. option_or o (refusal_on bench (picks ++ option_to_list (next_pick bench (before_at ds picks i) d)) (take i ds ++ d ∷ []) (drop (i + 1) ds))) faulty
 
-  -- its pick comes to those before it
   pub picks-next : (picks : List Pick) (i : ℕ) (d : Name) (pick : Pick) → i < length ds → d ≡ get_or ds i d
       → next_pick bench (before_at ds picks i) d ≡ Some pick → picks_on bench (picks ++ pick ∷ []) (drop (i + 1) ds) ≡ picks_on bench picks (drop i ds)
   unfolding install_picks
@@ -51,30 +48,25 @@ module _ (bench : Bench) (ds : List Name) where
       ap (λ o. picks_on bench (picks ++ option_to_list o) (drop (i + 1) ds)) (sym pieces_picked)
       ∙ ap (picks_on bench picks) (sym (drop-next ds i d inside is))
 
--- there are no more
 pub picks-end : (bench : Bench) (picks : List Pick) → picks_on bench picks [] ≡ picks
 unfolding install_picks
 picks-end bench picks = refl
 
 -- ---- one designator
 
--- the pick for a designator whose slot has a piece
 pub pick-found : (bench : Bench) (before : Before) (d : Name) (piece : Feeder) → bench.slot_of d ≡ Some piece.slot
     → find (λ reel. nat_lt (pieces_picked before.picks reel) (bench.pieces reel)) (bench.tape piece.slot) ≡ Some piece.reel
     → next_pick bench before d ≡ Some (pick_of bench d piece)
 pick-found bench before d piece slot reel = rw (slot, reel)
 
--- a designator with a pick, that neither stands twice nor is placed, is not refused
 pub not-refused : (d slot : Name) (found : Option Name) (twice placed : Bool) (pieces_picked : Option Pick) (pick : Pick) → found ≡ Some slot → twice ≡ false → placed ≡ false
     → pieces_picked ≡ Some pick → designator_refusal d found twice placed pieces_picked ≡ None
 not-refused d slot found twice placed pieces_picked pick on once new some = rw (on, once, new, some)
 
--- there is no pick for a designator whose slot has no piece
 pub pick-none : (bench : Bench) (before : Before) (d slot : Name) → bench.slot_of d ≡ Some slot
     → find (λ reel. nat_lt (pieces_picked before.picks reel) (bench.pieces reel)) (bench.tape slot) ≡ None → next_pick bench before d ≡ None
 pick-none bench before d slot is none = rw (is, none)
 
--- and it is refused for that
 pub refused-short : (d slot : Name) (found : Option Name) (twice placed : Bool) (pieces_picked : Option Pick) → found ≡ Some slot → twice ≡ false → placed ≡ false
     → pieces_picked ≡ None → designator_refusal d found twice placed pieces_picked ≡ Some (ReelShort d)
 refused-short d slot found twice placed pieces_picked on once new none = rw (on, once, new, none)

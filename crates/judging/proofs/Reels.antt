@@ -1,4 +1,4 @@
--- The reels of a slot, looked through one after the other; spent ones may stand among them.
+-- Searching a slot's reels in order, including spent ones.
 use Rattle.std.proofs.Common.{◌≡◌, ℕ, ◌+◌, ◌-◌, ◌<◌, ◌≤◌, min, nat_lt, Bool, true, false, cond, Some, None, List, [], ◌∷◌, ◌++◌, length, drop, get_or, ◌⊎◌, inl, inr, refl, sym, ap, ◌∙◌, arith}
 use Rattle.std.specs.Prelude.{slice_get}
 use Rattle.std.specs.List.{find, filter, sum_by}
@@ -16,11 +16,9 @@ use Rattle.desk_types.proofs.LoopSteps.{drop-next}
 
 -- ---- one place further
 
--- what is left from a place on begins with the element of this place
 pub drop-at : {X : Type 0} (xs : List X) (i : ℕ) (x : X) → slice_get xs i ≡ Some x → drop i xs ≡ x ∷ drop (i + 1) xs
 drop-at xs i x is = drop-next xs i x (slice_get_within xs i x is) (sym (get_or_from_slice_get xs i x x is))
 
--- each place inside has an element
 pub no-gap : {X : Type 0} (xs : List X) (i n : ℕ) → n ≡ length xs → i < n → slice_get xs i ≡ None → ⊥
 no-gap {X} xs i n is inside none = by (slice_get_cases xs i).1
   where
@@ -29,31 +27,24 @@ no-gap {X} xs i n is inside none = by (slice_get_cases xs i).1
     by (inr (past, gone)) = omega (arith, is, inside, past)
 
 module _ {X : Type 0} (test : X → Bool) (xs : List X) (i : ℕ) where
-  -- a search goes past an element that fails the test
   pub find-past : (x : X) → slice_get xs i ≡ Some x → test x ≡ false → find test (drop (i + 1) xs) ≡ find test (drop i xs)
   find-past x is fails = sym (ap (find test) (drop-at xs i x is) ∙ ap (λ b. cond b (Some x) (find test (drop (i + 1) xs))) fails)
 
-  -- and ends at one that passes it
   pub find-here : (x : X) → slice_get xs i ≡ Some x → test x ≡ true → find test (drop i xs) ≡ Some x
   find-here x is passes = ap (find test) (drop-at xs i x is) ∙ ap (λ b. cond b (Some x) (find test (drop (i + 1) xs))) passes
 
-  -- nothing is found past the end
   pub find-end : length xs ≤ i → find test (drop i xs) ≡ None
   find-end past = ap (find test) (drop_all i xs past)
 
-  -- a filter leaves an element out that fails the test
   pub filter-past : (x : X) → slice_get xs i ≡ Some x → test x ≡ false → filter test (drop (i + 1) xs) ≡ filter test (drop i xs)
   filter-past x is fails = sym (ap (filter test) (drop-at xs i x is) ∙ ap (λ b. cond b (x ∷ filter test (drop (i + 1) xs)) (filter test (drop (i + 1) xs))) fails)
 
-  -- and keeps one that passes it
   pub filter-here : (x : X) → slice_get xs i ≡ Some x → test x ≡ true → filter test (drop i xs) ≡ x ∷ filter test (drop (i + 1) xs)
   filter-here x is passes = ap (filter test) (drop-at xs i x is) ∙ ap (λ b. cond b (x ∷ filter test (drop (i + 1) xs)) (filter test (drop (i + 1) xs))) passes
 
-  -- nothing is left past the end
   pub filter-end : length xs ≤ i → filter test (drop i xs) ≡ []
   filter-end past = ap (filter test) (drop_all i xs past)
 
-  -- nor where there is no element
   pub filter-gap : slice_get xs i ≡ None → filter test (drop i xs) ≡ []
   filter-gap none = by (slice_get_cases xs i).1
     where
@@ -63,11 +54,9 @@ module _ {X : Type 0} (test : X → Bool) (xs : List X) (i : ℕ) where
 
 -- ---- live reels
 
--- a reel with no pieces left fails the test for them
 pub spent : (pieces told : ℕ) → told ≡ pieces → told ≤ 0 → nat_lt 0 pieces ≡ false
 spent pieces told is none = let zero : pieces ≡ 0 = omega (arith, is, none) in ap (nat_lt 0) zero
 
--- the first of those that pass a test
 first-filter : (p : Name → Bool) (xs : List Name) → first (filter p xs) ≡ find p xs
 first-filter p [] = refl
 first-filter p (x ∷ xs) = by (p x) (first-filter p xs)
@@ -76,7 +65,6 @@ first-filter p (x ∷ xs) = by (p x) (first-filter p xs)
     by true rest = refl
     by false rest = rest
 
--- a search whose test holds only of elements that are kept finds the same among those
 find-kept : (keep test : Name → Bool) (xs : List Name) → ((x : Name) → test x ≡ true → keep x ≡ true) → find test (filter keep xs) ≡ find test xs
 find-kept keep test [] only = refl
 find-kept keep test (x ∷ xs) only = by (keep x) refl (test x) refl (find-kept keep test xs only)
@@ -87,7 +75,6 @@ find-kept keep test (x ∷ xs) only = by (keep x) refl (test x) refl (find-kept 
     by false lost true is rest = let kept = only x is in cc
     by false lost false is rest = rest
 
--- a spent reel adds no pick
 off-none : (reel : Name) (n : ℕ) (purpose : Purpose) → n ≡ 0 → pieces_off reel n purpose ≡ []
 off-none reel n purpose none = ap (λ m. pieces_off reel m purpose) none
 
@@ -97,7 +84,6 @@ min-none n m none = omega (arith, none)
 less-none : (n m : ℕ) → m ≡ 0 → n - m ≡ n
 less-none n m none = omega (arith, none)
 
--- the picks off live reels are those off all
 scrap-kept : (pieces : Name → ℕ) (purpose : Purpose) (reels : List Name) (n : ℕ) → scrap_picks pieces purpose (filter (λ r. nat_lt 0 (pieces r)) reels) n ≡ scrap_picks pieces purpose reels n
 scrap-kept pieces purpose [] n = refl
 scrap-kept pieces purpose (r ∷ rs) n = by (nat_lt 0 (pieces r)) refl (scrap-kept pieces purpose rs)
@@ -112,7 +98,6 @@ scrap-kept pieces purpose (r ∷ rs) n = by (nat_lt 0 (pieces r)) refl (scrap-ke
         ∙ ap (scrap_picks pieces purpose rs) (sym (less-none n (pieces r) none))
         ∙ ap (λ ps. ps ++ scrap_picks pieces purpose rs (n - pieces r)) (sym (off-none r (min n (pieces r)) purpose (min-none n (pieces r) none)))
 
--- nothing is picked where nothing is wanting
 pub scrap-none : (pieces : Name → ℕ) (purpose : Purpose) (reels : List Name) → scrap_picks pieces purpose reels 0 ≡ []
 scrap-none pieces purpose [] = refl
 scrap-none pieces purpose (r ∷ rs) =
@@ -123,7 +108,6 @@ scrap-none pieces purpose (r ∷ rs) =
     none-less : (n : ℕ) → 0 - n ≡ 0
     none-less n = omega arith
 
--- spent reels add nothing
 sum-kept : (pieces : Name → ℕ) (reels : List Name) → sum_by pieces (filter (λ r. nat_lt 0 (pieces r)) reels) ≡ sum_by pieces reels
 sum-kept pieces [] = refl
 sum-kept pieces (r ∷ rs) = by (nat_lt 0 (pieces r)) refl (sum-kept pieces rs)
@@ -133,7 +117,6 @@ sum-kept pieces (r ∷ rs) = by (nat_lt 0 (pieces r)) refl (sum-kept pieces rs)
     by true is rest = sum_by-cons pieces r (filter (λ x. nat_lt 0 (pieces x)) rs) ∙ ap (λ n. pieces r + n) rest ∙ sym (sum_by-cons pieces r rs)
     by false is rest = let none = ltb-false 0 (pieces r) is in rest ∙ sym (sum_by-cons pieces r rs ∙ omega (arith, none))
 
--- a search for a reel with a piece left after picks finds among the live reels what it finds on the tape
 pub find-tape : (H : History) (machine slot : Name) (picks : List Pick)
     → find (λ r. nat_lt (pieces_picked picks r) (left_of H r)) (live_on H machine slot) ≡ find (λ r. nat_lt (pieces_picked picks r) (left_of H r)) (tape_of H machine slot)
 unfolding live_on
@@ -142,26 +125,21 @@ find-tape H machine slot picks =
     (λ r left. let less = ltb-true (pieces_picked picks r) (left_of H r) left in lt-ltb 0 (left_of H r) (omega (arith, less)))
 
 module _ (H : History) (machine slot : Name) (reels : List Name) (live : filter (λ reel. nat_lt 0 (left_of H reel)) reels ≡ live_on H machine slot) where
-  -- the first of the reels with pieces left is the front
   first-front : find (λ reel. nat_lt 0 (left_of H reel)) reels ≡ front_of H machine slot
   first-front = sym (first-filter (λ reel. nat_lt 0 (left_of H reel)) reels) ∙ ap first live
 
-  -- where the reels before a place are spent, the reel in this place is the front if it has pieces left
   pub front-here : (i : ℕ) (reel : Name) → slice_get reels i ≡ Some reel → nat_lt 0 (left_of H reel) ≡ true
       → find (λ r. nat_lt 0 (left_of H r)) (drop i reels) ≡ find (λ r. nat_lt 0 (left_of H r)) reels → Some reel ≡ front_of H machine slot
   front-here i reel is some past = sym (find-here (λ r. nat_lt 0 (left_of H r)) reels i reel is some) ∙ past ∙ first-front
 
-  -- and there is no front where this is the end
   pub front-none : (i : ℕ) → length reels ≤ i
       → find (λ r. nat_lt 0 (left_of H r)) (drop i reels) ≡ find (λ r. nat_lt 0 (left_of H r)) reels → None ≡ front_of H machine slot
   front-none i end past = sym (find-end (λ r. nat_lt 0 (left_of H r)) reels i end) ∙ past ∙ first-front
 
-  -- the picks off the reels are those off the tape
   pub scrap-live : (purpose : Purpose) (n : ℕ) → scrap_picks (left_of H) purpose reels n ≡ scrap_picks (left_of H) purpose (tape_of H machine slot) n
   unfolding live_on
   scrap-live purpose n =
       sym (scrap-kept (left_of H) purpose reels n) ∙ ap (λ rs. scrap_picks (left_of H) purpose rs n) live ∙ scrap-kept (left_of H) purpose (tape_of H machine slot) n
 
-  -- the reels have as many pieces as the live ones
   pub sum-live : sum_by (left_of H) (live_on H machine slot) ≡ sum_by (left_of H) reels
   sum-live = ap (sum_by (left_of H)) (sym live) ∙ sum-kept (left_of H) reels

@@ -1,4 +1,4 @@
--- Scraps: pieces off the reels of a slot, reel after reel.
+-- Scraps: taking pieces off a slot's reels one after another.
 use Rattle.std.proofs.Common.{◌≡◌, ℕ, ◌+◌, ◌-◌, ◌<◌, min, nat_lt, Bool, true, false, None, Some, List, ◌∷◌, [], ◌++◌, drop, refl, sym, ap, ◌∙◌, append_assoc, append-nil, arith}
 use Rattle.std.specs.Prelude.{slice_get}
 use Rattle.std.specs.List.{filter, sum_by}
@@ -15,10 +15,9 @@ use Rattle.judging.specs.declared.scraps.Scrapping.{Scrapping}
 use Rattle.judging.specs.Scrapping.{IsScrapped}
 use Rattle.judging.proofs.Reels.{drop-at, scrap-none, sum-live}
 
--- ---- one reel more
+-- ---- one more reel
 
 module _ (pieces : Name → ℕ) (purpose : Purpose) (reels : List Name) (i : ℕ) where
-  -- the picks so far, with those off one reel more
   pub scrap-step : (reel : Name) (was now : List Pick) (wanting after : ℕ) → slice_get reels i ≡ Some reel
       → now ≡ was ++ pieces_off reel (min wanting (pieces reel)) purpose → after ≡ wanting - pieces reel
       → now ++ scrap_picks pieces purpose (drop (i + 1) reels) after ≡ was ++ scrap_picks pieces purpose (drop i reels) wanting
@@ -28,13 +27,11 @@ module _ (pieces : Name → ℕ) (purpose : Purpose) (reels : List Name) (i : �
       ∙ append_assoc was (pieces_off reel (min wanting (pieces reel)) purpose) (scrap_picks pieces purpose (drop (i + 1) reels) (wanting - pieces reel))
       ∙ ap (λ rs. was ++ scrap_picks pieces purpose rs wanting) (sym (drop-at reels i reel is))
 
-  -- what is wanting after one reel more
   pub sum-step : (reel : Name) (wanting after : ℕ) → slice_get reels i ≡ Some reel → after ≡ wanting - pieces reel
       → after - sum_by pieces (drop (i + 1) reels) ≡ wanting - sum_by pieces (drop i reels)
   sum-step reel wanting after is less =
       let both = ap (sum_by pieces) (drop-at reels i reel is) ∙ sum_by-cons pieces reel (drop (i + 1) reels) in omega (arith, less, both)
 
-  -- where no more is wanting, these are all the picks
   pub scrap-done : (picks all : List Pick) (wanting : ℕ) → wanting ≡ 0 → picks ++ scrap_picks pieces purpose (drop i reels) wanting ≡ all → picks ≡ all
   scrap-done picks all wanting none is =
       sym (append-nil picks)
@@ -43,13 +40,11 @@ module _ (pieces : Name → ℕ) (purpose : Purpose) (reels : List Name) (i : �
 
 -- ---- the refusal
 
--- a slot with no live reel
 pub scrap-empty : (H : History) (machine slot : Name) (n : ℕ) → is_vacant H machine slot ≡ true → scrap_refusal H machine slot n ≡ Some (SlotEmpty slot)
 unfolding scrap_refusal
 scrap-empty H machine slot n vacant =
     ap (λ b. first_refusal ((b, SlotEmpty slot) ∷ (nat_lt (sum_by (left_of H) (live_on H machine slot)) n, ReelShort slot) ∷ [])) vacant
 
--- a slot with live reels, of which it is known whether they have fewer pieces than are named
 scrap-by : (H : History) (machine slot : Name) (n : ℕ) (short : Bool) → is_vacant H machine slot ≡ false
     → nat_lt (sum_by (left_of H) (live_on H machine slot)) n ≡ short → scrap_refusal H machine slot n ≡ first_refusal ((short, ReelShort slot) ∷ [])
 unfolding scrap_refusal
@@ -67,13 +62,11 @@ not-less m n is = by (nat_lt m n) refl
 module _ (H : History) (machine slot : Name) (reels : List Name) (live : filter (λ reel. nat_lt 0 (left_of H reel)) reels ≡ live_on H machine slot)
     (purpose : Purpose) (given n : ℕ) (scrapping : Scrapping) (same : given ≡ n) (taken : is_vacant H machine slot ≡ false)
     (scrapped : IsScrapped (left_of H) purpose reels given scrapping) where
-  -- pieces are wanting
   pub scrap-short : 0 < scrapping.wanting → scrap_refusal H machine slot n ≡ Some (ReelShort slot)
   scrap-short wanting =
       let all = sum-live H machine slot reels live in
       scrap-by H machine slot n true taken (lt-ltb (sum_by (left_of H) (live_on H machine slot)) n (omega (arith, wanting, scrapped.wanting, same, all)))
 
-  -- none are
   pub scrap-enough : scrapping.wanting ≡ 0 → scrap_refusal H machine slot n ≡ None
   scrap-enough wanting =
       let all = sum-live H machine slot reels live in

@@ -1,4 +1,4 @@
--- A search by halves in sorted names.
+-- Binary search in sorted names.
 use Rattle.std.proofs.Common.{◌≡◌, ◌⊎◌, inl, inr, ℕ, ◌<◌, ◌≤◌, false, Result, Ok, Err, List, [], length, get_or, sym, ap, ◌∙◌, arith}
 use Rattle.std.specs.Prelude.{is_ok, All}
 use Rattle.std.proofs.lemmas.Bool.{cases_lt}
@@ -13,11 +13,9 @@ use Rattle.std.proofs.lemmas.List.Folds.{list_any_at, list_any_none}
 use Rattle.desk_types.specs.Id.{Name, same, by_name}
 use Rattle.desk_types.proofs.Keys.{is_at-by_name, same-sym}
 
--- names are the same where they tie in the order of names
 ties : (x y : Name) (order : Ordering) → by_name y x ≡ order → same x y ≡ is_eq order
 ties x y order is = same-sym x y ∙ sym (is_at-by_name y x) ∙ ap is_eq is
 
--- what is found among sorted names stands there, and what is not does not
 pub found-or-not : (names : List Name) (x : Name) (r : Result ℕ ℕ) → IsSorted by_name names → IsSearchInRange r (length names)
     → IsBinarySearchResult (λ y. by_name y x) names r → is_ok r ≡ list_any (same x) names
 found-or-not names x (Ok i) sorted inside at = sym (list_any_at (same x) names i [] inside (ties x (get_or names i []) Equal (at [])))

@@ -1,4 +1,4 @@
--- What a row of a count comes to.
+-- The result of one row of a count.
 use Rattle.std.specs.Prelude.{◌≡◌, ℕ, ◌-◌, None, Some, Result, Ok, Err, List, [], ◌∷◌, ◌++◌}
 use Rattle.std.specs.BTreeSet.{BTreeSet}
 use Rattle.desk_types.specs.declared.answer.Refusal.{Refusal}
@@ -10,7 +10,7 @@ use Rattle.desk_types.specs.Pieces.{left_of}
 use Rattle.desk_types.specs.Refusals.{count_refusal}
 use Rattle.setup_sheets.specs.Names.{HasSeen}
 
--- by the rules the row is refused, after the reels of the rows before it, or so many pieces are missing and its reel has been seen
+-- The row is refused, or its missing pieces are counted and its reel is added to those seen.
 abbrev pub IsCounted : Rules → History → List Name → CountRow → Result ℕ Refusal → BTreeSet Name → Type 0
 IsCounted rules H before row (Ok missing) seen =
     (count_refusal rules H before row ≡ None) × (missing ≡ left_of H row.reel - row.quantity) × HasSeen seen (before ++ row.reel ∷ [])

@@ -1,4 +1,4 @@
--- When a judge looks, and what is placed on a board.
+-- The minute of a judgement, and the designators placed on a board.
 use Rattle.std.specs.Prelude.{◌≡◌, ℕ, ◌≤◌, List}
 use Rattle.std.specs.List.{list_any}
 use Rattle.std.specs.List.Sorted.{IsSorted}
@@ -6,10 +6,11 @@ use Rattle.desk_types.specs.Id.{Name, same, by_name}
 use Rattle.desk_types.specs.History.{History, now_of}
 use Rattle.desk_types.specs.Work.{is_placed_on}
 
--- the facts are true of some list, and the minute is not before the desk minute of any list of which they are true
+-- The facts represent some history, and the minute is not before the desk minute of any that they
+-- represent.
 abbrev pub IsBy : {F : Type 0} → (F → History → Type 0) → F → ℕ → Type 0
 IsBy Stands facts minute = ((H : History) × Stands facts H) × ((H : History) → Stands facts H → now_of H ≤ minute)
 
--- the names are in order, and are the designators that are placed on the board
+-- The names are the designators placed on the board, in order.
 abbrev pub ArePlacedOn : History → Name → List Name → Type 0
 ArePlacedOn H board names = IsSorted by_name names × ((designator : Name) → list_any (same designator) names ≡ is_placed_on H board designator)

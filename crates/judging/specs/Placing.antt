@@ -1,4 +1,4 @@
--- What an install looks at as it goes through its designators, and what an install, a scrap or a count comes to.
+-- The intermediate state of an install, and the results of installs, scraps and counts.
 use Rattle.std.specs.Prelude.{◌≡◌, ℕ, ◌-◌, ◌≤◌, ◌==◌, nat_lt, Bool, Option, Some, None, Result, Ok, Err, List, [], ◌∷◌, ◌++◌, drop, filter, if◌then◌else◌, IfSome}
 use Rattle.std.specs.Option.{option_map, option_map_or, option_to_list}
 use Rattle.std.specs.List.{list_any, AllByRecursion}
@@ -21,38 +21,39 @@ use Rattle.judging.specs.declared.placing.Given.{Given}
 use Rattle.judging.specs.declared.placing.Given.TheVariants.{Reel, Nothing}
 use Rattle.judging.specs.declared.placing.Feeder.{Feeder}
 
--- it is refused for the refusal that there is, or else takes the picks
+-- The result is the refusal, or else these picks.
 abbrev pub IsPicked : Option Refusal → List Pick → Result (List Pick) Refusal → Type 0
 IsPicked refusal picks (Ok result) = (refusal ≡ None) × (result ≡ picks)
 IsPicked refusal picks (Err r) = refusal ≡ Some r
 
--- what the message has in hand of the slot
+-- The slot's current feed during the message.
 abbrev pub feed_at : BTreeMap Name Feed → Name → Option Feed
 feed_at feeds slot = tree.get by_name feeds slot
 
--- the reel in hand with one piece less, where it had one
+-- The feed with one piece fewer on its reel.
 abbrev pub one_less : Feed → Feed
 one_less feed = record { reel = feed.reel; pieces = feed.pieces - 1; passed = feed.passed }
 
--- a piece off the reel in hand, where it has one left; else how many of the slot's reels stand before the next one
+-- A piece from the current reel or, once it is spent, the number of the slot's reels already
+-- passed.
 abbrev pub given_by : Option Feed → Given
 given_by None = Nothing 0
 given_by (Some feed) = if feed.pieces == 0 then Nothing feed.passed else Reel feed.reel
 
--- the reels past so many, without the spent ones
+-- The reels after the first n, without spent ones.
 abbrev pub live_past : (Name → ℕ) → List Name → ℕ → List Name
 live_past pieces reels n = filter (λ reel. nat_lt 0 (pieces reel)) (drop n reels)
 
--- the live reels behind the one in hand: all, where there is none
+-- The live reels behind the current one, or all of them without one.
 abbrev pub live_next : (Name → ℕ) → List Name → Option Feed → List Name
 live_next pieces reels feed = live_past pieces reels (option_map_or (λ (f : Feed). f.passed) feed 0)
 
--- the reel in hand
+-- The feed's current reel.
 abbrev pub reel_in_hand : Option Feed → List Name
 reel_in_hand feed = option_to_list (option_map (λ (f : Feed). f.reel) feed)
 
--- What is known of a slot after picks: its live reels are some that the picks spent, then the one in hand with what the picks left of it,
--- and then those of which nothing was picked.
+-- A slot's state after picks: its live reels are those that the picks spent, then the current one,
+-- then untouched ones.
 pub record IsFed (pieces : Name → ℕ) (live reels : List Name) (picks : List Pick) (feed : Option Feed) : Type 0 where
   pub spent : List Name
   pub reels_are : live ≡ spent ++ (reel_in_hand feed ++ live_next pieces reels feed)
@@ -60,16 +61,16 @@ pub record IsFed (pieces : Name → ℕ) (live reels : List Name) (picks : List 
   pub in_hand : IfSome feed (λ f. f.pieces ≡ pieces f.reel - pieces_picked picks f.reel)
   pub untouched : AllByRecursion (λ reel. pieces_picked picks reel ≡ 0) (live_next pieces reels feed)
 
--- what is known of each slot of a machine
+-- The state of each slot of a machine.
 abbrev pub IsFeeding : (Name → List Name) → (Name → ℕ) → (Name → List Name) → List Pick → BTreeMap Name Feed → Type 0
 IsFeeding live pieces reels picks feeds = (slot : Name) → IsFed pieces (live slot) (reels slot) picks (feed_at feeds slot)
 
--- the pick is of one piece off the reel, where there is one
+-- The pick is of one piece from the reel, if there is one.
 abbrev pub IsOnePiece : Option Name → Pick → Type 0
 IsOnePiece reel p = (reel ≡ Some p.reel) × (p.quantity ≡ 1)
 
--- where an install looks: a machine and a board, the slot of a designator, the tape of a slot, its live reels and those that the facts tell,
--- the pieces of a reel, and whether a designator is placed on the board
+-- The context of an install: machine, board, and lookups. `reels` has the slot's reels as reported
+-- by the facts, possibly including spent ones.
 pub record Bench : Type 0 where
   pub machine : Name
   pub board : Name
@@ -80,7 +81,7 @@ pub record Bench : Type 0 where
   pub pieces : Name → ℕ
   pub placed : Name → Bool
 
--- the bench after H, where the facts tell these reels of a machine's slots
+-- The context after H, for these reels on the machine's slots.
 abbrev pub bench_of : (Name → Name → List Name) → History → Name → Name → Bench
 bench_of reels H machine board = record {
   machine = machine;
@@ -93,25 +94,25 @@ bench_of reels H machine board = record {
   placed = is_placed_on H board;
 }
 
--- what an install has done before a designator
+-- The picks and designators before the current designator.
 pub record Before : Type 0 where
   pub picks : List Pick
   pub designators : List Name
 
--- the pick for a designator
+-- The pick for a designator.
 abbrev pub next_pick : Bench → Before → Name → Option Pick
 next_pick bench before d = pick_for bench.slot_of bench.tape bench.pieces bench.machine bench.board before.picks d
 
--- what is wrong with it
+-- The fault of a designator.
 abbrev pub next_refusal : Bench → Before → Name → Option Refusal
 next_refusal bench before d =
     designator_refusal d (bench.slot_of d) (list_any (same d) before.designators) (bench.placed d) (next_pick bench before d)
 
--- the piece as a pick for a designator
+-- The piece as a pick for a designator.
 abbrev pub pick_of : Bench → Name → Feeder → Pick
 pick_of bench d piece = record { reel = piece.reel; quantity = 1; purpose = Placed bench.board d bench.machine piece.slot }
 
--- what came of one designator
+-- The result of one designator.
 abbrev pub IsPlacing : Bench → Before → Name → Result Feeder Refusal → BTreeMap Name Feed → BTreeSet Name → Type 0
 IsPlacing bench before d (Ok piece) feeds seen =
     (next_refusal bench before d ≡ None)

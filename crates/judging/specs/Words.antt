@@ -3,7 +3,7 @@ use Rattle.std.specs.Prelude.{⊤}
 use Rattle.desk_types.specs.declared.command.Command.{Command}
 use Rattle.desk_types.specs.declared.command.Command.TheVariants.{MaterialsInstalled, MaterialsScrapped, CountsTaken}
 
--- all but installs, scraps and counts
+-- All commands except installs, scraps and counts.
 abbrev pub TakesNone : Command → Type 0
 TakesNone (MaterialsInstalled machine board designators) = ⊥
 TakesNone (MaterialsScrapped machine slot quantity) = ⊥

@@ -1,4 +1,4 @@
-//! Counts: their refusals and the pieces that they take.
+//! Counts: their refusals and takes.
 
 ghost use Rattle.std.specs.Prelude.{◌≡◌, List, [], IfOk};
 ghost use Rattle.desk_types.specs.Id.{Name};
@@ -15,7 +15,6 @@ use desk_types::{CountRow, Id, Listing, Pick, Purpose, Refusal, Rules};
 use std::alloc::{AllocError, Global};
 use std::collections::BTreeSet;
 
-/// Whether a count is too high for a reel with so many pieces left.
 fn is_above(rules: Rules, left: u64, counted: u64) -> bool
     ensures { result ≡ is_above rules left counted }
 {
@@ -25,7 +24,6 @@ fn is_above(rules: Rules, left: u64, counted: u64) -> bool
     }
 }
 
-/// How many pieces a counted reel has above its count, or what is wrong with the row.
 fn pieces_above<F: Facts>(
     rules: Rules,
     facts: &F,
@@ -53,8 +51,8 @@ fn pieces_above<F: Facts>(
     Ok(Ok(left.saturating_sub(counted)))
 }
 
-/// What each counted reel has above its count, or what is wrong with the first faulty row. Pieces that a
-/// count finds are no picks: what is left is what was counted.
+/// Returns the missing pieces of each counted reel, or the fault of the first faulty row. Found
+/// pieces are not picks.
 pub fn picks_of_counts<F: Facts>(
     alloc: Global,
     rules: Rules,

@@ -1,4 +1,4 @@
-//! The fronts of a machine's slots, as a verification looks at them.
+//! The front reels of a machine's slots, as verification uses them.
 
 ghost use Rattle.std.specs.Prelude.{◌≡◌, ◌≤◌, IfOk};
 ghost use Rattle.std.specs.Option.{option_map};
@@ -12,7 +12,7 @@ use desk_types::{Front, FrontReel, Fronts, Id, Listing, Minute};
 use entry_search::fronts::life;
 use std::alloc::{AllocError, Global};
 
-/// The first live reel of the slot.
+/// Returns the slot's first live reel.
 pub fn front<F: Facts>(facts: &F, machine: &Id, slot: &Id) -> Option<Id>
     ensures { (H : History) → F.Stands facts.now H → result ≡ front_of H machine.now slot.now }
 {
@@ -27,7 +27,6 @@ pub fn front<F: Facts>(facts: &F, machine: &Id, slot: &Id) -> Option<Id>
     None
 }
 
-/// The front reel of a slot with its part and its life at the minute.
 fn front_at<F: Facts>(facts: &F, minute: Minute, machine: &Id, slot: &Id) -> Option<FrontReel>
     ensures { (H : History) → F.Stands facts.now H → now_of H ≤ minute
         → result ≡ option_map (front_reel H minute) (front_of H machine.now slot.now) }
@@ -42,7 +41,7 @@ fn front_at<F: Facts>(facts: &F, minute: Minute, machine: &Id, slot: &Id) -> Opt
     })
 }
 
-/// The slots of the selected product's sheet, in sheet order, each with its front reel at the desk
+/// Returns the slots of the selected product's sheet in order, each with its front reel at the desk
 /// minute.
 pub fn fronts<F: Facts>(alloc: Global, facts: &F, machine: &Id) -> Result<Fronts, AllocError>
     ensures { (H : History) → F.Stands facts.now H → IfOk result (λ fronts. fronts ≡ fronts_of H machine.now) }

@@ -1,4 +1,4 @@
-//! Installs: their refusals and the pieces that they take.
+//! Installs: their refusals and takes.
 
 ghost use Rattle.std.specs.Prelude.{◌≡◌, IfOk};
 ghost use Rattle.desk_types.specs.declared.command.Command.TheVariants.{MaterialsInstalled};
@@ -13,7 +13,7 @@ use crate::setup::is_in_work_on;
 use desk_types::{Designators, Id, Listing, Pick, Refusal};
 use std::alloc::{AllocError, Global};
 
-/// The pieces that an install takes, or why it is refused.
+/// Returns the pieces that an install takes, or its refusal.
 #[tactic(auto, unfolding(desk_types::specs::Refusals::install_refusal))]
 pub fn picks_of_install<F: Facts>(
     alloc: Global,

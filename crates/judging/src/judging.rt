@@ -1,4 +1,4 @@
-//! What a command would do, were it sent now.
+//! Judging a command without accepting it.
 
 ghost use Rattle.std.specs.Prelude.{◌≡◌, IfOk};
 ghost use Rattle.desk_types.specs.declared.rules.Rules.{Rules as Ruling};
@@ -30,8 +30,7 @@ use desk_types::{
 };
 use std::alloc::{AllocError, Global};
 
-/// Why a command is refused that takes no pieces and takes effect at the minute. By either rules it is
-/// refused for the same.
+/// Returns the refusal of a command that takes no pieces. It is the same under both sets of rules.
 #[tactic(auto, unfolding(desk_types::specs::Refusals::command_refusal))]
 fn command_refusal<F: Facts>(
     alloc: Global,
@@ -75,7 +74,6 @@ fn command_refusal<F: Facts>(
     })
 }
 
-/// The pieces that a command takes, or why it is refused by the rules.
 #[tactic(auto, unfolding(desk_types::specs::Refusals::command_refusal))]
 fn command_picks<F: Facts>(
     alloc: Global,
@@ -112,7 +110,6 @@ fn command_picks<F: Facts>(
     }
 }
 
-/// What the answer to a command tells that is accepted and takes these pieces.
 fn detail<F: Facts>(
     alloc: Global,
     facts: &F,
@@ -140,7 +137,6 @@ fn detail<F: Facts>(
     }
 }
 
-/// The takes of the pieces of a command.
 fn takes_by<F: Facts>(
     alloc: Global,
     facts: &F,
@@ -156,7 +152,6 @@ fn takes_by<F: Facts>(
     Ok(takes_for(alloc, facts, minute, picks)?)
 }
 
-/// The floor life left to the reel, or none where it has no limit.
 fn minutes_left<F: Facts>(facts: &F, minute: Minute, reel: &Id) -> Option<u64>
     requires { IsBy F.Stands facts.now minute }
     ensures { (H : History) → F.Stands facts.now H → result ≡ minutes_left H reel.now minute }
@@ -165,7 +160,6 @@ fn minutes_left<F: Facts>(facts: &F, minute: Minute, reel: &Id) -> Option<u64>
     found.minutes_left(minute)
 }
 
-/// Whether the own minute of a message is more than two weeks above the desk minute.
 fn is_too_far_ahead<F: Facts>(facts: &F, stamped: &Stamped) -> bool
     ensures { (H : History) → F.Stands facts.now H → result ≡ is_too_far_ahead H stamped.now }
 {
@@ -177,7 +171,6 @@ fn is_too_far_ahead<F: Facts>(facts: &F, stamped: &Stamped) -> bool
     }
 }
 
-/// When a command of this own minute takes effect.
 fn effective_minute<F: Facts>(facts: &F, own: Minute) -> Minute
     ensures { (H : History) → F.Stands facts.now H → result ≡ effective_minute H own }
 {
@@ -187,7 +180,7 @@ fn effective_minute<F: Facts>(facts: &F, own: Minute) -> Minute
     }
 }
 
-/// What a command would do by the rules, were it sent now.
+/// Judges a command by the rules, without accepting it.
 #[tactic(auto, unfolding(desk_types::specs::Refusals::refusal_of))]
 pub fn judge<F: Facts>(
     alloc: Global,

@@ -1,5 +1,5 @@
-//! The judge of commands, once for every desk: what a command is refused for, what it takes, and what
-//! its answer tells, by the facts that a desk knows.
+//! Judging of commands, shared by all desks: the refusal, the takes and the reply, from the facts
+//! that a desk provides.
 #![tactic(auto)]
 
 mod counts;

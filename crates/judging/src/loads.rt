@@ -1,4 +1,4 @@
-//! Why a load or a splice is refused.
+//! Refusals of loads and splices.
 
 ghost use Rattle.std.specs.Prelude.{◌≡◌, Bool, not, [], ◌∷◌};
 ghost use Rattle.desk_types.specs.declared.answer.Refusal.{Refusal as Refusing};
@@ -13,7 +13,6 @@ use crate::refusals::is_vacant;
 use desk_types::{Id, Minute, Refusal, SheetRow};
 use setup_sheets::allowed;
 
-/// What is wrong with a reel that is to be loaded or spliced for a row.
 #[tactic(auto, unfolding(crate::specs::Feeding::reel_refusal))]
 fn reel_refusal<F: Facts>(facts: &F, minute: Minute, row: &SheetRow, reel: &Id) -> Option<Refusal>
     requires { IsBy F.Stands facts.now minute }
@@ -40,7 +39,7 @@ fn reel_refusal<F: Facts>(facts: &F, minute: Minute, row: &SheetRow, reel: &Id) 
     None
 }
 
-/// Why a load or a splice is refused, which differ in what is wrong with the slot.
+/// Returns the refusal of a load or splice. They differ only in the test of the slot.
 #[tactic(auto, unfolding(desk_types::specs::Refusals::mounting_refusal, crate::specs::Feeding::reel_refusal))]
 fn mounting_refusal<F: Facts>(
     facts: &F,
@@ -66,7 +65,6 @@ fn mounting_refusal<F: Facts>(
     reel_refusal(facts, minute, row, reel)
 }
 
-/// Why a load is refused.
 pub fn load_refusal<F: Facts>(
     facts: &F,
     minute: Minute,
@@ -87,7 +85,6 @@ pub fn load_refusal<F: Facts>(
     mounting_refusal(facts, minute, machine, slot, reel, slot_refusal)
 }
 
-/// Why a splice is refused.
 pub fn splice_refusal<F: Facts>(
     facts: &F,
     minute: Minute,

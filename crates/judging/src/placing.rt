@@ -1,4 +1,4 @@
-//! The pieces that an install takes: one for each designator, off the front of its slot's reels.
+//! The pieces that an install takes: one for each designator, from the front of its slot's reels.
 
 ghost use Rattle.std.specs.Prelude.{◌≡◌, ◌<◌, ◌≤◌, ◌-◌, nat_lt, Bool, List, [], ◌∷◌, ◌++◌, drop, filter, if◌then◌else◌, IsSome, IfSome, IfOk, OnOk};
 ghost use Rattle.std.specs.List.{find};
@@ -22,8 +22,8 @@ use setup_sheets::Sheet;
 use std::alloc::{AllocError, Global};
 use std::collections::{BTreeMap, BTreeSet};
 
-/// What a message has in hand of a slot: a reel, the pieces left of it, and how many of the slot's reels
-/// stand up to it, itself among them.
+/// A slot's current reel during a message, the pieces left on it, and how many of the slot's reels
+/// come up to and including it.
 #[derive(Clone, Copy, Debug, PartialEq, Eq)]
 struct Feed {
     reel: Id,
@@ -31,15 +31,13 @@ struct Feed {
     passed: usize,
 }
 
-/// What the reel in hand gives: a piece off it, or, where it has none left or there is none, how many of
-/// the slot's reels stand before the next one.
+/// A piece from the current reel or, without one, the number of the slot's reels already passed.
 #[derive(Clone, Copy, Debug, PartialEq, Eq)]
 enum Given {
     Reel(Id),
     Nothing(usize),
 }
 
-/// One piece off the reel in hand of the slot.
 fn take_in_hand(feeds: &mut BTreeMap<Id, Feed>, slot: &Id) -> Given
     ensures given { result ≡ given_by (feed_at feeds.old slot.now) }
     ensures lowered { (s : Name)
@@ -56,7 +54,7 @@ fn take_in_hand(feeds: &mut BTreeMap<Id, Feed>, slot: &Id) -> Given
     Given::Reel(feed.reel)
 }
 
-/// The first reel of the slot with pieces left, past so many of its reels: each of the others is asked.
+/// Returns the first reel with pieces left after the first `past` reels, testing each.
 fn later_reel<F: Facts>(facts: &F, machine: &Id, slot: &Id, past: usize) -> Option<Feed>
     ensures live { (H : History) → F.Stands facts.now H
         → live_past (left_of H) (F.reels_on facts.now machine.now slot.now) past
@@ -82,8 +80,8 @@ fn later_reel<F: Facts>(facts: &F, machine: &Id, slot: &Id, past: usize) -> Opti
     None
 }
 
-/// The first reel of the slot with pieces left, past so many of its reels. Mostly that is the next one, so
-/// the reels are counted only where this one is spent.
+/// Returns the first reel with pieces left after the first `past` reels. That is mostly the next
+/// one, so the reels are counted only if it is spent.
 fn next_reel<F: Facts>(facts: &F, machine: &Id, slot: &Id, past: usize) -> Option<Feed>
     ensures live { (H : History) → F.Stands facts.now H
         → live_past (left_of H) (F.reels_on facts.now machine.now slot.now) past
@@ -109,7 +107,6 @@ fn next_reel<F: Facts>(facts: &F, machine: &Id, slot: &Id, past: usize) -> Optio
     })
 }
 
-/// One piece off the front of a slot's reels, where there is one.
 fn take_piece<F: Facts>(
     facts: &F,
     feeds: &mut BTreeMap<Id, Feed>,
@@ -147,7 +144,6 @@ fn take_piece<F: Facts>(
     Ok(Some(next.reel))
 }
 
-/// The slot for the designator, by the look-ups of the selected product's sheet where there are some.
 fn slot_for<F: Facts>(
     facts: &F,
     sheet: Option<&Sheet>,
@@ -163,7 +159,6 @@ fn slot_for<F: Facts>(
     }
 }
 
-/// Whether the designator of the board is placed, by the board's designators where there are some.
 fn has_placed<F: Facts>(
     facts: &F,
     placed: Option<&[Designator]>,
@@ -179,14 +174,13 @@ fn has_placed<F: Facts>(
     }
 }
 
-/// A slot with the reel that gives the piece.
+/// A slot and the reel that its piece comes from.
 #[derive(Clone, Copy, Debug, PartialEq, Eq)]
 struct Feeder {
     slot: Id,
     reel: Id,
 }
 
-/// One piece for a designator, after those before it in the message.
 fn place<F: Facts>(
     facts: &F,
     sheet: Option<&Sheet>,
@@ -223,7 +217,7 @@ fn place<F: Facts>(
     Ok(Ok(Feeder { slot, reel }))
 }
 
-/// One piece for each designator in order. What is wrong with the first faulty one is told.
+/// Takes one piece for each designator in order, or returns the fault of the first faulty one.
 pub fn place_all<F: Facts>(
     alloc: Global,
     facts: &F,

@@ -1,4 +1,4 @@
-//! Why each command is refused that has no file of its own.
+//! Refusals of the commands without a file of their own.
 
 ghost use Rattle.std.specs.Prelude.{◌≡◌};
 ghost use Rattle.desk_types.specs.History.{History};
@@ -9,7 +9,6 @@ use crate::fronts::front;
 use crate::setup::is_in_work_on;
 use desk_types::{Id, Refusal};
 
-/// Why a definition of a part is refused.
 #[tactic(auto, unfolding(desk_types::specs::Refusals::part_refusal))]
 pub fn part_refusal<F: Facts>(facts: &F, part: &Id) -> Option<Refusal>
     ensures { (H : History) → F.Stands facts.now H → result ≡ part_refusal H part.now }
@@ -20,7 +19,6 @@ pub fn part_refusal<F: Facts>(facts: &F, part: &Id) -> Option<Refusal>
     None
 }
 
-/// Why an alternate is refused.
 #[tactic(auto, unfolding(desk_types::specs::Refusals::alternate_refusal))]
 pub fn alternate_refusal<F: Facts>(facts: &F, part: &Id, alternate: &Id) -> Option<Refusal>
     ensures { (H : History) → F.Stands facts.now H → result ≡ alternate_refusal H part.now alternate.now }
@@ -34,7 +32,6 @@ pub fn alternate_refusal<F: Facts>(facts: &F, part: &Id, alternate: &Id) -> Opti
     None
 }
 
-/// Why a selection is refused.
 #[tactic(auto, unfolding(desk_types::specs::Refusals::selection_refusal))]
 pub fn selection_refusal<F: Facts>(facts: &F, machine: &Id, product: &Id) -> Option<Refusal>
     ensures { (H : History) → F.Stands facts.now H → result ≡ selection_refusal H machine.now product.now }
@@ -48,7 +45,6 @@ pub fn selection_refusal<F: Facts>(facts: &F, machine: &Id, product: &Id) -> Opt
     None
 }
 
-/// Why a receipt is refused.
 #[tactic(auto, unfolding(desk_types::specs::Refusals::receipt_refusal))]
 pub fn receipt_refusal<F: Facts>(facts: &F, reel: &Id, part: &Id) -> Option<Refusal>
     ensures { (H : History) → F.Stands facts.now H → result ≡ receipt_refusal H reel.now part.now }
@@ -62,7 +58,6 @@ pub fn receipt_refusal<F: Facts>(facts: &F, reel: &Id, part: &Id) -> Option<Refu
     None
 }
 
-/// Why an open is refused.
 #[tactic(auto, unfolding(desk_types::specs::Refusals::opening_refusal))]
 pub fn opening_refusal<F: Facts>(facts: &F, reel: &Id) -> Option<Refusal>
     ensures { (H : History) → F.Stands facts.now H → result ≡ opening_refusal H reel.now }
@@ -73,7 +68,7 @@ pub fn opening_refusal<F: Facts>(facts: &F, reel: &Id) -> Option<Refusal>
     None
 }
 
-/// Why a seal or a bake is refused.
+/// Returns the refusal of a seal or a bake.
 #[tactic(auto, unfolding(desk_types::specs::Refusals::closing_refusal))]
 pub fn closing_refusal<F: Facts>(facts: &F, reel: &Id) -> Option<Refusal>
     ensures { (H : History) → F.Stands facts.now H → result ≡ closing_refusal H reel.now }
@@ -87,14 +82,12 @@ pub fn closing_refusal<F: Facts>(facts: &F, reel: &Id) -> Option<Refusal>
     None
 }
 
-/// Whether the slot has no live reel.
 pub fn is_vacant<F: Facts>(facts: &F, machine: &Id, slot: &Id) -> bool
     ensures { (H : History) → F.Stands facts.now H → result ≡ is_vacant H machine.now slot.now }
 {
     front(facts, machine, slot).is_none()
 }
 
-/// Why an unload is refused.
 #[tactic(auto, unfolding(desk_types::specs::Refusals::unload_refusal))]
 pub fn unload_refusal<F: Facts>(facts: &F, machine: &Id, slot: &Id) -> Option<Refusal>
     ensures { (H : History) → F.Stands facts.now H → result ≡ unload_refusal H machine.now slot.now }
@@ -105,7 +98,6 @@ pub fn unload_refusal<F: Facts>(facts: &F, machine: &Id, slot: &Id) -> Option<Re
     None
 }
 
-/// Why a completion of work is refused.
 #[tactic(auto, unfolding(desk_types::specs::Refusals::completion_refusal))]
 pub fn completion_refusal<F: Facts>(facts: &F, machine: &Id, board: &Id) -> Option<Refusal>
     ensures { (H : History) → F.Stands facts.now H → result ≡ completion_refusal H machine.now board.now }

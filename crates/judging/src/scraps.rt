@@ -1,4 +1,4 @@
-//! Scraps: their refusals and the pieces that they take.
+//! Scraps: their refusals and takes.
 
 ghost use Rattle.std.specs.Prelude.{◌≡◌, ◌++◌, IfOk, OnOk};
 ghost use Rattle.desk_types.specs.declared.command.Command.TheVariants.{MaterialsScrapped};
@@ -14,7 +14,7 @@ use crate::refusals::is_vacant;
 use desk_types::{Id, Listing, Pick, Purpose, Quantity, Refusal};
 use std::alloc::{AllocError, Global};
 
-/// Puts a pick of so many pieces to the others, where there are any.
+/// Appends a pick of these pieces, if there are any.
 pub fn put_off(
     picks: &mut Vec<Pick>,
     reel: Id,
@@ -33,14 +33,13 @@ pub fn put_off(
     Ok(())
 }
 
-/// Pieces off the reels of a slot, and how many are wanting.
+/// Pieces off a slot's reels, and the number still missing.
 #[derive(Drop)]
 struct Scrapping {
     picks: Vec<Pick>,
     wanting: u64,
 }
 
-/// Pieces off the reels of a slot, reel after reel, until no more are wanting.
 fn scrap<F: Facts>(
     alloc: Global,
     facts: &F,
@@ -71,7 +70,7 @@ fn scrap<F: Facts>(
     Ok(Scrapping { picks, wanting })
 }
 
-/// The pieces that a scrap takes, or why it is refused.
+/// Returns the pieces that a scrap takes, or its refusal.
 pub fn picks_of_scrap<F: Facts>(
     alloc: Global,
     facts: &F,

@@ -1,4 +1,4 @@
-//! What follows at once from the facts: the selected sheet, and the board in work.
+//! Direct consequences of the facts: the selected sheet and the board in work.
 
 ghost use Rattle.std.specs.Prelude.{◌≡◌};
 ghost use Rattle.std.specs.Option.{option_copied};
@@ -9,7 +9,7 @@ ghost use Rattle.desk_types.specs.Work.{is_in_work_on};
 use crate::facts::Facts;
 use desk_types::{Id, SheetRows};
 
-/// The sheet of the selected product on the machine.
+/// Returns the selected product's sheet on the machine.
 pub fn sheet_on<'a, F: Facts>(facts: &'a F, machine: &Id) -> Option<&'a SheetRows>
     ensures { (H : History) → F.Stands facts.now H → option_copied result ≡ sheet_on H machine.now }
 {
@@ -17,7 +17,6 @@ pub fn sheet_on<'a, F: Facts>(facts: &'a F, machine: &Id) -> Option<&'a SheetRow
     facts.sheet_of(&product, machine)
 }
 
-/// Whether the board is the one in work on the machine.
 pub fn is_in_work_on<F: Facts>(facts: &F, machine: &Id, board: &Id) -> bool
     ensures { (H : History) → F.Stands facts.now H → result ≡ is_in_work_on H machine.now board.now }
 {

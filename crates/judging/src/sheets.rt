@@ -1,4 +1,4 @@
-//! Why a sheet is refused.
+//! Refusals of sheets.
 
 ghost use Rattle.std.specs.Prelude.{◌≡◌, IfOk};
 ghost use Rattle.desk_types.specs.History.{History};
@@ -9,7 +9,6 @@ use desk_types::{Id, Refusal, SheetRows};
 use setup_sheets::{SheetFault, check_sheet};
 use std::alloc::{AllocError, Global};
 
-/// Why a sheet is refused.
 #[tactic(auto, unfolding(desk_types::specs::Refusals::definition_refusal))]
 pub fn definition_refusal<F: Facts>(
     alloc: Global,

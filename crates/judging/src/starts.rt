@@ -1,4 +1,4 @@
-//! Why a start of work is refused.
+//! Refusals of starts of work.
 
 ghost use Rattle.std.specs.Prelude.{◌≡◌, [], unwrap_or, IfOk};
 ghost use Rattle.desk_types.specs.History.{History};
@@ -14,7 +14,6 @@ use desk_types::{Id, Minute, Refusal};
 use setup_sheets::verify;
 use std::alloc::{AllocError, Global};
 
-/// What is wrong with the first faulty slot of the selected product's sheet.
 fn slots_refusal<F: Facts>(
     alloc: Global,
     facts: &F,
@@ -37,7 +36,6 @@ fn slots_refusal<F: Facts>(
     }
 }
 
-/// Whether the board is of another product than that which is selected on the machine.
 fn is_other_product<F: Facts>(facts: &F, machine: &Id, board: &Id) -> bool
     ensures { (H : History) → F.Stands facts.now H
         → result ≡ differ (product_of H board.now) (selected_on H machine.now) }
@@ -48,7 +46,6 @@ fn is_other_product<F: Facts>(facts: &F, machine: &Id, board: &Id) -> bool
     }
 }
 
-/// Why a start of work is refused.
 #[tactic(auto, unfolding(desk_types::specs::Refusals::start_refusal))]
 pub fn start_refusal<F: Facts>(
     alloc: Global,

@@ -1,4 +1,4 @@
-//! What a command takes, and what its answer tells, by its picks.
+//! A command's takes and the details of its reply, from its picks.
 
 ghost use Rattle.std.specs.Prelude.{◌≡◌, ◌≤◌, ◌^◌, ◌-◌, min, map, IfOk, OnOk, ◌∷◌, ◌++◌, []};
 ghost use Rattle.std.specs.List.{AllByRecursion};
@@ -15,7 +15,6 @@ use entry_search::totals::is_placed;
 use reels::Reel;
 use std::alloc::{AllocError, Global};
 
-/// Puts a pick, with its reel's part and lot, to the takes.
 fn put_take(
     takes: &mut Vec<Take>,
     reel: &Reel,
@@ -39,7 +38,7 @@ fn put_take(
     Ok(())
 }
 
-/// The takes of picks of received reels, in their order.
+/// Returns the takes for picks of received reels, in order.
 pub fn takes_for<F: Facts>(
     alloc: Global,
     facts: &F,
@@ -60,7 +59,7 @@ pub fn takes_for<F: Facts>(
     Ok(Listing::new(takes))
 }
 
-/// The reels of picks, in their order.
+/// Returns the reels of the picks in order.
 pub fn reels_of(alloc: Global, picks: &[Pick]) -> Result<IdList, AllocError>
     ensures { IfOk result (λ reels. reels ≡ reels_of picks.now) }
 {
@@ -71,7 +70,7 @@ pub fn reels_of(alloc: Global, picks: &[Pick]) -> Result<IdList, AllocError>
     Ok(Listing::new(reels))
 }
 
-/// The pieces of picks together, or the greatest `u64` where they are more.
+/// Returns the total pieces of the picks, at most the greatest `u64`.
 pub fn pieces_of(picks: &[Pick]) -> u64
     ensures { result ≡ min (pieces_of picks.now) (2 ^ 64 - 1) }
 {

@@ -63,7 +63,7 @@ module _ {K R : Type 0} (cmp : K → K → Ordering) (tied : (k : K) → cmp k k
   pub listed : (es : List (K × R)) (f : K → Option R) → Lists cmp es f → Listed es f
   listed es f lists = listed_as es f lists.ascending lists.rows
 
--- a key with no row but itself
+-- A key whose row has nothing else.
 abbrev pub alone : {K : Type 0} → K → K × Unit {0}
 alone k = (k, tt)
 
@@ -120,7 +120,6 @@ pairs_listed = listed_keys by_pair pair_tied pair_same
 
 -- ---- mounted reels, in the order of their numbers
 
--- an entry without its number
 abbrev pub unnumbered : (ℕ × Name) × MountRow → Name × MountRow
 unnumbered e = (e.0.1, e.1)
 

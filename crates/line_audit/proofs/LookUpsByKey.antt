@@ -1,4 +1,4 @@
--- What a look-up by a key tells.
+-- The result of a look-up by a key.
 use Rattle.std.proofs.Common.{◌≡◌, ◌↔◌, Bool, IsTrue, ℕ, List, [], ◌∷◌, Some, filter, subst}
 use Rattle.std.specs.List.{list_all}
 use Rattle.std.specs.List.Sorted.{IsPermutation}
@@ -15,14 +15,12 @@ use Rattle.line_tables.proofs.FindTexts.{IsSelectBy, rows_from}
 use Rattle.line_tables.proofs.Finds.{finds_rows, one_order}
 use Rattle.line_audit.specs.Alone.{ShowsOnly, FindsAlone}
 
--- one row is shown just where one row passes
 alone_as : (passed shown : List Row) (row : Row) (b : Bool) → IsPermutation passed shown → (IsTrue b ↔ (shown ≡ row ∷ [])) → IsTrue b ↔ (passed ≡ row ∷ [])
 alone_as passed shown row b same is = (
   λ yes. one_order passed (Some row) (subst (IsPermutation passed) (is.0 yes) same),
   λ one. is.1 (one_order shown (Some row) (subst (IsPermutation shown) one (IsPermutation-sym passed shown same))),
 )
 
--- a query of a table of ours by a test of its columns tells whether the row is the one that passes
 pub finds_alone : {S : Type 0} (g : Ghosts S) (sql : List ℕ) (table : Table) (test project : List Term) (names : List (List ℕ)) → IsSelectBy sql (λ schema. rows_from (tree_in table schema) test project) names → (params : Row) (has : Row → Bool)
     → ((r : Row) → list_all (holds (params ∷ r ∷ [])) test ≡ has (columns table r)) → ((r : Row) → (output (rows_from 0 test project) (params ∷ r ∷ [])).1 ≡ columns table r)
     → (old : Held S) (row : Row) (b : Bool) → ShowsOnly g sql params old row b → FindsAlone table has row (state g old) b

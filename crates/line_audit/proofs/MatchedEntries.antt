@@ -1,4 +1,4 @@
--- Entries that are looked up one after the other.
+-- Entries that are looked up one after another.
 use Rattle.std.proofs.Common.{◌≡◌, ◌∙◌, ℕ, ◌+◌, ◌==◌, Bool, true, false, Option, Some, None, List, [], ◌∷◌, ◌++◌, length, map, refl, sym, ap, ap₂, subst, arith, true≢false}
 use Rattle.std.specs.List.{AllByRecursion}
 use Rattle.std.specs.Iterator.{AlwaysYields, Yields}
@@ -17,7 +17,6 @@ use Rattle.line_tables.specs.StateRows.{AreRows, rows_in}
 use Rattle.line_audit.specs.Alone.{FindsAlone, AreAlone, HasOneKey, AreMatched, Decides, Listed}
 use Rattle.line_audit.proofs.SameRows.{same_rows}
 
--- what is committed is read after calls that keep it
 pub reads_before : (old mid : State) → KeepsCommit old mid → (Is : Database → Type 0) → Reads mid Is → Reads old Is
 reads_before old mid kept Is r =
     let same = kept.committed r.was_open in
@@ -36,7 +35,7 @@ first_same x y xs ys e = cc
 rest_same : {X : Type 0} (x y : X) (xs ys : List X) → x ∷ xs ≡ y ∷ ys → xs ≡ ys
 rest_same x y xs ys e = cc
 
--- an iterator of a map or a set yields its items, as they are or each as f reads it
+-- An iterator of a map or a set yields its items, each unchanged or as f reads it.
 module _ {A X : Type 0} (shows : A → X) where
   pub yields_all : (items : List X) → AlwaysYields (TakesFirst shows) shows items items
   yields_all items = (YieldsList-from_rest {shows = shows} items refl).runs
@@ -52,7 +51,6 @@ module _ {A X : Type 0} (shows : A → X) where
   )
 
 module _ {S A E : Type 0} (steps : S → Option A → S → Type 0) (entry : A → E) where
-  -- the entries are those so far and those that are left
   left_of : (es : List E) (xs : List A) (s t : S) → AlwaysYields steps entry s es → Yields steps s xs t → (more : List E) × (es ≡ map entry xs ++ more) × AlwaysYields steps entry t more
   left_of es [] s t yields so_far = (es, refl, subst (λ at. AlwaysYields steps entry at es) so_far yields)
   left_of [] (x ∷ xs) s t yields so_far = absurd (yields x so_far.0 so_far.1)
@@ -62,7 +60,6 @@ module _ {S A E : Type 0} (steps : S → Option A → S → Type 0) (entry : A �
       (rest.0, ap₂ (λ (y : E) (ys : List E). y ∷ ys) (sym one.0) rest.1, rest.2)
 
   module _ (es : List E) (xs : List A) (from s t u : S) (r : Option A) (start : s ≡ from) (yields : AlwaysYields steps entry from es) (so_far : Yields steps s xs t) (step : steps t r u) where
-    -- the entries are those so far, the next one and others
     next_entry : (x : A) → r ≡ Some x → (others : List E) × (es ≡ map entry xs ++ entry x ∷ others)
     next_entry x is = let left = left_of es xs s t (subst (λ at. AlwaysYields steps entry at es) (sym start) yields) so_far in by left.0 left.1 left.2
       where
@@ -70,7 +67,6 @@ module _ {S A E : Type 0} (steps : S → Option A → S → Type 0) (entry : A �
         by [] e none = absurd (none x u (subst (λ o. steps t o u) is step))
         by (y ∷ ys) e some = (ys, e ∙ ap (λ z. map entry xs ++ z ∷ ys) (sym (some.1 x u (subst (λ o. steps t o u) is step)).0))
 
-    -- at the end they are those so far
     all_entries : r ≡ None → map entry xs ≡ es
     all_entries is = let left = left_of es xs s t (subst (λ at. AlwaysYields steps entry at es) (sym start) yields) so_far in by left.0 left.1 left.2
       where
@@ -79,7 +75,6 @@ module _ {S A E : Type 0} (steps : S → Option A → S → Type 0) (entry : A �
         by (y ∷ ys) e some = absurd (some.0 u (subst (λ o. steps t o u) is step))
 
 module _ {A K R : Type 0} (entry : A → K × R) (table : Table) (has : K → Row → Bool) (columns : K → R → Row) where
-  -- one more entry is the one with its key
   pub matched_more : (old mid : State) → KeepsCommit old mid → (left next : ℕ) (xs : List A) (x : A) → AreMatched table has columns old left (map entry xs)
       → (b : Bool) → FindsAlone table (has (entry x).0) (columns (entry x).0 (entry x).1) mid b → b ≡ true → next + 1 ≡ left → AreMatched table has columns old next (map entry (xs ++ x ∷ []))
   matched_more old mid kept left next xs x m b found is less =
@@ -98,7 +93,6 @@ module _ {A K R : Type 0} (entry : A → K × R) (table : Table) (has : K → Ro
     Are db = AreRows has columns (rows_in table db) f
 
     module _ {S : Type 0} (steps : S → Option A → S → Type 0) (xs : List A) (from s t u : S) (r : Option A) (start : s ≡ from) (yields : AlwaysYields steps entry from es) (so_far : Yields steps s xs t) (step : steps t r u) where
-      -- no row is left for the entry
       pub too_few : (x : A) → r ≡ Some x → (left : ℕ) → left ≡ 0 → AreMatched table has columns old left (map entry xs) → Decides Are old false
       too_few x is left none m = record {
         was_open = m.was_open;
@@ -113,7 +107,6 @@ module _ {A K R : Type 0} (entry : A → K × R) (table : Table) (has : K → Ro
         );
       }
 
-      -- the entry's row is not the one with its key
       pub not_alone : (x : A) → r ≡ Some x → (mid : State) → KeepsCommit old mid → (b : Bool) → FindsAlone table (has (entry x).0) (columns (entry x).0 (entry x).1) mid b → b ≡ false → Decides Are old false
       not_alone x is mid kept b found other =
           let one = reads_before old mid kept _ found in
@@ -129,7 +122,6 @@ module _ {A K R : Type 0} (entry : A → K × R) (table : Table) (has : K → Ro
             );
           }
 
-      -- each entry's row is the one with its key
       pub all_alone : r ≡ None → (left : ℕ) → AreMatched table has columns old left (map entry xs) → Decides Are old (left == 0)
       all_alone is left m =
           let whole = all_entries steps entry es xs from s t u r start yields so_far step is in

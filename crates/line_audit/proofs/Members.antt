@@ -1,4 +1,4 @@
--- Entries whose rows are all in the table, which has no more rows, stand alone.
+-- If the rows of all entries are in the table, and the table has no more rows, each is the only one with its key.
 use Rattle.std.proofs.Common.{◌≡◌, ◌∙◌, ◌⊎◌, inl, inr, ◌≤◌, Bool, true, false, not, List, [], ◌∷◌, length, filter, if◌then◌else◌, refl, sym, ap, arith, true≢false}
 use Rattle.std.specs.List.{AllByRecursion}
 use Rattle.sqlite_rules.specs.Lists.{Has}
@@ -27,7 +27,7 @@ only_one (r ∷ []) x (inr h) n = absurd h
 only_one (r ∷ s ∷ rs) x h n = absurd (omega (arith, n))
 
 module _ {K R : Type 0} (has : K → Row → Bool) (columns : K → R → Row) (one_key : (k l : K) (row : Row) → has k row ≡ true → has l row ≡ true → k ≡ l) where
-  -- the rows of the entries have their keys, and are in the table
+  -- The rows of the entries have their keys, and are in the table.
   abbrev pub AreTrue : List (K × R) → Type 0
   AreTrue es = AllByRecursion (λ e. has e.0 (columns e.0 e.1) ≡ true) es
 

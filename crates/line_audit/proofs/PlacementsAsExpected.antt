@@ -14,7 +14,6 @@ use Rattle.line_audit.specs.Audit.{Pieces, AreByPiece, ArePlaced, HasPlacements,
 use Rattle.line_audit.proofs.SameRows.{same_rows}
 use Rattle.line_audit.proofs.Members.{AreTrue, alone_by_count}
 
--- a row has its own number and place
 pub piece_true : (p : PlacementRow) → has_piece (p.number, p.place) (placement_columns p) ≡ true
 piece_true p = ap₂ (λ a b. a && b) (own_int p.number) (own_int p.place)
 
@@ -22,7 +21,6 @@ pieces_true : (es : Pieces) → AreByPiece es → AreTrue has_piece (λ _ row. p
 pieces_true [] h = tt
 pieces_true (e ∷ es) h = (ap (λ (k : ℕ × ℕ). has_piece k (placement_columns e.1)) h.0 ∙ piece_true e.1, pieces_true es h.1)
 
--- they are, where all were found and there are no more
 pub same_placements : (old : State) (all : Bool) (count n : ℕ) (es : Pieces) (f : ℕ × ℕ → Option PlacementRow) → IsExpected old all count es f → Counts line.placement old n → Decides (λ db. HasPlacements db f) old (all && (n == count))
 same_placements old all count n es f expected counted = record {
   was_open = counted.was_open;
@@ -44,7 +42,6 @@ same_placements old all count n es f expected counted = record {
     found true is placed alone = is
     found false is placed alone = absurd (placed.missing is alone)
 
--- what is expected stays so over calls that keep the commit
 pub expected_after : (old mid : State) → KeepsCommit old mid → (all : Bool) (count : ℕ) (es : Pieces) (f : ℕ × ℕ → Option PlacementRow) → IsExpected old all count es f → IsExpected mid all count es f
 expected_after old mid kept all count es f e = record {
   listed = e.listed;

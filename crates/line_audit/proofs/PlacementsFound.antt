@@ -1,4 +1,4 @@
--- Placements that are looked up, and those that are shown.
+-- Placements that are looked up, and those that a query shows.
 use Rattle.std.proofs.Common.{◌≡◌, ◌∙◌, ◌⊎◌, ◌&&◌, inl, inr, ℕ, ◌+◌, ◌<◌, IsTrue, Bool, true, false, List, [], ◌∷◌, codes, length, map, filter, take, get_or, if◌then◌else◌, refl, sym, ap, ap₂, subst, arith, true≢false}
 use Rattle.std.specs.List.{AllByRecursion}
 use Rattle.std.specs.List.Sorted.{IsPermutation}
@@ -44,7 +44,6 @@ here_of : (db : Database) (ps : List PlacementRow) → AllByRecursion (Has (rows
 here_of db [] h = tt
 here_of db (p ∷ ps) h = (h.0, here_of db ps h.1)
 
--- what is shown in one run is in the table
 pub run_here : {S : Type 0} (g : Ghosts S) (old : Held S) (params : Row) (shown : List Row) (ps : List PlacementRow) (b : Bool) → Selects g select_run params old shown → (IsTrue b → shown ≡ map placement_columns ps) → Reads (state g old) (λ db. IsTrue b → AreHere db ps)
 run_here g old params shown ps b h same = record {
   was_open = h.was_open;
@@ -80,7 +79,6 @@ module _ (first second : Row → Bool) where
       go true false e more = more e
       go false false e more = more e
 
-  -- the one row that passes a test is the one that passes it and another, if it passes that
   alone_too : (rows : List Row) (x : Row) → first x ≡ true → filter second rows ≡ x ∷ [] → filter tests rows ≡ x ∷ []
   alone_too [] x passes h = absurd (let n = ap length h in omega (arith, n))
   alone_too (r ∷ rs) x passes h = go (first r) (second r) refl h (alone_too rs x passes)
@@ -91,7 +89,6 @@ module _ (first second : Row → Bool) where
       go true false is e more = more e
       go false false is e more = more e
 
--- the one row of its number and its place is the one that is looked up
 pub looked_alone : (p : PlacementRow) (rows : List Row) → filter (has_piece (p.number, p.place)) rows ≡ placement_columns p ∷ [] → filter (has_placement p) rows ≡ placement_columns p ∷ []
 looked_alone p rows h =
     alone_too (has_text 2 p.board) (λ row. has_text 3 p.designator row && has_piece (p.number, p.place) row) rows (placement_columns p) (own_text p.board)
@@ -100,7 +97,6 @@ looked_alone p rows h =
 pub looked_here : (db : Database) (p : PlacementRow) → filter (has_placement p) (rows_in line.placement db) ≡ placement_columns p ∷ [] → Has (rows_in line.placement db) (placement_columns p)
 looked_here db p h = alone_in (has_placement p) (rows_in line.placement db) (placement_columns p) h
 
--- the entries of rows that are all in the table
 pub all_here : (db : Database) (ps : List PlacementRow) → AreHere db ps → ArePlaced db true (map piece_of ps)
 all_here db ps h = record { here = λ _. by ps h; missing = λ e _. absurd (true≢false e) }
   where
@@ -114,7 +110,6 @@ alone_at rows [] i d n h = absurd (omega (arith, n))
 alone_at rows (p ∷ ps) Rattle.std.proofs.Common.zero d n h = h.0
 alone_at rows (p ∷ ps) (Rattle.std.proofs.Common.suc i) d n h = alone_at rows ps i d (omega (arith, n)) h.1
 
--- one that is not the row of its number and its place
 pub one_missing : (db : Database) (ps : List PlacementRow) (i : ℕ) (d : PlacementRow) → i < length ps → (filter (has_placement (get_or ps i d)) (rows_in line.placement db) ≡ placement_columns (get_or ps i d) ∷ [] → ⊥) → ArePlaced db false (map piece_of ps)
 one_missing db ps i d n other = record {
   here = λ e. absurd (true≢false (sym e));

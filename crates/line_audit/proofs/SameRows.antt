@@ -1,4 +1,5 @@
--- A list of entries, each of whose rows stands alone under its key, and which are as many as the rows: these are the rows of the map.
+-- If each entry's row is the only one with its key, and there are as many entries as rows, the rows are those of the
+-- map.
 use Rattle.std.proofs.Common.{◌≡◌, ◌∙◌, ◌↔◌, inl, inr, ◌+◌, Bool, true, false, not, IsTrue, Option, Some, None, List, [], ◌∷◌, length, filter, if◌then◌else◌, refl, sym, ap, subst, arith, true≢false}
 use Rattle.std.specs.Option.{option_map, option_to_list}
 use Rattle.std.specs.List.{AllByRecursion}
@@ -14,7 +15,7 @@ module _ {K R : Type 0} (has : K → Row → Bool) (columns : K → R → Row) (
   abbrev pub without : K → List Row → List Row
   without k rows = filter (λ row. not (has k row)) rows
 
-  -- the row has the key of some entry
+  -- The row has the key of some entry.
   abbrev IsCovered : List (K × R) → Row → Type 0
   IsCovered es row = (k : K) × IsNamed k es × (has k row ≡ true)
 
@@ -59,7 +60,6 @@ module _ {K R : Type 0} (has : K → Row → Bool) (columns : K → R → Row) (
       go true e more = more
       go false e more = (failed r e h.0, more)
 
-  -- as many entries as rows leave no row over
   covered : (es : List (K × R)) → AreApart es → (rows : List Row) → AreAlone has columns rows es → length es ≡ length rows → AllByRecursion (IsCovered es) rows
   covered [] new [] h n = tt
   covered [] new (r ∷ rs) h n = absurd (omega (arith, n))
@@ -120,7 +120,8 @@ module _ {K R : Type 0} (has : K → Row → Bool) (columns : K → R → Row) (
         go (Some x) e = (keyed.0.0, listed.all keyed.0.0 x e, keyed.0.1)
         go None e = absurd (let n = ap length (subst (λ (b : Bool). (if b then r ∷ filter (has keyed.0.0) rs else filter (has keyed.0.0) rs) ≡ []) keyed.0.1 (none keyed.0.0 e)) in omega (arith, n))
 
-    -- the rows are those of the map just where each entry's row stands alone under its key, and the rows are as many
+    -- The rows are those of the map exactly when each entry's row is the only one with its key, and there are as many
+    -- rows.
     pub same_rows : (es : List (K × R)) (rows : List Row) → Listed es f → (AreAlone has columns rows es × (length es ≡ length rows)) ↔ AreRows has columns rows f
     same_rows es rows listed = (
       λ h. are_rows es rows listed h.0 h.1,

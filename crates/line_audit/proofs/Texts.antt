@@ -1,4 +1,4 @@
--- What the texts mean, and what they find.
+-- The meaning and the results of the texts.
 use Rattle.std.proofs.Common.{◌≡◌, ◌&&◌, ◌++◌, ◌<◌, ℕ, Bool, true, false, List, [], ◌∷◌, Result, Ok, Err, IfOk, codes, refl, ap, pos, inl, inr}
 use Rattle.sqlite.specs.Term.{Term, col, op2}
 use Rattle.sqlite.specs.Collation.TheVariants.{Binary}
@@ -31,7 +31,6 @@ use Rattle.line_audit.proofs.LookUpsByKey.{finds_alone}
 use Rattle.desk_types.specs.declared.rules.Rules.TheVariants.{One, Two}
 use Rattle.line_tables.specs.Line.Layout.{Indexed, Plain}
 
--- the column is the parameter
 abbrev is_param : ℕ → ℕ → Term
 is_param at param = op2 (Compare Eq Binary) (col 1 at) (col 0 param)
 

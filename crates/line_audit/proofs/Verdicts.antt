@@ -11,12 +11,11 @@ use Rattle.desk_types.specs.Tables.{Tables as StateTables}
 use Rattle.line_tables.specs.StateRows.{HoldsStateBy, HoldsFoundBy}
 use Rattle.line_audit.specs.Audit.{state_tables, found_table, HoldsTable}
 
--- what is found is right too: under rules One that is nothing
+-- The rows of `found` are right too: under rules One there is no such table.
 pub found_right : (rules : Rules) (db : Database) (t : StateTables) → (rules ≡ One → (reel : Name) → t.found reel ≡ None) → AllByRecursion (HoldsTable db t) (found_table rules) → HoldsFoundBy rules db t
 found_right One db t none h = none refl
 found_right Two db t none h = h.0
 
--- all tables are right
 pub all_right : (rules : Rules) (db : Database) (t : StateTables) → (rules ≡ One → (reel : Name) → t.found reel ≡ None) → AllByRecursion (HoldsTable db t) (state_tables rules) → HoldsStateBy rules db t
 all_right rules db t none h = record {
   parts = h.0;
@@ -30,12 +29,10 @@ all_right rules db t none h = record {
   found = found_right rules db t none h.1.1.1.1.1.1.1.1;
 }
 
--- the elements before one, it and those after it
 pub split_at : {X : Type 0} (xs : List X) (i : ℕ) (d : X) → i < length xs → xs ≡ take i xs ++ get_or xs i d ∷ drop (i + 1) xs
 split_at [] i d h = absurd (omega (arith, h))
 split_at (x ∷ xs) zero d h = refl
 split_at (x ∷ xs) (suc i) d h = let next : suc i + 1 ≡ suc (i + 1) = omega arith in rw next (ap (λ rest. x ∷ rest) (split_at xs i d (omega (arith, h))))
 
--- one more is right
 pub right_more : {X : Type 0} (P : X → Type 0) (xs : List X) (i : ℕ) (d : X) → i < length xs → AllByRecursion P (take i xs) → P (get_or xs i d) → AllByRecursion P (take (i + 1) xs)
 right_more P xs i d h before here = rw (take_more xs i d) (all-append P (take i xs) (get_or xs i d ∷ []) before (here, tt))

@@ -1,4 +1,4 @@
--- What an audit of the state tables tells.
+-- The verdict of an audit of the state tables.
 use Rattle.std.specs.Prelude.{◌≡◌, ℕ, Bool, false, IsTrue, Option, Some, None, List, [], ◌∷◌, ◌++◌, length}
 use Rattle.std.specs.List.{AllByRecursion}
 use Rattle.sqlite_rules.specs.Lists.{Has}
@@ -15,16 +15,16 @@ use Rattle.line_audit.specs.declared.table.StateTable.{StateTable}
 use Rattle.line_audit.specs.declared.table.StateTable.TheVariants.{Part, Alternate, SheetRow, Selected, Reel, Mount, Board, Placement, Found}
 use Rattle.line_audit.specs.Alone.{Listed, AreAlone}
 
--- the table of found pieces is there under rules Two alone
+-- Only rules Two have the table of found pieces.
 abbrev pub found_table : Rules → List StateTable
 found_table One = []
 found_table Two = Found ∷ []
 
--- the tables that there are under the rules, in the order in which they are looked at
+-- The tables of the rules, in the order of an audit.
 abbrev pub state_tables : Rules → List StateTable
 state_tables rules = Part ∷ Alternate ∷ SheetRow ∷ Selected ∷ Reel ∷ Mount ∷ Board ∷ Placement ∷ found_table rules
 
--- the rows of one table are those of its map
+-- The rows of one table are those of its map.
 abbrev pub HoldsTable : Database → StateTables → StateTable → Type 0
 HoldsTable db t Part = HoldsParts db t
 HoldsTable db t Alternate = HoldsAlternates db t
@@ -36,7 +36,7 @@ HoldsTable db t Board = HoldsBoards db t
 HoldsTable db t Placement = HoldsPlacements db t
 HoldsTable db t Found = HoldsFound db t
 
--- of the tables that are looked at, the rows of this one are not those of its map, and those of each table before it are
+-- Among the audited tables, this is the first whose rows differ from those of its map.
 pub record IsFirstWrong (tables : List StateTable) (db : Database) (t : StateTables) (table : StateTable) : Type 0 where
   pub before : List StateTable
   pub after : List StateTable
@@ -44,39 +44,40 @@ pub record IsFirstWrong (tables : List StateTable) (db : Database) (t : StateTab
   pub right : AllByRecursion (HoldsTable db t) before
   pub wrong : HoldsTable db t table → ⊥
 
--- the tables that are looked at have the rows of their maps, or this table is the first that has other rows
+-- The audited tables have the rows of their maps, or this table is the first that has other rows.
 abbrev pub IsVerdict : List StateTable → Database → StateTables → Option StateTable → Type 0
 IsVerdict tables db t None = AllByRecursion (HoldsTable db t) tables
 IsVerdict tables db t (Some table) = IsFirstWrong tables db t table
 
--- placements, each with its number and its place
+-- Placements, each with its number and its place.
 abbrev pub Pieces : Type 0
 Pieces = List ((ℕ × ℕ) × PlacementRow)
 
--- each entry goes by the number and the place of its row
+-- Each entry has the number and the place of its row.
 abbrev pub AreByPiece : Pieces → Type 0
 AreByPiece es = AllByRecursion (λ e. e.0 ≡ (e.1.number, e.1.place)) es
 
--- Where they were all found, each row is in the table. Where not, some row is not the one of its number and place.
+-- If all were found, each row is in the table. Otherwise some row is not the one of its number and place.
 pub record ArePlaced (db : Database) (all : Bool) (es : Pieces) : Type 0 where
   pub here : IsTrue all → AllByRecursion (λ e. Has (rows_in line.placement db) (placement_columns e.1)) es
   pub missing : all ≡ false → AreAlone has_piece (λ _ row. placement_columns row) (rows_in line.placement db) es → ⊥
 
--- the tables with these placements
+-- The tables with these placements.
 abbrev pub with_placements : (ℕ × ℕ → Option PlacementRow) → StateTables → StateTables
 with_placements f t = record t { placements = λ number place. f (number, place) }
 
--- the rows of `placement` are those of the map
+-- The rows of `placement` are those of the map.
 abbrev pub HasPlacements : Database → (ℕ × ℕ → Option PlacementRow) → Type 0
 HasPlacements db f = AreRows has_piece (λ _ row. placement_columns row) (rows_in line.placement db) f
 
--- The expected placements are these, so many, and those of the map; and what is committed has them, if all were found.
+-- These are the expected placements, with their number and their map. If all were found, the committed contents have
+-- them.
 pub record IsExpected (old : State) (all : Bool) (count : ℕ) (es : Pieces) (f : ℕ × ℕ → Option PlacementRow) : Type 0 where
   pub listed : Listed es f
   pub pieces : AreByPiece es
   pub counted : length es ≡ count
   pub placed : IsTrue old.is_open → IsOurs old.committed.schema → ArePlaced old.committed all es
 
--- an entry for a row, by its number and its place
+-- An entry for a row, by its number and its place.
 abbrev pub piece_of : PlacementRow → (ℕ × ℕ) × PlacementRow
 piece_of p = ((p.number, p.place), p)

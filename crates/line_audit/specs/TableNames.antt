@@ -1,11 +1,11 @@
--- The state tables: their names, and what they are in the schema.
+-- The state tables: their names, and their declarations in the schema.
 use Rattle.std.specs.Prelude.{List, ℕ, codes}
 use Rattle.sqlite_schema.specs.declared.schema.Table.{Table}
 use Rattle.line_tables.specs.Line as line
 use Rattle.line_audit.specs.declared.table.StateTable.{StateTable}
 use Rattle.line_audit.specs.declared.table.StateTable.TheVariants.{Part, Alternate, SheetRow, Selected, Reel, Mount, Board, Placement, Found}
 
--- the name in SQL
+-- The name in SQL.
 abbrev pub name_of : StateTable → List ℕ
 name_of Part = codes "part"
 name_of Alternate = codes "alternate"
@@ -17,7 +17,7 @@ name_of Board = codes "board"
 name_of Placement = codes "placement"
 name_of Found = codes "found"
 
--- with its columns, its keys and its tree
+-- The table with its columns, its keys and its tree.
 abbrev pub table_of : StateTable → Table
 table_of Part = line.part
 table_of Alternate = line.alternate

@@ -18,7 +18,7 @@ use sqlite::{Alter, Connection, Error};
 use state_rows::RowSet;
 use std::alloc::Global;
 
-/// What was learnt of the placements that are expected.
+/// The result of looking up the expected placements.
 #[derive(Clone, Copy, Debug)]
 pub struct Placed {
     /// Whether each was found.
@@ -26,7 +26,7 @@ pub struct Placed {
     pub count: u64,
 }
 
-/// The order of an audit. Under rules One there is no table of found pieces, which is the last.
+/// The order of an audit. Rules One lack the last table, that of found pieces.
 const STATE_TABLES: [StateTable; 9] = [
     StateTable::Part,
     StateTable::Alternate,
@@ -39,9 +39,8 @@ const STATE_TABLES: [StateTable; 9] = [
     StateTable::Found,
 ];
 
-/// The first table whose rows are not those of the set, if there is one, among the tables that there
-/// are under the rules. What is said of placements goes by what was learnt of them, and not by those
-/// of the set.
+/// Returns the first table, among those of the rules, whose rows are not those of the set. Placements are compared with
+/// those given, and not with those of the set.
 pub fn audit<S: Alter>(
     alloc: Global,
     conn: &mut Connection<S>,
@@ -62,7 +61,6 @@ pub fn audit<S: Alter>(
     }
 }
 
-/// The first of these tables whose rows are not those of the set, if there is one.
 fn audit_tables<S: Alter>(
     alloc: Global,
     conn: &mut Connection<S>,
@@ -86,7 +84,6 @@ fn audit_tables<S: Alter>(
     Ok(None)
 }
 
-/// Whether the rows of the table are those of the set.
 fn is_same<S: Alter>(
     alloc: Global,
     conn: &mut Connection<S>,
@@ -113,7 +110,7 @@ fn is_same<S: Alter>(
     }
 }
 
-/// Whether `placement` has the expected rows: each was found, and there are so many.
+/// Returns whether `placement` has the expected rows: each was found, and their number is right.
 fn are_placements<S: Alter>(conn: &mut Connection<S>, placed: Placed) -> Result<bool, Error>
     ensures same { HasCleanDisk (state S.Store conn.new)
         → IfOk result (λ b. (f : ℕ × ℕ → Option PlacementRow) → (es : Pieces)

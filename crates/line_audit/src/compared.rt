@@ -1,4 +1,4 @@
-//! Whether a table has just the rows of a set.
+//! The comparison of a table with a set.
 
 ghost use Rattle.std.specs.Prelude.{◌≡◌, IfOk};
 ghost use Rattle.std.specs.Iterator.{IsFinite};
@@ -14,7 +14,7 @@ use crate::table::StateTable;
 use sqlite::{Alter, Connection, Error};
 use std::alloc::Global;
 
-/// Whether the table has just the rows that are expected.
+/// Returns whether the table has exactly the expected rows.
 pub fn are_rows<E: ExpectedRow, I: Iterator<Item = E>, S: Alter>(
     alloc: Global,
     conn: &mut Connection<S>,

@@ -1,4 +1,4 @@
-//! What a row of a state table is expected to be.
+//! The expected rows of a state table.
 
 ghost use Rattle.std.specs.Prelude.{IfOk};
 ghost use Rattle.sqlite.specs.State.{HasCleanDisk};
@@ -10,16 +10,16 @@ ghost use Rattle.line_tables.specs.Frames.{ReadsOnly};
 use sqlite::{Alter, Connection, Error};
 use std::alloc::Global;
 
-/// A row that is expected, as a set of rows lends it.
+/// An expected row, borrowed from a set of rows.
 pub trait ExpectedRow: Drop + Sized {
     ghost use Rattle.std.specs.Prelude.{Bool};
     ghost use Rattle.sqlite_value.specs.Order.{Row};
     ghost use Rattle.line_audit.specs.declared.table.StateTable.{StateTable};
 
-    /// What it is looked up by.
+    /// Its key.
     type Key;
 
-    /// What a set keeps of it beside the key.
+    /// The value that a set stores for the key.
     type Kept;
 
     /// Its table.
@@ -31,10 +31,10 @@ pub trait ExpectedRow: Drop + Sized {
     /// The columns of a row.
     ghost columns: { Self.Key → Self.Kept → Row };
 
-    /// Its key, and what is kept of it.
+    /// Its key and its stored value.
     ghost entry: { Self → Self.Key × Self.Kept };
 
-    /// Whether the table has one row with its key, and that one has its columns.
+    /// Whether the table has exactly one row with its key, with its columns.
     fn is_alone<S: Alter>(self, alloc: Global, conn: &mut Connection<S>) -> Result<bool, Error>
         ensures found { HasCleanDisk (state S.Store conn.new)
             → IfOk result (FindsEntry (table_of table) has columns (entry self) (state S.Store conn.old)) }

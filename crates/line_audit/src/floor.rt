@@ -36,7 +36,7 @@ impl<'a> ExpectedRow for (&'a Id, &'a ReelRow) {
     }
 }
 
-/// A mounted reel. The set has it by its number too.
+/// A mounted reel, which the set also has by number.
 impl<'a> ExpectedRow for (&'a (u64, Id), &'a MountRow) {
     ghost use Rattle.line_tables.specs.StateRows.{has_text, mount_columns};
     ghost use Rattle.line_audit.specs.declared.table.StateTable.TheVariants.{Mount};

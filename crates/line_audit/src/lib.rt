@@ -1,4 +1,4 @@
-//! Whether the rows of the state tables in a file are those of a set of rows.
+//! Compares the rows of the state tables in a file with a set of rows.
 #![tactic(auto)]
 
 mod auditing;

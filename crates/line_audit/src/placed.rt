@@ -15,8 +15,8 @@ use line_tables::row_values::placement_values;
 use line_tables::values::{designator, int, text};
 use sqlite::{Alter, Connection, Error};
 
-/// Whether the row is the one of its board, its designator, its number and its place. It is looked up
-/// by the index on board and designator.
+/// Returns whether the row is the only one of its board, designator, number and place. It is looked up by the index on
+/// board and designator.
 pub fn has_placement<S: Alter>(conn: &mut Connection<S>, row: &PlacementRow) -> Result<bool, Error>
     ensures found { HasCleanDisk (state S.Store conn.new)
         → IfOk result

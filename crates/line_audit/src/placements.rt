@@ -17,8 +17,8 @@ use line_tables::select::select;
 use line_tables::values::int;
 use sqlite::{Alter, Connection, Error, Row};
 
-/// Whether each of the rows, all of this number, is in the table. In a file of ours their rowids go by
-/// number and place, so one query shows them; in any other each is looked up.
+/// Returns whether each of the rows, all of this number, is in the table. In our files rowids follow from number and
+/// place, so one query shows them. In any other file each is looked up.
 pub fn has_placements<S: Alter>(
     conn: &mut Connection<S>,
     entry: u64,
@@ -35,7 +35,7 @@ pub fn has_placements<S: Alter>(
     has_each(conn, rows)
 }
 
-/// Whether the rows whose rowids go by this number are just these. Then each is in the table.
+/// Returns whether the rows with the rowids of this number are exactly these. If so, each is in the table.
 fn are_in_a_row<S: Alter>(
     conn: &mut Connection<S>,
     entry: u64,

@@ -34,7 +34,7 @@ impl<'a> ExpectedRow for &'a Id {
     }
 }
 
-/// A part, and one that may stand in its place.
+/// A part, and one of its alternates.
 impl<'a> ExpectedRow for &'a (Id, Id) {
     ghost use Rattle.line_tables.specs.StateRows.{alternate_columns, has_pair};
     ghost use Rattle.line_audit.specs.declared.table.StateTable.TheVariants.{Alternate};

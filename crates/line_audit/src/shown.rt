@@ -16,7 +16,7 @@ use sqlite::types::ValueRef;
 use sqlite::{Alter, Connection, Error, Row};
 use sqlite_value::order::is_same;
 
-/// Whether the query shows just one row, which has these values.
+/// Returns whether the query shows exactly one row, with these values.
 pub fn shows_only<S: Alter>(
     conn: &mut Connection<S>,
     sql: &str,
@@ -40,7 +40,7 @@ fn is_only(rows: &[Row], wanted: &[ValueRef<'_>]) -> bool
     }
 }
 
-/// Whether the row has just these values.
+/// Returns whether the row has exactly these values.
 pub fn is_row(row: &Row, wanted: &[ValueRef<'_>]) -> bool
     ensures { IsTrue result ↔ (row.now ≡ values_of wanted.now) }
 {
@@ -60,7 +60,7 @@ pub fn is_row(row: &Row, wanted: &[ValueRef<'_>]) -> bool
     true
 }
 
-/// How many rows the table has.
+/// Returns the number of rows of the table.
 pub fn count<S: Alter>(conn: &mut Connection<S>, table: StateTable) -> Result<u64, Error>
     ensures counted { HasCleanDisk (state S.Store conn.new)
         → IfOk result (Counts (table_of table) (state S.Store conn.old)) }

@@ -2,7 +2,7 @@
 
 use std::fmt;
 
-/// A state table. The order is that of an audit.
+/// A state table. Variants are in the order of an audit.
 #[derive(Clone, Copy, Debug, PartialEq, Eq)]
 pub enum StateTable {
     Part,

@@ -1,4 +1,4 @@
--- What was taken of the rows, told of the rows that were committed at first.
+-- The result of a replay, in terms of the committed rows.
 use Rattle.std.proofs.Common.{◌≡◌, ◌∙◌, ◌==◌, ◌+◌, ◌≤◌, ◌⊎◌, inl, inr, IsTrue, ℕ, Bool, true, false, [], length, filter, sym, subst, arith}
 use Rattle.std.proofs.lemmas.Bool.{eqb-true, eq-eqb, true≢false}
 use Rattle.std.specs.List.Sorted.{IsPermutation}
@@ -16,7 +16,7 @@ use Rattle.line_audit.specs.Audit.{ArePlaced}
 use Rattle.line_rows.specs.Rows.{rows_of, ledger_tables}
 use Rattle.line_replay.specs.declared.fault.ReplayFault.{ReplayFault}
 use Rattle.line_replay.specs.declared.fault.ReplayFault.TheVariants.{NotLawful, Unavailable}
-use Rattle.line_replay.specs.declared.beside.Beside.{Beside}
+use Rattle.line_replay.specs.Expected.{Expected}
 use Rattle.line_replay.specs.Listed.{AreAt, StopsAt}
 use Rattle.line_replay.specs.Replay.{IsReplayed, IsFaultOf, IsNumbered, IsStuck, IsTaken, IsEnd, IsStop}
 use Rattle.line_replay.proofs.ReadOfCommitted.{reads_two, reads_back}
@@ -24,7 +24,6 @@ use Rattle.line_replay.proofs.RowsOfLists.{are_rows}
 use Rattle.line_replay.proofs.StopsOfRows.{stops_stuck, stops_short}
 use Rattle.desk_types.specs.declared.rules.Rules.TheVariants.{Two}
 
--- a place where the rows stop, told of the rows at first
 pub stops_before : (rules : Rules) (greatest : ℕ) (old mid : State) (n : ℕ) → KeepsCommit old mid → Reads old (λ db. IsNumbered (accepted_in db)) → IsStop rules greatest mid n → IsFaultOf rules greatest old (NotLawful n)
 stops_before rules greatest old mid n kept numbered stop =
     let H = stop.0 in
@@ -33,14 +32,13 @@ stops_before rules greatest old mid n kept numbered stop =
     (reads_two old (λ db. IsNumbered (accepted_in db)) (λ db. AreAt (accepted_in db) H × IsStuck rules H (accepted_in db)) (λ db. StopsAt rules greatest (accepted_in db) (length H + 1))
     (λ db first at. stops_stuck rules greatest (accepted_in db) H first stop.1 at.0 low at.1) numbered (reads_back old mid _ kept stop.4))
 
--- what the loop tells of a fault
 pub fault_before : (rules : Rules) (greatest : ℕ) (old mid : State) (f : ReplayFault) → KeepsCommit old mid → Reads old (λ db. IsNumbered (accepted_in db))
     → (f ≡ Unavailable) ⊎ ((n : ℕ) × (f ≡ NotLawful n) × IsStop rules greatest mid n) → IsFaultOf rules greatest old f
 fault_before rules greatest old mid f kept numbered (inl is) = subst (IsFaultOf rules greatest old) (sym is) tt
 fault_before rules greatest old mid f kept numbered (inr stop) = subst (IsFaultOf rules greatest old) (sym stop.1) (stops_before rules greatest old mid stop.0 kept numbered stop.2)
 
-module _ {D : Type 0} (F : D → History → Type 0) (rules : Rules) (greatest : ℕ) (first mid last : State) (desk : D) (beside : Beside) (n : ℕ) (H : History) (Before After : Type 0)
-    (early : After → Before) (kept : After → KeepsCommit first mid) (kept_on : After → KeepsCommit mid last) (low : n ≤ greatest) (taken : IsTaken F rules Before mid.committed desk beside n H)
+module _ {D : Type 0} (F : D → History → Type 0) (rules : Rules) (greatest : ℕ) (first mid last : State) (desk : D) (expected : Expected) (n : ℕ) (H : History) (Before After : Type 0)
+    (early : After → Before) (kept : After → KeepsCommit first mid) (kept_on : After → KeepsCommit mid last) (low : n ≤ greatest) (taken : IsTaken F rules Before mid.committed desk expected n H)
     (are : Bool) (counted : After → Reads last (λ db. are ≡ (n == length (accepted_in db)))) where
   same : After → mid.committed ≡ first.committed
   same clean = (kept clean).committed ((kept_on clean).was_open (counted clean).was_open)
@@ -54,7 +52,7 @@ module _ {D : Type 0} (F : D → History → Type 0) (rules : Rules) (greatest :
   within : length H ≤ greatest
   within = omega (arith, low, taken.counted)
 
-  pub replayed : are ≡ true → IsReplayed F rules greatest After first desk beside n H
+  pub replayed : are ≡ true → IsReplayed F rules greatest After first desk expected n H
   replayed is = record {
     stands = taken.stands;
     judged = taken.judged;
@@ -72,11 +70,10 @@ module _ {D : Type 0} (F : D → History → Type 0) (rules : Rules) (greatest :
       named = taken.others.named;
       counted = taken.others.counted;
       told = λ clean schema.
-          subst (λ (db : Database). ArePlaced db beside.placed.all taken.others.pieces) (same clean) (taken.others.told (early clean) (subst (λ (db : Database). IsOurs db.schema) (sym (same clean)) schema));
+          subst (λ (db : Database). ArePlaced db expected.placed.all taken.others.pieces) (same clean) (taken.others.told (early clean) (subst (λ (db : Database). IsOurs db.schema) (sym (same clean)) schema));
     };
   }
 
-  -- the rows are more than were taken
   apart : (long : ℕ) → are ≡ (n == long) → are ≡ false → length H ≡ long → ⊥
   apart long told not is = true≢false (sym (eq-eqb n long (sym taken.counted ∙ is)) ∙ sym told ∙ not)
 
@@ -92,11 +89,10 @@ module _ {D : Type 0} (F : D → History → Type 0) (rules : Rules) (greatest :
             (stops_short rules greatest (accepted_in first.committed) H (numbered.are schema) taken.judged (here clean schema) within (end_of clean end schema) (apart _ (r.are schema) not));
       }
 
--- the list that was read again is the one whose tables these are
-pub same_list : {D : Type 0} (F : D → History → Type 0) (rules : Rules) (greatest : ℕ) (Clean : Type 0) (old : State) (desk : D) (beside : Beside) (count : ℕ) (H G : History)
-    → ((A B : History) → IsJudged rules A → IsJudged rules B → IsPermutation (rows_of A) (rows_of B) → A ≡ B) → IsReplayed F rules greatest Clean old desk beside count H → IsJudged rules G
+pub same_list : {D : Type 0} (F : D → History → Type 0) (rules : Rules) (greatest : ℕ) (Clean : Type 0) (old : State) (desk : D) (expected : Expected) (count : ℕ) (H G : History)
+    → ((A B : History) → IsJudged rules A → IsJudged rules B → IsPermutation (rows_of A) (rows_of B) → A ≡ B) → IsReplayed F rules greatest Clean old desk expected count H → IsJudged rules G
     → (IsTrue old.is_open → Holds old.committed (ledger_tables greatest G)) → Clean → H ≡ G
-same_list F rules greatest Clean old desk beside count H G tell all judged holds clean =
+same_list F rules greatest Clean old desk expected count H G tell all judged holds clean =
     let r = all.rows clean in
     let tables = holds r.was_open in
     tell H G all.judged judged (IsPermutation-trans _ _ _ (IsPermutation-sym _ _ (r.are (record { rules = Two; layout = tables.indexed; same = tables.schema })).same) tables.accepted)

@@ -1,7 +1,7 @@
 pub mod Committed
+pub mod ExpectedRows
 pub mod OneRowMore
 pub mod ReadOfCommitted
-pub mod RowsBeside
 pub mod RowsOfLists
 pub mod StopsOfRows
 pub mod Tests

@@ -1,4 +1,4 @@
--- One row more is taken.
+-- One more row is taken.
 use Rattle.std.proofs.Common.{◌≡◌, ◌∙◌, ◌⊎◌, ◌+◌, ◌≤◌, inl, inr, ℕ, true, false, true≢false, Option, Some, [], ◌∷◌, length, filter, sym, ap, arith}
 use Rattle.std.specs.List.{list_any}
 use Rattle.sqlite_value.specs.Order.{Row}
@@ -12,16 +12,16 @@ use Rattle.line_tables.specs.Calls.{Reads, has_number, is_before, only}
 use Rattle.line_rows.specs.Judging.{GoesOn}
 use Rattle.line_rows.specs.Rows.{entry_row}
 use Rattle.line_replay.specs.Listed.{IsAt}
-use Rattle.line_replay.specs.declared.beside.Beside.{Beside}
+use Rattle.line_replay.specs.Expected.{Expected}
 use Rattle.line_replay.specs.declared.fault.ReplayFault.{ReplayFault}
 use Rattle.line_replay.specs.declared.fault.ReplayFault.TheVariants.{NotLawful, Unavailable}
 use Rattle.line_replay.specs.Replay.{StandsListed, Goes, IsStuck, IsStop, IsTaken}
 use Rattle.trace_lists.specs.declared.lists.TraceLists.{TraceLists}
-use Rattle.line_replay.proofs.RowsBeside.{beside_more}
+use Rattle.line_replay.proofs.ExpectedRows.{expected_more}
 use Rattle.line_replay.proofs.ReadOfCommitted.{reads_back, reads_two}
 
 module _ {D : Type 0} (F : D → History → Type 0) (rules : Rules) (old mid : State) (Before After : Type 0) (early : After → Before) (kept : Before → KeepsCommit old mid)
-    (desk new : D) (before after : Beside) (count : ℕ) (H : History) (taken : IsTaken F rules Before old.committed desk before count H) where
+    (desk new : D) (before after : Expected) (count : ℕ) (H : History) (taken : IsTaken F rules Before old.committed desk before count H) where
   at_first : (P : Database → Type 0) → After → Reads mid P → Reads old P
   at_first P clean r = reads_back old mid P (kept (early clean)) r
 
@@ -33,11 +33,10 @@ module _ {D : Type 0} (F : D → History → Type 0) (rules : Rules) (old mid : 
       judged = (went.next, taken.judged);
       counted = omega (arith, taken.counted);
       rows = λ clean schema. ((at_first _ clean (went.row clean)).are schema, taken.rows (early clean) schema);
-      others = beside_more Before After old mid went.edits before after H went.entry early (λ clean. kept (early clean)) taken.others went.lead went.adds;
+      others = expected_more Before After old mid went.edits before after H went.entry early (λ clean. kept (early clean)) taken.others went.lead went.adds;
     },
   )
 
--- a row of the next number is that of an entry
 pub row_taken : (old first : State) (o : Option Row) (row : Row) (H : History) (e : Entry) (number : ℕ) → KeepsCommit old first → o ≡ Some row → length H + 1 ≡ number → row ≡ entry_row H e
     → Reads old (λ db. filter (has_number number) (accepted_in db) ≡ only o) → Reads first (λ db. list_any (is_before e.stamped.uid number) (accepted_in db) ≡ false) → Reads old (λ db. IsAt (accepted_in db) H e)
 row_taken old first o row H e number kept is numbered same found none =
@@ -48,7 +47,6 @@ row_taken old first o row H e number kept is numbered same found none =
     })
     found (reads_back old first _ kept none)
 
--- the row of the next number is that of no entry that goes on, but of one whose UniqueID came before
 row_stuck : (rules : Rules) (old first : State) (o : Option Row) (row : Row) (H : History) (number : ℕ) → KeepsCommit old first → o ≡ Some row → length H + 1 ≡ number
     → Reads old (λ db. filter (has_number number) (accepted_in db) ≡ only o) → ((e : Entry) → GoesOn rules H row e → Reads first (λ db. list_any (is_before e.stamped.uid number) (accepted_in db) ≡ true))
     → Reads old (λ db. IsStuck rules H (accepted_in db))
@@ -74,16 +72,14 @@ pub fault_stuck : (rules : Rules) (old first : State) (o : Option Row) (row : Ro
 fault_stuck rules old first o row H number kept is numbered found f (inl none) = inl none
 fault_stuck rules old first o row H number kept is numbered found f (inr stop) = inr (stop.0, row_stuck rules old first o row H number kept is numbered found stop.1)
 
--- no entry goes on with the rows that were taken
-pub fault_taken : {D : Type 0} (F : D → History → Type 0) (rules : Rules) (greatest : ℕ) (old mid : State) (Clean : Type 0) (desk : D) (beside : Beside) (count : ℕ) (H : History) → Clean → KeepsCommit old mid
-    → IsTaken F rules Clean old.committed desk beside count H → count + 1 ≤ greatest → (f : ReplayFault) → (f ≡ Unavailable) ⊎ ((f ≡ NotLawful (count + 1)) × Reads mid (λ db. IsStuck rules H (accepted_in db)))
+pub fault_taken : {D : Type 0} (F : D → History → Type 0) (rules : Rules) (greatest : ℕ) (old mid : State) (Clean : Type 0) (desk : D) (expected : Expected) (count : ℕ) (H : History) → Clean → KeepsCommit old mid
+    → IsTaken F rules Clean old.committed desk expected count H → count + 1 ≤ greatest → (f : ReplayFault) → (f ≡ Unavailable) ⊎ ((f ≡ NotLawful (count + 1)) × Reads mid (λ db. IsStuck rules H (accepted_in db)))
     → (f ≡ Unavailable) ⊎ ((n : ℕ) × (f ≡ NotLawful n) × IsStop rules greatest old n)
-fault_taken F rules greatest old mid Clean desk beside count H clean kept taken low f (inl none) = inl none
-fault_taken F rules greatest old mid Clean desk beside count H clean kept taken low f (inr stop) =
+fault_taken F rules greatest old mid Clean desk expected count H clean kept taken low f (inl none) = inl none
+fault_taken F rules greatest old mid Clean desk expected count H clean kept taken low f (inr stop) =
     let stuck = reads_back old mid _ kept stop.1 in
     inr (count + 1, stop.0, (H, taken.judged, omega (arith, taken.counted), low, record { was_open = stuck.was_open; are = λ schema. (taken.rows clean schema, stuck.are schema) }))
 
--- what is taken into a desk with lists is taken into the desk
-pub desk-taken : {D : Type 0} {F : D → History → Type 0} {rules : Rules} {Clean : Type 0} {db : Database} {desk : D} {lists : TraceLists} {beside : Beside} {count : ℕ} {H : History}
-    → IsTaken (StandsListed F) rules Clean db (desk, lists) beside count H → IsTaken F rules Clean db desk beside count H
+pub desk-taken : {D : Type 0} {F : D → History → Type 0} {rules : Rules} {Clean : Type 0} {db : Database} {desk : D} {lists : TraceLists} {expected : Expected} {count : ℕ} {H : History}
+    → IsTaken (StandsListed F) rules Clean db (desk, lists) expected count H → IsTaken F rules Clean db desk expected count H
 desk-taken taken = record { stands = taken.stands.0; judged = taken.judged; counted = taken.counted; rows = taken.rows; others = taken.others }

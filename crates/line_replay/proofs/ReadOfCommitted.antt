@@ -1,4 +1,4 @@
--- What is read, told of what was committed before.
+-- Reads, in terms of the earlier committed contents.
 use Rattle.std.proofs.Common.{subst, sym}
 use Rattle.sqlite.specs.Effect.{Database}
 use Rattle.sqlite.specs.State.{State, KeepsCommit}
@@ -11,7 +11,6 @@ reads_as old P Q f p = record { was_open = p.was_open; are = λ schema. f old.co
 pub reads_two : (old : State) (P Q R : Database → Type 0) → ((db : Database) → P db → Q db → R db) → Reads old P → Reads old Q → Reads old R
 reads_two old P Q R f p q = record { was_open = p.was_open; are = λ schema. f old.committed (p.are schema) (q.are schema) }
 
--- what is committed stayed
 pub reads_back : (old mid : State) (P : Database → Type 0) → KeepsCommit old mid → Reads mid P → Reads old P
 reads_back old mid P kept r =
     let same = kept.committed r.was_open in

@@ -1,4 +1,4 @@
--- The rows of a list whose entries have their rows among the rows of a table.
+-- The rows of a history whose entries have their rows in a table.
 use Rattle.std.proofs.Common.{◌≡◌, ◌∙◌, ◌+◌, ◌<◌, ◌≤◌, inl, inr, not, ℕ, ℤ, Bool, true, false, ◌||◌, List, [], ◌∷◌, ◌++◌, length, map, filter, is_gt, refl, sym, ap, subst, subst₂, if◌then◌else◌, arith, append-nil, length-append, Some}
 use Rattle.std.proofs.lemmas.Bool.{cases_Bool}
 use Rattle.std.specs.List.{AllByRecursion, IsDistinct, list_any}
@@ -35,7 +35,6 @@ least_below numbers others m n more same low other =
     let moved = All-permutation P (Int m ∷ others) (Int n ∷ more) (IsPermutation-trans _ _ _ (IsPermutation-sym _ _ same) other) all in
     (recursion_from_All P (Int n ∷ more) moved).0
 
--- there is one least number
 pub one_least : (rows : List Row) (m n : ℤ) → IsLeast rows (Some m) → IsLeast rows (Some n) → m ≡ n
 one_least rows m n h k = neither_less m n (least_below _ h.0 m n k.0 h.1 h.2 k.1) (least_below _ k.0 n m h.0 k.1 k.2 h.1)
 
@@ -45,7 +44,6 @@ none_numbered : (rules : Rules) (H : History) (n : ℕ) → IsJudged rules H →
 none_numbered rules [] n judged h = tt
 none_numbered rules (e ∷ H) n judged h = (other_number n H e (omega (arith, judged.0.number, h)), none_numbered rules H n judged.1 (omega (arith, h)))
 
--- what passes of rows that are those of the list and others is among the others
 left_alone : (rules : Rules) (rows rest : List Row) (H : History) (row : Row) → IsJudged rules H → IsPermutation rows (rows_of H ++ rest) → filter (has_number (length H + 1)) rows ≡ row ∷ []
     → filter (has_number (length H + 1)) rest ≡ row ∷ []
 left_alone rules rows rest H row judged same found =
@@ -67,11 +65,9 @@ others_of rules rows (e ∷ H) judged at =
 others_length : (rules : Rules) (rows : List Row) (H : History) (rest : List Row) → IsPermutation rows (rows_of H ++ rest) → length rows ≡ length H + length rest
 others_length rules rows H rest same = sym (length_permutation _ _ same) ∙ length-append (rows_of H) rest ∙ ap (λ n. n + length rest) (rows-length H)
 
--- there are at least as many rows as entries
 pub no_fewer : (rules : Rules) (rows : List Row) (H : History) → IsJudged rules H → AreAt rows H → length H ≤ length rows
 no_fewer rules rows H judged at = let o = others_of rules rows H judged at in omega (arith, others_length rules rows H o.0 o.1)
 
--- and more, where a row has the next number
 pub more_rows : (rules : Rules) (rows : List Row) (H : History) (row : Row) → IsJudged rules H → AreAt rows H → filter (has_number (length H + 1)) rows ≡ row ∷ [] → length H < length rows
 more_rows rules rows H row judged at found =
     let o = others_of rules rows H judged at in
@@ -82,7 +78,6 @@ more_rows rules rows H row judged at found =
     some_left p [] row h = absurd (cc)
     some_left p (r ∷ rest) row h = omega arith
 
--- as many rows as entries are those of the list
 pub all_rows : (rules : Rules) (rows : List Row) (H : History) → IsJudged rules H → AreAt rows H → length rows ≡ length H → IsPermutation rows (rows_of H)
 all_rows rules rows H judged at long =
     let o = others_of rules rows H judged at in
@@ -94,7 +89,6 @@ all_rows rules rows H judged at long =
 
 -- ---- the UniqueIDs
 
--- what no row passes, a row that was found doesn't pass
 none_found : (p q : Row → Bool) (rows : List Row) (row : Row) → list_any q rows ≡ false → filter p rows ≡ row ∷ [] → q row ≡ false
 none_found p q [] row none found = absurd (cc)
 none_found p q (r ∷ rows) row none found = by (p r) (q r) refl (none_found p q rows row) none found
@@ -122,7 +116,6 @@ none_yet : IsDistinct same []
 unfolding IsDistinct
 none_yet = tt
 
--- no UniqueID comes twice
 pub distinct_uids : (rules : Rules) (rows : List Row) (H : History) → IsJudged rules H → AreAt rows H → IsDistinct same (map (λ (e : Entry). e.stamped.uid) H)
 distinct_uids rules rows [] judged at = none_yet
 distinct_uids rules rows (e ∷ H) judged at =

@@ -1,4 +1,4 @@
--- Where the rows stop being a list.
+-- The place where the rows stop being a history.
 use Rattle.std.proofs.Common.{◌≡◌, ◌∙◌, ◌+◌, ◌<◌, ◌≤◌, ◌⊎◌, inl, inr, ℕ, ℤ, pos, List, [], ◌∷◌, length, filter, refl, sym, ap, arith, Some}
 use Rattle.std.proofs.lemmas.List.Sorted.{length_permutation}
 use Rattle.std.proofs.lemmas.List.{length-map}
@@ -12,11 +12,9 @@ use Rattle.line_replay.specs.Listed.{AreAt, BeginWith, StopsAt}
 use Rattle.line_replay.specs.Replay.{IsNumbered, IsStuck}
 use Rattle.line_replay.proofs.RowsOfLists.{one_least, more_rows, no_fewer, lawful_at}
 
--- rows with a least number are some
 some_least : (rows : List Row) (n : ℤ) → IsLeast rows (Some n) → 0 < length rows
 some_least rows n h = omega (arith, length_permutation _ _ h.1, length-map rows (λ row. column row 0))
 
--- no list begins where the least number is not 1
 pub stops_first : (rules : Rules) (greatest : ℕ) (rows : List Row) (n : ℤ) → IsLeast rows (Some n) → (n ≡ pos 1 → ⊥) → StopsAt rules greatest rows 1
 stops_first rules greatest rows n least other = record {
   list = [];
@@ -35,7 +33,6 @@ begin_with rows H (inl none) at = record { least = λ some. absurd (nothing_at H
     nothing_at [] at some = omega (arith, some)
     nothing_at (e ∷ H) at some = let found = sym (ap (filter (has_number (length H + 1))) none) ∙ at.0.row in cc
 
--- no entry goes on with the row of the next number
 pub stops_stuck : (rules : Rules) (greatest : ℕ) (rows : List Row) (H : History) → IsNumbered rows → IsJudged rules H → AreAt rows H → length H + 1 ≤ greatest → IsStuck rules H rows → StopsAt rules greatest rows (length H + 1)
 stops_stuck rules greatest rows H numbered judged at low stuck = record {
   list = H;
@@ -46,7 +43,6 @@ stops_stuck rules greatest rows H numbered judged at low stuck = record {
   stops = λ e lawful begin. stuck.stuck e lawful.judged.0 begin.entries.0;
 }
 
--- there are more rows than entries, and no row of the next number, or no further number
 pub stops_short : (rules : Rules) (greatest : ℕ) (rows : List Row) (H : History) → IsNumbered rows → IsJudged rules H → AreAt rows H → length H ≤ greatest
     → (length H ≡ greatest) ⊎ (filter (has_number (length H + 1)) rows ≡ []) → (length H ≡ length rows → ⊥) → StopsAt rules greatest rows (length H + 1)
 stops_short rules greatest rows H numbered judged at low end other = record {

@@ -1,4 +1,4 @@
--- What SQL's tests say of the columns of an entry's row.
+-- SQL's tests of the columns of an entry's row.
 use Rattle.std.proofs.Common.{◌≡◌, ◌∙◌, ◌&&◌, ◌<◌, ℕ, ℤ, pos, Bool, true, false, List, Some, Ordering, Less, Equal, Greater, is_lt, is_gt, is_eq, int_cmp, refl, sym, ap, ap₂, arith}
 use Rattle.std.proofs.lemmas.Bool.Decides.{nat_tests}
 use Rattle.std.proofs.lemmas.Int.{ints}
@@ -36,24 +36,20 @@ lower_test : (a b : ℕ) → is_true (binary (Compare Lt Binary) (Int (pos a)) (
 unfolding binary
 lower_test a b = truth_told _
 
--- the row of an entry has its UniqueID
 pub uid_test : (uid : List ℕ) (G : History) (e : Entry) → has_uid uid (entry_row G e) ≡ same e.stamped.uid uid
 uid_test uid G e = text_test e.stamped.uid uid ∙ ap is_eq (value_cmp-Text e.stamped.uid uid) ∙ sym (texts_ties e.stamped.uid uid)
 
 lower_cmp : (m n : ℕ) → m < n → value_cmp (Int (pos m)) (Int (pos n)) ≡ Less
 lower_cmp m n h = value_cmp-Int (pos m) (pos n) ∙ grind (arith, ints, nat_tests)
 
--- a lower number is not this one
 pub other_number : (n : ℕ) (G : History) (e : Entry) → e.number < n → has_number n (entry_row G e) ≡ false
 other_number n G e low = number_test e.number n ∙ ap is_eq (lower_cmp e.number n low)
 
--- the row of an entry of a lower number with this UniqueID comes before
 pub before_test : (uid : List ℕ) (n : ℕ) (G : History) (e : Entry) → same e.stamped.uid uid ≡ true → e.number < n → is_before uid n (entry_row G e) ≡ true
 before_test uid n G e is low =
     let lower : is_true (binary (Compare Lt Binary) (Int (pos e.number)) (Int (pos n))) ≡ true = lower_test e.number n ∙ ap is_lt (lower_cmp e.number n low) in
     ap₂ (λ a b. a && b) (uid_test uid G e ∙ is) lower
 
--- no value is less than itself
 pub not_below_itself : (n : ℤ) → is_gt (collated Binary (Int n) (Int n)) ≡ false
 not_below_itself n = ap is_gt (tied_itself value_cmp_total (Int n))
 
@@ -62,7 +58,6 @@ between Less a b = absurd (cc)
 between Equal a b = refl
 between Greater a b = absurd (cc)
 
--- two numbers of which neither is less are one
 pub neither_less : (m n : ℤ) → is_gt (collated Binary (Int m) (Int n)) ≡ false → is_gt (collated Binary (Int n) (Int m)) ≡ false → m ≡ n
 neither_less m n h k =
     let first : is_gt (int_cmp m n) ≡ false = sym (ap is_gt (value_cmp-Int m n)) ∙ h in

@@ -1,3 +1,3 @@
 pub mod Listed
-pub mod Beside
+pub mod Expected
 pub mod Replay

@@ -1,4 +1,5 @@
--- Which list the rows of `accepted` are, and where they stop being one. The rows are taken by number, and their order says nothing.
+-- The history in the rows of `accepted`, and the place where they stop being one. Rows are taken by number; their order
+-- does not matter.
 use Rattle.std.specs.Prelude.{◌≡◌, ℕ, ◌+◌, ◌<◌, ◌≤◌, ⊤, pos, false, List, [], ◌∷◌, length, filter, Some}
 use Rattle.std.specs.List.{list_any}
 use Rattle.std.specs.List.Sorted.{IsPermutation}
@@ -10,22 +11,23 @@ use Rattle.desk_types.specs.Judged.{IsLawful}
 use Rattle.line_tables.specs.Calls.{has_number, is_before, IsLeast}
 use Rattle.line_rows.specs.Rows.{entry_row, rows_of}
 
--- one row has the number that comes next after H, it is that of the entry, and no row of a lower number has its UniqueID
+-- Exactly one row has the number that follows H, it is that of the entry, and no row of a lower number has its
+-- UniqueID.
 pub record IsAt (rows : List Row) (H : History) (e : Entry) : Type 0 where
   pub row : filter (has_number (length H + 1)) rows ≡ entry_row H e ∷ []
   pub first : list_any (is_before e.stamped.uid (length H + 1)) rows ≡ false
 
--- each entry has its row among the rows
+-- Each entry has its row among the rows.
 abbrev pub AreAt : List Row → History → Type 0
 AreAt rows [] = ⊤
 AreAt rows (e ∷ H) = IsAt rows H e × AreAt rows H
 
--- the rows begin with those of H: no number is below 1, and the numbers from 1 on are those of its entries
+-- The rows begin with those of H: no number is below 1, and the numbers from 1 on are those of its entries.
 pub record BeginWith (rows : List Row) (H : History) : Type 0 where
   pub least : 1 ≤ length H → IsLeast rows (Some (pos 1))
   pub entries : AreAt rows H
 
--- The rows before the place n are those of a lawful list, there are more rows, and no entry goes on with it: the row at n is missing, has another number, can't be read, is not what judging it again gives, comes under a UniqueID that was there, or is one too many.
+-- The rows before the place n are those of a lawful history, there are more rows, and no entry continues it.
 pub record StopsAt (rules : Rules) (greatest : ℕ) (rows : List Row) (n : ℕ) : Type 0 where
   pub list : History
   pub lawful : IsLawful rules greatest list
@@ -34,7 +36,7 @@ pub record StopsAt (rules : Rules) (greatest : ℕ) (rows : List Row) (n : ℕ) 
   pub more : length list < length rows
   pub stops : (e : Entry) → IsLawful rules greatest (e ∷ list) → BeginWith rows (e ∷ list) → ⊥
 
--- the rows are, in some order, those of the list, which is lawful
+-- The rows are those of the history, in some order, and the history is lawful.
 pub record AreRowsOf (rules : Rules) (greatest : ℕ) (rows : List Row) (H : History) : Type 0 where
   pub lawful : IsLawful rules greatest H
   pub same : IsPermutation rows (rows_of H)

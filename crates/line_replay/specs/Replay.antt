@@ -1,4 +1,4 @@
--- What comes of reading a list again.
+-- The results of a replay.
 use Rattle.std.specs.Prelude.{◌≡◌, ◌⊎◌, ℕ, ◌+◌, ◌≤◌, ⊤, pos, Bool, true, false, List, [], ◌∷◌, length, filter, Some}
 use Rattle.std.specs.List.{list_any}
 use Rattle.sqlite_value.specs.Order.{Row}
@@ -14,53 +14,57 @@ use Rattle.line_tables.specs.Calls.{Reads, has_number, is_before, IsLeast}
 use Rattle.line_replay.specs.declared.fault.ReplayFault.{ReplayFault}
 use Rattle.line_replay.specs.declared.fault.ReplayFault.TheVariants.{NotLawful, Unavailable}
 use Rattle.line_replay.specs.Listed.{IsAt, AreAt, StopsAt, AreRowsOf}
-use Rattle.line_replay.specs.declared.beside.Beside.{Beside}
-use Rattle.line_replay.specs.Beside.{IsBeside, Adds}
+use Rattle.line_replay.specs.Expected.{Expected, AreExpected, Adds}
 use Rattle.line_rows.specs.Judging.{GoesOn, Lead}
+use Rattle.desk_types.specs.Edits.{with_edits}
+use Rattle.state_rows.specs.Kept.{KeptRows, tables_in, but_placements}
 use Rattle.desk_types.specs.declared.edit.RowEdit.{RowEdit}
 use Rattle.trace_lists.specs.declared.lists.TraceLists.{TraceLists}
 use Rattle.trace_lists.specs.Lists.{IsListed}
 
--- The desk stands for a judged list of so many entries, no more than the greatest number, and the rows beside it are the list's; on a clean disk the list is lawful, and the rows of accepted commands that are committed are its rows.
-pub record IsReplayed {D : Type 0} (StandsFor : D → History → Type 0) (rules : Rules) (greatest : ℕ) (Clean : Type 0) (old : State) (desk : D) (beside : Beside) (count : ℕ) (H : History) : Type 0 where
+-- The desk represents a judged history of this length, within the greatest number, and the expected rows are the
+-- history's. On a clean disk the history is lawful, and the committed rows of `accepted` are its rows.
+pub record IsReplayed {D : Type 0} (StandsFor : D → History → Type 0) (rules : Rules) (greatest : ℕ) (Clean : Type 0) (old : State) (desk : D) (expected : Expected) (count : ℕ) (H : History) : Type 0 where
   pub stands : StandsFor desk H
   pub judged : IsJudged rules H
   pub counted : length H ≡ count
   pub within : length H ≤ greatest
   pub rows : Clean → Reads old (λ db. AreRowsOf rules greatest (accepted_in db) H)
-  pub others : IsBeside Clean old.committed beside H
+  pub others : AreExpected Clean old.committed expected H
 
--- what a fault says of the rows that are committed
+-- The meaning of a fault for the committed rows.
 abbrev pub IsFaultOf : Rules → ℕ → State → ReplayFault → Type 0
 IsFaultOf rules greatest old (NotLawful n) = Reads old (λ db. StopsAt rules greatest (accepted_in db) n)
 IsFaultOf rules greatest old Unavailable = ⊤
 
--- ---- on the way
+-- ---- during the replay
 
--- A desk with the lists beside it stands for a list: so does the desk, and the lists list it.
+-- A desk with its trace indexes represents a history if the desk does, and the indexes list it.
 abbrev pub StandsListed : {D : Type 0} → (D → History → Type 0) → D × TraceLists → History → Type 0
 StandsListed StandsFor it H = StandsFor it.0 H × IsListed it.1 H
 
--- there is no row, or the least number is 1
+-- There is no row, or the least number is 1.
 abbrev pub IsNumbered : List Row → Type 0
 IsNumbered rows = (rows ≡ []) ⊎ IsLeast rows (Some (pos 1))
 
--- one row has the number that comes next after H, and it is that of no entry that may come next
+-- Exactly one row has the number that follows H, and it is that of no valid next entry.
 pub record IsStuck (rules : Rules) (H : History) (rows : List Row) : Type 0 where
   pub row : Row
   pub there : filter (has_number (length H + 1)) rows ≡ row ∷ []
   pub stuck : (e : Entry) → IsNext rules H e → IsAt rows H e → ⊥
 
--- A row was taken with these edits of the state tables: the desk stands for the list with its entry, and no row of a lower number has its UniqueID.
-pub record Accepts {D : Type 0} (StandsFor : D → History → Type 0) (rules : Rules) (Clean : Type 0) (old : State) (number : ℕ) (row : Row) (H : History) (desk : D) (edits : List RowEdit) : Type 0 where
+-- A row was taken with these edits of the state tables: the desk represents the history with its entry, and no row of a
+-- lower number has its UniqueID.
+pub record Accepts {D : Type 0} (StandsFor : D → History → Type 0) (rules : Rules) (Clean : Type 0) (old : State) (number : ℕ) (row : Row) (H : History) (desk : D) (edits : List RowEdit) (before after : KeptRows) : Type 0 where
   pub entry : Entry
   pub stands : StandsFor desk (entry ∷ H)
   pub goes : GoesOn rules H row entry
   pub lead : Lead edits H entry
+  pub rows : tables_in after ≡ but_placements (with_edits edits (tables_in before)) (tables_in before)
   pub first : Clean → Reads old (λ db. list_any (is_before entry.stamped.uid number) (accepted_in db) ≡ false)
 
--- one entry more is taken
-pub record Takes {D : Type 0} (StandsFor : D → History → Type 0) (rules : Rules) (Clean : Type 0) (old : State) (H : History) (desk : D) (before after : Beside) : Type 0 where
+-- One more entry is taken.
+pub record Takes {D : Type 0} (StandsFor : D → History → Type 0) (rules : Rules) (Clean : Type 0) (old : State) (H : History) (desk : D) (before after : Expected) : Type 0 where
   pub entry : Entry
   pub stands : StandsFor desk (entry ∷ H)
   pub next : IsNext rules H entry
@@ -69,23 +73,24 @@ pub record Takes {D : Type 0} (StandsFor : D → History → Type 0) (rules : Ru
   pub lead : Lead edits H entry
   pub adds : Adds Clean old edits before after
 
--- A row was taken, or there is none of the next number, and the desk stands for the list.
-abbrev pub Goes : {D : Type 0} → (D → History → Type 0) → Rules → Type 0 → State → History → Beside → D → Beside → Bool → Type 0
+-- A row was taken, or there is no row of the next number, and the desk represents the history.
+abbrev pub Goes : {D : Type 0} → (D → History → Type 0) → Rules → Type 0 → State → History → Expected → D → Expected → Bool → Type 0
 Goes StandsFor rules Clean old H before desk after true = Takes StandsFor rules Clean old H desk before after
 Goes StandsFor rules Clean old H before desk after false = StandsFor desk H × (Clean → Reads old (λ db. filter (has_number (length H + 1)) (accepted_in db) ≡ [])) × (after ≡ before)
 
--- the desk stands for a judged list of so many entries, and the rows beside it are the list's; on a clean disk each entry has its row in our schema's table
-pub record IsTaken {D : Type 0} (StandsFor : D → History → Type 0) (rules : Rules) (Clean : Type 0) (db : Database) (desk : D) (beside : Beside) (count : ℕ) (H : History) : Type 0 where
+-- The desk represents a judged history of this length, and the expected rows are the history's. On a clean disk each
+-- entry has its row in our schema's table.
+pub record IsTaken {D : Type 0} (StandsFor : D → History → Type 0) (rules : Rules) (Clean : Type 0) (db : Database) (desk : D) (expected : Expected) (count : ℕ) (H : History) : Type 0 where
   pub stands : StandsFor desk H
   pub judged : IsJudged rules H
   pub counted : length H ≡ count
   pub rows : Clean → IsOurs db.schema → AreAt (accepted_in db) H
-  pub others : IsBeside Clean db beside H
+  pub others : AreExpected Clean db expected H
 
--- all numbers are taken, or there is no row of the next one
+-- All numbers are taken, or there is no row of the next one.
 abbrev pub IsEnd : ℕ → State → ℕ → Type 0
 IsEnd greatest old count = (count ≡ greatest) ⊎ Reads old (λ db. filter (has_number (count + 1)) (accepted_in db) ≡ [])
 
--- the place where no entry goes on with a judged list whose entries have their rows
+-- The place where no entry continues a judged history whose entries have their rows.
 abbrev pub IsStop : Rules → ℕ → State → ℕ → Type 0
 IsStop rules greatest old n = (H : History) × IsJudged rules H × (length H + 1 ≡ n) × (n ≤ greatest) × Reads old (λ db. AreAt (accepted_in db) H × IsStuck rules H (accepted_in db))

@@ -1,11 +1,11 @@
-//! Why a list can't be read again.
+//! Why a replay fails.
 
 use std::alloc::AllocError;
 
-/// Why a list can't be read again.
+/// Why a replay fails.
 #[derive(Clone, Copy, Debug, PartialEq, Eq)]
 pub enum ReplayFault {
-    /// The first place of the list, from 1, with which it doesn't go on.
+    /// The first place, from 1, where the rows do not continue the history.
     NotLawful(u32),
     /// Memory was refused, or the database failed.
     Unavailable,

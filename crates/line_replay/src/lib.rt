@@ -1,12 +1,11 @@
-//! The list of accepted commands, read again from its table: each row is judged by a desk, and the
-//! rows that the other tables should have are kept beside it.
+//! Replays the history from its table: a desk judges each row again. It keeps the rows that the other
+//! tables should have, and their placements are looked up on the way.
 #![tactic(auto)]
 
-mod beside;
 mod fault;
+mod placed;
 mod replaying;
 mod taking;
 
-pub use beside::Beside;
 pub use fault::ReplayFault;
 pub use replaying::{Replayed, rebuild, replay};

@@ -1,4 +1,4 @@
-//! The desk of the list that a table keeps.
+//! The desk of the history in a table.
 
 ghost use Rattle.std.specs.Prelude.{◌≡◌, ◌≤◌, IsTrue, IfOk, IfErr, IfSome, length};
 ghost use Rattle.sqlite.specs.State.{HasCleanDisk};
@@ -9,30 +9,31 @@ ghost use Rattle.desk_types.specs.Judged.{IsJudged};
 ghost use Rattle.line_tables.specs.Rows.{Holds};
 ghost use Rattle.line_tables.specs.Frames.{ReadsOnly};
 ghost use Rattle.line_rows.specs.Rows.{ledger_tables};
+ghost use Rattle.line_replay.specs.Expected.{kept_with};
 ghost use Rattle.line_replay.specs.Replay.{IsReplayed, IsFaultOf};
 ghost use Rattle.trace_lists.specs.Lists.{IsListed};
 
-use crate::beside::Beside;
 use crate::fault::ReplayFault;
 use crate::taking::{are_all, least_is_one, take_rows};
-use desk_types::{Desk, Rules};
+use desk_types::Rules;
+use line_audit::Placed;
 use line_rows::rows_tell_lists_apart;
 use sqlite::{Alter, Connection};
+use state_rows::KeepsRows;
 use std::alloc::Global;
 use trace_lists::TraceLists;
 
-/// A desk, the lists beside it, how many entries its list has, and the rows of the other tables.
-pub struct Replayed<D: Desk + Drop> {
+/// A desk, its trace indexes, the length of its history, and the placements that were looked up.
+pub struct Replayed<D: KeepsRows + Drop> {
     pub desk: D,
     pub lists: TraceLists,
     pub count: u32,
-    pub beside: Beside,
+    pub placed: Placed,
 }
 
-/// Judges each row of `accepted` once more, by number, with a fresh desk of these rules. Numbers go
-/// up to the greatest. One row is in memory at a time. In an open transaction of the caller's
-/// nothing is read, and the fault is Unavailable.
-pub fn replay<S: Alter, D: Desk + Drop>(
+/// Judges each row of `accepted` again, by number, with a fresh desk of these rules. Numbers go up to the greatest. One
+/// row is in memory at a time. Inside an open transaction of the caller nothing is read, and the fault is Unavailable.
+pub fn replay<S: Alter, D: KeepsRows + Drop>(
     alloc: Global,
     conn: &mut Connection<S>,
     rules: Rules,
@@ -41,7 +42,7 @@ pub fn replay<S: Alter, D: Desk + Drop>(
     requires bound { greatest ≤ MOST_ENTRIES }
     ensures list { IfOk result (λ r. (H : History)
         × IsReplayed D.Stands rules greatest (HasCleanDisk (state S.Store conn.new))
-        (state S.Store conn.old) r.desk r.beside r.count H × IsListed r.lists H) }
+        (state S.Store conn.old) r.desk (kept_with (D.kept_rows r.desk) r.placed) r.count H × IsListed r.lists H) }
     ensures rules { IfOk result (λ r. D.kept_rules r.desk ≡ rules) }
     ensures fault { HasCleanDisk (state S.Store conn.new)
         → IfErr result (IsFaultOf rules greatest (state S.Store conn.old)) }
@@ -50,8 +51,8 @@ pub fn replay<S: Alter, D: Desk + Drop>(
     least_is_one(conn)?;
     let mut desk = D::fresh(alloc, rules);
     let mut lists = TraceLists::new(alloc);
-    let mut beside = Beside::new(alloc);
-    let count = take_rows(alloc, conn, &mut desk, &mut lists, &mut beside, greatest)?;
+    let _empty = desk.rows();
+    let (count, placed) = take_rows(alloc, conn, &mut desk, &mut lists, greatest)?;
     let all = are_all(conn, count)?;
     if !all {
         return Err(ReplayFault::NotLawful(count + 1));
@@ -60,14 +61,13 @@ pub fn replay<S: Alter, D: Desk + Drop>(
         desk,
         lists,
         count,
-        beside,
+        placed,
     })
 }
 
-/// The desk made again from the tables of a list that was judged by these rules, as after a refused
-/// `settle`. None where memory was refused, where the database failed, and where the rows are no
-/// such list.
-pub fn rebuild<S: Alter, D: Desk + Drop>(
+/// Rebuilds the desk from the tables of a judged history, as after a refused `settle`. Returns `None` if memory was
+/// refused, if the database failed, or if the rows are no such history.
+pub fn rebuild<S: Alter, D: KeepsRows + Drop>(
     alloc: Global,
     conn: &mut Connection<S>,
     rules: Rules,
@@ -76,7 +76,7 @@ pub fn rebuild<S: Alter, D: Desk + Drop>(
     requires bound { greatest ≤ MOST_ENTRIES }
     ensures list { IfSome result (λ r. (H : History)
         × IsReplayed D.Stands rules greatest (HasCleanDisk (state S.Store conn.new))
-        (state S.Store conn.old) r.desk r.beside r.count H × IsListed r.lists H) }
+        (state S.Store conn.old) r.desk (kept_with (D.kept_rows r.desk) r.placed) r.count H × IsListed r.lists H) }
     ensures same { (G : History) → IsJudged rules G
         → (IsTrue (state S.Store conn.old).is_open
         → Holds (state S.Store conn.old).committed (ledger_tables greatest G)) → HasCleanDisk (state S.Store conn.new)

@@ -1,34 +1,37 @@
-//! The rows, taken one after the other by their numbers.
+//! Rows taken one after another, by number.
 
 ghost use Rattle.std.specs.Prelude.{◌≡◌, ◌==◌, ◌+◌, ◌≤◌, ◌⊎◌, ⊤, ℕ, true, IfOk, IfErr, OnOk, [], ◌∷◌, length};
 ghost use Rattle.std.specs.List.{list_any};
 ghost use Rattle.sqlite.specs.State.{HasCleanDisk};
-ghost use Rattle.sqlite.specs.Effect.{Database};
 ghost use Rattle.sqlite.specs.Held.{state};
 ghost use Rattle.desk_types.specs.declared.command.Entry.{Entry};
 ghost use Rattle.desk_types.specs.declared.limits.TheConstants.{MOST_ENTRIES};
 ghost use Rattle.desk_types.specs.declared.rules.Rules.{Rules};
 ghost use Rattle.desk_types.specs.Desk.{HasRoom};
 ghost use Rattle.desk_types.specs.History.{History};
+ghost use Rattle.desk_types.specs.Tables.{tables_of};
+ghost use Rattle.state_rows.specs.Kept.{tables_in, unnumbered};
 ghost use Rattle.line_tables.specs.Rows.{accepted_in};
 ghost use Rattle.line_tables.specs.Calls.{Reads, is_before};
 ghost use Rattle.line_tables.specs.Frames.{ReadsOnly};
 ghost use Rattle.line_rows.specs.Judging.{GoesOn};
 ghost use Rattle.line_replay.specs.declared.fault.ReplayFault.TheVariants.{NotLawful, Unavailable};
-ghost use Rattle.line_replay.specs.Beside.{IsBeside};
+ghost use Rattle.line_replay.specs.Expected.{kept_with};
 ghost use Rattle.line_replay.specs.Replay.{IsFaultOf, IsNumbered, IsStuck, StandsListed, Accepts, Goes, IsTaken, IsEnd, IsStop};
 ghost use Rattle.trace_lists.specs.Lists.{IsListed};
 
-use crate::beside::Beside;
 use crate::fault::ReplayFault;
-use desk_types::{Desk, RowEdits};
+use crate::placed::look_up;
+use desk_types::RowEdits;
+use line_audit::Placed;
 use line_rows::{RowFault, Taken, accept_row};
 use line_tables::{count, is_repeat, least_number, row_at};
 use sqlite::{Alter, Connection, Row};
+use state_rows::KeepsRows;
 use std::alloc::Global;
 use trace_lists::TraceLists;
 
-/// Asks that the least number is 1, where there is a row.
+/// Requires that the least number is 1, if there is a row.
 pub fn least_is_one<S: Alter>(conn: &mut Connection<S>) -> Result<(), ReplayFault>
     ensures ok { HasCleanDisk (state S.Store conn.new)
         → OnOk result (Reads (state S.Store conn.old) (λ db. IsNumbered (accepted_in db))) }
@@ -44,7 +47,7 @@ pub fn least_is_one<S: Alter>(conn: &mut Connection<S>) -> Result<(), ReplayFaul
     }
 }
 
-/// Asks that there are this many rows.
+/// Requires this number of rows.
 pub fn are_all<S: Alter>(conn: &mut Connection<S>, taken: u32) -> Result<bool, ReplayFault>
     ensures counted { HasCleanDisk (state S.Store conn.new)
         → IfOk result (λ are. Reads (state S.Store conn.old) (λ db. are ≡ (taken == length (accepted_in db)))) }
@@ -54,53 +57,57 @@ pub fn are_all<S: Alter>(conn: &mut Connection<S>, taken: u32) -> Result<bool, R
     Ok(count(conn)? == u64::from(taken))
 }
 
-/// Takes row after row, up to the greatest number, into a desk and lists of an empty list, with the
-/// rows that the other tables should have. Answers how many.
-pub fn take_rows<S: Alter, D: Desk>(
+/// Takes row after row, up to the greatest number, into a new desk with its trace indexes, and looks up their
+/// placements. Returns the number of rows, and the result of the look-ups.
+pub fn take_rows<S: Alter, D: KeepsRows>(
     alloc: Global,
     conn: &mut Connection<S>,
     desk: &mut D,
     lists: &mut TraceLists,
-    beside: &mut Beside,
     greatest: u32,
-) -> Result<u32, ReplayFault>
+) -> Result<(u32, Placed), ReplayFault>
     requires fresh { D.Stands desk.old [] }
     requires empty { IsListed lists.old [] }
-    requires none { (db : Database) → IsBeside ⊤ db beside.old [] }
+    requires none { unnumbered (tables_in (D.kept_rows desk.old)) ≡ unnumbered (tables_of []) }
     requires bound { greatest ≤ MOST_ENTRIES }
-    ensures taken { IfOk result (λ n. (H : History) × (n ≤ greatest)
+    ensures taken { IfOk result (λ r. (H : History) × (r.0 ≤ greatest)
         × IsTaken (StandsListed D.Stands) (D.kept_rules desk.old) (HasCleanDisk (state S.Store conn.new))
-        (state S.Store conn.old).committed (desk.new, lists.new) beside.new n H) }
-    ensures ends { HasCleanDisk (state S.Store conn.new) → IfOk result (IsEnd greatest (state S.Store conn.old)) }
+        (state S.Store conn.old).committed (desk.new, lists.new) (kept_with (D.kept_rows desk.new) r.1) r.0 H) }
+    ensures ends { HasCleanDisk (state S.Store conn.new)
+        → IfOk result (λ r. IsEnd greatest (state S.Store conn.old) r.0) }
     ensures err { HasCleanDisk (state S.Store conn.new)
         → IfErr result (λ f. (f ≡ Unavailable)
         ⊎ ((n : ℕ) × (f ≡ NotLawful n) × IsStop (D.kept_rules desk.old) greatest (state S.Store conn.old) n)) }
     ensures rules { OnOk result (D.kept_rules desk.new ≡ D.kept_rules desk.old) }
     ensures reads { ReadsOnly S.Store conn.old conn.new }
 {
+    let mut placed = Placed {
+        all: true,
+        count: 0,
+    };
     for number in 0..greatest {
-        let taken = take_row(alloc, conn, desk, lists, beside, number + 1)?;
+        let taken = take_row(alloc, conn, desk, lists, &mut placed, number + 1)?;
         if !taken {
-            return Ok(number);
+            return Ok((number, placed));
         }
     }
-    Ok(greatest)
+    Ok((greatest, placed))
 }
 
-/// Accepts the command of the row with this number, the next one; or there is no such row.
-fn take_row<S: Alter, D: Desk>(
+fn take_row<S: Alter, D: KeepsRows>(
     alloc: Global,
     conn: &mut Connection<S>,
     desk: &mut D,
     lists: &mut TraceLists,
-    beside: &mut Beside,
+    placed: &mut Placed,
     number: u32,
 ) -> Result<bool, ReplayFault>
     requires room { HasRoom D.Stands desk.old 1 }
     ensures ok { (H : History) → StandsListed D.Stands (desk.old, lists.old) H → length H + 1 ≡ number
         → IfOk result
         (Goes (StandsListed D.Stands) (D.kept_rules desk.old) (HasCleanDisk (state S.Store conn.new))
-        (state S.Store conn.old) H beside.old (desk.new, lists.new) beside.new) }
+        (state S.Store conn.old) H (kept_with (D.kept_rows desk.old) placed.old) (desk.new, lists.new)
+        (kept_with (D.kept_rows desk.new) placed.new)) }
     ensures err { (H : History) → D.Stands desk.old H → length H + 1 ≡ number → HasCleanDisk (state S.Store conn.new)
         → IfErr result (λ f. (f ≡ Unavailable)
         ⊎ ((f ≡ NotLawful number)
@@ -112,15 +119,15 @@ fn take_row<S: Alter, D: Desk>(
     match found {
         Some(row) => {
             let edits = accept_first(alloc, conn, desk, lists, number, &row)?;
-            beside.add(alloc, conn, u64::from(number), edits.as_slice())?;
+            look_up(alloc, conn, placed, u64::from(number), edits.as_slice())?;
             Ok(true)
         }
         None => Ok(false),
     }
 }
 
-/// Accepts the command of the row, where no row of a lower number has its UniqueID. Answers its edits.
-fn accept_first<S: Alter, D: Desk>(
+/// Accepts the command of the row if no row of a lower number has its UniqueID. Returns its edits.
+fn accept_first<S: Alter, D: KeepsRows>(
     alloc: Global,
     conn: &mut Connection<S>,
     desk: &mut D,
@@ -131,8 +138,9 @@ fn accept_first<S: Alter, D: Desk>(
     requires room { HasRoom D.Stands desk.old 1 }
     ensures ok { (H : History) → StandsListed D.Stands (desk.old, lists.old) H → length H + 1 ≡ number
         → IfOk result
-        (Accepts (StandsListed D.Stands) (D.kept_rules desk.old) (HasCleanDisk (state S.Store conn.new))
-        (state S.Store conn.old) number row.now H (desk.new, lists.new)) }
+        (λ edits. Accepts (StandsListed D.Stands) (D.kept_rules desk.old) (HasCleanDisk (state S.Store conn.new))
+        (state S.Store conn.old) number row.now H (desk.new, lists.new) edits (D.kept_rows desk.old)
+        (D.kept_rows desk.new)) }
     ensures err { (H : History) → D.Stands desk.old H → length H + 1 ≡ number → HasCleanDisk (state S.Store conn.new)
         → IfErr result (λ f. (f ≡ Unavailable)
         ⊎ ((f ≡ NotLawful number)

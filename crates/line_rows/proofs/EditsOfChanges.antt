@@ -1,5 +1,5 @@
--- What the edits of a change make of the tables of a list.
-use Rattle.std.proofs.Common.{◌≡◌, ◌∙◌, ◌+◌, ℕ, List, [], ◌∷◌, map, refl, sym, ap, subst, length}
+-- The effect of a change's edits on the tables of a history.
+use Rattle.std.proofs.Common.{◌≡◌, ◌∙◌, ◌+◌, ℕ, List, [], ◌∷◌, refl, ap, length}
 use Rattle.sqlite_value.specs.Order.{Row}
 use Rattle.desk_types.specs.declared.change.Change.{Change}
 use Rattle.desk_types.specs.declared.rules.Rules.TheVariants.{Two}
@@ -7,8 +7,7 @@ use Rattle.desk_types.specs.Desk.{IsChange}
 use Rattle.desk_types.specs.History.{History, accept}
 use Rattle.desk_answers.specs.Texts.{accepted_text}
 use Rattle.line_tables.specs.declared.edit.Accepted.{Accepted}
-use Rattle.line_tables.specs.declared.edit.Edit.{Edit}
-use Rattle.line_tables.specs.declared.edit.Edit.TheVariants.{PutAccepted, EditRow}
+use Rattle.line_tables.specs.Edit.{row_edits, command_edits}
 use Rattle.line_tables.specs.Rows.{Tables, after_edits, AreNew, columns_of}
 use Rattle.desk_types.specs.declared.edit.RowEdit.{RowEdit}
 use Rattle.desk_types.specs.Tables.{Tables as StateTables, tables_of as state_of}
@@ -16,26 +15,21 @@ use Rattle.desk_types.specs.Edits.{with_edit, with_edits, AreNew as AreNewRows}
 use Rattle.line_rows.specs.Rows.{columns, rows_of, ledger_tables}
 use Rattle.line_rows.proofs.Judgements.{row_is}
 
--- edits of the state tables, among those of all tables
-rows_edited : (rows : List RowEdit) (t : Tables) → after_edits (map (λ edit. EditRow edit) rows) t ≡ record t { state = with_edits rows t.state }
+rows_edited : (rows : List RowEdit) (t : Tables) → after_edits (row_edits rows) t ≡ record t { state = with_edits rows t.state }
 rows_edited [] t = refl
 rows_edited (x ∷ rows) t = rows_edited rows (record t { state = with_edit x t.state })
 
-rows_new : (rows : List RowEdit) (t : Tables) → AreNewRows rows t.state → AreNew (map (λ edit. EditRow edit) rows) t
+rows_new : (rows : List RowEdit) (t : Tables) → AreNewRows rows t.state → AreNew (row_edits rows) t
 rows_new [] t new = tt
 rows_new (x ∷ rows) t new = (new.0, rows_new rows (record t { state = with_edit x t.state }) new.1)
 
--- the row that is put is that of the entry, and the state tables are those of the list with it
-pub put_is : (greatest number : ℕ) (H : History) (change : Change) (text : List ℕ) (row : Accepted) (rows : List RowEdit) (edits : List Edit) → edits ≡ PutAccepted row ∷ map (λ edit. EditRow edit) rows
+pub put_is : (greatest number : ℕ) (H : History) (change : Change) (text : List ℕ) (row : Accepted) (rows : List RowEdit)
     → columns_of row ≡ columns number change.stamped change.minute text → IsChange Two H change.stamped change → number ≡ length H + 1 → text ≡ accepted_text number change.stamped.uid change.detail
-    → with_edits rows (state_of H) ≡ state_of (accept H change.stamped) → after_edits edits (ledger_tables greatest H) ≡ ledger_tables greatest (accept H change.stamped)
-put_is greatest number H change text row rows edits are kept is numbered told lead =
-    ap (λ l. after_edits l (ledger_tables greatest H)) are
-    ∙ rows_edited rows (record { greatest = greatest; accepted = columns_of row ∷ rows_of H; state = state_of H })
+    → with_edits rows (state_of H) ≡ state_of (accept H change.stamped) → after_edits (command_edits row rows) (ledger_tables greatest H) ≡ ledger_tables greatest (accept H change.stamped)
+put_is greatest number H change text row rows kept is numbered told lead =
+    rows_edited rows (record { greatest = greatest; accepted = columns_of row ∷ rows_of H; state = state_of H })
     ∙ ap (λ (t : StateTables). record { greatest = greatest; accepted = columns_of row ∷ rows_of H; state = t }) lead
     ∙ ap (λ (r : Row). record { greatest = greatest; accepted = r ∷ rows_of H; state = state_of (accept H change.stamped) }) (kept ∙ row_is Two H change.stamped change number text is numbered told)
 
--- and no edit puts anew what is there
-pub put_new : (greatest : ℕ) (H : History) (row : Accepted) (rows : List RowEdit) (edits : List Edit) → edits ≡ PutAccepted row ∷ map (λ edit. EditRow edit) rows → AreNewRows rows (state_of H) → AreNew edits (ledger_tables greatest H)
-put_new greatest H row rows edits are new =
-    subst (λ l. AreNew l (ledger_tables greatest H)) (sym are) (tt, rows_new rows (record { greatest = greatest; accepted = columns_of row ∷ rows_of H; state = state_of H }) new)
+pub put_new : (greatest : ℕ) (H : History) (row : Accepted) (rows : List RowEdit) → AreNewRows rows (state_of H) → AreNew (command_edits row rows) (ledger_tables greatest H)
+put_new greatest H row rows new = (tt, rows_new rows (record { greatest = greatest; accepted = columns_of row ∷ rows_of H; state = state_of H }) new)

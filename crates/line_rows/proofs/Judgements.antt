@@ -22,11 +22,9 @@ use Rattle.line_rows.specs.Rows.{columns, entry_row}
 use Rattle.line_rows.specs.Judging.{IsMessageOf, GoesOn}
 use Rattle.line_rows.proofs.RowsTellLists.{TextsTell, stamped_same, next_entry}
 
--- the minute of a change is the one at which its command takes effect
 minute_is : (rules : Rules) (H : History) (s : Stamped) (change : Change) → IsChange rules H s change → change.minute ≡ effective_minute H s.minute
 minute_is rules H s change is = ap (λ (c : Change). c.minute) is.value
 
--- the columns of a change are the row of the entry that its command becomes
 pub row_is : (rules : Rules) (H : History) (s : Stamped) (change : Change) (number : ℕ) (text : List ℕ) → IsChange rules H s change → number ≡ length H + 1
     → text ≡ accepted_text number s.uid change.detail → columns number s change.minute text ≡ entry_row H (entry_of H s)
 row_is rules H s change number text is numbered told =
@@ -36,7 +34,6 @@ row_is rules H s change number text is numbered told =
     ap (λ n. columns n s change.minute text) numbered ∙ ap (λ m. columns (length H + 1) s m text) minute
     ∙ ap (columns (length H + 1) s (effective_minute H s.minute)) words
 
--- the entry that the command of a change becomes may come next
 pub next_is : (rules : Rules) (H : History) (s : Stamped) (change : Change) → IsStamped s → IsMinute change.minute → IsChange rules H s change → IsNext rules H (entry_of H s)
 next_is rules H s change stamped minute is = record {
   in_range = record { stamped = stamped; effective = subst IsMinute (minute_is rules H s change is) minute };
@@ -51,7 +48,7 @@ text_same a b h = cc
 number_same : (a b : ℕ) → Int (pos a) ≡ Int (pos b) → a ≡ b
 number_same a b h = cc
 
--- the row has this number, this effective minute and this answer
+-- The row has this number, this effective minute and this answer.
 abbrev pub Says : Row → ℕ → ℕ → List ℕ → Type 0
 Says row number minute text = (column row 0 ≡ Int (pos number)) × (column row 4 ≡ Int (pos minute)) × (column row 6 ≡ Text text)
 
@@ -61,7 +58,6 @@ row_values row s number minute text of says = seven row of.seven ∙ rw (says.0,
 value_says : (row : Row) (s : Stamped) (number minute : ℕ) (text : List ℕ) → row ≡ columns number s minute text → Says row number minute text
 value_says row s number minute text is = (ap (λ (r : Row). column r 0) is, ap (λ (r : Row). column r 4) is, ap (λ (r : Row). column r 6) is)
 
--- a row with which the list goes on keeps the message of the entry
 message_of : (rules : Rules) (H : History) (row : Row) (e : Entry) → GoesOn rules H row e → IsMessageOf row e.stamped
 message_of rules H row e goes = record {
   seven = ap length goes.same;
@@ -97,6 +93,5 @@ module _ (tells : TextsTell) (rules : Rules) (H : History) (row : Row) (s : Stam
     pub said : IsMinute change.minute → Says row number change.minute text → GoesOn rules H row (entry_of H s)
     said minute says = record { next = next_is rules H s change in_range minute is; same = row_values row s number change.minute text of says ∙ as_entry }
 
--- the change is of the message that was judged
 pub stamped_is : (rules : Rules) (H : History) (s : Stamped) (change : Change) → IsChange rules H s change → change.stamped ≡ s
 stamped_is rules H s change is = ap (λ (c : Change). c.stamped) is.value

@@ -1,4 +1,4 @@
--- The rows of a list tell which list it is.
+-- The rows of a history determine it.
 use Rattle.std.proofs.Common.{◌≡◌, ◌∙◌, ◌==◌, ◌+◌, ◌<◌, ℕ, pos, not, Bool, true, false, List, [], ◌∷◌, length, filter, refl, sym, ap, ap₂, subst₂, if◌then◌else◌, arith}
 use Rattle.std.proofs.lemmas.Bool.Decides.{nat_tests}
 use Rattle.std.specs.List.{AllByRecursion}
@@ -23,7 +23,7 @@ stamped_same a b u s m c =
     ap (λ x. record a { uid = x }) u ∙ ap (λ x. record a { uid = b.uid; source = x }) s
     ∙ ap (λ x. record a { uid = b.uid; source = b.source; minute = x }) m ∙ ap (λ x. record b { command = x }) c
 
--- two commands in their ranges have two texts
+-- Different commands in their ranges have different texts.
 abbrev pub TextsTell : Type 0
 TextsTell = (a b : Command) → IsCommand a → IsCommand b → stored_text a ≡ stored_text b → a ≡ b
 
@@ -31,7 +31,6 @@ pub entry_parts : (e f : Entry) → e.number ≡ f.number → e.stamped ≡ f.st
 entry_parts e f number stamped effective =
     ap (λ n. record e { number = n }) number ∙ ap (λ s. record e { number = f.number; stamped = s }) stamped ∙ ap (λ m. record f { effective = m }) effective
 
--- an entry that may come next is the one that its message becomes
 pub next_entry : (rules : Rules) (H : History) (e : Entry) → IsNext rules H e → e ≡ entry_of H e.stamped
 next_entry rules H e next = entry_parts e (entry_of H e.stamped) next.number refl next.effective
 
@@ -46,7 +45,6 @@ number_in _ = 0
 abbrev is_number : ℕ → Row → Bool
 is_number n row = number_in row == n
 
--- the numbers of a judged list are at most its length
 none_above : (rules : Rules) (H : History) (n : ℕ) → IsJudged rules H → length H < n → AllByRecursion (λ r. is_number n r ≡ false) (rows_of H)
 none_above rules [] n judged h = tt
 none_above rules (e ∷ H) n judged h = (grind (arith, nat_tests, judged.0.number), none_above rules H n judged.1 (omega arith))

@@ -1,4 +1,4 @@
--- What a row says, and when a list goes on with it.
+-- The message in a row, and when the row continues a history.
 use Rattle.std.specs.Prelude.{◌≡◌, ◌∷◌, List, pos, length}
 use Rattle.sqlite.specs.declared.types.Value.TheVariants.{Int, Text}
 use Rattle.sqlite_value.specs.Order.{Row, column}
@@ -13,7 +13,7 @@ use Rattle.desk_types.specs.Tables.{tables_of as state_of}
 use Rattle.desk_types.specs.Edits.{with_edits, AreNew}
 use Rattle.line_rows.specs.Rows.{entry_row}
 
--- the row has seven columns, and keeps this message
+-- The row has seven columns, and stores this message.
 pub record IsMessageOf (row : Row) (s : Stamped) : Type 0 where
   pub seven : length row ≡ 7
   pub uid : column row 1 ≡ Text s.uid
@@ -21,12 +21,12 @@ pub record IsMessageOf (row : Row) (s : Stamped) : Type 0 where
   pub minute : column row 3 ≡ Int (pos s.minute)
   pub command : column row 5 ≡ Text (stored_text s.command)
 
--- the entry may come after H by the rules, and the row is its row
+-- The entry may come after H by the rules, and the row is its row.
 pub record GoesOn (rules : Rules) (H : History) (row : Row) (e : Entry) : Type 0 where
   pub next : IsNext rules H e
   pub same : row ≡ entry_row H e
 
--- the edits make of the state tables of H those of H with the entry, and put nothing new where there is a row
+-- The edits turn the state tables of H into those of H with the entry, and insert no existing row.
 pub record Lead (edits : List RowEdit) (H : History) (e : Entry) : Type 0 where
   pub lead : with_edits edits (state_of H) ≡ state_of (e ∷ H)
   pub new : AreNew edits (state_of H)

@@ -1,11 +1,14 @@
-//! What is answered and written where a command is accepted.
+//! The answer and the edits of an accepted command.
 
-ghost use Rattle.std.specs.Prelude.{◌≡◌, ◌+◌, ◌<◌, ℕ, IfOk, length, map, ◌∷◌};
+ghost use Rattle.std.specs.Prelude.{◌≡◌, ◌+◌, ℕ, IfOk, length};
 ghost use Rattle.desk_types.specs.declared.rules.Rules.TheVariants.{Two};
 ghost use Rattle.desk_types.specs.Desk.{HasRoom, IsChange};
 ghost use Rattle.desk_types.specs.History.{History, accept};
 ghost use Rattle.desk_answers.specs.Texts.{accepted_text};
-ghost use Rattle.line_tables.specs.declared.edit.Edit.TheVariants.{PutAccepted, EditRow};
+ghost use Rattle.desk_types.specs.Edits.{with_edits};
+ghost use Rattle.desk_types.specs.Tables.{tables_of};
+ghost use Rattle.state_rows.specs.Kept.{unnumbered};
+ghost use Rattle.line_tables.specs.Edit.{command_edits};
 ghost use Rattle.line_tables.specs.Rows.{after_edits, AreNew};
 ghost use Rattle.line_rows.specs.Rows.{ledger_tables};
 
@@ -13,18 +16,18 @@ use crate::fault::NoRow;
 use crate::kept::row_of;
 use desk_answers::accepted_text;
 use desk_types::{Change, Desk, RowEdits, Text};
-use line_tables::{Accepted, Edit};
+use line_tables::Accepted;
 use state_rows::rows_of;
-use std::alloc::{AllocError, Global};
+use std::alloc::Global;
 
-/// The text of an answer, and the edits of the tables that are committed before it goes out.
+/// The text of an answer, and the row and the edits that are committed before it is sent.
 pub struct Acceptance {
     pub text: Text,
-    pub edits: Vec<Edit>,
+    pub row: Accepted,
+    pub edits: RowEdits,
 }
 
-/// What is answered and written where the change, which the desk judged, is accepted under this number.
-/// The edits make of the tables of a list those of the list with it.
+/// Returns the answer, the row and the edits for a change that the desk judged, under this number.
 pub fn prepare<D: Desk>(
     alloc: Global,
     number: u32,
@@ -35,14 +38,17 @@ pub fn prepare<D: Desk>(
     requires judged { (H : History) → D.Stands desk.now H
         → IsChange (D.kept_rules desk.now) H change.now.stamped change.now }
     ensures text { IfOk result (λ it. it.text ≡ accepted_text number change.now.stamped.uid change.now.detail) }
-    ensures some { IfOk result (λ it. 0 < length it.edits.items) }
     ensures edits { (greatest : ℕ) (H : History) → D.Stands desk.now H → IsChange Two H change.now.stamped change.now
         → number ≡ length H + 1
         → IfOk result
-        (λ it. after_edits it.edits.items (ledger_tables greatest H) ≡ ledger_tables greatest
+        (λ it. after_edits (command_edits it.row it.edits) (ledger_tables greatest H) ≡ ledger_tables greatest
         (accept H change.now.stamped)) }
     ensures new { (greatest : ℕ) (H : History) → D.Stands desk.now H → number ≡ length H + 1
-        → IfOk result (λ it. AreNew it.edits.items (ledger_tables greatest H)) }
+        → IfOk result (λ it. AreNew (command_edits it.row it.edits) (ledger_tables greatest H)) }
+    ensures lead { (H : History) → D.Stands desk.now H
+        → IfOk result
+        (λ it. unnumbered (with_edits it.edits (tables_of H)) ≡ unnumbered (tables_of
+        (accept H change.now.stamped))) }
 {
     let text = accepted_text(
         alloc,
@@ -51,20 +57,6 @@ pub fn prepare<D: Desk>(
         &change.detail,
     )?;
     let row = row_of(alloc, number, change, &text)?;
-    let rows = rows_of(alloc, desk, change, u64::from(number))?;
-    let edits = edits_of(alloc, row, rows)?;
-    Ok(Acceptance { text, edits })
-}
-
-/// The row, and after it the edits of the state tables.
-fn edits_of(alloc: Global, row: Accepted, rows: RowEdits) -> Result<Vec<Edit>, AllocError>
-    ensures { IfOk result (λ edits. edits.items ≡ PutAccepted row ∷ map (λ edit. EditRow edit) rows) }
-{
-    let following = rows.into_vec();
-    let mut edits = Vec::with_capacity(alloc, following.len().saturating_add(1))?;
-    edits.push(Edit::PutAccepted(row))?;
-    for edit in following {
-        edits.push(Edit::EditRow(edit))?;
-    }
-    Ok(edits)
+    let edits = rows_of(alloc, desk, change, u64::from(number))?;
+    Ok(Acceptance { text, row, edits })
 }

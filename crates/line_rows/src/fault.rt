@@ -1,9 +1,8 @@
-//! Why there is no row of a command, and no command of a row.
+//! Why a command has no row, or a row no command.
 
 use std::alloc::AllocError;
 
-/// Why a row is not made: memory was refused, or a text is not UTF-8. Each text of a command and
-/// of an answer is UTF-8.
+/// Why a row is not made: memory was refused, or a text is not UTF-8. Each text of a command and of an answer is UTF-8.
 #[derive(Clone, Copy, Debug, PartialEq, Eq)]
 pub struct NoRow;
 
@@ -20,7 +19,7 @@ impl From<AllocError> for NoRow {
 /// Why a row is not accepted.
 #[derive(Clone, Copy, Debug, PartialEq, Eq)]
 pub enum RowFault {
-    /// It is no row with which the list goes on.
+    /// The row does not continue the history.
     NotLawful,
     /// Memory was refused.
     NoMemory,

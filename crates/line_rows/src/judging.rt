@@ -3,17 +3,19 @@
 ghost use Rattle.std.specs.Prelude.{◌≡◌, ◌+◌, ◌⊎◌, IfOk, IfErr, OnOk, ◌∷◌, length};
 ghost use Rattle.desk_types.specs.declared.command.Entry.{Entry};
 ghost use Rattle.desk_types.specs.Desk.{HasRoom};
+ghost use Rattle.desk_types.specs.Edits.{with_edits};
 ghost use Rattle.desk_types.specs.History.{History};
 ghost use Rattle.line_rows.specs.declared.fault.RowFault.TheVariants.{NotLawful, NoMemory};
 ghost use Rattle.line_rows.specs.Judging.{GoesOn, Lead};
+ghost use Rattle.state_rows.specs.Kept.{tables_in, but_placements};
 ghost use Rattle.trace_lists.specs.Lists.{IsListed};
 
 use crate::fault::RowFault;
 use crate::reading::{says, stamped_of};
 use desk_answers::accepted_text;
-use desk_types::{Desk, Id, JudgeFault, RowEdits};
+use desk_types::{Id, JudgeFault, RowEdits};
 use sqlite::Row;
-use state_rows::rows_of;
+use state_rows::{KeepsRows, rows_of};
 use std::alloc::Global;
 use stored_texts::texts_tell_commands_apart;
 use trace_lists::TraceLists;
@@ -24,10 +26,10 @@ pub struct Taken {
     pub edits: RowEdits,
 }
 
-/// Accepts the command of the row once more, where it has this number and the row is just what
-/// accepting it gives, notes it in the lists, and answers its UniqueID and its edits. UniqueIDs are the caller's
-/// to compare, and so is the greatest number. After an `Err` nothing is known of the desk and the lists: drop them.
-pub fn accept_row<D: Desk>(
+/// Accepts the command of the row again, provided that it has this number and the row is exactly what accepting it
+/// gives. Adds it to the indexes, and returns its UniqueID and its edits. The caller compares UniqueIDs and the
+/// greatest number. After an `Err` the desk and the indexes are unknown: drop them.
+pub fn accept_row<D: KeepsRows>(
     alloc: Global,
     desk: &mut D,
     lists: &mut TraceLists,
@@ -43,6 +45,8 @@ pub fn accept_row<D: Desk>(
         → IfErr result (λ f. (f ≡ NoMemory)
         ⊎ ((f ≡ NotLawful) × ((e : Entry) → GoesOn (D.kept_rules desk.old) H row.now e → ⊥))) }
     ensures rules { OnOk result (D.kept_rules desk.new ≡ D.kept_rules desk.old) }
+    ensures rows { IfOk result (λ it. tables_in (D.kept_rows desk.new)
+        ≡ but_placements (with_edits it.edits (tables_in (D.kept_rows desk.old))) (tables_in (D.kept_rows desk.old))) }
 {
     texts_tell_commands_apart();
     let Some(stamped) = stamped_of(alloc, row)? else {
@@ -60,7 +64,7 @@ pub fn accept_row<D: Desk>(
             }
             let edits = rows_of(alloc, &*desk, &change, entry_number)?;
             lists.note(number, &change)?;
-            desk.settle(change)?;
+            desk.settle_edits(change, edits.as_slice())?;
             Ok(Taken { uid, edits })
         }
         Err(JudgeFault::Refused(_)) => Err(RowFault::NotLawful),

@@ -14,7 +14,7 @@ use line_tables::Accepted;
 use std::alloc::Global;
 use stored_texts::{Kept, texts_tell_commands_apart};
 
-/// The row of the change, whose command gets this number and this answer.
+/// Returns the row of the change, with this number and this answer.
 pub fn row_of(alloc: Global, number: u32, change: &Change, answer: &Text) -> Result<Accepted, NoRow>
     ensures { IfOk result (λ row. columns_of row ≡ columns number change.now.stamped change.now.minute answer.now) }
 {
@@ -40,8 +40,8 @@ fn string_of(bytes: Vec<u8>) -> Result<String, NoRow>
     }
 }
 
-/// A law: two judged lists whose rows are the same, in any order, are one list. It is for proofs,
-/// and does nothing when it runs.
+/// A law: two judged histories with the same rows, in any order, are equal. It serves proofs and does nothing when it
+/// runs.
 pub fn rows_tell_lists_apart()
     ensures { (rules : Rules) (G H : History) → IsJudged rules G → IsJudged rules H
         → IsPermutation (rows_of G) (rows_of H) → G ≡ H }

@@ -1,5 +1,4 @@
-//! The rows of accepted commands: what a command is as a row, and what a row is as a command that a
-//! desk judges again.
+//! The rows of accepted commands: a command written as a row, and a row read as a command that a desk judges again.
 #![tactic(auto)]
 
 mod edits;

@@ -1,4 +1,4 @@
-//! What a row says, whatever its values.
+//! The message in a row, whatever its values.
 
 ghost use Rattle.std.specs.Prelude.{◌≡◌, ◌<◌, ◌↔◌, pos, IsTrue, IfOk, IfSome, IfNone, length};
 ghost use Rattle.sqlite.specs.declared.types.Value.TheVariants.{Int as IntOf, Text as TextOf};
@@ -15,8 +15,8 @@ use sqlite::types::ValueRef;
 use std::alloc::{AllocError, Global};
 use stored_texts::Kept;
 
-/// The message of the row, or none where the row is that of no message in its ranges. Its number,
-/// its effective minute and its answer are not looked at.
+/// Returns the message of the row, or `None` if it has no message in its ranges. It ignores the number, the effective
+/// minute and the answer.
 pub fn stamped_of(alloc: Global, row: &Row) -> Result<Option<Stamped>, AllocError>
     ensures some { IfOk result (λ found. IfSome found (IsMessageOf row.now)) }
     ensures none { IfOk result (λ found. IfNone found ((s : Stamped) → IsStamped s → IsMessageOf row.now s → ⊥)) }
@@ -55,7 +55,7 @@ fn stamped_in(alloc: Global, row: &Row) -> Result<Option<Stamped>, AllocError>
     }
 }
 
-/// Whether the row has this number, this effective minute and this answer.
+/// Returns whether the row has this number, this effective minute and this answer.
 pub fn says(row: &Row, number: u64, effective: u64, answer: &Text) -> bool
     requires { length row.now ≡ 7 }
     ensures { IsTrue result ↔ ((column row.now 0 ≡ IntOf (pos number)) × (column row.now 4 ≡ IntOf (pos effective))

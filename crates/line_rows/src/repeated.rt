@@ -1,4 +1,4 @@
-//! The answer to a message that comes under the UniqueID of an accepted command.
+//! The answer to a message under the UniqueID of an accepted command.
 
 ghost use Rattle.std.specs.Prelude.{◌≡◌, ◌↔◌, IsTrue, IfOk, string_bytes};
 ghost use Rattle.desk_types.specs.declared.command.Entry.{Entry};
@@ -14,8 +14,8 @@ use line_tables::Accepted;
 use std::alloc::{AllocError, Global};
 use stored_texts::{Kept, texts_tell_commands_apart};
 
-/// The first answer once more where the row is that of the same message, and else that the UniqueID
-/// was used. It is said where the row is that of an entry with the message's UniqueID.
+/// Returns the first answer again if the row has the same message, and otherwise that the UniqueID was used. The
+/// contract assumes that the row belongs to an entry with the message's UniqueID.
 pub fn answer_under(alloc: Global, row: Accepted, stamped: &Stamped) -> Result<Answer, AllocError>
     ensures { (G : History) (e : Entry) → IsEntry e → e.stamped.uid ≡ stamped.now.uid → columns_of row ≡ entry_row G e
         → IfOk result (λ answer. answer ≡ answer_under G e stamped.now) }
@@ -30,7 +30,6 @@ pub fn answer_under(alloc: Global, row: Accepted, stamped: &Stamped) -> Result<A
     Ok(Answer::IdReused(number))
 }
 
-/// Whether the row has this source, this own minute and this text of the command.
 fn is_row_of(row: &Accepted, stamped: &Stamped, text: &Text) -> bool
     ensures { IsTrue result ↔ ((string_bytes row.now.source ≡ stamped.now.source) × (row.now.own ≡ stamped.now.minute)
         × (string_bytes row.now.command ≡ text.now)) }

@@ -1,4 +1,4 @@
--- What a command's answer says of the list after it, and of what a crash may leave.
+-- The history after an answer to a command, and the tables that a crash may leave.
 use Rattle.std.proofs.Common.{◌≡◌, ◌∙◌, ◌⊎◌, ◌<◌, length, inl, inr, Bool, true, false, Option, Some, None, is_some, MatchBool, Result, Ok, Err, IfOk, OnOk, refl, sym, ap, subst, [], ◌∷◌, if◌then◌else◌, unwrap_or}
 use Rattle.sqlite_trees.specs.Tree.{Trees}
 use Rattle.desk_types.specs.declared.answer.Reply.{Reply}
@@ -52,7 +52,7 @@ kept_so L s (IdReused n) h = refl
 kept_so L s DeskFull h = refl
 kept_so L s Unavailable h = absurd (answer_never L s (sym h))
 
--- ---- what a crash may leave
+-- ---- crashes
 
 abbrev pub left_with : Kept → Stamped → Trees → Type 0
 left_with L s trees = HoldsAt (ledger_tables L.greatest (accept L.history s)) trees

@@ -1,4 +1,4 @@
--- What others have in the file, over each step of a command.
+-- Other people's tables in the file, over each step of a command.
 use Rattle.std.proofs.Common.{◌≡◌, ◌⊎◌, List, inl, inr, IsTrue, Result, Ok, Err, OnOk, OnErr, refl, sym, subst}
 use Rattle.std.specs.Prelude.{⊤}
 use Rattle.sqlite_trees.specs.Tree.{Trees}
@@ -6,21 +6,18 @@ use Rattle.sqlite.specs.Effect.{Database}
 use Rattle.sqlite.specs.State.{State, HasCleanDisk, KeepsCommit, Survives}
 use Rattle.sqlite_trees.specs.declared.store.Store.{Ghosts}
 use Rattle.sqlite.specs.Held.{Held, state}
-use Rattle.line_tables.specs.declared.edit.Edit.{Edit}
+use Rattle.line_tables.specs.Edit.{Edit}
 use Rattle.line_tables.specs.Frames.{ReadsOnly}
 use Rattle.line_tables.specs.Calls.{HasOthers, KeepsOthers, LeavesEdited}
 use Rattle.line_tables.proofs.Beside.{others_stay, others_stay_then}
 use Rattle.line_schema.specs.Frames.{LeavesOthers, LetsOthersBe}
 
--- nothing was done
 pub let_be : (s : State) → LetsOthersBe s s
 let_be s = record { was_open = λ clean is. is; rows = λ clean is. others_stay s.committed; crash = λ clean trees may. inl may }
 
--- what was committed stays
 kept_rows : (old new : Database) → new ≡ old → KeepsOthers old new
 kept_rows old new same = subst (KeepsOthers old) (sym same) (others_stay old)
 
--- a call only read
 pub let_be_read : (old new : State) → (HasCleanDisk new → KeepsCommit old new) → Survives old new (λ _. ⊥) → LetsOthersBe old new
 let_be_read old new kept survives = record {
   was_open = λ clean is. (kept clean).was_open is;
@@ -31,7 +28,6 @@ let_be_read old new kept survives = record {
 pub let_be_reads : {S : Type 0} (g : Ghosts S) (old new : Held S) → ReadsOnly g old new → LetsOthersBe (state g old) (state g new)
 let_be_reads g old new reads = let_be_read (state g old) (state g new) reads.kept reads.survives
 
--- one call and then another
 pub let_be_then : (old mid new : State) → (HasCleanDisk new → HasCleanDisk mid) → LetsOthersBe old mid → LetsOthersBe mid new → LetsOthersBe old new
 let_be_then old mid new early one two = record {
   was_open = λ clean is. one.was_open (early clean) (two.was_open clean is);
@@ -48,7 +44,7 @@ let_be_then old mid new early one two = record {
     left_at : (trees : Trees) → LeavesOthers mid trees → KeepsOthers mid.committed (at trees)
     left_at trees left = record { schema = λ layout has. refl; rows = left.rows }
 
--- edits were committed, or not
+-- Edits were committed, or not.
 pub let_be_edited : {E : Type 0} (old new : State) (edits : List Edit) (r : Result ⊤ E) → Survives old new (LeavesEdited edits old) → (HasCleanDisk new → OnOk r (KeepsOthers old.committed new.committed)) → (HasCleanDisk new → OnOk r (IsTrue old.is_open × IsTrue new.is_open))
     → (HasCleanDisk new → OnErr r (KeepsCommit old new)) → LetsOthersBe old new
 let_be_edited {E} old new edits r survives done is_open neither = record {

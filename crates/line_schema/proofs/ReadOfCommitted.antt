@@ -1,4 +1,4 @@
--- What was read of the version and of the list, told of what was committed before.
+-- Reads of the version and of the history, in terms of the earlier committed contents.
 use Rattle.std.proofs.Common.{◌≡◌, ◌≢◌, ◌≤◌, ◌∙◌, ◌⊎◌, inl, inr, ℕ, ℤ, pos, true, IsTrue, IfErr, Result, Ok, Err, Option, Some, None, refl, sym, ap, subst}
 use Rattle.std.specs.Prelude.{if◌then◌else◌, ◌==◌}
 use Rattle.sqlite.specs.Effect.{Database}
@@ -23,8 +23,7 @@ use Rattle.line_audit.specs.declared.table.StateTable.{StateTable}
 use Rattle.line_audit.specs.Audit.{Pieces, IsExpected, IsVerdict, state_tables, with_placements}
 use Rattle.line_audit.proofs.PlacementsAsExpected.{expected_after}
 use Rattle.line_audit.proofs.Verdicts.{all_right}
-use Rattle.line_replay.specs.declared.beside.Beside.{Beside}
-use Rattle.line_replay.specs.Beside.{IsBeside}
+use Rattle.line_replay.specs.Expected.{Expected, AreExpected}
 use Rattle.line_tables.specs.Rows.{HoldsBy, version_in, version_of}
 use Rattle.line_tables.specs.Calls.{Reads, IsVersionOf}
 use Rattle.line_tables.specs.Frames.{ReadsOnly}
@@ -60,7 +59,6 @@ module _ (rules : Rules) (old : State) where
   pub other_version : (v : Version) (greatest : ℕ) → v.number ≢ pos (version_of rules) → IsGreatest v.greatest greatest → Reads old (λ db. IsVersionOf (version_in db) (Some v)) → IsFaultBy rules old (OtherVersion v.number)
   other_version v greatest other great r = let is = version_read old v v.number greatest refl great r in (other, record { was_open = is.was_open; are = λ schema. (greatest, is.are schema) })
 
-  -- a row of `version` that tells no greatest number of this version
   pub version_fault : (v : Version) (o : Option Version) (r : Result ℕ OpenFault) → o ≡ Some v
       → IfErr r (λ f. ((f ≡ NotADesk) × ((greatest : ℕ) → IsGreatest v.greatest greatest → ⊥)) ⊎ ((f ≡ OtherVersion v.number) × (v.number ≢ pos (version_of rules)) × (greatest : ℕ) × IsGreatest v.greatest greatest))
       → Reads old (λ db. IsVersionOf (version_in db) o) → IfErr r (IsFaultBy rules old)
@@ -68,33 +66,32 @@ module _ (rules : Rules) (old : State) where
   version_fault v o (Err f) some (inl (is, none)) read = subst (IsFaultBy rules old) (sym is) (no_greatest v none (subst (λ (x : Option Version). Reads old (λ db. IsVersionOf (version_in db) x)) some read))
   version_fault v o (Err f) some (inr (is, other, greatest, great)) read = subst (IsFaultBy rules old) (sym is) (other_version v greatest other great (subst (λ (x : Option Version). Reads old (λ db. IsVersionOf (version_in db) x)) some read))
 
--- ---- the list after it
+-- ---- the history after it
 
 module _ (rules : Rules) (old mid : State) (greatest : ℕ) (kept : KeepsCommit old mid) (version : Reads old (λ db. IsVersion db (pos (version_of rules)) greatest)) where
   pub list_fault : (f : ReplayFault) → IsReplayFault rules greatest mid f → IsFaultBy rules old (opening_fault f)
   list_fault (replay.NotLawful n) h = (greatest, version, reads_back old mid _ kept h)
   list_fault replay.Unavailable h = tt
 
--- the other tables, compared with the rows beside the list
-pub audited : (rules : Rules) (Before After : Type 0) (old mid last : State) (beside : Beside) (H : History) (verdict : Option StateTable) → (After → Before) → (After → KeepsCommit old mid) → (After → KeepsCommit mid last) → IsBeside Before mid.committed beside H
-    → (After → (f : ℕ × ℕ → Option PlacementRow) (es : Pieces) → IsExpected last beside.placed.all beside.placed.count es f → Reads last (λ db. IsVerdict (state_tables rules) db (with_placements f (tables_in beside.rows)) verdict))
+pub audited : (rules : Rules) (Before After : Type 0) (old mid last : State) (expected : Expected) (H : History) (verdict : Option StateTable) → (After → Before) → (After → KeepsCommit old mid) → (After → KeepsCommit mid last) → AreExpected Before mid.committed expected H
+    → (After → (f : ℕ × ℕ → Option PlacementRow) (es : Pieces) → IsExpected last expected.placed.all expected.placed.count es f → Reads last (λ db. IsVerdict (state_tables rules) db (with_placements f (tables_in expected.rows)) verdict))
     → After → Reads old (λ db. IsVerdict (state_tables rules) db (state_of H) verdict)
-audited rules Before After old mid last beside H verdict early kept kept_on is told clean =
+audited rules Before After old mid last expected H verdict early kept kept_on is told clean =
     let f : ℕ × ℕ → Option PlacementRow = λ key. placement_row H key.0 key.1 in
-    let expected : IsExpected mid beside.placed.all beside.placed.count is.pieces f = record { listed = is.listed; pieces = is.named; counted = is.counted; placed = λ was_open schema. is.told (early clean) schema } in
-    let here = told clean f is.pieces (expected_after mid last (kept_on clean) beside.placed.all beside.placed.count is.pieces f expected) in
-    let same : with_placements f (tables_in beside.rows) ≡ state_of H = ap (with_placements f) is.rows in
+    let are : IsExpected mid expected.placed.all expected.placed.count is.pieces f = record { listed = is.listed; pieces = is.named; counted = is.counted; placed = λ was_open schema. is.told (early clean) schema } in
+    let here = told clean f is.pieces (expected_after mid last (kept_on clean) expected.placed.all expected.placed.count is.pieces f are) in
+    let same : with_placements f (tables_in expected.rows) ≡ state_of H = ap (with_placements f) is.rows in
     reads_back old mid _ (kept clean) (reads_back mid last _ (kept_on clean) (subst (λ (t : StateTables). Reads last (λ db. IsVerdict (state_tables rules) db t verdict)) same here))
 
--- by rules One there is no row of found pieces
+-- Under rules One there is no row of found pieces.
 none_found : (rules : Rules) (H : History) → IsJudged rules H → rules ≡ One → (reel : Name) → found_row H reel ≡ None
 none_found rules H judged is reel =
     ap (λ (n : ℕ). if n == 0 then None else Some n) (nothing-found H reel (subst (λ (r : Rules). IsJudged r H) is judged))
 
-pub opened_on : {D : Type 0} (F : D → History → Type 0) (K : D → Rules) (Before After : Type 0) (old mid : State) (rules : Rules) (desk : D) (beside : Beside) (count : ℕ) (opened : Opened D) (H : History) → (After → Before)
-    → IsReplayed F rules opened.greatest Before mid desk beside count H → IsListed opened.lists H → K desk ≡ rules → opened.desk ≡ desk → opened.count ≡ count → opened.greatest ≤ MOST_ENTRIES → (After → KeepsCommit old mid)
+pub opened_on : {D : Type 0} (F : D → History → Type 0) (K : D → Rules) (Before After : Type 0) (old mid : State) (rules : Rules) (desk : D) (expected : Expected) (count : ℕ) (opened : Opened D) (H : History) → (After → Before)
+    → IsReplayed F rules opened.greatest Before mid desk expected count H → IsListed opened.lists H → K desk ≡ rules → opened.desk ≡ desk → opened.count ≡ count → opened.greatest ≤ MOST_ENTRIES → (After → KeepsCommit old mid)
     → (After → Reads old (λ db. IsVersion db (pos (version_of rules)) opened.greatest)) → (After → Reads old (λ db. IsVerdict (state_tables rules) db (state_of H) None)) → (After → Reads old (λ db. AreAllApartBy rules db)) → IsOpened F K After old rules opened H
-opened_on F K Before After old mid rules desk beside count opened H early r listed kept_by is counted bound kept version state apart = record {
+opened_on F K Before After old mid rules desk expected count opened H early r listed kept_by is counted bound kept version state apart = record {
   stands = subst (λ d. F d H) (sym is) r.stands;
   lists = listed;
   rules = ap K is ∙ kept_by;
@@ -108,13 +105,12 @@ opened_on F K Before After old mid rules desk beside count opened H early r list
   apart = apart;
 }
 
--- a table that differs
-pub table_fault : {D : Type 0} (F : D → History → Type 0) (rules : Rules) (Before : Type 0) (old mid : State) (desk : D) (beside : Beside) (count greatest : ℕ) (H : History) (table : StateTable) → Before → IsReplayed F rules greatest Before mid desk beside count H → KeepsCommit old mid
+pub table_fault : {D : Type 0} (F : D → History → Type 0) (rules : Rules) (Before : Type 0) (old mid : State) (desk : D) (expected : Expected) (count greatest : ℕ) (H : History) (table : StateTable) → Before → IsReplayed F rules greatest Before mid desk expected count H → KeepsCommit old mid
     → Reads old (λ db. IsVersion db (pos (version_of rules)) greatest) → Reads old (λ db. IsVerdict (state_tables rules) db (state_of H) (Some table)) → IsFaultBy rules old (TableDiffers table)
-table_fault F rules Before old mid desk beside count greatest H table clean r kept version first =
+table_fault F rules Before old mid desk expected count greatest H table clean r kept version first =
     record { greatest = greatest; list = H; version = version; rows = reads_back old mid _ kept (r.rows clean); first = first }
 
--- The tables that were read are those of the list, where what is seen is what is committed: the names tell the version.
+-- The names of the tables show the version.
 pub opened_holds : {D : Type 0} (F : D → History → Type 0) (K : D → Rules) (Clean : Type 0) (old : State) (rules : Rules) (opened : Opened D) (H : History) → IsOpened F K Clean old rules opened H → IsNamedBy rules old
     → (IsTrue old.is_open → old.now ≡ old.committed) → Clean → Reads old (λ db. HoldsBy rules db (ledger_tables opened.greatest H))
 opened_holds F K Clean old rules opened H o named settled clean =
@@ -132,13 +128,9 @@ opened_holds F K Clean old rules opened H o named settled clean =
           };
     }
 
--- and it is lawful
 pub opened_lawful : {D : Type 0} (F : D → History → Type 0) (K : D → Rules) (Clean : Type 0) (old : State) (opened : Opened D) (H : History) → IsOpened F K Clean old Two opened H → Clean → IsTrue (is_ours old.committed.schema)
     → IsLawful Two opened.greatest H
 opened_lawful F K Clean old opened H o clean own = let ours = ours_is old.committed.schema own in ((o.rows clean).are (record { rules = Two; layout = ours.0; same = ours.1 })).lawful
 
--- ---- the calls that read, one after the other
-
--- four of them
 pub reads_all : {S : Type 0} (g : Ghosts S) (a b c d e : Held S) → ReadsOnly g a b → ReadsOnly g b c → ReadsOnly g c d → ReadsOnly g d e → ReadsOnly g a e
 reads_all g a b c d e one two three four = reads_then g a b e one (reads_then g b c e two (reads_then g c d e three four))

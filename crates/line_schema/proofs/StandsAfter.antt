@@ -1,4 +1,4 @@
--- For which list a store stands after a call.
+-- The history that a store represents after a call.
 use Rattle.std.proofs.Common.{◌≡◌, ◌∙◌, ◌+◌, ◌<◌, ◌≤◌, inl, inr, refl, IsTrue, IfSome, IsSomeAnd, Option, Some, None, is_some, Result, Ok, Err, IfOk, OnOk, OnErr, List, [], map, length, false, true, true≢false, ◌||◌, if◌then◌else◌, sym, ap, subst, arith}
 use Rattle.std.specs.Prelude.{⊤}
 use Rattle.std.specs.List.{IsDistinct}
@@ -27,7 +27,7 @@ use Rattle.desk_laws.proofs.JudgedLists.{consistent}
 use Rattle.desk_answers.specs.declared.answer.Answer.{Answer}
 use Rattle.desk_answers.specs.Commands.{earlier_answer, judged_answer, is_full, command_after}
 use Rattle.desk_answers.proofs.FirstTime.{first-uid}
-use Rattle.line_tables.specs.declared.edit.Edit.{Edit}
+use Rattle.line_tables.specs.Edit.{Edit}
 use Rattle.line_tables.specs.Rows.{Tables, Holds, HoldsAt, AreNew, after_edits}
 use Rattle.line_tables.specs.Calls.{Edits, LeavesEdited}
 use Rattle.line_tables.specs.Frames.{ReadsOnly}
@@ -40,22 +40,18 @@ use Rattle.line_schema.specs.Frames.{ReadsStore}
 use Rattle.trace_lists.specs.declared.lists.TraceLists.{TraceLists}
 use Rattle.trace_lists.specs.Lists.{IsListed}
 
--- a desk that may have judged it stands for the list
 pub judged_for : {D : Type 0} (F : D → History → Type 0) (K : D → Rules) (o : Option D) (H : History) (change : Change)
     → IsSomeAnd o (λ d. (G : History) → F d G → IsChange (K d) G change.stamped change) → IfSome o (λ d. F d H × (K d ≡ Two)) → IsChange Two H change.stamped change
 judged_for F K None H change h desk = absurd h
 judged_for F K (Some d) H change h desk = subst (λ (r : Rules). IsChange r H change.stamped change) desk.1 (h H desk.0)
 
--- the desk that is there stands for the list
 pub stood_for : {D : Type 0} (F : D → History → Type 0) (K : D → Rules) (o : Option D) (d : D) (H : History) → o ≡ Some d → IfSome o (λ d. F d H × (K d ≡ Two)) → F d H
 stood_for {D} F K o d H is desk = (subst (λ (o : Option D). IfSome o (λ d. F d H × (K d ≡ Two))) is desk).0
 
--- no UniqueID comes twice where there is none
 pub none_yet : IsDistinct same []
 unfolding IsDistinct
 none_yet = tt
 
--- a list with a message that comes for the first time is lawful
 lawful_on : (greatest : _) (H : History) (s : Stamped) → IsLawful Two greatest H → IsJudged Two (accept H s) → earlier_answer H s ≡ None → length H < greatest → IsLawful Two greatest (accept H s)
 lawful_on greatest H s lawful judged none room = record {
   judged = judged;
@@ -63,14 +59,12 @@ lawful_on greatest H s lawful judged none room = record {
   numbers = omega (arith, room);
 }
 
--- the list after a command that makes a change
 accepted_list : (rules : Rules) (H : History) (s : Stamped) (change : Change) → IsChange rules H s change → accept H change.stamped ≡ after_command rules H s
 accepted_list rules H s change is = ap (accept H) (stamped_is rules H s change is) ∙ sym (ap (λ o. option_map_or (λ _. H) o (accept H s)) is.accepted)
 
 pub first_as : (L : Kept) (s : Stamped) (change : Change) → IsChange Two L.history s change → earlier_answer L.history s ≡ None → earlier_answer L.history change.stamped ≡ None
 first_as L s change is none = subst (λ t. earlier_answer L.history t ≡ None) (sym (stamped_is Two L.history s change is)) none
 
--- the answer to a command that makes a change
 pub answered_as : (H : History) (s : Stamped) (change : Change) (r : Result Answer Fault) → IsChange Two H s change → IfOk r (λ a. a ≡ judged_answer H change.stamped (Accepted change.detail)) → IfOk r (λ a. a ≡ judged_answer H s (reply_to Two H s))
 answered_as H s change (Ok a) is told = told ∙ ap (λ (c : Change). judged_answer H c.stamped (Accepted c.detail)) is.value ∙ sym (ap (λ o. judged_answer H s (option_map_or Refused o (Accepted (change_of H s).detail))) is.accepted)
 answered_as H s change (Err e) is told = tt
@@ -81,20 +75,18 @@ module _ {old new : State} (P : Trees → Type 0) (survives : Survives old new P
   pub clean_before : HasCleanDisk new → HasCleanDisk old
   clean_before clean = omega (arith, survives.clean, clean)
 
-  -- it stays open, or the disk fails
   pub still_open : StaysOpen old → StaysOpen new
   still_open was clean = elim (was (clean_before clean)) [
     | inl was_open ↦ elim (survives.closes clean was_open) [ inl still ↦ inl still | inr more ↦ inr (omega (arith, more)) ]
     | inr failed ↦ inr (omega (arith, survives.counts, failed))
   ]
 
--- what stands whatever the call answered
 pub err_still : {A E : Type 0} {P : Type 0} (r : Result A E) → P → OnErr r P
 err_still (Ok a) p = tt
 err_still (Err e) p = p
 
 module _ {S D : Type 0} (g : Ghosts S) (F : D → History → Type 0) (K : D → Rules) where
-  -- of tables that are not its own less is said
+  -- If the tables are not its own, the store promises less.
   pub disowned : (store : LineStore S D) (L : Kept) → Stands g F K store L → Stands g F K store (record L { own = false })
   disowned store L s = record {
     greatest = s.greatest;
@@ -112,7 +104,6 @@ module _ {S D : Type 0} (g : Ghosts S) (F : D → History → Type 0) (K : D →
     tables = λ clean own. absurd (true≢false (sym own));
   }
 
-  -- the desk and the lists were made again
   pub remade : {P : Trees → Type 0} (old new : LineStore S D) (d : D) (l : TraceLists) (H : History) → new.greatest ≡ old.greatest → new.count ≡ length H → new.desk ≡ Some d → new.lists ≡ Some l → new.conn.in_transaction ≡ false
       → F d H → IsListed l H → K d ≡ Two → IsJudged Two H → Survives (state g old.conn) (state g new.conn) P
       → (L : Kept) → Stands g F K old L → length H ≤ L.greatest → Stands g F K new (record { greatest = L.greatest; history = H; own = false })
@@ -132,7 +123,6 @@ module _ {S D : Type 0} (g : Ghosts S) (F : D → History → Type 0) (K : D →
     tables = λ clean own. absurd (true≢false (sym own));
   }
 
-  -- and for the list that the store stood for
   pub remade_same : {P : Trees → Type 0} (old new : LineStore S D) (d : D) (l : TraceLists) (L : Kept) → new.greatest ≡ old.greatest → new.count ≡ length L.history → new.desk ≡ Some d → new.lists ≡ Some l → new.conn.in_transaction ≡ false
       → F d L.history → IsListed l L.history → K d ≡ Two
       → Survives (state g old.conn) (state g new.conn) P → (HasCleanDisk (state g new.conn) → KeepsCommit (state g old.conn) (state g new.conn)) → Stands g F K old L → Stands g F K new L
@@ -152,7 +142,7 @@ module _ {S D : Type 0} (g : Ghosts S) (F : D → History → Type 0) (K : D →
     tables = λ clean own is_open. subst (λ (db : Database). Holds db (ledger_tables L.greatest L.history)) (sym ((kept clean).committed is_open)) (s.tables (clean_before P survives clean) own ((kept clean).was_open is_open));
   }
 
-  -- a call failed: memory was taken for the lists, and what is committed was let be
+  -- A call failed: memory was taken for the trace indexes, and the committed contents stay.
   pub failed_on : {P : Trees → Type 0} (old new : LineStore S D) (before after : TraceLists) → old.lists ≡ Some before → new.lists ≡ Some after → ((H : History) → IsListed before H → IsListed after H)
       → new.greatest ≡ old.greatest → new.count ≡ old.count → new.desk ≡ old.desk → new.conn.in_transaction ≡ false
       → Survives (state g old.conn) (state g new.conn) P → (HasCleanDisk (state g new.conn) → KeepsCommit (state g old.conn) (state g new.conn))
@@ -173,7 +163,6 @@ module _ {S D : Type 0} (g : Ghosts S) (F : D → History → Type 0) (K : D →
     tables = λ clean own is_open. subst (λ (db : Database). Holds db (ledger_tables L.greatest L.history)) (sym ((kept clean).committed is_open)) (s.tables (clean_before P survives clean) own ((kept clean).was_open is_open));
   }
 
-  -- a change was committed
   pub stands_on : {P : Trees → Type 0} (old new : LineStore S D) (L : Kept) (change : Change) (edits : List Edit) → Stands g F K old L → old.count < old.greatest
       → IsChange Two L.history change.stamped change → IsStamped change.stamped → IsMinute change.minute
       → new.count ≡ old.count + 1 → new.greatest ≡ old.greatest → new.conn.in_transaction ≡ false → IfSome new.desk (λ d. F d (accept L.history change.stamped) × (K d ≡ Two))
@@ -202,7 +191,6 @@ module _ {S D : Type 0} (g : Ghosts S) (F : D → History → Type 0) (K : D →
       judged : IsJudged Two (accept L.history change.stamped)
       judged = (next_is Two L.history change.stamped change stamped minute is, s.judged)
 
-  -- a call only read
   pub read_on : {P : Trees → Type 0} (old new : LineStore S D) → new.greatest ≡ old.greatest → new.count ≡ old.count → new.desk ≡ old.desk → new.lists ≡ old.lists → (old.conn.in_transaction ≡ false → new.conn.in_transaction ≡ false)
       → Survives (state g old.conn) (state g new.conn) P → (HasCleanDisk (state g new.conn) → KeepsCommit (state g old.conn) (state g new.conn)) → (L : Kept) → Stands g F K old L → Stands g F K new L
   read_on {P} old new greatest count desk lists mode survives kept L s = record {
@@ -224,15 +212,13 @@ module _ {S D : Type 0} (g : Ghosts S) (F : D → History → Type 0) (K : D →
   pub reads_on : (old new : LineStore S D) → new.greatest ≡ old.greatest → new.count ≡ old.count → new.desk ≡ old.desk → new.lists ≡ old.lists → ReadsOnly g old.conn new.conn → ReadsStore g F K old new
   reads_on old new greatest count desk lists reads = record { stands = read_on old new greatest count desk lists reads.mode reads.survives reads.kept; desk = desk; reads = reads }
 
-  -- a command that came before, or for which there is no room, leaves the list
   pub stands_still : (store : LineStore S D) (L : Kept) (s : Stamped) → (is_some (earlier_answer L.history s) || is_full L.greatest L.history) ≡ true → Stands g F K store L → Stands g F K store (record L { history = command_after Two L.greatest L.history s })
   stands_still store L s settled stands = subst (λ H. Stands g F K store (record L { history = H })) (sym (ap (λ b. if b then L.history else after_command Two L.history s) settled)) stands
 
-  -- every table is there, or the disk has failed
+  -- Every table is that of the history, or the disk has failed.
   pub tables_there : (store : LineStore S D) (L : Kept) → Stands g F K store L → ShowsTables g store L
   tables_there store L s clean own = elim (s.stays_open clean) [ inl is_open ↦ inl (s.tables clean own is_open) | inr failed ↦ inr failed ]
 
-  -- a call that may have accepted it
   pub stands_either : (r : Result Answer Fault) (new : LineStore S D) (L M : Kept) → OnOk r (Stands g F K new M) → OnErr r (Stands g F K new L) → (N : Kept) × Stands g F K new N
   stands_either (Ok a) new L M ok err = (M, ok)
   stands_either (Err e) new L M ok err = (L, err)
@@ -242,11 +228,11 @@ module _ {S D : Type 0} (g : Ghosts S) (F : D → History → Type 0) (K : D →
   accepted_as (Ok a) new L s change is ok = subst (λ H. Stands g F K new (record L { history = H })) (accepted_list Two L.history s change is) ok
   accepted_as (Err e) new L s change is ok = ok
 
--- whatever a crash may leave: no fault is forgotten, and only a fault shuts the connection
+-- For any crash: no fault is forgotten, and only a fault shuts the connection.
 pub survives_still : (s : State) → Survives s s (λ _. ⊤)
 survives_still s = record { clean = omega arith; shield = λ h. h; counts = omega arith; limit = refl; closes = λ clean was. inl was; crash = λ clean trees left. inl left }
 
--- what a crash may leave of edits, where the tables were those of the list
+-- The tables that a crash may leave of edits, if the tables were those of the history.
 module _ (old : State) (tables after : Tables) (edits : List Edit) (is : after_edits edits tables ≡ after) (new : AreNew edits tables) (holds : HasCleanDisk old → IsTrue old.is_open → Holds old.committed tables) where
   pub left_on : HasCleanDisk old → (trees : Trees) → LeavesEdited edits old trees → HoldsAt after trees
   left_on clean trees left = subst (λ t. HoldsAt t trees) is (left.holds tables (holds clean left.was_open) new).0

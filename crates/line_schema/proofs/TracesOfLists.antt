@@ -1,4 +1,4 @@
--- What a trace tells of the list that a store stands for.
+-- The result of a trace, for the history that a store represents.
 use Rattle.std.proofs.Common.{◌≡◌, IsTrue, IfSome, Option, Some, None, [], ◌∷◌, refl, sym, subst, arith}
 use Rattle.std.specs.List.{AllZip}
 use Rattle.sqlite_trees.specs.declared.store.Store.{Ghosts}
@@ -15,17 +15,15 @@ use Rattle.line_traces.proofs.Minutes.{IsRowOf, list-held}
 use Rattle.line_schema.specs.declared.store.LineStore.{LineStore}
 use Rattle.line_schema.specs.Stands.{Kept, Stands}
 
--- the rows of `accepted` are those of the entries
 rows-are : (H : History) → AllZip IsRowOf H (rows_of H)
 rows-are [] = tt
 rows-are (e ∷ H) = ((refl, refl), rows-are H)
 
--- a desk that stands for the list by rules Two stands for it
 stands-so : {D : Type 0} (F : D → History → Type 0) (K : D → Rules) (desk : Option D) (H : History) → IfSome desk (λ d. F d H × (K d ≡ Two)) → IfSome desk (λ d. F d H)
 stands-so F K None H stands = stands
 stands-so F K (Some d) H stands = stands.0
 
--- where the tables are the store's own, what is told of them, and by the lists and the desk beside them, is that of its list
+-- If the tables are the store's own, a result about them, the desk and the trace indexes holds for its history.
 pub told-of : {S D X : Type 0} (g : Ghosts S) (F : D → History → Type 0) (K : D → Rules) (old : LineStore S D) (new : State) (lists : Option TraceLists) (desk : Option D) (of : History → X) (found : X) → lists ≡ old.lists → desk ≡ old.desk → Survives (state g old.conn) new (λ _. ⊥)
     → (HasCleanDisk new → FindsBeside F lists desk of (state g old.conn) found) → (L : Kept) → Stands g F K old L → HasCleanDisk new → IsTrue L.own → found ≡ of L.history
 told-of g F K old new lists desk of found lists-are desk-is survives told L stands clean own =

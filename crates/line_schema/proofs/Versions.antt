@@ -1,4 +1,4 @@
--- A file of version 1 that was made one of version 2.
+-- A file that was migrated from version 1 to version 2.
 use Rattle.std.proofs.Common.{◌≡◌, ◌∙◌, IsTrue, map, sym, ap, subst}
 use Rattle.sqlite_trees.specs.Tree.{Trees}
 use Rattle.sqlite.specs.Effect.{Database}
@@ -17,7 +17,7 @@ use Rattle.line_schema.specs.Opening.{IsOpened, IsNamedBy}
 use Rattle.line_schema.specs.Versions.{IsMigrated}
 use Rattle.line_schema.proofs.ReadOfCommitted.{opened_holds}
 
--- what may be left, told of what was committed before calls that kept it
+-- The tables that a crash may leave, by the commit before calls that kept it.
 left_before : (old mid : State) (trees : Trees) → KeepsCommit old mid → LeavesMigrated mid trees → LeavesMigrated old trees
 left_before old mid trees kept left = record {
   was_open = kept.was_open left.was_open;
@@ -31,7 +31,6 @@ pub survives_migration : (old mid new : State) → (HasCleanDisk new → KeepsCo
 survives_migration old mid new kept read written =
     survives_then old mid new (λ _. ⊥) (LeavesMigrated mid) (LeavesMigrated old) (λ clean trees none. absurd none) (λ clean trees left. left_before old mid trees (kept clean) left) read written
 
--- the list that was read by rules One, and the tables that were written
 pub migrated_on : {D : Type 0} (F : D → History → Type 0) (K : D → Rules) (Clean : Type 0) (old mid new : State) (opened : Opened D) (H : History) → IsOpened F K Clean old One opened H → Clean → IsNamedBy One old
     → (IsTrue old.is_open → old.now ≡ old.committed) → KeepsCommit old mid → Migrated mid.committed new.committed → IsTrue mid.is_open × IsTrue new.is_open → ((trees : Trees) → new.may_leave trees → LeavesMigrated mid trees)
     → IsMigrated old new opened.greatest H opened.count

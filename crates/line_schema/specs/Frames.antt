@@ -1,4 +1,4 @@
--- What a call leaves of a store, and of a connection that is handed back.
+-- The parts of a store, and of a returned connection, that a call leaves unchanged.
 use Rattle.std.specs.Prelude.{◌≡◌, ◌⊎◌, ℕ, false, IsTrue}
 use Rattle.sqlite_trees.specs.Tree.{Trees}
 use Rattle.sqlite_trees.specs.declared.store.Store.{Ghosts}
@@ -12,31 +12,34 @@ use Rattle.line_schema.specs.declared.store.LineStore.{LineStore}
 use Rattle.line_schema.specs.Stands.{ForKept, Kept, Stands, conn_of, state_of, has_desk}
 use Rattle.line_schema.specs.Traces.{desk_of}
 
--- A call that only reads: the store stands for the same list, and has the desk that it had.
+-- A call that only reads: the store represents the same history, and its desk is unchanged.
 pub record ReadsStore {S D : Type 0} (g : Ghosts S) (StandsFor : D → History → Type 0) (kept_rules : D → Rules) (old new : LineStore S D) : Type 0 where
   pub stands : (L : Kept) → Stands g StandsFor kept_rules old L → Stands g StandsFor kept_rules new L
   pub desk : desk_of new ≡ desk_of old
   pub reads : ReadsOnly g (conn_of old) (conn_of new)
 
--- A call that makes the desk where it is not at hand, by reading the tables: the store stands for a list, and for the same one where the disk is honest and the tables are the store's own. A crash leaves what it could leave before.
+-- A call that loads the desk from the tables if it isn't loaded. The store represents a history: the same one if the
+-- disk is honest and the tables are the store's own. A crash leaves nothing new.
 pub record MakesDesk {S D : Type 0} (g : Ghosts S) (StandsFor : D → History → Type 0) (kept_rules : D → Rules) (old new : LineStore S D) : Type 0 where
   pub at_hand : IsTrue (has_desk old) → new ≡ old
   pub kept : (L : Kept) × Stands g StandsFor kept_rules new L
   pub stands : ForKept g StandsFor kept_rules old new (Stands g StandsFor kept_rules new)
   pub survives : Survives (state_of g old) (state_of g new) (λ _. ⊥)
 
--- A connection in which no tables could be made: what is committed stays, no transaction is left open where none was, and a crash leaves what it could leave before, or the tables of an empty list.
+-- A connection after a failed creation of tables. The committed contents stay, and no new transaction is open. A crash
+-- leaves the same as before, or the tables of an empty history.
 pub record LeavesUnmade {S : Type 0} (g : Ghosts S) (greatest : ℕ) (old new : Held S) : Type 0 where
   pub kept : HasCleanDisk (state g new) → KeepsCommit (state g old) (state g new)
   pub mode : old.in_transaction ≡ false → new.in_transaction ≡ false
   pub survives : Survives (state g old) (state g new) (LeavesBlank greatest (state g old))
 
--- trees with the rows of others as they were at the last commit
+-- Trees with other people's rows as of the last commit.
 pub record LeavesOthers (old : State) (trees : Trees) : Type 0 where
   pub was_open : IsTrue old.is_open
   pub rows : HasOthers old.committed trees
 
--- What others have behind our tables, on a disk that is honest: while the connection is open their rows are as they were. A crash leaves what it could leave before, or trees with those rows.
+-- Other people's tables behind ours, on an honest disk: while the connection is open their rows are unchanged. A crash
+-- leaves the same as before, or trees with those rows.
 pub record LetsOthersBe (old new : State) : Type 0 where
   pub was_open : HasCleanDisk new → IsTrue new.is_open → IsTrue old.is_open
   pub rows : HasCleanDisk new → IsTrue new.is_open → KeepsOthers old.committed new.committed

@@ -1,4 +1,4 @@
--- What is read when a store is opened, and what a fault says of what is committed.
+-- The contents read when a store is opened, and the meaning of a fault for the committed contents.
 use Rattle.std.specs.Prelude.{◌≡◌, ◌≢◌, ◌⊎◌, ◌≤◌, ⊤, ℕ, ℤ, pos, true, false, length, List, [], ◌∷◌, ◌++◌, codes, decimal}
 use Rattle.std.specs.Fmt.{signed_decimal}
 use Rattle.std.specs.List.{list_any}
@@ -27,48 +27,50 @@ use Rattle.line_schema.specs.declared.opening.Opened.{Opened}
 use Rattle.line_audit.specs.declared.table.StateTable.{StateTable}
 use Rattle.trace_lists.specs.Lists.{IsListed}
 
--- a fault of reading the list again, as a fault of opening
+-- A fault of a replay, as a fault of opening.
 abbrev pub opening_fault : ReplayFault → OpenFault
 opening_fault (replay.NotLawful n) = NotLawful n
 opening_fault replay.Unavailable = Unavailable
 
--- the whole number is a greatest number: from 1 to the most entries
+-- The whole number is a greatest number: from 1 to the limit of entries.
 pub record IsGreatest (z : ℤ) (greatest : ℕ) : Type 0 where
   pub same : z ≡ pos greatest
   pub least : 1 ≤ greatest
   pub most : greatest ≤ MOST_ENTRIES
 
--- `version` has just one row, of a 1, this version and this greatest number
+-- `version` has a single row: a 1, this version and this greatest number.
 pub record IsVersion (db : Database) (number : ℤ) (greatest : ℕ) : Type 0 where
   pub row : version_in db ≡ (Int (pos 1) ∷ Int number ∷ Int (pos greatest) ∷ []) ∷ []
   pub least : 1 ≤ greatest
   pub most : greatest ≤ MOST_ENTRIES
 
--- the tables of the version are there, with their columns, by name: version 1 goes with rules One, version 2 with rules Two
+-- The tables of the version exist with their columns, by name. Rules One go with version 1, rules Two with version 2.
 abbrev pub IsNamedBy : Rules → State → Type 0
 IsNamedBy rules old = (list_any is_version old.now.schema.tables ≡ true) × (list_any is_accepted old.now.schema.tables ≡ true) × (has_state rules old.now.schema.tables ≡ true)
 
 abbrev pub IsNamed : State → Type 0
 IsNamed = IsNamedBy Two
 
--- the database says that it is of the version
+-- The database claims to be of this version.
 abbrev pub IsOfBy : Rules → State → Type 0
 IsOfBy rules old = Reads old (λ db. (greatest : ℕ) × IsVersion db (pos (version_of rules)) greatest)
 
--- the table `version` or a column of it is missing, it has no such row, or it says this version, and another of its tables or a column of it is missing; in version 1 so it is where there is a table named `found`
+-- The table `version` or one of its columns is missing, or it has no such row; or it names this version, and another
+-- table or a column is missing. In version 1 a table named `found` counts as such a fault.
 abbrev pub IsNoDeskBy : Rules → State → Type 0
 IsNoDeskBy rules old =
     (list_any is_version old.now.schema.tables ≡ false)
     ⊎ Reads old (λ db. (number : ℤ) (greatest : ℕ) → IsVersion db number greatest → ⊥)
     ⊎ (((list_any is_accepted old.now.schema.tables ≡ false) ⊎ (has_state rules old.now.schema.tables ≡ false)) × IsOfBy rules old)
 
--- the fault is not one of the list or of another table
+-- The fault concerns neither the history nor another table.
 abbrev pub IsOfVersion : OpenFault → Type 0
 IsOfVersion (NotLawful n) = ⊥
 IsOfVersion (TableDiffers table) = ⊥
 IsOfVersion _ = ⊤
 
--- a version is told of a file with the table `version`, and what is wrong with the rows of one with all tables of the version
+-- OtherVersion is reported only for a file with the table `version`, and a fault of the rows only for one with all
+-- tables of the version.
 abbrev pub IsToldBy : Rules → State → OpenFault → Type 0
 IsToldBy rules old (OtherVersion n) = list_any is_version old.now.schema.tables ≡ true
 IsToldBy rules old (NotLawful n) = IsNamedBy rules old
@@ -78,7 +80,8 @@ IsToldBy rules old _ = ⊤
 abbrev pub IsToldOf : State → OpenFault → Type 0
 IsToldOf = IsToldBy Two
 
--- the list is lawful and its rows are there, and of the other tables, in their order, this is the first whose rows are not the list's
+-- The history is lawful and its rows are present. This is the first of the other tables, in their order, whose rows are
+-- not the history's.
 pub record IsTableFault (rules : Rules) (old : State) (table : StateTable) : Type 0 where
   pub greatest : ℕ
   pub list : History
@@ -86,7 +89,7 @@ pub record IsTableFault (rules : Rules) (old : State) (table : StateTable) : Typ
   pub rows : Reads old (λ db. AreRowsOf rules greatest (accepted_in db) list)
   pub first : Reads old (λ db. IsFirstWrong (state_tables rules) db (state_of list) table)
 
--- what a fault says of what was committed, where the tables were to be those of the version
+-- The meaning of a fault for the committed contents, which should be tables of this version.
 abbrev pub IsFaultBy : Rules → State → OpenFault → Type 0
 IsFaultBy rules old NotADesk = IsNoDeskBy rules old
 IsFaultBy rules old (OtherVersion n) = (n ≢ pos (version_of rules)) × Reads old (λ db. (greatest : ℕ) × IsVersion db n greatest)
@@ -98,7 +101,7 @@ IsFaultBy rules old Unavailable = ⊤
 abbrev pub IsFaultOf : State → OpenFault → Type 0
 IsFaultOf = IsFaultBy Two
 
--- the name of a fault and, after a space, its number or its table
+-- The name of a fault and, after a space, its number or its table.
 abbrev pub fault_text : OpenFault → List ℕ
 fault_text NotADesk = codes "NotADesk"
 fault_text (OtherVersion n) = codes "OtherVersion " ++ signed_decimal n
@@ -107,7 +110,9 @@ fault_text (TableDiffers table) = codes "TableDiffers " ++ name_of table
 fault_text NotBlank = codes "NotBlank"
 fault_text Unavailable = codes "Unavailable"
 
--- The desk stands by the rules for a judged list of so many entries, no more than the greatest number, and the lists list it. On a clean disk, where the schema is ours, that is the greatest number of `version`, the list is lawful, its rows are those that are committed, the other tables are the list's, and their rowids tell their rows apart.
+-- The desk represents a judged history of this length by these rules, within the greatest number, and the trace indexes
+-- list it. On a clean disk with our schema: `version` has that greatest number, the history is lawful, its rows are
+-- committed, the other tables are the history's, and their rowids are distinct.
 pub record IsOpened {D : Type 0} (StandsFor : D → History → Type 0) (kept_rules : D → Rules) (Clean : Type 0) (old : State) (by : Rules) (opened : Opened D) (H : History) : Type 0 where
   pub stands : StandsFor opened.desk H
   pub lists : IsListed opened.lists H

@@ -1,4 +1,4 @@
--- What is said of a file of version 1 that was made one of version 2.
+-- A file that was migrated from version 1 to version 2.
 use Rattle.std.specs.Prelude.{◌≡◌, ℕ, Bool, IsTrue, length}
 use Rattle.sqlite_trees.specs.Tree.{Trees}
 use Rattle.sqlite.specs.State.{State}
@@ -10,7 +10,9 @@ use Rattle.line_tables.specs.Line.{IsOurs, schema_of, Layout, alone}
 use Rattle.line_tables.specs.Rows.{Holds, HoldsBy, HoldsAt, accepted_in}
 use Rattle.line_rows.specs.Rows.{ledger_tables}
 
--- The list is lawful by rules One, and by rules Two with the same answers: the rows of `accepted`, which have its answers, stay as they were. Its tables were those of version 1, and are those of version 2 in the same layout, which a crash leaves alone. This is of a file that has our tables and no others.
+-- The history is lawful by rules One, and by rules Two with the same answers: the rows of `accepted`, which hold its
+-- answers, are unchanged. Its tables were those of version 1, and are those of version 2 in the same layout; a crash
+-- leaves only those. This holds for a file with our tables and no others.
 pub record IsMigrated (old new : State) (greatest : ℕ) (H : History) (count : ℕ) : Type 0 where
   pub counted : count ≡ length H
   pub by_one : IsOurs old.committed.schema → IsLawful One greatest H

@@ -1,4 +1,4 @@
-//! The desk of a line, whose accepted commands are kept in tables.
+//! The store of a line: a desk whose accepted commands are kept in tables.
 #![tactic(auto)]
 
 mod beside;

@@ -7,13 +7,13 @@ ghost use Rattle.line_schema.specs.Stands.{Stands};
 
 use crate::store::LineStore;
 use crate::unavailable::Unavailable;
-use desk_types::Desk;
 use memory_store::MemoryFile;
 use sqlite::FileStore;
+use state_rows::KeepsRows;
 use std::alloc::Global;
 
-/// The store of an empty list in memory, which tells the truth as long as it is there.
-pub fn in_memory<D: Desk + Drop>(
+/// Makes the store of an empty history in memory, which never lies.
+pub fn in_memory<D: KeepsRows + Drop>(
     alloc: Global,
     greatest: u32,
 ) -> Result<LineStore<FileStore<MemoryFile>, D>, Unavailable>

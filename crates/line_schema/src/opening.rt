@@ -1,4 +1,4 @@
-//! What a store is made of, as its tables say.
+//! The parts of a store, read from its tables.
 
 ghost use Rattle.std.specs.Prelude.{◌≡◌, ◌≢◌, ◌≤◌, ◌⊎◌, ℕ, pos, IfOk, IfErr};
 ghost use Rattle.sqlite.specs.State.{HasCleanDisk};
@@ -12,25 +12,26 @@ ghost use Rattle.line_schema.specs.declared.fault.OpenFault.TheVariants as Fault
 ghost use Rattle.line_schema.specs.Opening.{IsVersion, IsFaultBy, IsNamedBy, IsOfVersion, IsToldBy, IsOpened, IsGreatest};
 
 use crate::fault::OpenFault;
-use desk_types::{Desk, MOST_ENTRIES, Rules};
+use desk_types::{MOST_ENTRIES, Rules};
 use line_audit::audit;
 use line_replay::{Replayed, replay};
 use line_tables::{Version, are_apart, find_version, has_accepted, has_state, has_version};
 use sqlite::{Alter, Connection};
+use state_rows::KeepsRows;
 use std::alloc::Global;
 use trace_lists::TraceLists;
 
-/// The desk of a list, the lists beside it, how many entries it has, and how many it may have.
-pub struct Opened<D: Desk + Drop> {
+/// The desk of a history, its trace indexes, the history's length, and the greatest number.
+pub struct Opened<D: KeepsRows + Drop> {
     pub desk: D,
     pub lists: TraceLists,
     pub count: u32,
     pub greatest: u32,
 }
 
-/// Reads the version, which is to be that of the rules, and then the list, each of whose entries is
-/// judged again by them, and compares the other tables with the list's.
-pub fn read_tables<S: Alter, D: Desk + Drop>(
+/// Reads the version, which must be that of the rules, replays the history by them, and compares the other tables with
+/// the history's.
+pub fn read_tables<S: Alter, D: KeepsRows + Drop>(
     alloc: Global,
     conn: &mut Connection<S>,
     rules: Rules,
@@ -55,13 +56,13 @@ pub fn read_tables<S: Alter, D: Desk + Drop>(
         desk,
         lists,
         count,
-        beside,
-    } = replay(alloc, conn, rules, greatest)?;
+        placed,
+    } = replay::<S, D>(alloc, conn, rules, greatest)?;
     let apart = are_apart(conn, rules)?;
     if !apart {
         return Err(OpenFault::Unavailable);
     }
-    let other = audit(alloc, conn, rules, &beside.rows, beside.placed)?;
+    let other = audit(alloc, conn, rules, desk.rows(), placed)?;
     match other {
         None => Ok(Opened {
             desk,
@@ -73,7 +74,7 @@ pub fn read_tables<S: Alter, D: Desk + Drop>(
     }
 }
 
-/// The greatest number, where the tables are of the version of the rules.
+/// Returns the greatest number, if the tables are of the version of the rules.
 fn read_greatest<S: Alter>(conn: &mut Connection<S>, rules: Rules) -> Result<u32, OpenFault>
     ensures ok { HasCleanDisk (state S.Store conn.new)
         → IfOk result
@@ -111,7 +112,6 @@ fn greatest_of(version: &Version, rules: Rules) -> Result<u32, OpenFault>
     Ok(greatest as u32)
 }
 
-/// The version of the tables that goes with the rules.
 fn number_of(rules: Rules) -> i64
     ensures { result ≡ pos (version_of rules) }
 {

@@ -2,12 +2,12 @@
 
 use crate::store::LineStore;
 use desk_answers::{Answer, Owner};
-use desk_types::{Desk, Stamped};
+use desk_types::Stamped;
 use sqlite::Alter;
+use state_rows::KeepsRows;
 
-/// The list by rules Two for which the store stands, whose tables are its own; it is trusted as long as
-/// the disk told the truth.
-impl<S: Alter, D: Desk + Drop> Owner for LineStore<S, D> {
+/// The store represents a history by rules Two, with its own tables. It is trusted as long as the disk has not lied.
+impl<S: Alter, D: KeepsRows + Drop> Owner for LineStore<S, D> {
     ghost use Rattle.std.specs.Prelude.{◌≡◌, true};
     ghost use Rattle.sqlite.specs.State.{HasCleanDisk};
     ghost use Rattle.desk_types.specs.declared.rules.Rules.TheVariants.{Two};

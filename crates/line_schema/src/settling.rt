@@ -1,25 +1,32 @@
-//! A desk with its lists, where they are there, after what was judged is accepted.
+//! A desk and its trace indexes, after a judged change is accepted.
 
 ghost use Rattle.std.specs.Prelude.{◌≡◌, ◌+◌, IfSome, is_some, length};
 ghost use Rattle.desk_types.specs.declared.rules.Rules.{Rules};
 ghost use Rattle.desk_types.specs.History.{History, accept};
 ghost use Rattle.desk_types.specs.Desk.{HasRoom, IsChange};
+ghost use Rattle.desk_types.specs.Edits.{with_edits};
+ghost use Rattle.desk_types.specs.Tables.{tables_of};
+ghost use Rattle.state_rows.specs.Kept.{unnumbered};
 ghost use Rattle.trace_lists.specs.Lists.{IsListed};
 
-use desk_types::{Change, Desk};
+use desk_types::{Change, RowEdit};
+use state_rows::KeepsRows;
 use trace_lists::TraceLists;
 
-/// The desk and the lists with the change, accepted under this number, or neither where memory was
-/// refused: then they have to be made again.
-pub fn settle_both<D: Desk + Drop>(
+/// Returns the desk and its trace indexes with the change, accepted under this number by the edits that
+/// were committed, or neither if memory was refused: then the store rebuilds them.
+pub fn settle_both<D: KeepsRows + Drop>(
     desk: Option<D>,
     lists: Option<TraceLists>,
     number: u32,
     change: Change,
+    edits: &[RowEdit],
 ) -> (Option<D>, Option<TraceLists>)
     requires room { IfSome desk (λ d. HasRoom D.Stands d 1) }
     requires judged { IfSome desk (λ d. (H : History) → D.Stands d H
         → IsChange (D.kept_rules d) H change.stamped change) }
+    requires lead { IfSome desk (λ d. (H : History) → D.Stands d H
+        → unnumbered (with_edits edits.now (tables_of H)) ≡ unnumbered (tables_of (accept H change.stamped))) }
     ensures desk { (rules : Rules) (H : History) → IfSome desk (λ d. D.Stands d H × (D.kept_rules d ≡ rules))
         → IfSome result.0 (λ d. D.Stands d (accept H change.stamped) × (D.kept_rules d ≡ rules)) }
     ensures lists { (H : History) → IfSome desk (λ d. D.Stands d H) → IfSome lists (λ l. IsListed l H)
@@ -35,7 +42,7 @@ pub fn settle_both<D: Desk + Drop>(
     if lists.note(number, &change).is_err() {
         return (None, None);
     }
-    match desk.settle(change) {
+    match desk.settle_edits(change, edits) {
         Ok(()) => (Some(desk), Some(lists)),
         Err(_) => (None, None),
     }

@@ -27,25 +27,27 @@ ghost use Rattle.line_schema.specs.Frames.{MakesDesk, LeavesUnmade, LetsOthersBe
 mod crash;
 mod migration;
 mod traces;
+mod view;
 
 use crate::fault::OpenFault;
 use crate::opening::{Opened, read_tables};
 use crate::settling::settle_both;
 use crate::unavailable::Unavailable;
 use desk_answers::Answer;
-use desk_types::{Change, Desk, JudgeFault, Rules, Stamped};
+use desk_types::{Change, JudgeFault, Rules, Stamped};
 use line_replay::{Replayed, rebuild};
 use line_rows::{Acceptance, answer_under, prepare};
 use line_tables::{append, find, has_our_name, make};
 use sqlite::{Alter, Connection};
+use state_rows::KeepsRows;
 use std::alloc::Global;
 use trace_lists::TraceLists;
 
-/// A desk whose accepted commands are kept in the tables of a database. A command is answered
-/// Accepted once it is committed; after a restart the list is read again.
+/// A desk whose accepted commands are kept in the tables of a database. A command is answered Accepted once it is
+/// committed. After a restart the history is read again.
 ///
-/// It is closed by giving its connection back: [`LineStore::into_connection`].
-pub struct LineStore<S: Alter, D: Desk + Drop> {
+/// To close it, take its connection back: [`LineStore::into_connection`].
+pub struct LineStore<S: Alter, D: KeepsRows + Drop> {
     alloc: Global,
     conn: Connection<S>,
     desk: Option<D>,
@@ -54,10 +56,10 @@ pub struct LineStore<S: Alter, D: Desk + Drop> {
     greatest: u32,
 }
 
-impl<S: Alter, D: Desk + Drop> LineStore<S, D> {
-    /// The store of an empty list, whose numbers are given up to the greatest, from 1 to
-    /// 1,000,000,000. Tables of other names are let be, and then what is committed is not told. Its
-    /// faults are NotBlank and Unavailable; in an open transaction of the caller's it is Unavailable.
+impl<S: Alter, D: KeepsRows + Drop> LineStore<S, D> {
+    /// Makes the store of an empty history, with this greatest number from 1 to 1,000,000,000. Tables with other names
+    /// stay, and the contract then promises nothing about the committed contents. Its faults are NotBlank and
+    /// Unavailable. Inside an open transaction of the caller it is Unavailable.
     pub fn create(
         alloc: Global,
         conn: Connection<S>,
@@ -104,8 +106,8 @@ impl<S: Alter, D: Desk + Drop> LineStore<S, D> {
         }
     }
 
-    /// The store that the tables keep, each of whose commands is judged again. In an open transaction
-    /// of the caller's it is Unavailable.
+    /// Opens the store in the tables, and judges each of its commands again. Inside an open transaction of the caller
+    /// it is Unavailable.
     pub fn open(
         alloc: Global,
         conn: Connection<S>,
@@ -147,7 +149,7 @@ impl<S: Alter, D: Desk + Drop> LineStore<S, D> {
         }
     }
 
-    /// Gives the connection back. Takes no memory.
+    /// Returns the connection. Takes no memory.
     pub fn into_connection(self) -> Connection<S>
         ensures { result ≡ conn_of self }
     {
@@ -162,14 +164,14 @@ impl<S: Alter, D: Desk + Drop> LineStore<S, D> {
         conn
     }
 
-    /// How many commands are accepted. Takes no memory.
+    /// Returns the number of accepted commands. Takes no memory.
     pub fn count(&self) -> u32
         ensures { (L : Kept) → Stands S.Store D.Stands D.kept_rules self.now L → result ≡ length L.history }
     {
         self.count
     }
 
-    /// The desk, where it is at hand: after [`LineStore::ready`] it is.
+    /// Returns the desk if it is loaded, as it is after [`LineStore::ready`].
     pub fn desk(&self) -> Option<&D>
         ensures there { is_some result ≡ has_desk self.now }
         ensures stands { (L : Kept) → Stands S.Store D.Stands D.kept_rules self.now L
@@ -178,8 +180,7 @@ impl<S: Alter, D: Desk + Drop> LineStore<S, D> {
         self.desk.as_ref()
     }
 
-    /// Sees to it that the desk is at hand, and the lists beside it, by reading the tables where they
-    /// aren't.
+    /// Loads the desk and its trace indexes from the tables if they aren't loaded.
     #[tactic(auto, using(crate::proofs::Others::let_be))]
     pub fn ready(&mut self) -> Result<(), Unavailable>
         requires stands { (L : Kept) × Stands S.Store D.Stands D.kept_rules self.old L }
@@ -193,7 +194,6 @@ impl<S: Alter, D: Desk + Drop> LineStore<S, D> {
         self.remake()
     }
 
-    /// Makes the desk and the lists from the tables.
     fn remake(&mut self) -> Result<(), Unavailable>
         requires stands { (L : Kept) × Stands S.Store D.Stands D.kept_rules self.old L }
         ensures ok { OnOk result (IsTrue (has_desk self.new)) }
@@ -209,7 +209,7 @@ impl<S: Alter, D: Desk + Drop> LineStore<S, D> {
                     desk,
                     lists,
                     count,
-                    beside: _beside,
+                    placed: _placed,
                 },
             ) => {
                 self.desk = Some(desk);
@@ -221,9 +221,8 @@ impl<S: Alter, D: Desk + Drop> LineStore<S, D> {
         }
     }
 
-    /// Answers a command. A message that was accepted before gets its first answer again, and
-    /// changes nothing. Accepted is answered once the command is committed. After Unavailable it may
-    /// be sent again.
+    /// Answers a command. A repeated message gets its first answer again, and changes nothing. Accepted is answered
+    /// once the command is committed. After Unavailable the message may be sent again.
     pub fn command(&mut self, stamped: &Stamped) -> Answer
         requires stands { (L : Kept) × Stands S.Store D.Stands D.kept_rules self.old L }
         ensures kept { (L : Kept) × Stands S.Store D.Stands D.kept_rules self.new L }
@@ -272,7 +271,7 @@ impl<S: Alter, D: Desk + Drop> LineStore<S, D> {
         self.answer_new(stamped)
     }
 
-    /// The answer by the row that has the UniqueID, where there is one.
+    /// Returns the answer by the row with the UniqueID, if there is one.
     fn earlier(&mut self, stamped: &Stamped) -> Result<Option<Answer>, Unavailable>
         requires stands { (L : Kept) × Stands S.Store D.Stands D.kept_rules self.old L }
         ensures answer { ForKept S.Store D.Stands D.kept_rules self.old self.new
@@ -288,8 +287,8 @@ impl<S: Alter, D: Desk + Drop> LineStore<S, D> {
         }
     }
 
-    /// Judges the command, for which there is room and no row with its UniqueID, by the desk, which
-    /// may have to be made first; and accepts it where it isn't refused.
+    /// Judges the command, which is new and has room, by the desk, which is loaded first if needed. Accepts it unless
+    /// it is refused.
     fn answer_new(&mut self, stamped: &Stamped) -> Result<Answer, Unavailable>
         requires stands { (L : Kept) × Stands S.Store D.Stands D.kept_rules self.old L }
         ensures kept { (L : Kept) × Stands S.Store D.Stands D.kept_rules self.new L }
@@ -313,7 +312,7 @@ impl<S: Alter, D: Desk + Drop> LineStore<S, D> {
         self.answer_at_hand(stamped)
     }
 
-    /// Judges the command by the desk, and accepts it where it isn't refused.
+    /// Judges the command by the desk, and accepts it unless it is refused.
     #[tactic(auto, using(crate::proofs::Others::let_be))]
     fn answer_at_hand(&mut self, stamped: &Stamped) -> Result<Answer, Unavailable>
         requires stands { (L : Kept) × Stands S.Store D.Stands D.kept_rules self.old L }
@@ -347,8 +346,8 @@ impl<S: Alter, D: Desk + Drop> LineStore<S, D> {
         }
     }
 
-    /// Accepts what was judged: the answer and the edits are made, and memory is taken for the lists;
-    /// then the edits are committed; and then the change is noted in the lists, and the desk settles.
+    /// Accepts a judged change. The answer and the edits are made first, and memory is taken for the trace indexes.
+    /// Then the edits are committed. Last, the indexes note the change and the desk settles by the same edits.
     #[tactic(auto, using(crate::proofs::Others::let_be))]
     fn commit_change(&mut self, change: Change) -> Result<Answer, Unavailable>
         requires stands { (L : Kept) × Stands S.Store D.Stands D.kept_rules self.old L }
@@ -377,14 +376,20 @@ impl<S: Alter, D: Desk + Drop> LineStore<S, D> {
         let Some(desk) = &self.desk else {
             return Err(Unavailable);
         };
-        let Acceptance { text, edits } = prepare(self.alloc, number, desk, &change)?;
+        let Acceptance { text, row, edits } = prepare(self.alloc, number, desk, &change)?;
         let Some(lists) = &mut self.lists else {
             return Err(Unavailable);
         };
         lists.reserve(&change)?;
-        append(self.alloc, &mut self.conn, edits.as_slice())?;
+        append(self.alloc, &mut self.conn, &row, edits.as_slice())?;
         self.count = number;
-        let (desk, lists) = settle_both(self.desk.take(), self.lists.take(), number, change);
+        let (desk, lists) = settle_both(
+            self.desk.take(),
+            self.lists.take(),
+            number,
+            change,
+            edits.as_slice(),
+        );
         self.desk = desk;
         self.lists = lists;
         Ok(Answer::Accepted(u64::from(number), text))

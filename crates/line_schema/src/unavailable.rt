@@ -1,10 +1,10 @@
-//! Why a call came to nothing.
+//! Why a call failed.
 
 use line_rows::NoRow;
 use std::alloc::AllocError;
 
-/// Memory was refused, or the database failed. The list is as before, and the call may be made again;
-/// where it was a commit that failed, a crash may leave the command all the same.
+/// Memory was refused, or the database failed. The history is unchanged, and the call may be repeated. After a failed
+/// commit, a crash may still leave the command.
 #[derive(Clone, Copy, Debug, PartialEq, Eq)]
 pub struct Unavailable;
 

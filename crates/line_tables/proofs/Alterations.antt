@@ -1,4 +1,4 @@
--- What each kind of statement makes of the rows of its table.
+-- The effect of each kind of statement on the rows of its table.
 use Rattle.std.proofs.Common.{◌≡◌, ◌∙◌, ap₂, subst₂, drop, inl, inr, ℕ, List, [], ◌∷◌, map, filter, not, length, ◌&&◌, Bool, true, false, IsTrue, refl, sym, ap, subst, arith}
 use Rattle.std.specs.List.Sorted.{IsPermutation}
 use Rattle.std.proofs.lemmas.Bool.{cases_Bool}
@@ -28,7 +28,6 @@ use Rattle.line_tables.proofs.Inserts.{Inserted}
 use Rattle.line_tables.proofs.Changes.{Changed, passing, shows_of, renewed}
 use Rattle.line_tables.proofs.Puts.{put_permutes, not_taken}
 
--- the rows that are left, told by their columns
 pub left_of : (columns_in : Row → Row) (m k : Row → Bool) → ((r : Row) → m r ≡ k (columns_in r)) → (rows : List Row) → map columns_in (filter (λ r. not (m r)) rows) ≡ filter (λ r. not (k r)) (map columns_in rows)
 left_of columns_in m k is [] = refl
 left_of columns_in m k is (r ∷ rows) = elim (cases_Bool (k (columns_in r))) [
@@ -37,7 +36,6 @@ left_of columns_in m k is (r ∷ rows) = elim (cases_Bool (k (columns_in r))) [
 ]
 
 module _ (table : Table) (has : Row → Bool) (old new : Database) (rows : List Row) (was : IsKept table old rows) (m : Row → Bool) (is : (r : Row) → m r ≡ has (columns table r)) where
-  -- those that pass are out
   pub keeps_left : (left : List Row) → left ≡ filter (λ r. not (m r)) (old.trees table.tree) → IsPermutation (map (columns table) left) (without has rows)
   keeps_left left same =
       subst (λ l. IsPermutation l (without has rows)) (sym (ap (map (columns table)) same ∙ left_of (columns table) m has is (old.trees table.tree))) (IsPermutation-filter _ _ _ was.same)
@@ -45,7 +43,6 @@ module _ (table : Table) (has : Row → Bool) (old new : Database) (rows : List 
   pub kept_without : new.trees table.tree ≡ filter (λ r. not (m r)) (old.trees table.tree) → IsKept table new (without has rows)
   kept_without same = record { same = keeps_left (new.trees table.tree) same; apart = subst AreApart (sym same) (apart_filter _ _ was.apart) }
 
--- a row whose rowid is free is one more
 pub rows_more : (table : Table) (left : List Row) (n values : Row) (rows : List Row) (new : Database) → IsPermutation (map (columns table) left) rows → is_taken left n ≡ false → columns table n ≡ values → new.trees table.tree ≡ put_row n left
     → IsPermutation (rows_at table new) (values ∷ rows)
 rows_more table left n values rows new same free shown is =
@@ -92,7 +89,6 @@ module _ (indexed : Layout) (table : Table) (has : Row → Bool) (tests project 
   updates : Steps indexed table old new
   updates = record { was_open = was_open; same = λ ours. (did ours).0.same; sound = λ ours. (did ours).0.sound; others = λ ours. (did ours).0.others }
 
-  -- no row was changed
   pub updates_none : count ≡ 0 → Alters indexed table (without has) old new
   updates_none none = record {
     steps = updates;
@@ -105,7 +101,6 @@ module _ (indexed : Layout) (table : Table) (has : Row → Bool) (tests project 
         kept_without table has old.now new.now rows was m is (h.rows ∙ ap (λ f. put_all (without_all (old.now.trees table.tree) (ids_of h.found)) (renewed table f)) empty ∙ left);
   }
 
-  -- one row was changed
   pub updates_one : ((r : Row) → passing tests params r ≡ true → IsTrue (is_int (rowid r)) → IsTrue (is_int (rowid (cast_row table (drop 1 (show r))))) × (columns table (cast_row table (drop 1 (show r))) ≡ values))
       → count ≡ 1 → Alters indexed table (put_in has values) old new
   updates_one renews one = record {
@@ -151,7 +146,6 @@ module _ (indexed : Layout) (table : Table) (r values : Row) (n : List Row → R
 pub inserted_steps : (indexed : Layout) (table : Table) (rows : List Row) (old new : State) → IsTrue old.is_open → (old.now.schema ≡ schema_of Two indexed → Inserted (schema_of Two indexed) table rows old new) → Steps indexed table old new
 inserted_steps indexed table rows old new was_open did = record { was_open = was_open; same = λ ours. (did ours).same; sound = λ ours. (did ours).sound; others = λ ours. (did ours).step.tables }
 
--- a row is one more
 pub inserts : (indexed : Layout) (table : Table) (r values : Row) (n : List Row → Row) (old new : State) → ((rows : List Row) → with_rowid Chosen rows (cast_row table r) ≡ n rows) → ((rows : List Row) → IsTrue (is_int (rowid (n rows))))
     → ((rows : List Row) → columns table (n rows) ≡ values) → IsTrue old.is_open → (old.now.schema ≡ schema_of Two indexed → Inserted (schema_of Two indexed) table (r ∷ []) old new) → Alters indexed table (λ rows. values ∷ rows) old new
 inserts indexed table r values n old new cast keyed shown was_open did = record {

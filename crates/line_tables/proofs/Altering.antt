@@ -1,4 +1,4 @@
--- One table is changed, and no other: what that makes of all tables.
+-- A change of one table, and its effect on the set of all tables.
 use Rattle.std.proofs.Common.{◌≡◌, ◌≢◌, ◌∙◌, inl, inr, ℕ, List, [], ◌∷◌, map, filter, Bool, true, false, not, ◌&&◌, ◌==◌, IsTrue, Option, None, refl, sym, ap, subst}
 use Rattle.std.specs.Option.{option_map, option_to_list}
 use Rattle.std.specs.List.{AllByRecursion, list_all}
@@ -31,35 +31,31 @@ state_tables indexed = part ∷ alternate ∷ sheet_row ∷ selected ∷ reel �
 
 -- ---- the rows of one table
 
--- the rows in the table's own tree, by their columns
 abbrev pub rows_at : Table → Database → List Row
 rows_at table db = map (columns table) (db.trees table.tree)
 
--- the rows of `found` are in its tree in the layout
 pub found_kept : (indexed : Layout) (db : Database) → db.schema ≡ schema_of Two indexed → kept_in found db ≡ db.trees (found_tree indexed)
 found_kept indexed db has = ap (λ n. db.trees n) (ap (tree_in found) has)
 
--- the rows without those that have a key
 abbrev pub without : (Row → Bool) → List Row → List Row
 without has rows = filter (λ row. not (has row)) rows
 
--- the rows with this one in the place of that with its key
 abbrev pub put_in : (Row → Bool) → Row → List Row → List Row
 put_in has row rows = row ∷ without has rows
 
--- the table has these rows in some order, and each has a rowid of its own
+-- The table has these rows in some order, each with its own rowid.
 pub record IsKept (table : Table) (db : Database) (rows : List Row) : Type 0 where
   pub same : IsPermutation (rows_at table db) rows
   pub apart : AreApart (db.trees table.tree)
 
--- where the database has our schema in a layout: inside a transaction no table but this one was changed, and the trees list the schema
+-- If the database has our schema in a layout, only this table was changed in the transaction, and the trees list the
+-- schema.
 pub record Steps (indexed : Layout) (table : Table) (old new : State) : Type 0 where
   pub was_open : IsTrue old.is_open
   pub same : old.now.schema ≡ schema_of Two indexed → new.now.schema ≡ schema_of Two indexed
   pub sound : old.now.schema ≡ schema_of Two indexed → IsDatabase new.now
   pub others : old.now.schema ≡ schema_of Two indexed → AllByRecursion (λ t. t.tree ≢ table.tree → new.now.trees t.tree ≡ old.now.trees t.tree) (schema_tables Two indexed)
 
--- and the rows of this table were changed so
 pub record Alters (indexed : Layout) (table : Table) (change : List Row → List Row) (old new : State) : Type 0 where
   pub steps : Steps indexed table old new
   pub rows : old.now.schema ≡ schema_of Two indexed → (rows : List Row) → IsKept table old.now rows → IsKept table new.now (change rows)
@@ -69,7 +65,6 @@ others_then : (tree : ℕ) (tables : List Table) (a b c : Trees) → AllByRecurs
 others_then tree [] a b c p q = tt
 others_then tree (t ∷ ts) a b c p q = (λ other. q.0 other ∙ p.0 other, others_then tree ts a b c p.1 q.1)
 
--- one change and then another of one table
 pub alters_then : (indexed : Layout) (table : Table) (f g : List Row → List Row) (a b c : State) → Alters indexed table f a b → Alters indexed table g b c → Alters indexed table (λ rows. g (f rows)) a c
 alters_then indexed table f g a b c p q = record {
   steps = record {
@@ -81,7 +76,7 @@ alters_then indexed table f g a b c p q = record {
   rows = λ has rows was. q.rows (p.steps.same has) (f rows) (p.rows has rows was);
 }
 
--- ---- the tables that were not changed
+-- ---- tables that did not change
 
 pub other_tree : (a b : ℕ) → not (a == b) ≡ true → a ≢ b
 other_tree a b h e = let same : (a == b) ≡ true = eq-eqb a b e in cc
@@ -97,12 +92,11 @@ other_found : (indexed : Layout) (tree : ℕ) → (not (21 == tree) && not (19 =
 other_found (Indexed others) tree h = other_tree 21 tree (and_parts _ _ h).0
 other_found (Plain others) tree h = other_tree 19 tree (and_parts _ _ h).1
 
--- a tree that is that of `found` in neither layout
 pub far_from_found : (indexed : Layout) (tree : ℕ) → (not (tree == 21) && not (tree == 19)) ≡ true → not (tree == found_tree indexed) ≡ true
 far_from_found (Indexed others) tree h = (and_parts _ _ h).0
 far_from_found (Plain others) tree h = (and_parts _ _ h).1
 
--- each table but that with the tree is as it was
+-- All tables except the one with this tree are unchanged.
 pub record OthersHold (tree : ℕ) (db : Database) (t : StateTables) : Type 0 where
   pub parts : not (3 == tree) ≡ true → HoldsParts db t
   pub alternates : not (5 == tree) ≡ true → HoldsAlternates db t
@@ -114,7 +108,7 @@ pub record OthersHold (tree : ℕ) (db : Database) (t : StateTables) : Type 0 wh
   pub placements : not (17 == tree) ≡ true → HoldsPlacements db t
   pub found : (not (21 == tree) && not (19 == tree)) ≡ true → HoldsFound db t
 
--- the trees of all tables but this one stay, in a layout that stays
+-- The trees of all other tables stay, and so does the layout.
 pub record IsElsewhere (indexed : Layout) (tree : ℕ) (old new : Database) : Type 0 where
   pub was : old.schema ≡ schema_of Two indexed
   pub is : new.schema ≡ schema_of Two indexed
@@ -123,7 +117,6 @@ pub record IsElsewhere (indexed : Layout) (tree : ℕ) (old new : Database) : Ty
 pub elsewhere : (indexed : Layout) (table : Table) (old new : State) → Steps indexed table old new → old.now.schema ≡ schema_of Two indexed → IsElsewhere indexed table.tree old.now new.now
 elsewhere indexed table old new step has = record { was = has; is = step.same has; others = step.others has }
 
--- so the rows of `found` stay
 found_stays : (indexed : Layout) (tree : ℕ) (old new : Database) → IsElsewhere indexed tree old new → (not (21 == tree) && not (19 == tree)) ≡ true → kept_in found new ≡ kept_in found old
 found_stays indexed tree old new e h = found_kept indexed new e.is ∙ e.others.1.1.1.1.1.1.1.1.1.1.0 (other_found indexed tree h) ∙ sym (found_kept indexed old e.was)
 
@@ -140,7 +133,7 @@ others_hold indexed tree old new t e was = record {
   found = λ h. stays found old new (found_stays indexed tree old new e h) was.found;
 }
 
--- rows of a changed table that are apart, beside those of all others
+-- The rows of a changed table have distinct rowids, and so have those of all others.
 module _ (indexed : Layout) (tree : ℕ) (old new : Database) (e : IsElsewhere indexed tree old new) (this : AreApart (old.trees tree) → AreApart (new.trees tree)) where
   still_apart : (table : Table) → (table.tree ≢ tree → new.trees table.tree ≡ old.trees table.tree) → AreApart (old.trees table.tree) → AreApart (new.trees table.tree)
   still_apart table other was = elim (cases_Bool (table.tree == tree)) [
@@ -156,7 +149,6 @@ module _ (indexed : Layout) (tree : ℕ) (old new : Database) (e : IsElsewhere i
   pub all_apart : AreAllApart old → AreAllApart new
   all_apart was = (still_apart part e.others.1.1.0 was.0, (still_apart alternate e.others.1.1.1.0 was.1.0, (still_apart sheet_row e.others.1.1.1.1.0 was.1.1.0, (still_apart selected e.others.1.1.1.1.1.0 was.1.1.1.0, (still_apart reel e.others.1.1.1.1.1.1.0 was.1.1.1.1.0, (still_apart mount e.others.1.1.1.1.1.1.1.0 was.1.1.1.1.1.0, (still_apart board e.others.1.1.1.1.1.1.1.1.0 was.1.1.1.1.1.1.0, (found_apart was.1.1.1.1.1.1.1.0, tt))))))))
 
--- where the changed table is none of these
 pub all_apart_but : (indexed : Layout) (tree : ℕ) (old new : Database) → IsElsewhere indexed tree old new → list_all (λ (u : Table). not (u.tree == tree)) (found_by (Plain no_others) ∷ changed_tables) ≡ true → AreAllApart old → AreAllApart new
 all_apart_but indexed tree old new e none was =
     let m = and_parts _ _ none in
@@ -173,7 +165,6 @@ all_apart_but indexed tree old new e none was =
 
 -- ---- all tables
 
--- the list alone grows
 pub list_grows : (row : Row) (old new : Database) (t : Tables) → (was : Holds old t) → IsElsewhere was.indexed 1 old new → IsPermutation (rows_in accepted new) (row ∷ t.accepted) → Holds new (record t { accepted = row ∷ t.accepted })
 list_grows row old new t was e list =
     let k = others_hold was.indexed 1 old new t.state e was.state in
@@ -186,7 +177,6 @@ list_grows row old new t was e list =
       apart = all_apart_but was.indexed 1 old new e refl was.apart;
     }
 
--- every table is empty but `version`
 pub holds_blank : (indexed : Layout) (greatest : ℕ) (db : Database) → db.schema ≡ schema_of Two indexed → rows_in version db ≡ version_row Two greatest ∷ [] → AllByRecursion (λ u. db.trees u.tree ≡ []) (accepted ∷ state_tables indexed) → Holds db (blank greatest)
 unfolding takes_of found_of
 holds_blank indexed greatest db has one empty =
@@ -211,7 +201,7 @@ holds_blank indexed greatest db has one empty =
     }
 
 module _ (e : RowEdit) (table : Layout → Table) (old new : State) (sole : (indexed : Layout) → (not (0 == (table indexed).tree) && (not (1 == (table indexed).tree) && is_low indexed (table indexed).tree)) ≡ true) (step : (indexed : Layout) → Steps indexed (table indexed) old new) where
-  -- an edit writes what its statements do to the rows of its table
+  -- An edit writes the rows that its statements produce.
   pub writes : ((indexed : Layout) → old.now.schema ≡ schema_of Two indexed → AreAllApart old.now → AreAllApart new.now)
       → ((indexed : Layout) (t : StateTables) → old.now.schema ≡ schema_of Two indexed → HoldsState old.now t → AreAllApart old.now → IsNewRow e t → HoldsState new.now (state_with e t)) → WritesRow e old new
   writes apart state = record {
@@ -239,7 +229,6 @@ module _ (e : RowEdit) (table : Layout → Table) (old new : State) (sole : (ind
     };
   }
 
--- the same of a table whose rows are apart
 pub alters_writes : (e : RowEdit) (table : Layout → Table) (change : List Row → List Row) (old new : State) → ((indexed : Layout) → (not (0 == (table indexed).tree) && (not (1 == (table indexed).tree) && is_low indexed (table indexed).tree)) ≡ true)
     → ((indexed : Layout) → old.now.schema ≡ schema_of Two indexed → AreAllApart old.now → AreApart (old.now.trees (table indexed).tree))
     → ((indexed : Layout) (t : StateTables) → IsElsewhere indexed (table indexed).tree old.now new.now → HoldsState old.now t → OthersHold (table indexed).tree new.now t → IsNewRow e t → IsPermutation (rows_at (table indexed) new.now) (change (rows_at (table indexed) old.now)) → HoldsState new.now (state_with e t))

@@ -1,4 +1,4 @@
--- Rows that have a rowid each, and what is left of them where those that a query found go out.
+-- Rows with distinct rowids, and the rows that remain after those found by a query are removed.
 use Rattle.std.proofs.Common.{◌≡◌, inl, inr, ℤ, List, [], ◌∷◌, map, filter, not, ◌||◌, ◌&&◌, Bool, true, false, IsTrue, Ordering, Less, Equal, Greater, refl, sym, ap, subst, ◌∙◌}
 use Rattle.std.specs.List.{list_any}
 use Rattle.std.specs.List.Sorted.{IsPermutation}
@@ -98,7 +98,6 @@ module _ (m : Row → Bool) (rows : List Row) (h : AreApart rows) where
     ]
   ]
 
-  -- what was found begins with the rowids of the rows that pass
   pub taken : (show : Row → Row) → ((r : Row) → rowid (show r) ≡ rowid r) → (found : List Row) → IsPermutation (map show (filter m rows)) found → without_all rows (ids_of found) ≡ filter (λ r. not (m r)) rows
   taken show begins found same =
       without_all_is (ids_of found) rows ∙ filter_same_has _ _ rows (λ r there. ap not (any_map (λ y. id_in (rowid y)) (λ id. has_rowid id r) found

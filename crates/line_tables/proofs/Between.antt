@@ -1,4 +1,4 @@
--- What is shown of placements by their rowids.
+-- Placements within a range of rowids.
 use Rattle.std.proofs.Common.{◌≡◌, inl, inr, ℕ, Bool, true, false, List, [], ◌∷◌, ◌++◌, codes, map, if◌then◌else◌, refl}
 use Rattle.std.specs.List.{AllByRecursion, flat_map, list_all}
 use Rattle.std.specs.List.Sorted.{IsPermutation}
@@ -24,7 +24,6 @@ use Rattle.line_tables.specs.Shown.{AreOf}
 use Rattle.line_tables.proofs.FindTexts.{IsSelect, rows_from}
 use Rattle.line_tables.proofs.Finds.{answer_of, rows_answer, shown_of}
 
--- what a query shows of the rows that pass is in the table
 pub shown-in : (q : Query) (params : Row) (columns : Row → Row) → ((r : Row) → (output q (params ∷ r ∷ [])).1 ≡ columns r) → (rows : List Row) → AllByRecursion (Has (map columns rows)) (shown_of q params rows)
 shown-in q params columns out [] = tt
 shown-in q params columns out (r ∷ rs) = by (list_all (holds (params ∷ r ∷ [])) q.filter) (all_weaker (Has (map columns rs)) (Has (map columns (r ∷ rs))) (λ x h. inr h) (shown_of q params rs) (shown-in q params columns out rs))
@@ -40,7 +39,6 @@ select_between = codes "SELECT number, place, board, designator, machine, slot, 
 abbrev between_test : List Term
 between_test = op2 (Compare Ge Binary) (col 1 0) (col 0 0) ∷ op2 (Compare Le Binary) (col 1 0) (col 0 1) ∷ []
 
--- the columns of a placement
 abbrev pub placement_places : List Term
 placement_places = col 1 1 ∷ col 1 2 ∷ col 1 3 ∷ col 1 4 ∷ col 1 5 ∷ col 1 6 ∷ col 1 7 ∷ col 1 8 ∷ []
 
@@ -48,7 +46,6 @@ select_between_is : IsSelect select_between (rows_from 17 between_test placement
 unfolding understood everything
 select_between_is rules indexed = inl (refl, refl, (refl, refl))
 
--- The rows between two rowids are of the table.
 pub shows-between : {S : Type 0} (g : Ghosts S) (old : Held S) (params : Row) (rows : List Row) → Selects g select_between params old rows → Reads (state g old) (AreOf line.placement rows)
 shows-between g old params rows h = record {
   was_open = h.was_open;

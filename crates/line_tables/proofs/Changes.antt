@@ -1,4 +1,4 @@
--- What a DELETE and an UPDATE by tests do, for any table whose rows have a rowid each.
+-- The effect of a DELETE and an UPDATE with tests, for any table whose rows each have a rowid.
 use Rattle.std.proofs.Common.{◌≡◌, ◌≢◌, ◌∙◌, inl, inr, ℕ, List, [], ◌∷◌, map, filter, drop, Bool, length, slice_get, None, Some, Ok, unwrap_or, nat_le, ◌^◌, refl, sym, ap, subst, true}
 use Rattle.std.specs.List.{AllByRecursion, list_all}
 use Rattle.std.specs.List.Sorted.{IsPermutation}
@@ -32,11 +32,9 @@ use Rattle.line_tables.proofs.Inserts.{went, same_value, concludes_as}
 use Rattle.line_tables.proofs.FindTexts.{rows_from}
 use Rattle.line_tables.proofs.Finds.{rows_answer, shown_is, whole}
 
--- the row passes the tests
 abbrev pub passing : List Term → Row → Row → Bool
 passing tests params r = list_all (holds (params ∷ r ∷ [])) tests
 
--- what is shown of a row
 abbrev pub shows_of : ℕ → List Term → List Term → Row → Row → Row
 shows_of tree tests project params r = (output (rows_from tree tests project) (params ∷ r ∷ [])).1
 
@@ -50,7 +48,7 @@ found_rows tree tests project db params rows a =
     let is = shown_is (rows_from tree tests project) params (λ r. r) show (passing tests params) (λ r. refl) (λ r. refl) (overlay db [] tree) ∙ ap (λ l. map show (filter (passing tests params) l)) (whole (overlay db [] tree) ∙ overlaid db tree) in
     subst (λ l. IsPermutation l rows) is (rows_answer tree tests project (overlay db []) params rows a)
 
--- the rows that were found, and what became of the table
+-- The rows found, and the table after the statement.
 pub record Changed (schema : Schema) (table : Table) (tests project : List Term) (params : Row) (news : List Row → List Row) (old new : State) : Type 0 where
   pub same : new.now.schema ≡ schema
   pub sound : IsDatabase new.now
@@ -68,7 +66,7 @@ deletes_as task q db done h =
     let is : done.trees ≡ next.0 = ap (λ (w : Written). w.trees) (same_value next.2) in
     (rows.0, rows.1, subst (λ t. Edited task.schema task.keys db (edit_of db task.table (ids_of rows.0) Given 0 []) (Ok t)) (sym is) next.1)
 
--- a row as an UPDATE gives it begins with the rowid that it had
+-- An UPDATE keeps a row's rowid.
 abbrev pub renewed : Table → List Row → List Row
 renewed table found = map (λ s. cast_row table (drop 1 s)) found
 
@@ -81,7 +79,6 @@ updates_as task q db done h =
     let is : done.trees ≡ next.0 = ap (λ (w : Written). w.trees) (same_value next.2) in
     (rows.0, rows.1, subst (λ t. Edited task.schema task.keys db (edit_of db task.table (ids_of rows.0) Given 1 rows.0) (Ok t)) (sym is) next.1, ap (λ (w : Written). w.rows) (same_value next.2))
 
--- how many rows the connection is told of
 told : (task : Task) (mode : Mode) (w : Written) (out : Tally × Database) → Concludes task mode None w (Ok out) → out.0.rows ≡ Some (length w.rows)
 told task mode w out h =
     let tested = went h in
@@ -121,7 +118,6 @@ module _ (sql : List ℕ) (params : Row) (old new : State) (schema : Schema) (ha
         others = subst (λ (t : Trees). AllByRecursion (λ u. u.tree ≢ table.tree → t u.tree ≡ db u.tree) schema.tables) (sym trees) step.tables;
       }
 
-  -- the same, with the number of the rows that were found
   pub update_does : command_of (understood schema sql) ≡ Update at query → (h : Changed schema table tests project params (renewed table) old new) × (count ≡ length h.found)
   update_does is =
       let w = runs_as sql params old new schema has (Update at query) is plain count ran in

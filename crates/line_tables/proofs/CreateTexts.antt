@@ -1,4 +1,4 @@
--- What the texts that make the tables mean.
+-- The meaning of the texts that create the tables.
 use Rattle.std.proofs.Common.{◌≡◌, Bool, true, false, List, ℕ, [], ◌∷◌, codes, pos, Ok, refl}
 use Rattle.sqlite.specs.Compile.{table_defined_by}
 use Rattle.sqlite.specs.Command.TheVariants.{CreateTable, Insert, Update}
@@ -16,7 +16,7 @@ use Rattle.desk_types.specs.declared.rules.Rules.TheVariants.{One, Two}
 use Rattle.line_tables.specs.Line.{version, accepted, part, alternate, sheet_row, selected, reel, mount, board, placement, found_by, first_of_line, line_schema, schema_of, Layout, alone}
 use Rattle.line_tables.specs.Line.Layout.{Indexed, Plain}
 
--- the text makes this table, but for its tree, in a database of the schema
+-- In a database of the schema, the text creates this table, except for its tree.
 abbrev pub IsCreate : Schema → List ℕ → Table → Type 0
 IsCreate schema text table = (command_of (understood schema text) ≡ CreateTable) × (statement_of text (understood schema text) ≡ text) × IsPlain (understood schema text) × (table_defined_by text ≡ Ok (record table { tree = 0 }))
 
@@ -145,7 +145,7 @@ insert_version_is = (refl, (refl, refl))
 abbrev pub update_version : List ℕ
 update_version = codes "UPDATE version SET number = 2"
 
--- the rowid that it had, and then the row
+-- The old rowid, followed by the row.
 abbrev pub version_renewed : List Term
 version_renewed = col 1 0 ∷ col 1 0 ∷ lit Null ∷ lit (Int (pos 2)) ∷ col 1 3 ∷ []
 

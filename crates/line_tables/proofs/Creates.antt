@@ -1,4 +1,4 @@
--- What CREATE TABLE and CREATE INDEX do, for any schema in which the text means one.
+-- The effect of CREATE TABLE and CREATE INDEX, for any schema that gives the text a meaning.
 use Rattle.std.proofs.Common.{◌≡◌, ◌≢◌, Bool, ◌∷◌, ◌++◌, ◌==◌, not, true, pos, map, ℕ, List, [], false, None, Ok, Result, refl, sym, ap, subst, ◌∙◌}
 use Rattle.std.specs.List.{AllByRecursion, list_all}
 use Rattle.sqlite.specs.Table.{Table}
@@ -37,7 +37,6 @@ still_empty : (tables : List Table) (old new : Trees) → KeepsRows tables old n
 still_empty [] old new kept empty = tt
 still_empty (t ∷ more) old new kept empty = (kept.0 ∙ empty.0, still_empty more old new kept.1 empty.1)
 
--- there is one table more, which is empty
 pub creates : (sql : List ℕ) (old new : State) (schema : Schema) (table : Table) → IsCreate schema sql table → lacks_sequence (created schema (record table { tree = 0 })) ≡ false → Runs sql [] old new → old.now.schema ≡ schema
     → Grows schema (created schema (record table { tree = 0 })) (next_tree schema) old.now new.now
 creates sql old new schema table is counts ran has =
@@ -66,7 +65,6 @@ creates_bare sql old new schema table is counts ran = record {
       record { schema = grows.schema; empty = bare_more schema _ (record table { tree = next_tree schema }) old.now new.now grows bare };
 }
 
--- each text in its turn
 makes_version : (old new : State) → Runs version_text [] old new → Extends (first_of_line 0 0) (first_of_line 1 0) old new
 makes_version old new = creates_bare version_text old new (first_of_line 0 0) version version_is refl
 
@@ -119,7 +117,6 @@ makes_floor a b c d r1 r2 r3 = extends_then _ _ _ a c d (extends_then _ _ _ a b 
 pub makes_pieces : (a b c : State) → Runs placement_text [] a b → AddsFound b c → Extends (first_of_line 9 8) line_schema a c
 makes_pieces a b c r1 r2 = extends_then _ _ _ a b c (makes_placement a b r1) (makes_found b c r2)
 
--- what was empty is so in the trees that stay
 still_bare : (tree : ℕ) (tables : List Table) (old new : Trees) → list_all (λ t. not (t.tree == tree)) tables ≡ true → AllByRecursion (λ t. t.tree ≢ tree → new t.tree ≡ old t.tree) tables → AllByRecursion (λ t. old t.tree ≡ []) tables
     → AllByRecursion (λ t. new t.tree ≡ []) tables
 still_bare tree [] old new apart others empty = tt
@@ -128,7 +125,6 @@ still_bare tree (t ∷ ts) old new apart others empty = let is = and_parts _ _ a
 pub version_cast : (greatest : ℕ) → cast_row version (Int (pos 1) ∷ Null ∷ Int (pos 2) ∷ Int (pos greatest) ∷ []) ≡ Int (pos 1) ∷ Null ∷ Int (pos 2) ∷ Int (pos greatest) ∷ []
 version_cast greatest = rw (cast_int (pos 1), cast_int (pos 2), cast_int (pos greatest), cast_null) refl
 
--- the one row of `version` is put in
 puts_version : (greatest : ℕ) (old new : State) → Runs insert_version (Int (pos greatest) ∷ []) old new → IsBare line_schema old.now → (new.now.schema ≡ line_schema) × Holds new.now (blank greatest) × IsDatabase new.now
 puts_version greatest old new ran bare =
     let put = insert_does insert_version (Int (pos greatest) ∷ []) old new line_schema bare.schema 0 version version_terms 4 refl refl refl insert_version_is.0 insert_version_is.1 ran.count ran.executed (quiet (Plain no_others) 0 refl []) in

@@ -1,4 +1,4 @@
--- What the texts that read mean.
+-- The meaning of the texts that read.
 use Rattle.std.proofs.Common.{◌≡◌, ◌⊎◌, inl, is_ok, Bool, List, ℕ, [], ◌∷◌, codes, refl, false, None, Some, pos, negsuc}
 use Rattle.sqlite.specs.Command.TheVariants.{Select}
 use Rattle.sqlite.specs.Term.{Term, lit, col, op2}
@@ -17,23 +17,22 @@ use Rattle.sqlite.specs.Schema.{Schema}
 use Rattle.desk_types.specs.declared.rules.Rules.{Rules}
 use Rattle.line_tables.specs.Line.{schema_of, Layout}
 
--- the rows of one table that pass the tests, as they come: no group, no DISTINCT, no ORDER BY, no LIMIT
+-- The rows of one table that pass the tests, unsorted: no group, no DISTINCT, no ORDER BY, no LIMIT.
 abbrev pub rows_from : ℕ → List Term → List Term → Query
 rows_from tree filter project = record { from = inner tree end; filter = filter; group = None; project = project; distinct = false; collations = []; order = []; limit = lit (Int (negsuc 0)); offset = lit (Int (pos 0)) }
 
--- the text means the query in a database of the schema
+-- In a database of the schema, the text means this query.
 abbrev pub IsSelectIn : Schema → List ℕ → Query → List (List ℕ) → Type 0
 IsSelectIn schema sql q names = (command_of (understood schema sql) ≡ Select (record { lets = []; body = q }) names) × (reads_listing schema sql ≡ false) × IsPlain (understood schema sql)
 
--- so it does in our schema of each version and layout, or it is no statement there
+-- The same for our schema of each version and layout, unless the text is no statement there.
 abbrev pub IsSelectBy : List ℕ → (Schema → Query) → List (List ℕ) → Type 0
 IsSelectBy sql q names = (rules : Rules) (indexed : Layout) → IsSelectIn (schema_of rules indexed) sql (q (schema_of rules indexed)) names ⊎ (is_ok (understood (schema_of rules indexed) sql) ≡ false)
 
--- and it means the same query in each
+-- It means the same query in each of them.
 abbrev pub IsSelect : List ℕ → Query → List (List ℕ) → Type 0
 IsSelect sql q names = IsSelectBy sql (λ _. q) names
 
--- the places of the columns of `accepted` in a kept row
 abbrev pub accepted_places : List Term
 accepted_places = col 1 0 ∷ col 1 2 ∷ col 1 3 ∷ col 1 4 ∷ col 1 5 ∷ col 1 6 ∷ col 1 7 ∷ []
 
@@ -96,7 +95,6 @@ select_count = codes "SELECT count(*) FROM accepted"
 abbrev pub count_all : Grouping
 count_all = record { keys = []; collations = []; aggregates = record { op = by.CountRows; distinct = false; collation = Binary; argument = lit Null } ∷ []; having = [] }
 
--- how many rows a table has
 abbrev pub count_from : ℕ → Query
 count_from tree = record { from = inner tree end; filter = []; group = Some count_all; project = col 1 0 ∷ []; distinct = false; collations = []; order = []; limit = lit (Int (negsuc 0)); offset = lit (Int (pos 0)) }
 

@@ -1,4 +1,4 @@
--- What the queries find.
+-- The results of the queries.
 use Rattle.std.proofs.Common.{◌≡◌, ◌∙◌, inl, inr, is_ok, IsTrue, Some, None, Option, Result, Ok, Err, IfOk, Vec, String, Global, ℕ, pos, List, [], ◌∷◌, ◌++◌, length, map, filter, Bool, true, false, not, ◌&&◌, ◌||◌, ◌==◌, if◌then◌else◌, unwrap_or, nat_le, ◌^◌, refl, sym, ap, ap₂, subst, subst₂, arith, true≢false}
 use Rattle.std.specs.List.{flat_map, list_all, list_any}
 use Rattle.std.specs.List.Sorted.{IsPermutation}
@@ -30,19 +30,16 @@ use Rattle.line_tables.specs.Rows.{accepted_columns, version_columns, accepted_i
 use Rattle.line_tables.specs.Calls.{Selects, Reads, has_uid, has_number, is_before, only, IsVersionOf}
 use Rattle.line_tables.proofs.FindTexts.{IsSelect, IsSelectBy, IsSelectIn, rows_from, select_uid, uid_query, select_uid_is, select_number, number_query, select_number_is, select_before, before_query, select_before_is, select_version, version_query, select_version_is, accepted_names}
 
--- what a query shows is its answer over what is committed
 answer_in : {S : Type 0} (g : Ghosts S) (schema : Schema) (sql : List ℕ) (q : Query) (names : List (List ℕ)) → IsSelectIn schema sql q names → (params : Row) (old : Held S) (rows : List Row) → Selects g sql params old rows → (state g old).committed.schema ≡ schema
     → IsAnswer q (overlay (state g old).committed.trees []) params rows
 answer_in g schema sql q names is params old rows h has =
     let read = reads_as sql params (state g (record old { in_transaction = true })) (state g h.after) schema (ap (λ (db : Database). db.schema) h.settled ∙ has) (Select (record { lets = []; body = q }) names) is.0 is.2 is.1 rows h.shown in
     subst (λ (db : Database). IsAnswer q (overlay db.trees []) params rows) h.settled (read.answer Null)
 
--- a text that is no statement shows nothing
 not_shown : (schema : Schema) (sql : List ℕ) (params : Row) (old new : State) (rows : List Row) → Shown sql params old new rows → old.now.schema ≡ schema → is_ok (understood schema sql) ≡ false → ⊥
 unfolding Shown
 not_shown schema sql params old new rows h has none = true≢false (ap is_ok (sym h.1.is ∙ ap (λ s. understood s sql) has) ∙ none)
 
--- the same in our schema of each version and layout
 pub answer_by : {S : Type 0} (g : Ghosts S) (sql : List ℕ) (q : Schema → Query) (names : List (List ℕ)) → IsSelectBy sql q names → (params : Row) (old : Held S) (rows : List Row) → Selects g sql params old rows → IsOurs (state g old).committed.schema
     → IsAnswer (q (state g old).committed.schema) (overlay (state g old).committed.trees []) params rows
 answer_by g sql q names is params old rows h ours = let rules = ours.rules in let indexed = ours.layout in let has = ours.same in elim (is rules indexed) [
@@ -54,7 +51,6 @@ pub answer_of : {S : Type 0} (g : Ghosts S) (sql : List ℕ) (q : Query) (names 
     → IsAnswer q (overlay (state g old).committed.trees []) params rows
 answer_of g sql q names is = answer_by g sql (λ _. q) names is
 
--- what is shown of the rows that pass
 abbrev pub shown_of : Query → Row → List Row → List Row
 shown_of q params rows = map (λ (o : Output). o.1) (map (output q) (flat_map (λ r. if list_all (holds (params ∷ r ∷ [])) q.filter then (params ∷ r ∷ []) ∷ [] else []) rows))
 
@@ -65,7 +61,6 @@ rows_answer tree test project db params rows a =
     let same : IsPermutation (map (λ (o : Output). o.1) a.kept) (map (λ (o : Output). o.1) a.ordered) = IsPermutation-map (λ (o : Output). o.1) a.kept a.ordered a.same in
     subst₂ (λ k r. IsPermutation k r) (ap (map (λ (o : Output). o.1)) kept) (sym a.shown) same
 
--- a test of the columns that are shown
 pub shown_is : (q : Query) (params : Row) (columns : Row → Row) (show : Row → Row) (has : Row → Bool) → ((r : Row) → list_all (holds (params ∷ r ∷ [])) q.filter ≡ has (columns r)) → ((r : Row) → (output q (params ∷ r ∷ [])).1 ≡ show (columns r))
     → (rows : List Row) → shown_of q params rows ≡ map show (filter has (map columns rows))
 shown_is q params columns show has test out [] = refl
@@ -86,11 +81,9 @@ pub whole : (rows : List Row) → map (λ (r : Row). r) rows ≡ rows
 whole [] = refl
 whole (r ∷ rows) = ap (λ rest. r ∷ rest) (whole rows)
 
--- with no table of its own a query sees the trees
 pub overlay_none : (db : Trees) (tree : ℕ) → overlay db [] tree ≡ db tree
 overlay_none db tree = elim (nat_le (2 ^ 31) tree) as (λ b. unwrap_or (if b then None else None) (db tree) ≡ db tree) [ true ↦ refl | false ↦ refl ]
 
--- the rows that pass a test of their columns are found
 pub finds_rows : {S : Type 0} (g : Ghosts S) (sql : List ℕ) (tree : Schema → ℕ) (test project : List Term) (names : List (List ℕ)) → IsSelectBy sql (λ schema. rows_from (tree schema) test project) names → (params : Row) (columns : Row → Row) (has : Row → Bool)
     → ((r : Row) → list_all (holds (params ∷ r ∷ [])) test ≡ has (columns r)) → ((r : Row) → (output (rows_from 0 test project) (params ∷ r ∷ [])).1 ≡ columns r)
     → (old : Held S) (rows : List Row) → Selects g sql params old rows → Reads (state g old) (λ db. IsPermutation (filter has (map columns (db.trees (tree db.schema)))) rows)
@@ -116,7 +109,6 @@ finds_number g number old rows h = record {
       (rows_answer 1 _ _ _ (Int (pos number) ∷ []) rows (answer_of g select_number number_query accepted_names select_number_is (Int (pos number) ∷ []) old rows h schema));
 }
 
--- there is such a row where something is shown
 any_shown : (has : Row → Bool) (show : Row → Row) (all rows : List Row) → IsPermutation (map show (filter has all)) rows → (b : Bool) → (b ≡ (length rows == 0)) → not b ≡ list_any has all
 any_shown has show all rows same b is = rw is (ap (λ n. not (n == 0)) (length_permutation _ _ same ∙ length-map (filter has all) show) ∙ some_pass all)
   where
@@ -141,7 +133,6 @@ all_pass : (rows : List Row) → shown_of version_query [] rows ≡ map version_
 all_pass [] = refl
 all_pass (r ∷ rows) = ap (λ rest. version_columns r ∷ rest) (all_pass rows)
 
--- of at most one there is one order
 pub one_order : (xs : List Row) (o : Option Row) → IsPermutation xs (only o) → xs ≡ only o
 one_order [] None h = refl
 one_order (x ∷ xs) None h = absurd (omega (arith, length_permutation _ _ h))
@@ -161,7 +152,6 @@ finds_version g old rows o h is = record {
 }
 
 module _ {S : Type 0} (g : Ghosts S) (old : Held S) where
-  -- a query in a transaction that has just begun
   pub selects : (after : Held S) (sql : List ℕ) (params : Row) (r : Result (Vec Row Global) Error) → (IsTrue (state g old).is_open → (state g old).now ≡ (state g old).committed)
       → IfOk r (λ rows. Shown sql params (state g (record old { in_transaction = true })) (state g after) rows.items) → IfOk r (λ rows. Selects g sql params old rows.items)
   selects after sql params (Err e) settled h = tt
@@ -180,11 +170,9 @@ module _ {S : Type 0} (g : Ghosts S) (old : Held S) where
   pub finds_no_uid : (uid : List ℕ) (rows : List Row) → rows ≡ [] → Selects g select_uid (Text uid ∷ []) old rows → Reads (state g old) (λ db. filter (has_uid uid) (accepted_in db) ≡ [])
   finds_no_uid uid rows is h = finds_only (has_uid uid) (state g old) rows None is (finds_uid g uid old rows h)
 
--- the bytes of a text are UTF-8
 pub is_text : (s : String Global) → IsUtf8 (string_bytes s)
 is_text s = IsUtf8-string_bytes s
 
--- seven values are those of their places
 pub seven : (row : Row) → length row ≡ 7 → row ≡ column row 0 ∷ column row 1 ∷ column row 2 ∷ column row 3 ∷ column row 4 ∷ column row 5 ∷ column row 6 ∷ []
 seven (a ∷ b ∷ c ∷ d ∷ e ∷ f ∷ g ∷ []) h = refl
 seven [] h = absurd (omega arith)

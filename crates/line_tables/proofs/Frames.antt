@@ -7,7 +7,6 @@ use Rattle.sqlite.proofs.StateLemmas.{survives_then}
 use Rattle.line_tables.specs.Frames.{ReadsOnly, InTransaction}
 use Rattle.line_tables.proofs.Keeps.{keeps_same, keeps_then}
 
--- no call at all
 pub reads_same : {S : Type 0} (g : Ghosts S) (held : Held S) → ReadsOnly g held held
 reads_same g held = record {
   kept = λ _. keeps_same (state g held);
@@ -15,7 +14,6 @@ reads_same g held = record {
   survives = record { clean = omega arith; shield = λ h. h; counts = omega arith; limit = refl; closes = λ _ is_open. inl is_open; crash = λ _ trees left. inl left };
 }
 
--- two calls that only read
 pub reads_then : {S : Type 0} (g : Ghosts S) (old mid new : Held S) → ReadsOnly g old mid → ReadsOnly g mid new → ReadsOnly g old new
 reads_then g old mid new one two = record {
   kept = λ clean. keeps_then (state g old) (state g mid) (state g new) (one.kept (omega (arith, two.survives.clean))) (two.kept clean);
@@ -23,7 +21,6 @@ reads_then g old mid new one two = record {
   survives = survives_then (state g old) (state g mid) (state g new) _ _ (λ _. ⊥) (λ _ db none. none) (λ _ db none. none) one.survives two.survives;
 }
 
--- two calls inside a transaction
 pub within_then : {S : Type 0} (g : Ghosts S) (old mid new : Transaction S) → InTransaction g old mid → InTransaction g mid new → InTransaction g old new
 within_then g old mid new one two = record {
   same_reference = two.same_reference ∙ one.same_reference;

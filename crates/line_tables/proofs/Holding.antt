@@ -1,4 +1,4 @@
--- What is read, told of the tables that a database holds.
+-- Reads of the tables that a database holds.
 use Rattle.std.proofs.Common.{◌≡◌, ◌∙◌, Bool, filter, Option, Some, None, ap₂, sym, subst}
 use Rattle.std.specs.List.Sorted.{IsPermutation}
 use Rattle.std.proofs.lemmas.List.Sorted.{IsPermutation-sym}
@@ -17,7 +17,6 @@ use Rattle.line_tables.specs.Rows.{Tables, Holds, HoldsAt, accepted_in, columns_
 use Rattle.line_tables.specs.Calls.{Reads, only, row_of}
 use Rattle.line_tables.proofs.Finds.{one_order}
 
--- a database of trees that a crash may leave holds these tables
 pub held_at : (t : Tables) (trees : Trees) → HoldsAt t trees → (db : Database) → IsDatabase db → db.trees ≡ trees → Holds db t
 held_at t trees (left, holds, sound, is) db found same =
     let lists : Lists (left.trees catalog_tree) db.schema = subst (λ (d : Trees). Lists (d catalog_tree) db.schema) (same ∙ is) found.lists in

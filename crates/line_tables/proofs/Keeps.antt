@@ -1,4 +1,4 @@
--- What a statement inside a transaction leaves of the last commit.
+-- A statement inside a transaction leaves the last commit unchanged.
 use Rattle.std.proofs.Common.{◌≡◌, ◌⊎◌, ◌∙◌, inl, inr, ℕ, List, Option, None, Some, Result, Ok, Err, Bool, true, if◌then◌else◌, IsTrue, IfOk, IfErr, Vec, Global, refl, subst}
 use Rattle.sqlite.specs.declared.error.Error.{Error}
 use Rattle.sqlite_value.specs.Order.{Row}
@@ -22,14 +22,12 @@ unchanged_keeps old new h = record { was_open = λ _. h.0.was_open; committed = 
 undone_keeps : (old new : State) → IsRolledBack old new → KeepsCommit old new
 undone_keeps old new h = record { was_open = h.was_open; committed = λ is. (h.undone is).1 }
 
--- a statement inside a transaction leaves the commit
 pub keeps_by : (old new : State) (r : Result ℕ Error) (sql : List ℕ) (params : Row) → ExecutesInside 0 sql params old new r → KeepsCommit old new
 keeps_by old new (Ok count) sql params h = shows_keep old new new.now true h.1
 keeps_by old new (Err e) sql params (inl (h, inl same)) = unchanged_keeps old new same
 keeps_by old new (Err e) sql params (inl (h, inr undone)) = undone_keeps old new undone
 keeps_by old new (Err e) sql params (inr h) = unchanged_keeps old new h.2
 
--- and so does a query
 shown_keeps : (sql : List ℕ) (params : Row) (old new : State) (rows : List Row) → IsTrue old.in_transaction → Shown sql params old new rows → KeepsCommit old new
 unfolding Shown
 shown_keeps sql params old new rows within h = by h.0.returning h.2
@@ -55,7 +53,6 @@ query_keeps sql params old new (Ok rows) within ok err = shown_keeps sql params 
 query_keeps sql params old new (Err e) within ok (inl err) = fails_keeps sql params old new e err
 query_keeps sql params old new (Err e) within ok (inr late) = unchanged_keeps old new late.5
 
--- the connection was open
 pub shown_open : (sql : List ℕ) (params : Row) (old new : State) (rows : List Row) → Shown sql params old new rows → IsTrue old.is_open
 unfolding Shown
 shown_open sql params old new rows h = by h.0.returning h.2

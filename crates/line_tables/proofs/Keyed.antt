@@ -1,4 +1,4 @@
--- Rows of a table by their keys: a row has at most one, and what a change at one key makes of the rows of a map.
+-- Rows of a table by key: each key has at most one row, and a change at one key changes the map at that key.
 use Rattle.std.proofs.Common.{◌≡◌, ◌∙◌, ◌||◌, ◌&&◌, ◌==◌, ℕ, ℤ, pos, Bool, true, false, not, if◌then◌else◌, Ordering, Less, Equal, Greater, is_eq, Option, Some, None, List, [], ◌∷◌, ◌++◌, filter, refl, sym, ap, ap₂, subst, arith, true≢false}
 use Rattle.std.specs.Option.{option_map, option_to_list}
 use Rattle.std.specs.List.{AllByRecursion}
@@ -22,9 +22,8 @@ use Rattle.desk_types.proofs.Keys.{same-true, same-refl}
 use Rattle.line_tables.specs.StateRows.{AreRows, has_text, has_int, has_pair, has_sheet_place, has_piece}
 use Rattle.line_tables.proofs.Altering.{without}
 
--- ---- values that SQL takes for one
+-- ---- values that SQL considers equal
 
--- a value equals what is neither before nor after it
 tied : (v a : Value) → equal Binary v a ≡ true → value_cmp v a ≡ Equal
 unfolding binary
 tied v a e = go (is_null v || is_null a) (value_cmp v a) e
@@ -83,7 +82,6 @@ one_piece a b row p q =
     let y = and_parts _ _ q in
     ap₂ (λ (m n : ℕ). (m, n)) (one_int 0 a.0 b.0 row x.0 y.0) (one_int 1 a.1 b.1 row x.1 y.1)
 
--- whether two keys are one
 abbrev pub same_pair : Name × Name → Name × Name → Bool
 same_pair a b = same a.0 b.0 && same a.1 b.1
 
@@ -93,7 +91,7 @@ same_sheet_place a b = same a.0 b.0 && same a.1 b.1 && (a.2 == b.2)
 abbrev pub same_piece : ℕ × ℕ → ℕ × ℕ → Bool
 same_piece a b = a.0 == b.0 && (a.1 == b.1)
 
--- the tests tell keys apart, and none from itself
+-- The tests distinguish different keys, and never a key from itself.
 pub record Tells {K : Type 0} (is : K → K → Bool) : Type 0 where
   pub one : (k l : K) → is k l ≡ true → k ≡ l
   pub own : (k : K) → is k k ≡ true
@@ -132,7 +130,6 @@ all_filter P p (x ∷ xs) h = go (p x) (all_filter P p xs h.1)
     go true more = (h.0, more)
     go false more = more
 
--- of at most one row there is one order
 one_list : (xs : List Row) (o : Option Row) → IsPermutation xs (option_to_list o) → xs ≡ option_to_list o
 one_list [] None h = refl
 one_list (x ∷ xs) None h = absurd (omega (arith, length_permutation _ _ h))
@@ -147,7 +144,6 @@ none_out p (r ∷ rs) h = go (p r) h (none_out p rs)
     go false h more = ap (λ l. r ∷ l) (more h)
 
 module _ {K R : Type 0} (has : K → Row → Bool) (columns : K → R → Row) (one_key : (k l : K) (row : Row) → has k row ≡ true → has l row ≡ true → k ≡ l) (is : K → K → Bool) (tells : Tells is) where
-  -- the row that an edit puts at a key, if it puts one
   abbrev put_at : K → Option R → List Row
   put_at k o = option_to_list (option_map (columns k) o)
 
@@ -198,7 +194,7 @@ module _ {K R : Type 0} (has : K → Row → Bool) (columns : K → R → Row) (
   all_keyed k None rows own keyed = all_filter IsKeyed _ rows keyed
   all_keyed k (Some r) rows own keyed = ((k, own.0), all_filter IsKeyed _ rows keyed)
 
-  -- the rows of a key go out, and its new row comes in, if it has one: so it is of the map
+  -- The rows of a key are removed, and its new row, if any, is added: the result matches the map.
   pub changed : (k : K) (o : Option R) (rows news : List Row) (f g : K → Option R) → AllByRecursion (λ row. has k row ≡ true) (put_at k o) → ((l : K) → g l ≡ (if is k l then o else f l)) → IsPermutation news (put_at k o ++ without (has k) rows)
       → AreRows has columns rows f → AreRows has columns news g
   changed k o rows news f g own each same h = record {
@@ -210,7 +206,6 @@ module _ {K R : Type 0} (has : K → Row → Bool) (columns : K → R → Row) (
       at_each l true e now = subst (λ m. filter (has m) (put_at k o ++ without (has k) rows) ≡ put_at m (g l)) (tells.one k l e) (at_own k o rows own ∙ ap (put_at k) (sym now))
       at_each l false e now = at_other k l e o rows own ∙ h.found l ∙ ap (put_at l) (sym now)
 
-  -- a row comes in where its key has none
   pub added : (k : K) (r : R) (rows news : List Row) (f g : K → Option R) → f k ≡ None → has k (columns k r) ≡ true → ((l : K) → g l ≡ (if is k l then Some r else f l)) → IsPermutation news (columns k r ∷ rows)
       → AreRows has columns rows f → AreRows has columns news g
   added k r rows news f g free own each same h =

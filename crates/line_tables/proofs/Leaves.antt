@@ -1,31 +1,28 @@
--- What a crash may leave after a commit.
+-- What may remain after a crash that follows a commit.
 use Rattle.std.proofs.Common.{◌≡◌, ◌∙◌, ℕ, List, true, IsTrue, sym, ap, subst}
 use Rattle.sqlite_trees.specs.Tree.{Trees}
 use Rattle.sqlite_trees.specs.declared.store.Store.{Ghosts}
 use Rattle.sqlite.specs.Effect.{Database}
 use Rattle.sqlite.specs.Held.{Held, state}
-use Rattle.line_tables.specs.declared.edit.Edit.{Edit}
+use Rattle.line_tables.specs.Edit.{Edit}
 use Rattle.desk_types.specs.declared.rules.Rules.TheVariants.{One}
 use Rattle.line_tables.specs.Rows.{Holds, HoldsBy, blank}
 use Rattle.line_tables.specs.Line.{no_schema}
 use Rattle.line_tables.specs.Calls.{HasOthers, KeepsOthers, Edits, Writes, Makes, Migrated, Migrates, LeavesEdited, LeavesBlank, LeavesMigrated}
 
--- what was committed is read in a transaction that has just begun
 pub settled_migrates : {S : Type 0} (g : Ghosts S) (old last : Held S) → (IsTrue (state g old).is_open → (state g old).now ≡ (state g old).committed) → Migrates (state g (record old { in_transaction = true })) (state g last) → (after : Database) → after ≡ (state g last).now
     → Migrated (state g old).committed after
 settled_migrates g old last settled w after is = subst (λ (db : Database). Migrated db after) (settled w.was_open) (subst (Migrated (state g old).now) (sym is) w.done)
 
--- so is what edits were made of
 pub settled_edits : {S : Type 0} (g : Ghosts S) (old last : Held S) (edits : List Edit) → (IsTrue (state g old).is_open → (state g old).now ≡ (state g old).committed) → Writes edits (state g (record old { in_transaction = true })) (state g last) → (after : Database) → after ≡ (state g last).now
     → Edits edits (state g old).committed after
 settled_edits g old last edits settled w after is = subst (λ (db : Database). Edits edits db after) (settled w.was_open) (subst (Edits edits (state g old).now) (sym is) w.done)
 
--- and others have their rows still
+-- Other people's rows are still present.
 pub settled_others : {S : Type 0} (g : Ghosts S) (old last : Held S) (edits : List Edit) → (IsTrue (state g old).is_open → (state g old).now ≡ (state g old).committed) → Writes edits (state g (record old { in_transaction = true })) (state g last) → (after : Database) → after ≡ (state g last).now
     → KeepsOthers (state g old).committed after
 settled_others g old last edits settled w after is = subst (λ (db : Database). KeepsOthers db after) (settled w.was_open) (subst (KeepsOthers (state g old).now) (sym is) w.others)
 
--- and the tables of an empty list are those that were made
 pub settled_makes : {S : Type 0} (g : Ghosts S) (old last : Held S) (greatest : ℕ) → Makes greatest (state g (record old { in_transaction = true })) (state g last) → (after : Database) → after ≡ (state g last).now → (state g old).now.schema ≡ no_schema → Holds after (blank greatest)
 settled_makes g old last greatest w after is has = subst (λ (db : Database). Holds db (blank greatest)) (sym is) (w.done has).1
 

@@ -29,23 +29,21 @@ use Rattle.line_tables.proofs.Beside.{quiet}
 use Rattle.line_tables.proofs.CreateTexts.{update_version, version_renewed, update_version_is}
 use Rattle.line_tables.specs.Line.Layout.{Indexed, Plain}
 
--- the tables of version 1 but `version`
+-- The tables of version 1 except `version`.
 abbrev rest : Layout → List Table
 rest indexed = drop 1 (schema_tables One indexed)
 
--- one row alone is apart
 apart_one : (r : Row) (n : ℤ) → column r 0 ≡ Int n → AreApart (r ∷ [])
 apart_one r n is = record {
   keyed = λ a there. elim there [ inl same ↦ subst (λ x. IsTrue (is_int (rowid x))) (sym same) (subst (λ v. IsTrue (is_int v)) (sym is) refl) | inr none ↦ absurd none ];
   apart = λ a b one other tie. elim one [ inl p ↦ elim other [ inl q ↦ p ∙ sym q | inr none ↦ absurd none ] | inr none ↦ absurd none ];
 }
 
--- trees that stayed over two changes, of which the second was of another tree
 kept_on : (tree : ℕ) (tables more : List Table) (a b c : Trees) → list_all (λ u. not (u.tree == tree)) tables ≡ true → KeepsRows tables a b → AllByRecursion (λ u. u.tree ≢ tree → c u.tree ≡ b u.tree) (tables ++ more) → KeepsRows tables a c
 kept_on tree [] more a b c apart kept others = tt
 kept_on tree (u ∷ us) more a b c apart kept others = let is = and_parts _ _ apart in (others.0 (other_tree u.tree tree is.0) ∙ kept.0, kept_on tree us more a b c is.1 kept.1 others.1)
 
--- the one row of `version` has the other number
+-- The single row of `version` has the other number.
 renews_version : (i : Layout) (greatest : ℕ) (r : Row) (old new : State) → version_columns r ≡ version_row One greatest → old.now.trees 0 ≡ r ∷ [] → Changed (schema_of Two i) version [] version_renewed [] (renewed version) old new → version_in new.now ≡ version_row Two greatest ∷ []
 renews_version i greatest r old new columns is h =
     let first : column r 0 ≡ Int (pos 1) = cc in

@@ -1,4 +1,4 @@
--- The least number, and how many rows there are.
+-- The least number, and the number of rows.
 use Rattle.std.proofs.Common.{◌≡◌, ◌∙◌, IsTrue, Some, None, Option, Result, Ok, Err, IfOk, ℕ, ℤ, pos, zero, suc, min, List, [], ◌∷◌, ◌++◌, length, map, Bool, true, false, ◌<◌, ◌+◌, Ordering, Less, Equal, Greater, is_lt, is_gt, refl, sym, ap, subst, subst₂, arith}
 use Rattle.std.specs.List.{flat_map, AllByRecursion, AllZip}
 use Rattle.std.specs.List.{All}
@@ -40,7 +40,6 @@ module _ {X : Type 0} (cmp : X → X → Ordering) (total : IsTotalOrder cmp) wh
   turned Equal h = refl
   turned Greater h = refl
 
-  -- the first of a sorted list is above no other
   first_least : (x : X) (ys : List X) → IsSorted cmp (x ∷ ys) → AllByRecursion (AtMost x) ys
   first_least x [] sorted = tt
   first_least x (y ∷ ys) sorted =
@@ -51,7 +50,7 @@ module _ {X : Type 0} (cmp : X → X → Ordering) (total : IsTotalOrder cmp) wh
 abbrev envs : List Row → List Env
 envs rows = flat_map (λ r. ([] ∷ r ∷ []) ∷ []) rows
 
--- a row is sorted by what it shows
+-- A row is sorted by its shown value.
 abbrev keyed : Output → Type 0
 keyed o = o.0 ≡ column o.1 0 ∷ []
 
@@ -126,7 +125,6 @@ one_summary order n is [] zip = absurd zip
 one_summary order n is (r ∷ s ∷ more) zip = absurd zip.1
 one_summary order n is (r ∷ []) zip = ap (λ x. x ∷ []) (zip.0.2 ∙ one_value order n is zip.0.0 zip.0.1)
 
--- all rows are one group, whose row is their count
 summed : (all staged : List Env) → Summarizes count_all [] all staged → staged ≡ ([] ∷ (counted (length all) ∷ []) ∷ []) ∷ []
 summed all staged s =
     let order = s.grouping.0 in
@@ -148,7 +146,6 @@ count_is tree db shown a n is below =
     let row : ◌≡◌ {A = List Row} ((Int (pos n) ∷ []) ∷ []) ((counted (length all) ∷ []) ∷ []) = sym is ∙ a.shown ∙ ap (map (λ (o : Output). o.1)) ordered in
     not_most n (length all) 9223372036854775807 (same_number n _ row) below ∙ envs_length rows
 
--- the number of a table's rows is read, where it is below the greatest that SQL counts
 pub finds_count : {S : Type 0} (g : Ghosts S) (sql : List ℕ) (tree : Schema → ℕ) (names : List (List ℕ)) → IsSelectBy sql (λ schema. count_from (tree schema)) names → (columns : Row → Row) (old : Held S) (rows : List Row) (n : ℕ) → Selects g sql [] old rows → rows ≡ (Int (pos n) ∷ []) ∷ []
     → n < 9223372036854775807 → Reads (state g old) (λ db. n ≡ length (map columns (db.trees (tree db.schema))))
 finds_count g sql tree names is columns old rows n h shown below = record {

@@ -1,4 +1,4 @@
--- The test of a schema, and what holds of ours.
+-- The test of a schema, and facts about our schema.
 use Rattle.std.proofs.Common.{◌≡◌, ◌∙◌, ◌++◌, [], inl, inr, Bool, true, false, ◌&&◌, length, take, drop, refl, sym, ap, ap₂, subst, true≢false}
 use Rattle.std.proofs.lemmas.Bool.{eqb-true, eq-eqb, or_cases, or_left, or_right, and_from}
 use Rattle.std.proofs.lemmas.List.{take-append-drop}
@@ -32,12 +32,11 @@ same_itself gnil = refl
 same_itself (gnum n) = eq-eqb n n refl
 same_itself (gcons a b) = ap₂ (λ x y. x && y) (same_itself a) (same_itself b)
 
--- the test finds the same schema, and no other
 same_schema : (a b : Schema) → is_same_schema a b ≡ true → a ≡ b
 unfolding is_same_schema
 same_schema a b h = the_row.coded.inj a b (same_is _ _ h)
 
--- what is behind our tables and indexes is of others
+-- Everything behind our tables and indexes belongs to other people.
 begun : (bare : Layout) (schema : Schema) → begins_with bare schema ≡ true → (h : are_quiet (first_behind bare) (drop 11 schema.tables) ≡ true)
     × (schema.tables ≡ (schema_of Two bare).tables ++ drop 11 schema.tables) × (schema.indexes ≡ (schema_of Two bare).indexes ++ drop (length (schema_of Two bare).indexes) schema.indexes)
 begun bare schema h =
@@ -74,7 +73,7 @@ is_ours_of schema (Plain others) is = or_right _ _ (subst (λ s. begins_with (Pl
 pub is_blank_of : (schema : Schema) → schema ≡ no_schema → is_blank schema ≡ true
 is_blank_of schema is = same_of schema no_schema is
 
--- the names of one version are told from those of the other
+-- The names of one version differ from those of the other.
 whole_of : (rules kept : Rules) (indexed : Layout) → has_state rules (schema_of kept indexed).tables ≡ true → rules ≡ kept
 unfolding same_name
 whole_of One One indexed h = refl

@@ -1,9 +1,9 @@
--- What the statements make of the table of placements: rows with rowids of their own are put in, one or eight at once.
+-- The effect of the statements on `placement`: they insert rows with their own rowids, one or eight at once.
 use Rattle.std.proofs.Common.{◌≡◌, ◌∙◌, ◌&&◌, ◌==◌, ◌<◌, ◌≤◌, ◌+◌, ◌++◌, if◌then◌else◌, ℕ, pos, Bool, List, [], ◌∷◌, map, take, get_or, length, not, true, false, IsTrue, Option, Some, refl, ap, ap₂, subst, sym, arith}
 use Rattle.std.specs.List.{flat_map}
 use Rattle.std.specs.List.Sorted.{IsPermutation}
 use Rattle.std.proofs.lemmas.Bool.{and_parts, and_from}
-use Rattle.std.proofs.lemmas.List.{take_more, map-append, flat_map_more, length-map, length-take-le}
+use Rattle.std.proofs.lemmas.List.{map_more, map-append, flat_map_more, length-map, length-take-le}
 use Rattle.std.proofs.lemmas.List.Sorted.{IsPermutation-map}
 use Rattle.sqlite_value.specs.Order.{Row}
 use Rattle.sqlite.specs.Cast.{cast_row}
@@ -17,7 +17,9 @@ use Rattle.line_tables.specs.Line.{schema_of, placement, Layout}
 use Rattle.line_tables.specs.Rowids.{placement_id}
 use Rattle.line_tables.specs.StateRows.{AreRows, columns, has_piece, placement_columns, flag}
 use Rattle.line_tables.specs.Placing.{placement_edit, placement_kept, ArePlacing}
-use Rattle.line_tables.specs.declared.edit.Edit.{Edit}
+use Rattle.desk_types.specs.declared.edit.RowEdit.{RowEdit}
+use Rattle.desk_types.specs.declared.edit.RowEdit.TheVariants.{PutPlacement}
+use Rattle.line_tables.specs.Edit.{Edit, EditRow, row_edits}
 use Rattle.line_tables.specs.Rows.{Tables, Holds, AreNew, with_edit, after_edits, version_columns, accepted_columns}
 use Rattle.line_tables.specs.Calls.{Runs, Writes}
 use Rattle.line_tables.proofs.Inserts.{Inserted, insert_does}
@@ -30,14 +32,13 @@ use Rattle.line_tables.proofs.Beside.{quiet, others_behind}
 placement_cast : (row : PlacementRow) → cast_row placement (placement_kept row) ≡ placement_kept row
 placement_cast row = rw (cast_int (pos (placement_id row.number row.place)), cast_int (pos row.number), cast_int (pos row.place), cast_int (flag row.overdue)) refl
 
--- the rows keep their rowids
 all_kept : (rows : List PlacementRow) (db : List Row) → numbered Chosen db (map (λ s. cast_row placement s) (map placement_kept rows)) ≡ map placement_kept rows
 all_kept [] db = refl
 all_kept (row ∷ rows) db =
     ap (λ r. with_rowid Chosen db r ∷ numbered Chosen (put_row (with_rowid Chosen db r) db) (map (λ s. cast_row placement s) (map placement_kept rows))) (placement_cast row)
     ∙ ap (λ l. placement_kept row ∷ l) (all_kept rows (put_row (placement_kept row) db))
 
--- the map with the rows at their keys
+-- The map with the rows at their keys.
 abbrev with_pieces : List PlacementRow → (ℕ → ℕ → Option PlacementRow) → ℕ → ℕ → Option PlacementRow
 with_pieces [] f = f
 with_pieces (row ∷ rows) f = with_pieces rows (λ n k. if row.number == n && (row.place == k) then Some row else f n k)
@@ -53,7 +54,6 @@ is_false true h = absurd (cc)
 abbrev HasPieces : List Row → (ℕ → ℕ → Option PlacementRow) → Type 0
 HasPieces db f = AreRows has_piece (λ _ row. placement_columns row) (map (columns placement) db) (λ piece. f piece.0 piece.1)
 
--- rows with new keys come in, one after the other
 pieces_in : (rows : List PlacementRow) (db : List Row) (t : Tables) → HasPieces db t.state.placements → are_fresh db (map placement_kept rows) ≡ true → AreNew (map placement_edit rows) t
     → HasPieces (put_all db (map placement_kept rows)) (with_pieces rows t.state.placements)
 pieces_in [] db t was fresh new = was
@@ -63,7 +63,6 @@ pieces_in (row ∷ rows) db t was fresh new =
     pieces_in rows (put_row (placement_kept row) db) (with_edit t (placement_edit row))
     (added has_piece (λ _ row. placement_columns row) one_piece same_piece tells_piece (row.number, row.place) row _ _ (λ piece. t.state.placements piece.0 piece.1) _ new.0 (and_from _ _ (own_int row.number) (own_int row.place)) (λ l. refl) one was) free.1 new.1
 
--- the rows that a statement puts in are those of as many edits
 puts_pieces : (rows : List PlacementRow) (a c : State) → IsTrue a.is_open → ((indexed : Layout) → a.now.schema ≡ schema_of Two indexed → Inserted (schema_of Two indexed) placement (map placement_kept rows) a c) → Writes (map placement_edit rows) a c
 puts_pieces rows a c was_open did = record {
   was_open = was_open;
@@ -105,7 +104,6 @@ placement_put row a c ran =
     puts_pieces (row ∷ []) a c ran.shown.was_open
     (λ i has. insert_does insert_placement (placement_kept row) a c (schema_of Two i) has 9 placement placement_terms 9 refl refl refl (insert_placement_is i).0 (insert_placement_is i).1 ran.count ran.executed (quiet i 17 refl []))
 
--- the parameters of the text for eight rows are the values of these
 eight_in : (rows : List PlacementRow) (a c : State) → length rows ≡ 8 → Runs insert_placements (flat_map placement_kept rows) a c → (i : Layout) → a.now.schema ≡ schema_of Two i → Inserted (schema_of Two i) placement (map placement_kept rows) a c
 eight_in (p ∷ q ∷ r ∷ s ∷ t ∷ u ∷ v ∷ w ∷ []) a c eight ran i has =
     insert_does insert_placements (flat_map placement_kept (p ∷ q ∷ r ∷ s ∷ t ∷ u ∷ v ∷ w ∷ [])) a c (schema_of Two i) has 9 placement placements_terms 9 refl refl refl (insert_placements_is i).0 (insert_placements_is i).1 ran.count ran.executed (quiet i 17 refl [])
@@ -124,16 +122,15 @@ eight_put rows a c eight ran = puts_pieces rows a c ran.shown.was_open (eight_in
 
 -- ---- the values of edits
 
--- one edit more puts a placement
-pub placing_more : (edits : List Edit) (i : ℕ) (edit : Edit) (row : PlacementRow) (values : Row) → i < length edits → edit ≡ get_or edits i edit → edit ≡ placement_edit row → ArePlacing (take i edits) values → ArePlacing (take (i + 1) edits) (values ++ placement_kept row)
+pub placing_more : (edits : List RowEdit) (i : ℕ) (edit : RowEdit) (row : PlacementRow) (values : Row) → i < length edits → edit ≡ get_or edits i edit → edit ≡ PutPlacement row → ArePlacing (row_edits (take i edits)) values → ArePlacing (row_edits (take (i + 1) edits)) (values ++ placement_kept row)
 placing_more edits i edit row values inside item is was = (
   was.0 ++ row ∷ [],
-  take_more edits i edit inside ∙ ap₂ (λ l e. l ++ e ∷ []) was.1 (sym item ∙ is) ∙ sym (map-append placement_edit was.0 (row ∷ [])),
+  map_more EditRow edits i edit inside ∙ ap₂ (λ l e. l ++ EditRow e ∷ []) was.1 (sym item ∙ is) ∙ sym (map-append placement_edit was.0 (row ∷ [])),
   ap (λ v. v ++ placement_kept row) was.2 ∙ flat_map_more placement_kept [] was.0 row,
 )
 
--- eight edits that put placements are made as their values are put in
-pub eight_first : (edits : List Edit) (values : Row) (a c : State) → 8 ≤ length edits → ArePlacing (take 8 edits) values → ((rows : List PlacementRow) → length rows ≡ 8 → values ≡ flat_map placement_kept rows → Writes (map placement_edit rows) a c) → Writes (take 8 edits) a c
+-- Eight edits that put placements are made as their values are put in.
+pub eight_first : (edits : List RowEdit) (values : Row) (a c : State) → 8 ≤ length edits → ArePlacing (row_edits (take 8 edits)) values → ((rows : List PlacementRow) → length rows ≡ 8 → values ≡ flat_map placement_kept rows → Writes (map placement_edit rows) a c) → Writes (row_edits (take 8 edits)) a c
 eight_first edits values a c long are put =
-    let eight : length are.0 ≡ 8 = sym (length-map are.0 placement_edit) ∙ ap length (sym are.1) ∙ length-take-le 8 edits long in
+    let eight : length are.0 ≡ 8 = sym (length-map are.0 placement_edit) ∙ ap length (sym are.1) ∙ length-map (take 8 edits) EditRow ∙ length-take-le 8 edits long in
     subst (λ l. Writes l a c) (sym are.1) (put are.0 eight are.2)

@@ -1,4 +1,4 @@
--- What the texts that write mean.
+-- The meaning of the texts that write.
 use Rattle.std.proofs.Common.{◌≡◌, Bool, List, ℕ, [], ◌∷◌, codes, refl}
 use Rattle.sqlite.specs.Command.TheVariants.{Insert}
 use Rattle.sqlite.specs.Source.TheVariants.{Values}
@@ -13,7 +13,6 @@ use Rattle.line_tables.specs.Line.{schema_of, Layout}
 abbrev pub insert_accepted : List ℕ
 insert_accepted = codes "INSERT INTO accepted VALUES (?1, ?2, ?3, ?4, ?5, ?6, ?7)"
 
--- the columns are the parameters
 abbrev pub accepted_terms : List Term
 accepted_terms = col 0 0 ∷ lit Null ∷ col 0 1 ∷ col 0 2 ∷ col 0 3 ∷ col 0 4 ∷ col 0 5 ∷ col 0 6 ∷ []
 

@@ -1,4 +1,4 @@
--- What the writes make of the tables.
+-- The effect of the writes on the tables.
 use Rattle.std.proofs.Common.{◌≡◌, ℕ, ℤ, pos, List, [], ◌∷◌, ◌++◌, map, length, take, drop, ◌==◌, not, ◌||◌, ◌&&◌, Bool, true, false, cond, refl, sym, ap, subst, ◌∙◌, arith}
 use Rattle.std.specs.List.{flat_map, filter_map}
 use Rattle.std.specs.List.Sorted.{IsPermutation}
@@ -20,8 +20,8 @@ use Rattle.sqlite.specs.Rowids.TheVariants.{Chosen}
 use Rattle.sqlite.specs.State.{State}
 use Rattle.sqlite.specs.Effect.{Database}
 use Rattle.line_tables.specs.declared.edit.Accepted.{Accepted}
-use Rattle.line_tables.specs.declared.edit.Edit.{Edit}
-use Rattle.line_tables.specs.declared.edit.Edit.TheVariants.{PutAccepted}
+use Rattle.line_tables.specs.Edit.{Edit}
+use Rattle.line_tables.specs.Edit.{PutAccepted}
 use Rattle.desk_types.specs.declared.rules.Rules.TheVariants.{Two}
 use Rattle.line_tables.specs.Line.{schema_of, schema_tables, accepted, Layout}
 use Rattle.line_tables.specs.Rows.{Tables, Holds, AreNew, columns_of, accepted_columns, with_edit, after_edits}
@@ -47,7 +47,6 @@ pub not_taken : (b : Bool) → (not b && true) ≡ true → b ≡ false
 not_taken true h = absurd (cc)
 not_taken false h = refl
 
--- a row whose key is free is one more
 pub put_permutes : (rows : List Row) (new : Row) → is_taken rows new ≡ false → IsPermutation (put_row new rows) (new ∷ rows)
 put_permutes [] new h = IsPermutation-refl (new ∷ [])
 put_permutes (r ∷ rows) new h =
@@ -58,7 +57,7 @@ put_permutes (r ∷ rows) new h =
       | Greater ↦ λ free. IsPermutation-refl _
     ] h
 
--- a row of `accepted` as it is kept
+-- A row of `accepted` as stored.
 abbrev kept_row : Row → Row
 kept_row (id ∷ more) = id ∷ Null ∷ more
 kept_row [] = []
@@ -93,7 +92,8 @@ module _ (a : Accepted) (old new : State) where
         others = others_behind 1 old.now new.now (λ layout has. (refl, (inserted layout has).same, (inserted layout has).step.tables));
       }
 
--- what is left of the edits, where the first of them are made: it makes of the tables that the one database holds what all make of those of the other, whose layout it is
+-- The edits that remain after the first ones were made. Made on the second database, which has the layout of the first,
+-- they give the same tables as all edits made on the first.
 abbrev pub Remain : List Edit → List Edit → Database → Database → Type 0
 Remain edits rest old now = (tables : Tables) → Holds old tables → AreNew edits tables → (mid : Tables) × Holds now mid × AreNew rest mid × (after_edits rest mid ≡ after_edits edits tables) × (now.schema ≡ old.schema)
 
@@ -108,7 +108,6 @@ module _ (edits rest : List Edit) (n : ℕ) (old mid : Database) (was : Remain e
   both : take n rest ++ drop n rest ≡ rest
   both = take-append-drop n rest
 
-  -- the first of the edits that were left are made
   pub remain_less : (new : Database) → Edits (take n rest) mid new → Remain edits (drop n rest) old new
   remain_less new step tables h fresh =
       let m = was tables h fresh in
@@ -116,7 +115,6 @@ module _ (edits rest : List Edit) (n : ℕ) (old mid : Database) (was : Remain e
       let next = step m.0 m.1 parts.0 in
       (after_edits (take n rest) m.0, next.1, parts.1, sym (fold-append with_edit m.0 (take n rest) (drop n rest)) ∙ ap (λ l. after_edits l m.0) both ∙ m.3, next.0 ∙ m.4)
 
-  -- and the trees list the schema
   pub sound_less : (sound : Type 0) → ((tables : Tables) → Holds mid tables → AreNew (take n rest) tables → sound) → (tables : Tables) → Holds old tables → AreNew edits tables → sound
   sound_less sound step tables h fresh =
       let m = was tables h fresh in

@@ -1,4 +1,4 @@
--- Rowids that rise are each that of one row.
+-- Increasing rowids are distinct.
 use Rattle.std.specs.Prelude.{⊤}
 use Rattle.std.proofs.Common.{◌≡◌, ◌∙◌, suc, drop-cons, inl, inr, ℕ, ℤ, ◌≤◌, ◌<◌, ◌+◌, List, [], ◌∷◌, ◌++◌, codes, map, filter, length, take, drop, get_or, Bool, true, false, ◌&&◌, if◌then◌else◌, IsTrue, Option, None, Some, Ordering, Less, Equal, Greater, is_eq, int_cmp, int_lt, cond, refl, sym, ap, subst, arith, true≢false}
 use Rattle.std.specs.List.{AllByRecursion}
@@ -39,7 +39,7 @@ use Rattle.line_tables.proofs.Keeps.{keeps_same, keeps_then}
 use Rattle.line_tables.proofs.RowidTexts.{rowids_from, IsRowids, found_is}
 use Rattle.line_tables.specs.Line.Layout.{Indexed}
 
--- ---- one row more
+-- ---- one more row
 
 pub past_by : (last n : ℤ) → int_lt last n ≡ true → int_cmp last n ≡ Less
 past_by last n h = subst (λ b. cond b Less (cond (int_lt n last) Greater Equal) ≡ Less) (sym h) refl
@@ -73,13 +73,12 @@ module _ (rows : List Row) (i : ℕ) (row : Row) (n : ℤ) (last : Option ℤ) (
       subst (AllByRecursion (IsBefore (Int m))) (sym next)
       (all-append (IsBefore (Int m)) (take i rows) (row ∷ []) (below m (past_then last n m past h)) (subst (IsBefore (Int m)) (sym is) (value_cmp-Int n m ∙ h), tt))
 
--- ---- what follows a row
+-- ---- the rows after a row
 
--- the rows rise
 abbrev pub DoRise : List Row → Type 0
 DoRise = IsAscending (λ a b. value_cmp (column a 0) (column b 0) ≡ Less)
 
--- the rows are above the last one, where there is one
+-- The rows are above the last one, if there is one.
 abbrev pub AreAbove : Option ℤ → List Row → Type 0
 AreAbove None rows = ⊤
 AreAbove (Some last) rows = AllByRecursion (λ r. value_cmp (Int last) (column r 0) ≡ Less) rows
@@ -102,7 +101,7 @@ module _ (rows : List Row) (i : ℕ) (row : Row) (n : ℤ) (inside : i < length 
       let parts : AreAbove (Some last) (row ∷ drop (i + 1) rows) = subst (AreAbove (Some last)) split above in
       sym (value_cmp-Int last n) ∙ subst (λ (v : Value). value_cmp (Int last) v ≡ Less) first_is parts.0
 
--- ---- rows by the values that are shown of them
+-- ---- rows by their shown values
 
 none_pass : (p : Row → Bool) (xs : List Row) → AllByRecursion (λ x. p x ≡ false) xs → filter p xs ≡ []
 none_pass p [] h = refl
@@ -118,7 +117,6 @@ tied_less x y v less tie = go (value_cmp x v) (value_cmp y v) refl refl tie
     go Equal Greater p q h = refl
     go Equal Equal p q h = absurd (let e : Less ≡ Equal = sym less ∙ value_cmp_total.congr x v y p ∙ tied_back value_cmp_total y v q in cc)
 
--- of rows that rise at most one has a value
 one_at_most : (v : Value) (xs : List Row) → IsAscending (λ a b. value_cmp (column a 0) (column b 0) ≡ Less) xs → length (filter (λ x. is_eq (value_cmp (column x 0) v)) xs) ≤ 1
 one_at_most v [] h = omega arith
 one_at_most v (x ∷ xs) h = go (is_eq (value_cmp (column x 0) v)) refl (one_at_most v xs h.1)
@@ -141,7 +139,6 @@ module _ (show : Row → Row) (p : Row → Bool) where
       go true h = omega (arith, h)
       go false h = h
 
-  -- where at most one passes, two that pass are one
   alone : (xs : List Row) (a b : Row) → length (filter p (map show xs)) ≤ 1 → Has xs a → Has xs b → p (show a) ≡ true → p (show b) ≡ true → a ≡ b
   alone [] a b h i j pa pb = absurd i
   alone (x ∷ xs) a b h i j pa pb = go (p (show x)) refl h i j (λ few i j. alone xs a b few i j pa pb)
@@ -154,7 +151,6 @@ module _ (show : Row → Row) (p : Row → Bool) where
       go false e few (inr i) (inl other) more = absurd (true≢false (sym pb ∙ ap (λ r. p (show r)) other ∙ e))
       go false e few (inr i) (inr j) more = more few i j
 
--- the row begins with an integer
 abbrev IsWhole : Row → Type 0
 IsWhole r = IsTrue (is_int (column r 0))
 
@@ -176,7 +172,7 @@ apart_shown rows shown same rises = record {
       alone id_of p rows a b (omega (arith, few, many)) i j (ap is_eq tie) (ap is_eq (tied_itself value_cmp_total (rowid b)));
 }
 
--- ---- what the queries tell
+-- ---- the results of the queries
 
 ids_shown : (tree : ℕ) (rows : List Row) → shown_of (rowids_from tree) [] rows ≡ map id_of rows
 ids_shown tree [] = refl
@@ -204,13 +200,11 @@ module _ {S : Type 0} (g : Ghosts S) (old : Held S) where
   pub tells_found : (b : Bool) → Shows g (codes "SELECT rowid FROM found ORDER BY rowid") old b → IsFoundApartWhere Two b (state g old)
   tells_found b h = let t = tells_by _ (tree_in found) _ found_is b h in record { was_open = t.was_open; are = λ ours told. (t.are ours told, tt) }
 
--- what is committed is read after calls that keep it
 reads_before : (old mid : State) → KeepsCommit old mid → (Is : Database → Type 0) → Reads mid Is → Reads old Is
 reads_before old mid kept Is r =
     let same = kept.committed r.was_open in
     record { was_open = kept.was_open r.was_open; are = λ ours. subst Is same (r.are (subst (λ (db : Database). IsOurs db.schema) (sym same) ours)) }
 
--- what is told of one table and then of others
 told_more : (old mid : State) → KeepsCommit old mid → (table : Table) (tables : List Table) (a b : Bool) → Reads old (λ db. IsTrue a → AreApart (kept_in table db)) → Reads mid (AreApartWhere b tables) → Reads old (AreApartWhere (a && b) (table ∷ tables))
 told_more old mid kept table tables a b first others = record {
   was_open = first.was_open;
@@ -220,19 +214,16 @@ told_more old mid kept table tables a b first others = record {
 told_none : (s : State) → IsTrue s.is_open → Reads s (AreApartWhere true [])
 told_none s was_open = record { was_open = was_open; are = λ schema told. tt }
 
--- what is told of four tables, one after the other
 pub told_four : (s1 s2 s3 s4 : State) → KeepsCommit s1 s2 → KeepsCommit s2 s3 → KeepsCommit s3 s4 → (t1 t2 t3 t4 : Table) (a b c d : Bool) → Reads s1 (λ db. IsTrue a → AreApart (kept_in t1 db)) → Reads s2 (λ db. IsTrue b → AreApart (kept_in t2 db))
     → Reads s3 (λ db. IsTrue c → AreApart (kept_in t3 db)) → Reads s4 (λ db. IsTrue d → AreApart (kept_in t4 db)) → (all : Bool) → all ≡ (a && (b && (c && (d && true)))) → Reads s1 (AreApartWhere all (t1 ∷ t2 ∷ t3 ∷ t4 ∷ []))
 told_four s1 s2 s3 s4 k1 k2 k3 t1 t2 t3 t4 a b c d r1 r2 r3 r4 all is =
     subst (λ x. Reads s1 (AreApartWhere x (t1 ∷ t2 ∷ t3 ∷ t4 ∷ []))) (sym is)
     (told_more s1 s2 k1 t1 (t2 ∷ t3 ∷ t4 ∷ []) a _ r1 (told_more s2 s3 k2 t2 (t3 ∷ t4 ∷ []) b _ r2 (told_more s3 s4 k3 t3 (t4 ∷ []) c _ r3 (told_more s4 s4 (keeps_same s4) t4 [] d true r4 (told_none s4 r4.was_open)))))
 
--- what is told of what counts found
 found_told : (old mid : State) → KeepsCommit old mid → (rules : Rules) (b : Bool) → IsFoundApartWhere rules b mid → IsOurs old.committed.schema → AreApartWhere b (found_tables rules (Indexed no_others)) old.committed
 found_told old mid kept One b told ours = λ is. tt
 found_told old mid kept Two b told ours = (reads_before old mid kept (AreApartWhere b (found ∷ [])) told).are ours
 
--- what is told of three tables, and then of what counts found
 pub told_three : (s1 s2 s3 s4 : State) → KeepsCommit s1 s2 → KeepsCommit s2 s3 → KeepsCommit s3 s4 → (t1 t2 t3 : Table) (rules : Rules) (a b c d : Bool) → Reads s1 (λ db. IsTrue a → AreApart (kept_in t1 db)) → Reads s2 (λ db. IsTrue b → AreApart (kept_in t2 db))
     → Reads s3 (λ db. IsTrue c → AreApart (kept_in t3 db)) → IsFoundApartWhere rules d s4 → (all : Bool) → all ≡ (a && (b && (c && (d && true)))) → Reads s1 (AreApartWhere all (t1 ∷ t2 ∷ t3 ∷ found_tables rules (Indexed no_others)))
 told_three s1 s2 s3 s4 k1 k2 k3 t1 t2 t3 rules a b c d r1 r2 r3 last all is =
@@ -247,7 +238,6 @@ told_three s1 s2 s3 s4 k1 k2 k3 t1 t2 t3 rules a b c d r1 r2 r3 last all is =
           (r1.are ours e1.0, ((reads_before s1 s2 k1 (λ db. IsTrue b → AreApart (kept_in t2 db)) r2).are ours e2.0, ((reads_before s1 s3 k13 (λ db. IsTrue c → AreApart (kept_in t3 db)) r3).are ours e3.0, found_told s1 s4 (keeps_then s1 s3 s4 k13 k3) rules d last ours e4.0)));
     }
 
--- and of all of them
 pub told_all : (old mid : State) → KeepsCommit old mid → Reads old (AreApartWhere true (take 4 changed_tables)) → (rules : Rules) (b : Bool) → Reads mid (AreApartWhere b (drop 4 (changed_of rules))) → Reads old (λ db. IsTrue b → AreAllApartBy rules db)
 told_all old mid kept first rules b others = record {
   was_open = first.was_open;

@@ -1,4 +1,4 @@
--- What the statements make of the state tables.
+-- The effect of the statements on the state tables.
 use Rattle.std.proofs.Common.{◌≡◌, ◌∙◌, inl, inr, ◌||◌, ◌&&◌, ◌==◌, not, if◌then◌else◌, ℕ, ℤ, pos, Bool, List, [], ◌∷◌, map, drop, length, slice_get, true, false, IsTrue, Option, Some, None, refl, ap, ap₂, subst, sym}
 use Rattle.std.proofs.lemmas.Bool.{and_parts, and_from}
 use Rattle.sqlite.specs.declared.types.Value.TheVariants.{Null, Int, Real, Text, Blob}
@@ -51,7 +51,7 @@ use Rattle.line_tables.proofs.Alterations.{deletes, inserts, updates_none, updat
 use Rattle.line_tables.proofs.RowTexts.{delete_part, part_tests, delete_part_is, delete_alternate, alternate_tests, delete_alternate_is, delete_sheet_row, sheet_row_tests, delete_sheet_row_is, delete_mount, mount_tests, delete_mount_is, insert_part, part_terms, insert_part_is, insert_alternate, alternate_terms, insert_alternate_is, insert_sheet_row, sheet_row_terms, insert_sheet_row_is, insert_selected, selected_terms, insert_selected_is, insert_reel, reel_terms, insert_reel_is, insert_board, board_terms, insert_board_is, insert_found, found_terms, insert_found_is, insert_mount, mount_terms, insert_mount_is, key_tests, update_selected, selected_renewed, update_selected_is, update_reel, reel_renewed, update_reel_is, update_board, board_renewed, update_board_is, update_found, found_renewed, update_found_is}
 use Rattle.line_tables.specs.Line.Layout.{Indexed, Plain}
 
--- values are bound as they are lent, but for a NaN
+-- Values are bound unchanged, except a NaN.
 pub bound_as : (lent : List ValueRef) (row : Row) → values_of lent ≡ row → bound lent ≡ map bound_value row
 bound_as lent row is = sym (map-map bound_value owned lent) ∙ ap (map bound_value) is
 
@@ -146,7 +146,7 @@ module _ (i : Layout) (old new : State) where
   puts_found r n ran =
       inserts i (found_by i) (Null ∷ found_columns r n) (found_columns r n) (λ rows. Int (next_rowid rows) ∷ found_columns r n) old new (λ rows. ap (with_rowid Chosen rows) (found_cast r n)) (λ rows. refl) (λ rows. refl) ran.shown.was_open (found_in r n ran)
 
-  -- the number of a mount is its rowid
+  -- The number of a mount is its rowid.
   abbrev mount_kept : MountRow → Row
   mount_kept row = Int (pos row.since) ∷ Null ∷ Text row.machine ∷ Text row.slot ∷ Text row.reel ∷ []
 
@@ -159,7 +159,7 @@ module _ (i : Layout) (old new : State) where
   pub puts_mount : (row : MountRow) → Runs insert_mount (mount_columns row) old new → Alters i mount (λ rows. mount_columns row ∷ rows) old new
   puts_mount row ran = inserts i mount (mount_kept row) (mount_columns row) (λ rows. mount_kept row) old new (λ rows. ap (with_rowid Chosen rows) (mount_cast row)) (λ rows. refl) (λ rows. refl) ran.shown.was_open (mount_in row ran)
 
--- ---- a row in the place of that with its key, which is its first column
+-- ---- a row that replaces the one with its key, which is its first column
 
 equal_text : (v : Value) (k : List ℕ) → equal Binary v (Text k) ≡ true → v ≡ Text k
 unfolding binary value_cmp
@@ -178,7 +178,6 @@ module _ (i : Layout) (table : Table) (at : ℕ) (key : Name) (rest : Row) (term
   abbrev values : Row
   values = Text key ∷ rest
 
-  -- the row with the key keeps it, and its rowid
   renews : (r : Row) → passing key_tests values r ≡ true → IsTrue (is_int (rowid r))
       → let news = cast_row table (drop 1 (shows_of table.tree key_tests terms values r)) in IsTrue (is_int (rowid news)) × (columns table news ≡ values)
   renews r passes keyed =
@@ -247,7 +246,7 @@ board_put g row a c did =
     alters_writes (PutBoard row) (λ _. board) (put_in (has_text 0 row.board) (board_columns row)) a c (λ _. refl) (λ _ _ all. all.1.1.1.1.1.1.0) (λ _ t _ was k new perm. record { parts = k.parts refl; alternates = k.alternates refl; sheets = k.sheets refl; selected = k.selected refl; reels = k.reels refl; mounts = k.mounts refl; boards = changed (has_text 0) (λ _ row. board_columns row) (one_text 0) same tells_text row.board (Some row) _ _ t.boards _ (own_text row.board, tt) (λ l. refl) perm was.boards; placements = k.placements refl; found = k.found refl })
     (λ i. in_place i board 8 row.board (drop 1 (board_columns row)) board_renewed update_board insert_board refl (quiet i 15 refl) (update_board_is i) (λ r. and_true _) (λ r. refl) (λ id. rw (cast_int id) refl) (λ id. refl) (λ b c. puts_board i b c row) g a c did)
 
--- the rows of `found` in its tree
+-- The rows of `found` in its tree.
 abbrev AreFound : Layout → Database → (Name → Option ℕ) → Type 0
 AreFound i db f = AreRows (has_text 0) found_columns (rows_at (found_by i) db) f
 

@@ -1,4 +1,4 @@
--- What the texts that write the state tables mean.
+-- The meaning of the texts that write the state tables.
 use Rattle.std.proofs.Common.{◌≡◌, Bool, true, false, List, ℕ, [], ◌∷◌, map, codes, refl}
 use Rattle.std.specs.List.{range_with_len}
 use Rattle.sqlite.specs.Command.TheVariants.{Insert, Update, Delete}
@@ -16,15 +16,14 @@ use Rattle.line_tables.specs.Line.{schema_of, found_tree, Layout}
 use Rattle.line_tables.proofs.FindTexts.{rows_from}
 use Rattle.line_tables.specs.Line.Layout.{Indexed, Plain}
 
--- in either layout the text takes out the rows of the table at the place, with the tree, that pass the tests
+-- In either layout the text deletes the rows that pass the tests, from the table at this place with this tree.
 abbrev pub IsDelete : List ℕ → ℕ → ℕ → List Term → Type 0
 IsDelete sql at tree tests = (indexed : Layout) → (command_of (understood (schema_of Two indexed) sql) ≡ Delete at (record { lets = []; body = rows_from tree tests (col 1 0 ∷ []) })) × IsPlain (understood (schema_of Two indexed) sql)
 
--- the text puts in one row of these terms
+-- The text inserts one row of these terms.
 abbrev pub IsInsert : List ℕ → ℕ → List Term → ℕ → Type 0
 IsInsert sql at terms width = (indexed : Layout) → (command_of (understood (schema_of Two indexed) sql) ≡ Insert at (Values terms width)) × IsPlain (understood (schema_of Two indexed) sql)
 
--- the value at a place of a row is that of a parameter
 abbrev pub is_param : ℕ → ℕ → Term
 is_param place param = op2 (Compare Eq Binary) (col 1 place) (col 0 param)
 
@@ -158,7 +157,7 @@ pub insert_placement_is : IsInsert insert_placement 9 placement_terms 9
 unfolding understood everything
 insert_placement_is indexed = (refl, (refl, refl))
 
--- of eight rows
+-- The same for eight rows.
 abbrev pub insert_placements : List ℕ
 insert_placements = codes "INSERT INTO placement (rowid, number, place, board, designator, machine, slot, reel, overdue) VALUES (?, ?, ?, ?, ?, ?, ?, ?, ?), (?, ?, ?, ?, ?, ?, ?, ?, ?), (?, ?, ?, ?, ?, ?, ?, ?, ?), (?, ?, ?, ?, ?, ?, ?, ?, ?), (?, ?, ?, ?, ?, ?, ?, ?, ?), (?, ?, ?, ?, ?, ?, ?, ?, ?), (?, ?, ?, ?, ?, ?, ?, ?, ?), (?, ?, ?, ?, ?, ?, ?, ?, ?)"
 
@@ -169,18 +168,17 @@ pub insert_placements_is : IsInsert insert_placements 9 placements_terms 9
 unfolding understood everything
 insert_placements_is indexed = (refl, (refl, refl))
 
--- the first value of the row is the first parameter
 abbrev pub key_tests : List Term
 key_tests = is_param 1 0 ∷ []
 
--- the text changes the rows of the table at the place, with the tree, that pass that test, to these terms
+-- The text changes the rows that have the first parameter as key to these terms, in the table with this tree.
 abbrev pub IsUpdate : List ℕ → ℕ → (Layout → ℕ) → List Term → Type 0
 IsUpdate sql at tree renewed = (indexed : Layout) → (command_of (understood (schema_of Two indexed) sql) ≡ Update at (record { lets = []; body = rows_from (tree indexed) key_tests renewed })) × IsPlain (understood (schema_of Two indexed) sql)
 
 abbrev pub update_selected : List ℕ
 update_selected = codes "UPDATE selected SET product = ?2 WHERE machine = ?1"
 
--- the rowid that it had, and then the row
+-- The old rowid, followed by the row.
 abbrev pub selected_renewed : List Term
 selected_renewed = col 1 0 ∷ col 1 0 ∷ col 1 1 ∷ col 0 1 ∷ []
 

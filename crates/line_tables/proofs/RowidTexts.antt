@@ -1,4 +1,4 @@
--- What the texts that read rowids mean.
+-- The meaning of the texts that read rowids.
 use Rattle.std.proofs.Common.{inl, inr, List, ℕ, [], ◌∷◌, codes, refl, true, false, None, pos, negsuc}
 use Rattle.sqlite.specs.Term.{lit, col}
 use Rattle.sqlite.specs.Query.{Query, inner, end}
@@ -12,11 +12,10 @@ use Rattle.line_tables.specs.Line.{found, tree_in}
 use Rattle.line_tables.proofs.FindTexts.{IsSelect, IsSelectBy}
 use Rattle.line_tables.specs.Line.Layout.{Indexed, Plain}
 
--- all rowids of a table, sorted
 abbrev pub rowids_from : ℕ → Query
 rowids_from tree = record { from = inner tree end; filter = []; group = None; project = col 1 0 ∷ []; distinct = false; collations = []; order = (col 1 0, ascending Binary) ∷ []; limit = lit (Int (negsuc 0)); offset = lit (Int (pos 0)) }
 
--- the text reads them, under the name of the column that they are kept for
+-- The text reads them under the name of the column that stores them.
 abbrev pub IsRowids : List ℕ → ℕ → List ℕ → Type 0
 IsRowids sql tree name = IsSelect sql (rowids_from tree) (name ∷ [])
 
@@ -48,7 +47,7 @@ pub board_is : IsRowids (codes "SELECT rowid FROM board ORDER BY rowid") 15 (cod
 unfolding understood everything
 board_is rules indexed = inl (refl, refl, (refl, refl))
 
--- version 1 has no such table
+-- Version 1 has no such table.
 pub found_is : IsSelectBy (codes "SELECT rowid FROM found ORDER BY rowid") (λ schema. rowids_from (tree_in found schema)) (codes "rowid" ∷ [])
 unfolding understood everything listing_schema
 found_is One indexed = inr refl

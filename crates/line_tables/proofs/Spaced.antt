@@ -1,9 +1,8 @@
--- Texts with a byte between each two.
+-- Texts with a byte between each two of them.
 use Rattle.std.proofs.Common.{◌≡◌, ◌∙◌, ◌<◌, ◌-◌, ℕ, List, [], ◌∷◌, ◌++◌, length, take, drop, get_or, sym, ap, arith}
 use Rattle.std.specs.List.{flat_map, join_with_byte}
 use Rattle.std.proofs.lemmas.List.{append-nil, take_all}
 
--- after the first text each has the byte before it
 join_flat : (c : ℕ) (x : List ℕ) (xs : List (List ℕ)) → join_with_byte c (x ∷ xs) ≡ x ++ flat_map (λ y. c ∷ y) xs
 join_flat c x [] = sym (append-nil x)
 join_flat c x (y ∷ ys) = ap (λ rest. x ++ c ∷ rest) (join_flat c y ys)

@@ -1,9 +1,9 @@
--- What an error tells.
+-- The meaning of an error.
 use Rattle.std.specs.Prelude.{◌≢◌}
 use Rattle.sqlite.specs.declared.error.Error.{Error}
 use Rattle.sqlite.specs.declared.error.Error.TheVariants.{SqliteFailure}
 use Rattle.sqlite.specs.declared.error.ErrorCode.TheVariants.{OutOfMemory}
 
--- where memory was not refused, this is so
+-- This holds unless memory was refused.
 abbrev pub OnlyWhere : Type 0 → Error → Type 0
 OnlyWhere P e = e ≢ SqliteFailure OutOfMemory → P

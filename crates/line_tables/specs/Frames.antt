@@ -1,4 +1,4 @@
--- What a call leaves of a connection.
+-- The parts of a connection that a call leaves unchanged.
 use Rattle.std.specs.Prelude.{◌≡◌, false, IsTrue, Result, Err}
 use Rattle.sqlite_trees.specs.declared.store.Store.{Ghosts}
 use Rattle.sqlite.specs.declared.error.Error.{Error}
@@ -8,18 +8,20 @@ use Rattle.sqlite.specs.declared.transaction.Transaction.{Transaction}
 use Rattle.sqlite.specs.Held.{Held, state}
 use Rattle.sqlite.specs.State.{HasCleanDisk, Survives, KeepsCommit}
 
--- A call that only reads: what is committed stays, no transaction is left open where none was, and a crash leaves what it could leave before.
+-- A call that only reads. It changes neither the committed contents nor the possible results of a crash, and leaves no new transaction
+-- open.
 pub record ReadsOnly {S : Type 0} (g : Ghosts S) (old new : Held S) : Type 0 where
   pub kept : HasCleanDisk (state g new) → KeepsCommit (state g old) (state g new)
   pub mode : old.in_transaction ≡ false → new.in_transaction ≡ false
   pub survives : Survives (state g old) (state g new) (λ _. ⊥)
 
--- A call inside a transaction: it is the same connection's, what is committed stays, and a crash leaves what it could leave before.
+-- A call inside a transaction. It changes neither the connection, nor the committed contents, nor the possible results
+-- of a crash.
 pub record InTransaction {S : Type 0} (g : Ghosts S) (old new : Transaction S) : Type 0 where
   pub same_reference : new.conn.ghost_name ≡ old.conn.ghost_name
   pub kept : HasCleanDisk (state g new.conn.now) → KeepsCommit (state g old.conn.now) (state g new.conn.now)
   pub survives : Survives (state g old.conn.now) (state g new.conn.now) (λ _. ⊥)
 
--- in an open transaction of the caller's nothing is done
+-- Nothing is done inside an open transaction of the caller.
 abbrev pub IsRefusedInside : {S A : Type 0} → Result A Error → Held S → Held S → Type 0
 IsRefusedInside result old new = IsTrue old.in_transaction → (result ≡ Err (SqliteFailure TransactionState)) × (new ≡ old)

@@ -9,3 +9,4 @@ pub mod Faults
 pub mod Placing
 pub mod Shown
 pub mod Frames
+pub mod Edit

@@ -5,19 +5,19 @@ use Rattle.sqlite.specs.declared.types.Value.TheVariants.{Int}
 use Rattle.sqlite_value.specs.Order.{Row}
 use Rattle.desk_types.specs.declared.edit.RowEdit.TheVariants.{PutPlacement}
 use Rattle.desk_types.specs.declared.row.PlacementRow.{PlacementRow}
-use Rattle.line_tables.specs.declared.edit.Edit.{Edit}
-use Rattle.line_tables.specs.declared.edit.Edit.TheVariants.{EditRow}
+use Rattle.line_tables.specs.Edit.{Edit}
+use Rattle.line_tables.specs.Edit.{EditRow}
 use Rattle.line_tables.specs.Rowids.{placement_id}
 use Rattle.line_tables.specs.StateRows.{placement_columns}
 
--- the edit that puts the row
+-- The edit that puts the row.
 abbrev pub placement_edit : PlacementRow → Edit
 placement_edit row = EditRow (PutPlacement row)
 
--- the row as it is kept: its rowid goes by its number and its place
+-- The row as stored. Its rowid follows from its number and place.
 abbrev pub placement_kept : PlacementRow → Row
 placement_kept row = Int (pos (placement_id row.number row.place)) ∷ placement_columns row
 
--- the edits put placements, and these are the values of their rows, one row after the other
+-- The edits put placements, and these are the values of their rows, one row after another.
 abbrev pub ArePlacing : List Edit → Row → Type 0
 ArePlacing edits values = (rows : List PlacementRow) × (edits ≡ map placement_edit rows) × (values ≡ flat_map placement_kept rows)

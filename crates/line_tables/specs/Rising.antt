@@ -1,4 +1,4 @@
--- What queries tell of rowids.
+-- The results of queries for rowids.
 use Rattle.std.specs.Prelude.{◌≡◌, ◌↔◌, ⊤, ℕ, ℤ, Bool, IsTrue, Option, None, Some, List, [], ◌∷◌}
 use Rattle.std.specs.List.{AllByRecursion}
 use Rattle.std.specs.Ordering.{int_cmp}
@@ -20,32 +20,32 @@ use Rattle.line_tables.specs.Line.{found}
 use Rattle.line_tables.specs.StateRows.{kept_in}
 use Rattle.line_tables.specs.Calls.{Reads, Selects}
 
--- the number is above the last one, where there is one
+-- The number is above the last one, if there is one.
 abbrev pub IsPast : Option ℤ → ℤ → Type 0
 IsPast None n = ⊤
 IsPast (Some last) n = int_cmp last n ≡ Less
 
--- the row's first value is below this one
+-- The row's first value is below this one.
 abbrev pub IsBefore : Value → Row → Type 0
 IsBefore v row = value_cmp (column row 0) v ≡ Less
 
--- each row is an integer, above those before
+-- Each row is an integer, above those before.
 abbrev pub AreRising : List Row → Type 0
 AreRising rows = IsAscending (λ a b. value_cmp (column a 0) (column b 0) ≡ Less) rows × AllByRecursion (λ row. IsTrue (is_int (column row 0))) rows
 
--- the row is one integer
+-- The row is one integer.
 abbrev pub IsNumber : Row → Type 0
 IsNumber row = (n : ℤ) × (row ≡ Int n ∷ [])
 
--- it is told whether what the query shows rises
+-- The result says whether the shown numbers increase.
 abbrev pub Shows : {S : Type 0} → Ghosts S → List ℕ → Held S → Bool → Type 0
 Shows g sql old rising = (rows : List Row) × Selects g sql [] old rows × (IsTrue rising ↔ AreRising rows)
 
--- the rows of each of the tables are apart, where it is told so
+-- If the result is yes, the rows of each of these tables have distinct rowids.
 abbrev pub AreApartWhere : Bool → List Table → Database → Type 0
 AreApartWhere apart tables db = IsTrue apart → AllByRecursion (λ table. AreApart (kept_in table db)) tables
 
--- so it is of the table of what counts found, where the rules have one; where they have none it is told so
+-- The same for `found` if the rules have that table. Otherwise the result is yes.
 abbrev pub IsFoundApartWhere : Rules → Bool → State → Type 0
 IsFoundApartWhere One apart s = IsTrue apart
 IsFoundApartWhere Two apart s = Reads s (AreApartWhere apart (found ∷ []))

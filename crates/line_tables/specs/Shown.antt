@@ -7,6 +7,6 @@ use Rattle.sqlite_rules.specs.Lists.{Has}
 use Rattle.sqlite.specs.Effect.{Database}
 use Rattle.line_tables.specs.StateRows.{rows_in}
 
--- each of these rows is one of the table
+-- Each of these rows is in the table.
 abbrev pub AreOf : Table → List Row → Database → Type 0
 AreOf table rows db = AllByRecursion (Has (rows_in table db)) rows

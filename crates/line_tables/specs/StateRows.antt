@@ -1,4 +1,4 @@
--- The rows of the state tables: their columns, and when the rows of a table are those of its map.
+-- The rows of the state tables: their columns, and when a table's rows are those of its map.
 use Rattle.std.specs.Prelude.{◌≡◌, ◌&&◌, ℕ, ℤ, pos, negsuc, Bool, IsTrue, Option, Some, None, List, [], ◌∷◌, map, filter, length, if◌then◌else◌, unwrap_or}
 use Rattle.std.specs.Option.{option_map, option_map_or, option_to_list}
 use Rattle.std.specs.List.{AllByRecursion, join_with_byte, range_with_len}
@@ -23,17 +23,17 @@ use Rattle.desk_types.specs.declared.row.PlacementRow.{PlacementRow}
 use Rattle.desk_types.specs.Tables.{Tables as StateTables}
 use Rattle.line_tables.specs.Line as line
 
--- the values that are lent
+-- The borrowed values.
 abbrev pub values_of : List ValueRef → Row
 values_of values = map owned values
 
 -- ---- the columns of a row, in their order
 
--- 1 for yes and 0 for no
+-- 1 for yes and 0 for no.
 abbrev pub flag : Bool → ℤ
 flag b = if b then pos 1 else pos 0
 
--- the minute since which a reel is open, and -1 where it is in its bag
+-- The minute at which a reel was opened, or -1 while it is in its bag.
 abbrev pub since_or_none : Option ℕ → ℤ
 since_or_none since = option_map_or pos since (negsuc 0)
 
@@ -57,7 +57,7 @@ reel_columns r =
 abbrev pub mount_columns : MountRow → Row
 mount_columns m = Int (pos m.since) ∷ Text m.machine ∷ Text m.slot ∷ Text m.reel ∷ []
 
--- a board that is in work nowhere has the empty text for its machine
+-- A board that is not in work has the empty text as its machine.
 abbrev pub board_columns : BoardRow → Row
 board_columns b = Text b.board ∷ Text b.product ∷ Text (unwrap_or b.machine []) ∷ []
 
@@ -70,21 +70,22 @@ found_columns reel pieces = Text reel ∷ Int (pos pieces) ∷ []
 
 -- ---- the rows of a table
 
--- The columns of a kept row. It begins with its rowid, and has no value in the place of a column that stands for it.
+-- The columns of a stored row. It begins with its rowid, and has no value in the place of a column that the rowid
+-- holds.
 abbrev pub columns : Table → Row → Row
 columns table r = map (λ at. column r (place_of table at)) (range_with_len 0 (length table.columns))
 
--- the rows of a table of ours as they are kept
+-- The rows of one of our tables as stored.
 abbrev pub kept_in : Table → Database → List Row
 kept_in table db = db.trees (line.tree_in table db.schema)
 
--- and by their columns
+-- The rows by their columns.
 abbrev pub rows_in : Table → Database → List Row
 rows_in table db = map (columns table) (kept_in table db)
 
 -- ---- keys
 
--- the row has this text, or this number, in the column
+-- The row has this text, or this number, in the column.
 abbrev pub has_text : ℕ → Name → Row → Bool
 has_text at text row = equal Binary (column row at) (Text text)
 
@@ -100,16 +101,16 @@ has_sheet_place at row = has_text 0 at.0 row && (has_text 1 at.1 row && has_int 
 abbrev pub has_piece : ℕ × ℕ → Row → Bool
 has_piece piece row = has_int 0 piece.0 row && has_int 1 piece.1 row
 
--- what is kept of a key with no row but itself
+-- The value stored for a key whose row has nothing else.
 abbrev pub unit_if : Bool → Option (Unit {0})
 unit_if b = if b then Some tt else None
 
--- The rows are those of the map: for each key the row that the map has for it, or none; and each row has a key.
+-- The rows are those of the map: for each key the map's row, if any, and each row has a key.
 pub record AreRows {K R : Type 0} (has : K → Row → Bool) (columns : K → R → Row) (rows : List Row) (f : K → Option R) : Type 0 where
   pub found : (key : K) → filter (has key) rows ≡ option_to_list (option_map (columns key) (f key))
   pub keyed : AllByRecursion (λ row. (key : K) × IsTrue (has key row)) rows
 
--- each table of a database has the rows of its map
+-- Each table of a database has the rows of its map.
 
 abbrev pub HoldsParts : Database → StateTables → Type 0
 HoldsParts db t = AreRows (has_text 0) (λ part _. part_columns part) (rows_in line.part db) (λ part. unit_if (t.parts part))
@@ -126,7 +127,7 @@ HoldsSelected db t = AreRows (has_text 0) selected_columns (rows_in line.selecte
 abbrev pub HoldsReels : Database → StateTables → Type 0
 HoldsReels db t = AreRows (has_text 0) (λ _ row. reel_columns row) (rows_in line.reel db) t.reels
 
--- a row of `mount` is found by its reel
+-- A row of `mount` is found by its reel.
 abbrev pub HoldsMounts : Database → StateTables → Type 0
 HoldsMounts db t = AreRows (has_text 3) (λ _ row. mount_columns row) (rows_in line.mount db) t.mounts
 
@@ -139,12 +140,12 @@ HoldsPlacements db t = AreRows has_piece (λ _ row. placement_columns row) (rows
 abbrev pub HoldsFound : Database → StateTables → Type 0
 HoldsFound db t = AreRows (has_text 0) found_columns (rows_in line.found db) t.found
 
--- under rules One nothing was found, and there is no table of it
+-- Under rules One nothing was found, and the table does not exist.
 abbrev pub HoldsFoundBy : Rules → Database → StateTables → Type 0
 HoldsFoundBy One db t = (reel : Name) → t.found reel ≡ None
 HoldsFoundBy Two db t = HoldsFound db t
 
--- The tables of the database are these, each by its key: nine of them under rules Two.
+-- The tables of the database are these, each by its key. Under rules Two there are nine.
 pub record HoldsStateBy (rules : Rules) (db : Database) (t : StateTables) : Type 0 where
   pub parts : HoldsParts db t
   pub alternates : HoldsAlternates db t

@@ -1,6 +1,4 @@
-//! What is written into the tables.
-
-use desk_types::RowEdit;
+//! The row of an accepted command.
 
 /// A row of `accepted`.
 #[derive(Debug, Drop)]
@@ -9,7 +7,7 @@ pub struct Accepted {
     pub number: u32,
     pub uid: String,
     pub source: String,
-    /// The minute that the message gives itself, since 1970-01-01T00:00Z.
+    /// The message's own minute, since 1970-01-01T00:00Z.
     pub own: u32,
     /// The minute at which the command takes effect.
     pub effective: u32,
@@ -17,13 +15,4 @@ pub struct Accepted {
     pub command: String,
     /// The whole text of the answer.
     pub detail: String,
-}
-
-/// One change of one row.
-#[derive(Debug, Drop)]
-pub enum Edit {
-    /// A new row of `accepted`. It is refused where its number or its UniqueID is there.
-    PutAccepted(Accepted),
-    /// An edit of another table.
-    EditRow(RowEdit),
 }

@@ -1,4 +1,4 @@
-//! Rows of what is on the line: reels, where they are mounted, and boards.
+//! Rows of reels, mounts and boards.
 
 ghost use Rattle.std.specs.Prelude.{OnOk};
 ghost use Rattle.sqlite.specs.State.{HasCleanDisk};
@@ -13,8 +13,7 @@ use crate::values::text;
 use desk_types::{BoardRow, Id, MountRow, ReelRow};
 use sqlite::{Alter, Error, Transaction};
 
-/// A reel's row is changed in its place, since placements refer to it. Two rows of one reel are an
-/// error.
+/// Updates a reel's row in place, since placements refer to it. Two rows for one reel are an error.
 pub fn put_reel<S: Alter>(tx: &mut Transaction<'_, S>, row: &ReelRow) -> Result<(), Error>
     ensures done { HasCleanDisk (state S.Store tx.new.conn.now)
         → OnOk result
@@ -29,7 +28,7 @@ pub fn put_reel<S: Alter>(tx: &mut Transaction<'_, S>, row: &ReelRow) -> Result<
     )
 }
 
-/// Takes the reel off where it is mounted, if it is.
+/// Deletes the reel's mount, if there is one.
 pub fn take_mount<S: Alter>(tx: &mut Transaction<'_, S>, reel: &Id) -> Result<(), Error>
     ensures done { HasCleanDisk (state S.Store tx.new.conn.now)
         → OnOk result
@@ -39,7 +38,7 @@ pub fn take_mount<S: Alter>(tx: &mut Transaction<'_, S>, reel: &Id) -> Result<()
     run(tx, "DELETE FROM mount WHERE reel = ?1", &[text(reel)])
 }
 
-/// A mounted reel, where the reel is mounted nowhere and no row has its number.
+/// Inserts a mounted reel. It must not be mounted elsewhere, and its number must be free.
 pub fn put_mount<S: Alter>(tx: &mut Transaction<'_, S>, row: &MountRow) -> Result<(), Error>
     ensures done { HasCleanDisk (state S.Store tx.new.conn.now)
         → OnOk result
@@ -53,7 +52,7 @@ pub fn put_mount<S: Alter>(tx: &mut Transaction<'_, S>, row: &MountRow) -> Resul
     )
 }
 
-/// A board. Its row, where it has one, is changed in its place.
+/// Writes a board. An existing row is updated in place.
 pub fn put_board<S: Alter>(tx: &mut Transaction<'_, S>, row: &BoardRow) -> Result<(), Error>
     ensures done { HasCleanDisk (state S.Store tx.new.conn.now)
         → OnOk result

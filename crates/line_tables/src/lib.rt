@@ -1,5 +1,5 @@
-//! The tables of a line and their SQL: what is made, what is written in one transaction, and what is
-//! read. It knows nothing of the desk: a row's texts are texts.
+//! The tables of a line and their SQL: creating them, writing them in one transaction, reading them. This crate knows
+//! nothing of the desk: a row's texts are just texts.
 #![tactic(auto)]
 
 mod edit;
@@ -20,7 +20,7 @@ pub mod values;
 mod version;
 mod writing;
 
-pub use edit::{Accepted, Edit};
+pub use edit::Accepted;
 pub use making::make;
 pub use migrating::migrate_tables;
 pub use naming::{has_accepted, has_our_name, has_state, has_version};

@@ -1,4 +1,4 @@
-//! The tables of an empty list.
+//! The tables of an empty history.
 
 ghost use Rattle.std.specs.Prelude.{◌≡◌, false, IsTrue, OnOk, OnErr};
 ghost use Rattle.sqlite_trees.specs.Tree.{Trees};
@@ -12,9 +12,9 @@ ghost use Rattle.line_tables.specs.Frames.{InTransaction, IsRefusedInside};
 use crate::statement::run;
 use sqlite::{Alter, Connection, Error, ErrorCode, Transaction, params};
 
-/// Makes the tables of an empty list, whose numbers are given up to the greatest, and commits them,
-/// or nothing. Tables of other names stay, and what is said of values is said where there was none.
-/// In an open transaction of the caller's nothing is done; a name that is taken is `NameTaken`.
+/// Creates the tables of an empty history, whose numbers go up to the greatest, and commits them, or does nothing.
+/// Tables with other names stay; the contract on values assumes that there were none. Inside an open transaction of the
+/// caller nothing is done. A name that is taken gives `NameTaken`.
 pub fn make<S: Alter>(conn: &mut Connection<S>, greatest: u32) -> Result<(), Error>
     ensures made { HasCleanDisk (state S.Store conn.new)
         → OnOk result ((state S.Store conn.old).now.schema ≡ no_schema
@@ -55,7 +55,6 @@ fn make_all<S: Alter>(tx: &mut Transaction<'_, S>, greatest: u32) -> Result<(), 
     )
 }
 
-/// All tables with the indexes of their rules, and no row.
 fn make_tables<S: Alter>(tx: &mut Transaction<'_, S>) -> Result<(), Error>
     ensures made { HasCleanDisk (state S.Store tx.new.conn.now)
         → OnOk result (Extends no_schema line_schema (state S.Store tx.old.conn.now) (state S.Store tx.new.conn.now)) }
@@ -67,7 +66,7 @@ fn make_tables<S: Alter>(tx: &mut Transaction<'_, S>) -> Result<(), Error>
     make_pieces(tx)
 }
 
-/// The list and its version.
+/// The history and its version.
 fn make_list<S: Alter>(tx: &mut Transaction<'_, S>) -> Result<(), Error>
     ensures made { HasCleanDisk (state S.Store tx.new.conn.now)
         → OnOk result
@@ -86,7 +85,6 @@ fn make_list<S: Alter>(tx: &mut Transaction<'_, S>) -> Result<(), Error>
     )
 }
 
-/// What is set up before the line runs.
 fn make_setup<S: Alter>(tx: &mut Transaction<'_, S>) -> Result<(), Error>
     ensures made { HasCleanDisk (state S.Store tx.new.conn.now)
         → OnOk result
@@ -116,7 +114,7 @@ fn make_setup<S: Alter>(tx: &mut Transaction<'_, S>) -> Result<(), Error>
     )
 }
 
-/// What is on the line.
+/// Reels, mounts and boards.
 fn make_floor<S: Alter>(tx: &mut Transaction<'_, S>) -> Result<(), Error>
     ensures made { HasCleanDisk (state S.Store tx.new.conn.now)
         → OnOk result
@@ -141,7 +139,7 @@ fn make_floor<S: Alter>(tx: &mut Transaction<'_, S>) -> Result<(), Error>
     )
 }
 
-/// Where pieces went, and what counts found.
+/// Placements, and pieces found by counts.
 fn make_pieces<S: Alter>(tx: &mut Transaction<'_, S>) -> Result<(), Error>
     ensures made { HasCleanDisk (state S.Store tx.new.conn.now)
         → OnOk result
@@ -156,7 +154,7 @@ fn make_pieces<S: Alter>(tx: &mut Transaction<'_, S>) -> Result<(), Error>
     make_found(tx)
 }
 
-/// The table of what counts found, which version 1 lacks.
+/// The table of found pieces, which version 1 lacks.
 pub fn make_found<S: Alter>(tx: &mut Transaction<'_, S>) -> Result<(), Error>
     ensures made { HasCleanDisk (state S.Store tx.new.conn.now)
         → OnOk result (AddsFound (state S.Store tx.old.conn.now) (state S.Store tx.new.conn.now)) }

@@ -1,4 +1,4 @@
-//! The tables of version 1 made those of version 2.
+//! Migration of the tables from version 1 to version 2.
 
 ghost use Rattle.std.specs.Prelude.{◌≡◌, false, IsTrue, OnOk, OnErr};
 ghost use Rattle.sqlite_trees.specs.Tree.{Trees};
@@ -11,9 +11,8 @@ use crate::making::make_found;
 use crate::statement::run;
 use sqlite::{Alter, Connection, Error, ErrorCode, Transaction};
 
-/// Makes the tables of version 1 those of version 2 and commits them, or nothing: there is a table
-/// more, which is empty, and the version has its number. All other rows stay as they are. In an open
-/// transaction of the caller's nothing is done.
+/// Migrates the tables from version 1 to version 2 and commits, or does nothing. One table is added, empty, and the
+/// version number changes; all other rows stay. Inside an open transaction of the caller nothing is done.
 pub fn migrate_tables<S: Alter>(conn: &mut Connection<S>) -> Result<(), Error>
     ensures done { HasCleanDisk (state S.Store conn.new)
         → OnOk result (Migrated (state S.Store conn.old).committed (state S.Store conn.new).committed) }

@@ -1,4 +1,4 @@
-//! The names of the tables and of their columns, in any case, as SQL reads names.
+//! The names of the tables and of their columns. SQL ignores their case.
 
 ghost use Rattle.std.specs.Prelude.{◌≡◌, ◌&&◌};
 ghost use Rattle.std.specs.List.{list_any, list_all};
@@ -11,29 +11,28 @@ use sqlite::{Alter, Connection};
 use sqlite_schema::names::same_name;
 use sqlite_schema::schema::Table;
 
-/// Whether some table is named as one of ours.
+/// Returns whether some table has one of our names.
 pub fn has_our_name<S: Alter>(conn: &Connection<S>) -> bool
     ensures { result ≡ list_any has_name (state S.Store conn.now).now.schema.tables }
 {
     any_name(conn.schema().tables.as_slice())
 }
 
-/// Whether there is a table `version` with its columns.
+/// Returns whether a table `version` exists with its columns.
 pub fn has_version<S: Alter>(conn: &Connection<S>) -> bool
     ensures { result ≡ list_any is_version (state S.Store conn.now).now.schema.tables }
 {
     any_version(conn.schema().tables.as_slice())
 }
 
-/// Whether there is a table `accepted` with its columns.
+/// Returns whether a table `accepted` exists with its columns.
 pub fn has_accepted<S: Alter>(conn: &Connection<S>) -> bool
     ensures { result ≡ list_any is_accepted (state S.Store conn.now).now.schema.tables }
 {
     any_accepted(conn.schema().tables.as_slice())
 }
 
-/// Whether all other tables of ours are there with their columns. Under rules One there is none for
-/// what counts found.
+/// Returns whether all our other tables exist with their columns. Rules One have no table of found pieces.
 pub fn has_state<S: Alter>(conn: &Connection<S>, rules: Rules) -> bool
     ensures { result ≡ has_state rules (state S.Store conn.now).now.schema.tables }
 {
@@ -201,7 +200,6 @@ fn has_table(tables: &[Table], name: &str, columns: &[&str]) -> bool
     tables.iter().any(|table| is_named(table, name, columns))
 }
 
-/// Whether the table has this name and these columns.
 fn is_named(table: &Table, name: &str, columns: &[&str]) -> bool
     ensures { result ≡ (same_name table.now.name name.now && list_all
         (λ column. has_column table.now column.now) columns.now) }

@@ -1,4 +1,4 @@
-//! Rows of where pieces went, and of what counts found.
+//! Rows of placements, and of pieces found by counts.
 
 ghost use Rattle.std.specs.Prelude.{◌≡◌, ◌≤◌, ◌⊎◌, ◌^◌, OnOk, ◌++◌, IfOk, IfErr, IfSome, List, map, length};
 ghost use Rattle.std.specs.List.{flat_map};
@@ -7,13 +7,13 @@ ghost use Rattle.sqlite.specs.Held.{state};
 ghost use Rattle.desk_types.specs.declared.edit.RowEdit.TheVariants as RowEdit;
 ghost use Rattle.desk_types.specs.declared.row.PlacementRow.{PlacementRow};
 ghost use Rattle.sqlite.specs.Values.{bound};
+ghost use Rattle.line_tables.specs.Edit.{row_edits};
 ghost use Rattle.line_tables.specs.Rowids.{placement_id};
 ghost use Rattle.line_tables.specs.Placing.{placement_edit, placement_kept, ArePlacing};
 ghost use Rattle.line_tables.specs.Calls.{Writes, WritesRow};
 ghost use Rattle.line_tables.specs.Faults.{OnlyWhere};
 ghost use Rattle.line_tables.specs.Frames.{InTransaction};
 
-use crate::edit::Edit;
 use crate::row_values::placement_values;
 use crate::statement::{change_or_put, run};
 use crate::values::{int, placement_id, text};
@@ -22,7 +22,8 @@ use sqlite::types::ValueRef;
 use sqlite::{Alter, Error, Transaction};
 use std::alloc::Global;
 
-/// A placed piece, where no row has its number and place, nor its board and designator. Its reel has a row.
+/// Inserts a placed piece. Its number and place, and its board and designator, must be free, and its reel must have a
+/// row.
 pub fn put_placement<S: Alter>(
     alloc: Global,
     tx: &mut Transaction<'_, S>,
@@ -42,8 +43,8 @@ pub fn put_placement<S: Alter>(
     )
 }
 
-/// Eight placed pieces by one statement, in half the time of eight. The values are those of their
-/// rows, one row after the other.
+/// Inserts eight placed pieces by one statement, which takes half the time of eight. The values are those of their
+/// rows, one row after another.
 pub fn put_eight<S: Alter>(
     tx: &mut Transaction<'_, S>,
     values: &[ValueRef<'_>],
@@ -60,16 +61,16 @@ pub fn put_eight<S: Alter>(
     )
 }
 
-/// The values of the rows that the edits put, where each of them puts a placement.
+/// Returns the values of the edits' rows, if each of them puts a placement.
 pub fn values_of_all<'a>(
     alloc: Global,
-    edits: &'a [Edit],
+    edits: &'a [RowEdit],
 ) -> Result<Option<Vec<ValueRef<'a>>>, Error>
-    ensures { IfOk result (λ found. IfSome found (λ values. ArePlacing edits.now (bound values.items))) }
+    ensures { IfOk result (λ found. IfSome found (λ values. ArePlacing (row_edits edits.now) (bound values.items))) }
 {
     let mut values = Vec::new(alloc);
     for edit in edits {
-        let Edit::EditRow(RowEdit::PutPlacement(row)) = edit else {
+        let RowEdit::PutPlacement(row) = edit else {
             return Ok(None);
         };
         add_values(&mut values, row)?;
@@ -89,7 +90,7 @@ fn add_values<'a>(values: &mut Vec<ValueRef<'a>>, row: &'a PlacementRow) -> Resu
     Ok(())
 }
 
-/// So many pieces found on a reel, in the place of what was found before. None is refused.
+/// Writes the number of pieces found on a reel, in place of the earlier number. It is never refused.
 pub fn put_found<S: Alter>(tx: &mut Transaction<'_, S>, reel: &Id, pieces: u64) -> Result<(), Error>
     ensures done { HasCleanDisk (state S.Store tx.new.conn.now)
         → OnOk result

@@ -1,5 +1,5 @@
-//! What is read of the accepted commands. Each call reads what is committed, and changes nothing. In
-//! an open transaction of the caller's it reads nothing.
+//! Reads of the accepted commands. Each call reads the committed contents and changes nothing. Inside an open
+//! transaction of the caller it reads nothing.
 
 ghost use Rattle.std.specs.Prelude.{◌≡◌, ◌≢◌, ◌<◌, ◌≤◌, ℕ, ℤ, pos, length, Option, IfOk, IfErr, [], ◌∷◌, filter};
 ghost use Rattle.std.specs.List.{list_any};
@@ -17,11 +17,11 @@ use crate::edit::Accepted;
 use crate::select::select;
 use sqlite::{Alter, Connection, Error, Row, params};
 
-/// SQL's count goes no higher.
+/// The greatest count of SQL.
 pub const MOST_COUNTED: u64 = 9_223_372_036_854_775_807;
 
-/// The row with this UniqueID, by the index on it, where there is one. Two such rows are an error,
-/// and so is one with a number outside `u32` or a value of another type.
+/// Returns the row with this UniqueID, if any, by its index. Two such rows are an error, and so is a number outside
+/// `u32` or a value of another type.
 pub fn find<S: Alter>(conn: &mut Connection<S>, uid: &str) -> Result<Option<Accepted>, Error>
     ensures found { HasCleanDisk (state S.Store conn.new)
         → IfOk result
@@ -40,8 +40,7 @@ pub fn find<S: Alter>(conn: &mut Connection<S>, uid: &str) -> Result<Option<Acce
     }
 }
 
-/// The seven columns of the row with this number, whatever their values, where there is one. Two such
-/// rows are an error.
+/// Returns the seven columns of the row with this number, if any, whatever their values. Two such rows are an error.
 pub fn row_at<S: Alter>(conn: &mut Connection<S>, number: u32) -> Result<Option<Row>, Error>
     ensures found { HasCleanDisk (state S.Store conn.new)
         → IfOk result
@@ -57,7 +56,7 @@ pub fn row_at<S: Alter>(conn: &mut Connection<S>, number: u32) -> Result<Option<
     at_most_one(rows)
 }
 
-/// Whether a row of a lower number has this UniqueID.
+/// Returns whether a row of a lower number has this UniqueID.
 pub fn is_repeat<S: Alter>(conn: &mut Connection<S>, uid: &str, number: u32) -> Result<bool, Error>
     ensures found { HasCleanDisk (state S.Store conn.new)
         → IfOk result
@@ -73,7 +72,7 @@ pub fn is_repeat<S: Alter>(conn: &mut Connection<S>, uid: &str, number: u32) -> 
     Ok(!rows.is_empty())
 }
 
-/// The least number of a row, or none where there is no row. A number that is no integer is an error.
+/// Returns the least number of a row, if there is a row. A number that is no integer is an error.
 pub fn least_number<S: Alter>(conn: &mut Connection<S>) -> Result<Option<i64>, Error>
     ensures least { HasCleanDisk (state S.Store conn.new)
         → IfOk result (λ least. Reads (state S.Store conn.old) (λ db. IsLeast (accepted_in db) least)) }
@@ -88,7 +87,7 @@ pub fn least_number<S: Alter>(conn: &mut Connection<S>) -> Result<Option<i64>, E
     least_of(rows.as_slice())
 }
 
-/// How many rows there are.
+/// Returns the number of rows.
 pub fn count<S: Alter>(conn: &mut Connection<S>) -> Result<u64, Error>
     ensures counted { HasCleanDisk (state S.Store conn.new)
         → IfOk result (λ n. Reads (state S.Store conn.old) (λ db. n ≡ length (accepted_in db))) }
@@ -153,7 +152,7 @@ pub fn number_of(row: &Row) -> Result<i64, Error>
     row.get(0)
 }
 
-/// The one number, below the greatest `i64`, at which SQL's count stays.
+/// The number, below the greatest `i64`, where SQL's count stays.
 pub fn count_of(rows: &[Row]) -> Result<u64, Error>
     ensures row { IfOk result (λ n. rows.now ≡ (Int (pos n) ∷ []) ∷ []) }
     ensures below { IfOk result (λ n. n < MOST_COUNTED) }

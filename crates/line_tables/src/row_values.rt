@@ -1,4 +1,4 @@
-//! The columns of rows as values, for who writes a row and for who compares one.
+//! The columns of rows as values, for code that writes a row and code that compares one.
 
 ghost use Rattle.std.specs.Prelude.{◌≡◌, ◌≤◌, ◌⊎◌, ◌^◌, IfOk, IfErr};
 ghost use Rattle.line_tables.specs.StateRows.{board_columns, mount_columns, placement_columns, reel_columns, values_of};
@@ -8,14 +8,13 @@ use desk_types::{BoardRow, MountRow, PlacementRow, ReelRow};
 use sqlite::Error;
 use sqlite::types::ValueRef;
 
-/// As many values as a row has columns. They stand in a struct since the borrow checker has no
-/// `Result` of an array that borrows.
+/// A row's values. This is a struct since the borrow checker has no `Result` of an array that borrows.
 #[derive(Clone, Copy)]
 pub struct Columns<'a, const N: usize> {
     pub values: [ValueRef<'a>; N],
 }
 
-/// Of a reel.
+/// The values of a reel.
 pub fn reel_values(row: &ReelRow) -> Result<Columns<'_, 12>, Error>
     ensures ok { IfOk result (λ columns. values_of columns.values ≡ reel_columns row.now) }
     ensures err { IfErr result (λ _. (2 ^ 63 ≤ row.now.label) ⊎ (2 ^ 63 ≤ row.now.received) ⊎ (2 ^ 63 ≤ row.now.placed)
@@ -38,7 +37,7 @@ pub fn reel_values(row: &ReelRow) -> Result<Columns<'_, 12>, Error>
     Ok(Columns { values })
 }
 
-/// Of a mounted reel.
+/// The values of a mounted reel.
 pub fn mount_values(row: &MountRow) -> Result<Columns<'_, 4>, Error>
     ensures ok { IfOk result (λ columns. values_of columns.values ≡ mount_columns row.now) }
     ensures err { IfErr result (λ _. 2 ^ 63 ≤ row.now.since) }
@@ -52,7 +51,7 @@ pub fn mount_values(row: &MountRow) -> Result<Columns<'_, 4>, Error>
     Ok(Columns { values })
 }
 
-/// Of a board.
+/// The values of a board.
 pub fn board_values(row: &BoardRow) -> [ValueRef<'_>; 3]
     ensures { values_of result ≡ board_columns row.now }
 {
@@ -63,7 +62,7 @@ pub fn board_values(row: &BoardRow) -> [ValueRef<'_>; 3]
     ]
 }
 
-/// Of a placed piece.
+/// The values of a placed piece.
 pub fn placement_values(row: &PlacementRow) -> Result<Columns<'_, 8>, Error>
     ensures ok { IfOk result (λ columns. values_of columns.values ≡ placement_columns row.now) }
     ensures err { IfErr result (λ _. (2 ^ 63 ≤ row.now.number) ⊎ (2 ^ 63 ≤ row.now.place)) }

@@ -1,5 +1,5 @@
-//! Whether rows are told apart by their rowids. Each call reads what is committed, and changes nothing.
-//! In an open transaction of the caller's it reads nothing.
+//! Tests for distinct rowids. Each call reads the committed contents and changes nothing. Inside an open transaction of
+//! the caller it reads nothing.
 
 ghost use Rattle.std.specs.Prelude.{◌≡◌, ◌↔◌, ◌&&◌, true, IsTrue, IfOk, IfErr, take, drop};
 ghost use Rattle.std.specs.List.{AllByRecursion};
@@ -16,8 +16,8 @@ use crate::select::select;
 use desk_types::Rules;
 use sqlite::{Alter, Connection, Error, Row};
 
-/// Whether in each state table but `placement` every row has an integer of its own as its rowid. SQL
-/// keeps it so in every file that it writes. Under rules One there is no table of what counts found.
+/// Returns whether every row of each state table except `placement` has its own integer as rowid. SQL keeps this true
+/// in every file that it writes. Rules One have no table of found pieces.
 pub fn are_apart<S: Alter>(conn: &mut Connection<S>, rules: Rules) -> Result<bool, Error>
     ensures apart { HasCleanDisk (state S.Store conn.new)
         → IfOk result (λ are. Reads (state S.Store conn.old) (λ db. IsTrue are → AreAllApartBy rules db)) }
@@ -30,7 +30,6 @@ pub fn are_apart<S: Alter>(conn: &mut Connection<S>, rules: Rules) -> Result<boo
     is_floor_apart(conn, rules)
 }
 
-/// The tables of what is set up.
 fn is_setup_apart<S: Alter>(conn: &mut Connection<S>) -> Result<bool, Error>
     ensures found { HasCleanDisk (state S.Store conn.new)
         → IfOk result (λ apart. Reads (state S.Store conn.old) (AreApartWhere apart (take 4 changed_tables))) }
@@ -44,7 +43,6 @@ fn is_setup_apart<S: Alter>(conn: &mut Connection<S>) -> Result<bool, Error>
     Ok(are_true(part, alternate, sheet_row, selected))
 }
 
-/// The tables of what is on the line, and of what counts found.
 fn is_floor_apart<S: Alter>(conn: &mut Connection<S>, rules: Rules) -> Result<bool, Error>
     ensures found { HasCleanDisk (state S.Store conn.new)
         → IfOk result (λ apart. Reads (state S.Store conn.old) (AreApartWhere apart (drop 4 (changed_of rules)))) }
@@ -58,7 +56,6 @@ fn is_floor_apart<S: Alter>(conn: &mut Connection<S>, rules: Rules) -> Result<bo
     Ok(are_true(reel, mount, board, found))
 }
 
-/// The table of what counts found, where there is one.
 fn is_found_apart<S: Alter>(conn: &mut Connection<S>, rules: Rules) -> Result<bool, Error>
     ensures found { HasCleanDisk (state S.Store conn.new)
         → IfOk result (λ apart. IsFoundApartWhere rules apart (state S.Store conn.old)) }
@@ -70,7 +67,6 @@ fn is_found_apart<S: Alter>(conn: &mut Connection<S>, rules: Rules) -> Result<bo
     }
 }
 
-/// Whether the query shows numbers that rise.
 fn shows_rising<S: Alter>(conn: &mut Connection<S>, sql: &str) -> Result<bool, Error>
     ensures shown { HasCleanDisk (state S.Store conn.new) → IfOk result (Shows S.Store sql.now conn.old) }
     ensures reads { ReadsOnly S.Store conn.old conn.new }
@@ -80,7 +76,6 @@ fn shows_rising<S: Alter>(conn: &mut Connection<S>, sql: &str) -> Result<bool, E
     are_rising(rows.as_slice())
 }
 
-/// Whether each row is an integer, above that of the row before.
 fn are_rising(rows: &[Row]) -> Result<bool, Error>
     ensures ok { IfOk result (λ rising. IsTrue rising ↔ AreRising rows.now) }
     ensures err { IfErr result (OnlyWhere (¬ AllByRecursion IsNumber rows.now)) }
@@ -96,14 +91,12 @@ fn are_rising(rows: &[Row]) -> Result<bool, Error>
     Ok(true)
 }
 
-/// Whether all four are so.
 fn are_true(a: bool, b: bool, c: bool, d: bool) -> bool
     ensures { result ≡ (a && (b && (c && (d && true)))) }
 {
     a && b && c && d
 }
 
-/// Whether the number is above the last one, where there is one.
 #[tactic(auto, using(crate::proofs::Rising::past_by, crate::proofs::Rising::less_by))]
 fn is_past(last: Option<i64>, number: i64) -> bool
     ensures { IsTrue result ↔ IsPast last number }

@@ -10,8 +10,8 @@ ghost use Rattle.line_tables.specs.Frames.{ReadsOnly, IsRefusedInside};
 use sqlite::types::ValueRef;
 use sqlite::{Alter, Connection, Error, ErrorCode, Row, Transaction};
 
-/// All rows of a query, of what is committed. It runs in a transaction that is rolled back, so that
-/// it leaves what a crash could leave, whatever the text.
+/// Returns all rows of a query over the committed contents. It runs in a transaction that is rolled back, so a crash
+/// may leave nothing new, whatever the text.
 pub fn select<S: Alter>(
     conn: &mut Connection<S>,
     sql: &str,

@@ -1,4 +1,4 @@
-//! Rows of what is set up: parts, their alternates, sheets, and the products selected.
+//! Rows of the setup: parts, alternates, sheets and selected products.
 
 ghost use Rattle.std.specs.Prelude.{OnOk};
 ghost use Rattle.sqlite.specs.State.{HasCleanDisk};
@@ -14,7 +14,7 @@ use sqlite::types::ValueRef;
 use sqlite::{Alter, Error, Transaction};
 use std::alloc::Global;
 
-/// A part, in the place of its row where it has one.
+/// Writes a part, in place of its old row.
 pub fn put_part<S: Alter>(tx: &mut Transaction<'_, S>, part: &Id) -> Result<(), Error>
     ensures done { HasCleanDisk (state S.Store tx.new.conn.now)
         → OnOk result
@@ -25,7 +25,7 @@ pub fn put_part<S: Alter>(tx: &mut Transaction<'_, S>, part: &Id) -> Result<(), 
     run(tx, "INSERT INTO part VALUES (?1)", &[text(part)])
 }
 
-/// An alternate of a part, in the place of its row where it has one.
+/// Writes an alternate of a part, in place of its old row.
 pub fn put_alternate<S: Alter>(
     tx: &mut Transaction<'_, S>,
     part: &Id,
@@ -49,7 +49,7 @@ pub fn put_alternate<S: Alter>(
     )
 }
 
-/// Takes the row of a sheet at the place out, where there is one.
+/// Deletes the sheet's row at this place, if there is one.
 pub fn take_sheet_row<S: Alter>(
     tx: &mut Transaction<'_, S>,
     product: &Id,
@@ -69,7 +69,7 @@ pub fn take_sheet_row<S: Alter>(
     )
 }
 
-/// A row of a sheet, where none has its key. Its designators are joined by one space.
+/// Inserts a row of a sheet. Its key must be free. Designators are joined by single spaces.
 pub fn put_sheet_row<'x, S: Alter>(
     alloc: Global,
     tx: &mut Transaction<'_, S>,
@@ -99,7 +99,7 @@ pub fn put_sheet_row<'x, S: Alter>(
     )
 }
 
-/// The product that a machine makes, in the place of the one before.
+/// Writes the product that a machine makes, in place of the earlier one.
 pub fn put_selected<S: Alter>(
     tx: &mut Transaction<'_, S>,
     machine: &Id,

@@ -12,9 +12,8 @@ use crate::select::select;
 use sqlite::types::ValueRef;
 use sqlite::{Alter, Connection, Error, Row};
 
-/// The rows of `placement` whose rowids are between these two, both of them too, by rowid. In a file of
-/// ours a rowid goes by number and place; in any other it may be that of another piece, so whoever asks
-/// looks at each row.
+/// Returns the rows of `placement` with rowids in this inclusive range, in order of rowid. In our files a rowid follows
+/// from number and place. In any other file it may belong to another piece, so callers check each row.
 pub fn placements_between<S: Alter>(
     conn: &mut Connection<S>,
     first: i64,

@@ -10,7 +10,7 @@ ghost use Rattle.line_tables.specs.Frames.{InTransaction};
 use sqlite::types::ValueRef;
 use sqlite::{Alter, Error, Transaction};
 
-/// Runs one statement that shows no rows.
+/// Runs one statement that returns no rows.
 pub fn run<S: Alter>(
     tx: &mut Transaction<'_, S>,
     sql: &str,
@@ -27,7 +27,7 @@ pub fn run<S: Alter>(
     }
 }
 
-/// Runs one statement that shows no rows, and tells how many it changed.
+/// Runs one statement that returns no rows, and returns the number of rows it changed.
 pub fn run_counted<S: Alter>(
     tx: &mut Transaction<'_, S>,
     sql: &str,
@@ -42,8 +42,7 @@ pub fn run_counted<S: Alter>(
     tx.execute(sql, values)
 }
 
-/// Changes a row by the first statement, or puts it in by the second where there was none to change.
-/// Two changed rows are an error.
+/// Updates a row by the first statement, or inserts it by the second if there was none. Two changed rows are an error.
 pub fn change_or_put<S: Alter>(
     tx: &mut Transaction<'_, S>,
     update: &str,

@@ -1,4 +1,4 @@
-//! Values as SQL keeps them.
+//! Values as stored by SQL.
 
 ghost use Rattle.std.specs.Prelude.{◌≡◌, ◌≤◌, ◌^◌, unwrap_or, [], ◌∷◌, ◌++◌, pos, IfOk, IfErr, OnOk, MatchResult};
 ghost use Rattle.std.specs.List.{flat_map, join_with_byte};
@@ -13,7 +13,7 @@ use sqlite::Error;
 use sqlite::types::ValueRef;
 use std::alloc::{AllocError, Global};
 
-/// The number, where it is one of SQL's, which end at the greatest `i64`.
+/// Returns the number if SQL can store it, up to the greatest `i64`.
 pub fn int<'a>(n: u64) -> Result<ValueRef<'a>, Error>
     ensures { MatchResult result (λ value. owned value ≡ Int (pos n)) (λ _. 2 ^ 63 ≤ n) }
 {
@@ -23,7 +23,7 @@ pub fn int<'a>(n: u64) -> Result<ValueRef<'a>, Error>
     }
 }
 
-/// The minute, or -1 where there is none.
+/// Returns the minute, or -1 for no minute.
 pub fn since<'a>(minute: Option<Minute>) -> ValueRef<'a>
     ensures { owned result ≡ Int (since_or_none minute) }
 {
@@ -33,14 +33,14 @@ pub fn since<'a>(minute: Option<Minute>) -> ValueRef<'a>
     }
 }
 
-/// A name as text.
+/// Returns a name as text.
 pub fn text(name: &Id) -> ValueRef<'_>
     ensures { owned result ≡ Text name.now }
 {
     ValueRef::Text(name.as_bytes())
 }
 
-/// A name as text, or the empty text.
+/// Returns a name as text, or the empty text.
 pub fn text_or_empty(name: &Option<Id>) -> ValueRef<'_>
     ensures { owned result ≡ Text (unwrap_or name.now []) }
 {
@@ -50,29 +50,28 @@ pub fn text_or_empty(name: &Option<Id>) -> ValueRef<'_>
     }
 }
 
-/// A designator as text.
+/// Returns a designator as text.
 pub fn designator(designator: &Designator) -> ValueRef<'_>
     ensures { owned result ≡ Text designator.now }
 {
     ValueRef::Text(designator.as_bytes())
 }
 
-/// A level as its text.
+/// Returns a level as its text.
 pub fn level(level: Level) -> ValueRef<'static>
     ensures { owned result ≡ Text (text_of level) }
 {
     ValueRef::Text(level.as_str().as_bytes())
 }
 
-/// Yes or no as 1 or 0.
+/// Returns 1 for yes and 0 for no.
 pub fn yes_or_no(b: bool) -> ValueRef<'static>
     ensures { owned result ≡ Int (flag b) }
 {
     ValueRef::Int(i64::from(b))
 }
 
-/// The rowid of a placement: rows in its order are in that of numbers and then of places, of which
-/// there are fewer than 65,536.
+/// Returns the rowid of a placement. Rowids are ordered by number and then by place, which is below 65,536.
 pub fn placement_id<'a>(number: u64, place: u64) -> Result<ValueRef<'a>, Error>
     ensures ok { IfOk result (λ value. owned value ≡ Int (pos (placement_id number place))) }
     ensures err { IfErr result (λ _. 2 ^ 63 ≤ placement_id number place) }
@@ -86,7 +85,7 @@ pub fn placement_id<'a>(number: u64, place: u64) -> Result<ValueRef<'a>, Error>
     int(id)
 }
 
-/// The designators with one space between each and the next.
+/// Returns the designators joined by single spaces.
 pub fn designators_text(alloc: Global, designators: &[Designator]) -> Result<Vec<u8>, AllocError>
     ensures { IfOk result (λ text. text.items ≡ join_with_byte 0x20 designators.now) }
 {

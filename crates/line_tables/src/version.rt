@@ -18,12 +18,12 @@ use sqlite::{Alter, Connection, Error, Row};
 pub struct Version {
     /// The version of the tables.
     pub number: i64,
-    /// The greatest number that is given.
+    /// The greatest number of a command.
     pub greatest: i64,
 }
 
-/// The version, where `version` has just one row, of three whole numbers with the first 1. In an open
-/// transaction of the caller's nothing is read.
+/// Returns the version, if `version` has a single row of three whole numbers, the first of them 1. Inside an open
+/// transaction of the caller nothing is read.
 pub fn find_version<S: Alter>(conn: &mut Connection<S>) -> Result<Option<Version>, Error>
     ensures read { HasCleanDisk (state S.Store conn.new)
         → IfOk result (λ found. Reads (state S.Store conn.old) (λ db. IsVersionOf (rows_of_version db) found)) }

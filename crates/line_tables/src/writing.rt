@@ -4,31 +4,35 @@ ghost use Rattle.std.specs.Prelude.{◌≡◌, ◌<◌, ◌≤◌, false, length
 ghost use Rattle.sqlite_trees.specs.Tree.{Trees};
 ghost use Rattle.sqlite.specs.State.{HasCleanDisk, Survives, KeepsCommit};
 ghost use Rattle.sqlite.specs.Held.{state};
-ghost use Rattle.line_tables.specs.declared.edit.Edit.TheVariants as Edit;
+ghost use Rattle.line_tables.specs.Edit.{PutAccepted, EditRow, row_edits, command_edits};
 ghost use Rattle.sqlite.specs.Values.{bound};
 ghost use Rattle.line_tables.specs.Placing.{ArePlacing};
 ghost use Rattle.line_tables.specs.Calls.{Edits, KeepsOthers, Writes, LeavesEdited};
 ghost use Rattle.line_tables.specs.Frames.{InTransaction, IsRefusedInside};
 
-use crate::edit::{Accepted, Edit};
+use crate::edit::Accepted;
 use crate::pieces::{put_eight, values_of_all};
 use crate::rows::put_row;
 use crate::statement::run;
+use desk_types::RowEdit;
 use sqlite::types::ValueRef;
 use sqlite::{Alter, Connection, Error, ErrorCode, Transaction, params};
 use std::alloc::Global;
 
-/// Writes all edits in their order and commits them, or none of them. In an open transaction of the
-/// caller's nothing is done. An edit that a rule of its table refuses is told with the rule, as
-/// `ConstraintViolation(Unique)`.
+/// Writes the row of an accepted command and the edits of the state tables, in their order, and commits
+/// them, or writes none. Inside an open transaction of the caller nothing is done. If a rule of a table
+/// refuses an edit, the error names the rule, as in `ConstraintViolation(Unique)`: the row of `accepted`
+/// if its number or UniqueID is taken.
 pub fn append<S: Alter>(
     alloc: Global,
     conn: &mut Connection<S>,
-    edits: &[Edit],
+    row: &Accepted,
+    edits: &[RowEdit],
 ) -> Result<(), Error>
-    requires some { 0 < length edits.now }
     ensures done { HasCleanDisk (state S.Store conn.new)
-        → OnOk result (Edits edits.now (state S.Store conn.old).committed (state S.Store conn.new).committed) }
+        → OnOk result
+        (Edits (command_edits row.now edits.now) (state S.Store conn.old).committed
+        (state S.Store conn.new).committed) }
     ensures others { HasCleanDisk (state S.Store conn.new)
         → OnOk result (KeepsOthers (state S.Store conn.old).committed (state S.Store conn.new).committed) }
     ensures stays_open { HasCleanDisk (state S.Store conn.new)
@@ -37,9 +41,9 @@ pub fn append<S: Alter>(
         → OnErr result (KeepsCommit (state S.Store conn.old) (state S.Store conn.new)) }
     ensures alone { HasCleanDisk (state S.Store conn.new)
         → OnOk result ((trees : Trees) → (state S.Store conn.new).may_leave trees
-        → LeavesEdited edits.now (state S.Store conn.old) trees) }
+        → LeavesEdited (command_edits row.now edits.now) (state S.Store conn.old) trees) }
     ensures crash { Survives (state S.Store conn.old) (state S.Store conn.new)
-        (LeavesEdited edits.now (state S.Store conn.old)) }
+        (LeavesEdited (command_edits row.now edits.now) (state S.Store conn.old)) }
     ensures inside { IsRefusedInside result conn.old conn.new }
     ensures mode { conn.old.in_transaction ≡ false → conn.new.in_transaction ≡ false }
 {
@@ -47,20 +51,22 @@ pub fn append<S: Alter>(
         return Err(Error::SqliteFailure(ErrorCode::TransactionState));
     }
     let mut tx = conn.transaction();
-    put_all(alloc, &mut tx, edits)?;
+    put_all(alloc, &mut tx, row, edits)?;
     tx.commit()
 }
 
 fn put_all<S: Alter>(
     alloc: Global,
     tx: &mut Transaction<'_, S>,
-    edits: &[Edit],
+    row: &Accepted,
+    edits: &[RowEdit],
 ) -> Result<(), Error>
-    requires some { 0 < length edits.now }
     ensures done { HasCleanDisk (state S.Store tx.new.conn.now)
-        → OnOk result (Writes edits.now (state S.Store tx.old.conn.now) (state S.Store tx.new.conn.now)) }
+        → OnOk result
+        (Writes (command_edits row.now edits.now) (state S.Store tx.old.conn.now) (state S.Store tx.new.conn.now)) }
     ensures within { InTransaction S.Store tx.old tx.new }
 {
+    put_accepted(tx, row)?;
     let mut rest = edits;
     while !rest.is_empty() {
         let taken = put_first(alloc, tx, rest)?;
@@ -70,31 +76,32 @@ fn put_all<S: Alter>(
     Ok(())
 }
 
-/// Makes the first edit, or the first eight where each of them puts a placement, and tells how many.
+/// Makes the first edit, or the first eight if they all put placements, and returns how many it made.
 fn put_first<S: Alter>(
     alloc: Global,
     tx: &mut Transaction<'_, S>,
-    edits: &[Edit],
+    edits: &[RowEdit],
 ) -> Result<usize, Error>
     requires some { 0 < length edits.now }
     ensures some { IfOk result (λ taken. 0 < taken × taken ≤ length edits.now) }
     ensures done { HasCleanDisk (state S.Store tx.new.conn.now)
         → IfOk result
-        (λ taken. Writes (take taken edits.now) (state S.Store tx.old.conn.now) (state S.Store tx.new.conn.now)) }
+        (λ taken. Writes (row_edits (take taken edits.now)) (state S.Store tx.old.conn.now)
+        (state S.Store tx.new.conn.now)) }
     ensures within { InTransaction S.Store tx.old tx.new }
 {
     if let Some(values) = first_eight(alloc, edits)? {
         put_eight(tx, values.as_slice())?;
         return Ok(8);
     }
-    put(alloc, tx, &edits[0])?;
+    put_row(alloc, tx, &edits[0])?;
     Ok(1)
 }
 
-/// The values of the first eight edits, where there are so many and each puts a placement.
-fn first_eight<'a>(alloc: Global, edits: &'a [Edit]) -> Result<Option<Vec<ValueRef<'a>>>, Error>
+fn first_eight<'a>(alloc: Global, edits: &'a [RowEdit]) -> Result<Option<Vec<ValueRef<'a>>>, Error>
     ensures { IfOk result
-        (λ found. IfSome found (λ values. 8 ≤ length edits.now × ArePlacing (take 8 edits.now) (bound values.items))) }
+        (λ found. IfSome found (λ values. 8 ≤ length edits.now
+        × ArePlacing (row_edits (take 8 edits.now)) (bound values.items))) }
 {
     match edits.get(..8) {
         Some(eight) => values_of_all(alloc, eight),
@@ -102,21 +109,10 @@ fn first_eight<'a>(alloc: Global, edits: &'a [Edit]) -> Result<Option<Vec<ValueR
     }
 }
 
-fn put<S: Alter>(alloc: Global, tx: &mut Transaction<'_, S>, edit: &Edit) -> Result<(), Error>
-    ensures done { HasCleanDisk (state S.Store tx.new.conn.now)
-        → OnOk result (Writes (edit.now ∷ []) (state S.Store tx.old.conn.now) (state S.Store tx.new.conn.now)) }
-    ensures within { InTransaction S.Store tx.old tx.new }
-{
-    match edit {
-        Edit::PutAccepted(row) => put_accepted(tx, row),
-        Edit::EditRow(edit) => put_row(alloc, tx, edit),
-    }
-}
-
 fn put_accepted<S: Alter>(tx: &mut Transaction<'_, S>, row: &Accepted) -> Result<(), Error>
     ensures done { HasCleanDisk (state S.Store tx.new.conn.now)
         → OnOk result
-        (Writes (Edit.PutAccepted row.now ∷ []) (state S.Store tx.old.conn.now) (state S.Store tx.new.conn.now)) }
+        (Writes (PutAccepted row.now ∷ []) (state S.Store tx.old.conn.now) (state S.Store tx.new.conn.now)) }
     ensures within { InTransaction S.Store tx.old tx.new }
 {
     run(

@@ -1,4 +1,4 @@
--- What the query of the boards of a lot finds.
+-- The result of the query for the boards of a lot.
 use Rattle.std.proofs.Common.{◌≡◌, ◌∙◌, Bool, List, [], ◌∷◌, map, filter, refl, sym, ap, subst, Less}
 use Rattle.std.specs.Prelude.{◌&&◌, if◌then◌else◌}
 use Rattle.std.specs.List.{flat_map, list_all}
@@ -39,15 +39,15 @@ in-order [] sorted = tt
 in-order (n ∷ names) (above, sorted) = (above, in-order names sorted)
 
 module _ (lot : Name) where
-  -- the reel is of the lot
+  -- The reel is of the lot.
   abbrev is_its : Row → Row → Bool
   is_its reel piece = has_text 2 lot reel
 
-  -- the board, as the key of the order and as what is shown
+  -- The board, both as sort key and as shown value.
   abbrev shown_board : Row → Row → Output
   shown_board reel piece = (column piece 2 ∷ [], column piece 2 ∷ [])
 
-  -- the boards of the pieces of the lot
+  -- The boards of the pieces of the lot.
   abbrev names_of : History → List Name
   names_of H = map (λ (p : Placement). p.board) (filter (λ p. same p.lot lot) (placements_of H))
 
@@ -64,7 +64,6 @@ module _ (lot : Name) where
       pair-one is_reel is_its shown_board (rows_in line.reel db) (piece_row p) (reel_columns known.reel) known.found
       ∙ ap (λ b. if b then shown_name p.board ∷ [] else []) (equal-text known.reel.lot lot ∙ ap (λ n. same n lot) known.lot)
 
-  -- the boards of all rows that pass are those of the pieces, in some order
   all-listed : (db : Database) (H : History) → HoldsList db H → IsPermutation (pairing is_reel is_its shown_board (rows_in line.reel db) (rows_in line.placement db)) (map shown_name (names_of H))
   all-listed db H held =
       let by_row : Row → List Output = λ p. flat_map (λ r. paired is_reel is_its shown_board r p) (rows_in line.reel db) in

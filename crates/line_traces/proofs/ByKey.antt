@@ -23,7 +23,6 @@ use Rattle.line_traces.proofs.TwoCalls.{all-placed_columns}
 abbrev its_key : Placement → Key
 its_key p = (p.number, p.place)
 
--- it has the key
 abbrev pub has_key : Key → Placement → Bool
 has_key key p = p.number == key.0 && p.place == key.1
 
@@ -40,7 +39,6 @@ other-key p q less = by (has_key (its_key q) p) refl
         absurd (true≢false (sym (itself (its_key q)) ∙ ap is_eq (ap (λ k. by_piece k (its_key q)) (sym one) ∙ less)))
     by false is = is
 
--- where keys rise, each piece is found by its own
 each-found : (ps : List Placement) → IsStrictlySortedBy by_piece (keys_of (map entry_of ps)) → AllByRecursion (λ p. find (has_key (its_key p)) ps ≡ Some p) ps
 unfolding IsStrictlySortedBy
 each-found [] sorted = tt
@@ -59,6 +57,5 @@ by-keys H judged test =
     among [] all = refl
     among (p ∷ ps) (first, all) = ap₂ (λ x xs. x ∷ xs) first (among ps all)
 
--- The pieces with the keys of those that pass are the pieces that pass.
 pub listed-pieces : (H : History) → IsJudged Two H → (test : Placement → Bool) (keys : List Key) (pieces : List Placement) → keys ≡ keys_where test H → map Some pieces ≡ map (piece_at H) keys → pieces ≡ pieces_where test H
 listed-pieces H judged test keys pieces are told = all-placed_columns Some (λ x y is. cc) pieces (pieces_where test H) (told ∙ ap (map (piece_at H)) are ∙ by-keys H judged test)

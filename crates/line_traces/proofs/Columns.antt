@@ -1,4 +1,4 @@
--- Values of rows, and when they are equal.
+-- Values of rows, and their equality.
 use Rattle.std.proofs.Common.{◌≡◌, ◌≢◌, ◌∙◌, ℕ, pos, Bool, true, false, Some, length, map, refl, sym, ap, subst, arith, Ordering, Less, Equal, Greater, is_eq, int_cmp}
 use Rattle.std.specs.Prelude.{◌||◌, ◌<◌, if◌then◌else◌}
 use Rattle.std.specs.List.{range_with_len}
@@ -22,13 +22,12 @@ use Rattle.line_traces.specs.Committed.{placed_columns}
 
 -- ---- rows
 
--- a row has the values of its places
 pub all-columns : (row : Row) (n : ℕ) → length row ≡ n → row ≡ map (column row) (range_with_len 0 n)
 all-columns row n is =
     same_lists row (map (column row) (range_with_len 0 n)) (is ∙ sym (length-map-range_with_len (column row) 0 n)) (λ k d within.
     get_or_default row k d Null within ∙ sym (get_or-map-range_with_len (column row) 0 n k k d (subst (λ m. k < m) is within) (omega arith)))
 
--- where no flag stands in its column, the row is no piece's
+-- A row without a flag in the flag's column belongs to no piece.
 pub no_flag : (row : Row) → ((b : Bool) → column row 10 ≢ Int (flag b)) → (p : Placement) → row ≢ placed_columns p
 no_flag row none p is = none p.overdue (ap (λ r. column r 10) is)
 
@@ -41,12 +40,10 @@ told : (b : Bool) → is_true (from_truth (Some b)) ≡ b
 told true = refl
 told false = refl
 
--- two texts are equal where they are one name
 pub equal-text : (a b : Name) → equal Binary (Text a) (Text b) ≡ same a b
 unfolding binary
 equal-text a b = told _ ∙ ap is_eq (value_cmp-Text a b) ∙ is_at-by_name a b
 
--- a flag is 1 where it is set
 pub equal-flag : (b : Bool) → equal Binary (Int (flag b)) (Int (pos 1)) ≡ b
 unfolding binary
 equal-flag true = told _ ∙ ap is_eq (value_cmp-Int (pos 1) (pos 1))
@@ -67,22 +64,18 @@ equal-tied v w is = by (is_null v || is_null w) is
     by true holds = cc
     by false holds = tied (value_cmp v w) (sym (told _) ∙ holds)
 
--- two values that one value equals are equal
 both-tied : (v a b : Value) → equal Binary v a ≡ true → equal Binary v b ≡ true → value_cmp a b ≡ Equal
 both-tied v a b first second = value_cmp_total.congr a v b (tied_back value_cmp_total v a (equal-tied v a first)) ∙ equal-tied v b second
 
 one-pos : (m n : ℕ) → int_cmp (pos m) (pos n) ≡ Equal → m ≡ n
 one-pos m n is = grind (arith, nat_tests)
 
--- a value is one number,
 pub one-int : (v : Value) (m n : ℕ) → equal Binary v (Int (pos m)) ≡ true → equal Binary v (Int (pos n)) ≡ true → m ≡ n
 one-int v m n first second = one-pos m n (sym (value_cmp-Int (pos m) (pos n)) ∙ both-tied v (Int (pos m)) (Int (pos n)) first second)
 
--- and one name.
 pub one-text : (v : Value) (m n : Name) → equal Binary v (Text m) ≡ true → equal Binary v (Text n) ≡ true → m ≡ n
 one-text v m n first second = same-true m n (sym (is_at-by_name m n) ∙ ap is_eq (sym (value_cmp-Text m n) ∙ both-tied v (Text m) (Text n) first second))
 
--- a number equals itself
 pub equal-itself : (n : ℕ) → equal Binary (Int (pos n)) (Int (pos n)) ≡ true
 unfolding binary
 equal-itself n = told _ ∙ ap is_eq (tied_itself value_cmp_total (Int (pos n)))

@@ -1,4 +1,4 @@
--- The two traces tell the same.
+-- The two traces agree.
 use Rattle.std.proofs.Common.{◌≡◌, ◌∙◌, ◌↔◌, Bool, true, false, Contains, Option, Some, None, List, [], ◌∷◌, ◌++◌, map, filter, refl, sym, ap}
 use Rattle.std.specs.Prelude.{if◌then◌else◌, unwrap_or}
 use Rattle.std.specs.List.{list_any}
@@ -32,14 +32,13 @@ use Rattle.desk_laws.proofs.BoardsInWork.{work-product}
 use Rattle.line_traces.specs.Pieces.{pieces_on, is_board, is_lot, board_trace, lot_board_names, receives, starts, AreConverse}
 use Rattle.line_traces.proofs.StartedAndReceived.{board-started, receipt-lot}
 
--- ---- every list
+-- ---- every history
 
--- what is there is what is told
 only-there : {X : Type 0} (b : Bool) (x y : X) → ◌≡◌ {A = Option X} (if b then Some x else None) (Some y) → y ≡ x
 only-there true x y is = cc
 only-there false x y is = cc
 
--- the lot is among the lots of the pieces on the board where the board is among the boards of the lot
+-- The lot is among the lots of the board's pieces if the board is among the lot's boards.
 abbrev AreOne : List Placement → Name → List Name → Name → Type 0
 AreOne pieces lot boards board = Contains (map (λ (p : Placement). p.lot) pieces) lot ↔ Contains boards board
 
@@ -60,14 +59,12 @@ pub rows-converse : (H : History) (board lot : Name) (pieces : List Placement) (
 rows-converse H board lot pieces boards told names =
     rw (only-there (is_board H board) (pieces_on H board) pieces told, only-there (is_lot H lot) (boards_of H lot) boards names) (all-converse H board lot)
 
--- ---- a judged list
+-- ---- a judged history
 
--- where nothing is refused, a test that refuses has held
 has-held : {R : Type 0} (b : Bool) (rest : Option R) (refusal : R) → (if b then rest else Some refusal) ≡ None → b ≡ true
 has-held true rest refusal none = refl
 has-held false rest refusal none = cc
 
--- an accepted install is for the board in work on its machine
 installed-on : (H : History) (machine board : Name) (ds : List Name) → install_refusal H machine board ds ≡ None → in_work_on H machine ≡ Some board
 unfolding install_refusal
 installed-on H machine board ds none = at (in_work_on H machine) (has-held (is_in_work_on H machine board) _ _ none)
@@ -76,11 +73,9 @@ installed-on H machine board ds none = at (in_work_on H machine) (has-held (is_i
     at None is = cc
     at (Some b) is = ap Some (sym (same-true board b is))
 
--- what some entry of a prefix does, some entry of the list does
 later-any : (test : Entry → Bool) (G H : History) → IsPrefix G H → list_any test G ≡ true → list_any test H ≡ true
 later-any test G H before is = ap (list_any test) before.1 ∙ list_any-append test before.0 G ∙ or_right (list_any test before.0) _ is
 
--- the board of a piece was started, and its lot was received
 known : (H : History) → IsJudged Two H → (p : Placement) → IsRightlyPlaced H p → (is_board H p.board ≡ true) × (is_lot H p.lot ≡ true)
 unfolding command_refusal
 known H judged p right =
@@ -94,7 +89,6 @@ known H judged p right =
       later-any (λ e. receives p.lot e.stamped.command) G H before (receipt-lot G p.reel p.lot right.receipt right.received (ap (λ n. same n p.lot) (sym right.lot) ∙ same-refl p.lot)),
     )
 
--- nothing passes a test of names that each was known by
 none-named : (H : History) → IsJudged Two H → (name : Placement → Name) (knows : Name → Bool) → ((p : Placement) → IsRightlyPlaced H p → knows (name p) ≡ true) → (n : Name) → knows n ≡ false
     → filter (λ p. same (name p) n) (placements_of H) ≡ []
 none-named H judged name knows each n unknown =
@@ -107,7 +101,6 @@ none-named H judged name knows each n unknown =
         by true is = let one = ap knows (same-true (name p) n is) in let its = each p right in cc
         by false is = is
 
--- what is told is all, where there is nothing untold
 told-all : {X : Type 0} (b : Bool) (xs : List X) → (b ≡ false → xs ≡ []) → unwrap_or (if b then Some xs else None) [] ≡ xs
 told-all true xs none = refl
 told-all false xs none = sym (none refl)

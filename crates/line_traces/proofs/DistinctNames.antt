@@ -30,7 +30,7 @@ use Rattle.line_tables.specs.StateRows.{has_text}
 use Rattle.line_traces.proofs.Columns.{equal-text, one-text}
 use Rattle.line_traces.proofs.RowsByKey.{rows-listed}
 
--- ---- a set ascends
+-- ---- a set is in ascending order
 
 all-put : (P : Name → Type 0) (names : List Name) (x : Name) → AllByRecursion P names → P x → AllByRecursion P (insert_key by_name names x)
 all-put P [] x all one = (one, tt)
@@ -63,7 +63,7 @@ all-rest : {X : Type 0} (P : X → Type 0) (xs ys : List X) → AllByRecursion P
 all-rest P [] ys all = (tt, all)
 all-rest P (x ∷ xs) ys (first, all) = let both = all-rest P xs ys all in ((first, both.0), both.1)
 
--- a test that equal elements pass together, and all that pass are equal to x
+-- Equal elements pass the test together, and all elements that pass equal x.
 module _ {X : Type 0} (cmp : X → X → Ordering) (P : X → Type 0) (test : X → Bool) (x : X) (alike : (a b : X) → P a → P b → cmp a b ≡ Equal → test a ≡ test b)
     (tied : (a b : X) → P a → P b → test a ≡ true → test b ≡ true → cmp a b ≡ Equal) (one : (a : X) → P a → test a ≡ true → a ≡ x) where
   none-alike : (a : X) (ys : List X) → P a → test a ≡ false → AllByRecursion P ys → AllByRecursion (λ y. cmp a y ≡ Equal) ys → list_any test ys ≡ false
@@ -95,14 +95,12 @@ module _ {X : Type 0} (cmp : X → X → Ordering) (P : X → Type 0) (test : X 
           sym (list_any-append test g.1 (flat_map members gs)
           ∙ ap (λ b. b || list_any test (flat_map members gs)) (none-alike g.0 g.1 first off (all-rest P g.1 (flat_map members gs) all).0 here)))
 
-  -- of what passes one is kept, where there is some
   pub one-kept : (all kept : List X) → AllByRecursion P all → IsDistinctOf cmp all kept → filter test kept ≡ (if list_any test all then x ∷ [] else [])
   one-kept all kept are (groups, parts, is) =
       ap (filter test) is
       ∙ firsts groups (recursion_from_All P _ (All-permutation P all _ parts.same (All-from_recursion P all are))) parts.alike parts.apart
       ∙ ap (λ b. if b then x ∷ [] else []) (sym (list_any-IsPermutation test all _ parts.same))
 
-  -- what is kept is of what was there
   pub all-kept : (all kept : List X) → AllByRecursion P all → IsDistinctOf cmp all kept → AllByRecursion P kept
   all-kept all kept are (groups, parts, is) =
       subst (AllByRecursion P) (sym is) (heads groups (recursion_from_All P _ (All-permutation P all _ parts.same (All-from_recursion P all are))))
@@ -113,18 +111,16 @@ module _ {X : Type 0} (cmp : X → X → Ordering) (P : X → Type 0) (test : X 
 
 -- ---- names
 
--- a name as it is shown
 abbrev pub shown_name : Name → Output
 shown_name name = (Text name ∷ [], Text name ∷ [])
 
--- the order of DISTINCT
+-- The order of DISTINCT.
 abbrev pub by_shown : Output → Output → Ordering
 by_shown = on (λ o. o.1) (collated_cmp (Binary ∷ []))
 
 pub by-shown : (a b : Name) → by_shown (shown_name a) (shown_name b) ≡ by_name a b
 by-shown a b = then-Equal (value_cmp (Text a) (Text b)) ∙ value_cmp-Text a b
 
--- it shows this name
 abbrev shows : Name → Output → Bool
 shows name o = has_text 0 name o.1
 
@@ -151,7 +147,6 @@ any-shown : (names : List Name) (name : Name) → list_any (shows name) (map sho
 any-shown [] name = refl
 any-shown (n ∷ names) name = ap₂ (λ a b. a || b) (equal-text n name ∙ same-sym n name) (any-shown names name)
 
--- the entries of a set
 abbrev entries_of : List Name → List (Name × Unit {0})
 entries_of names = map (λ n. (n, tt)) names
 
@@ -168,7 +163,7 @@ keys-are : (names : List Name) → keys_of (entries_of names) ≡ names
 keys-are [] = refl
 keys-are (n ∷ names) = ap (λ l. n ∷ l) (keys-are names)
 
--- What DISTINCT keeps of shown names is, in some order, the set of the names.
+-- DISTINCT keeps the set of the shown names, in some order.
 pub kept-set : (names : List Name) (all kept : List Output) → IsPermutation all (map shown_name names) → IsDistinctOf by_shown all kept → IsPermutation kept (map shown_name (set_of names))
 kept-set names all kept are distinct =
     subst (IsPermutation kept) (map-map (λ (e : Name × Unit {0}). shown_name e.0) (λ n. (n, tt)) (set_of names)) (

@@ -1,4 +1,4 @@
--- What the queries of pieces find.
+-- The results of the queries for pieces.
 use Rattle.std.proofs.Common.{◌≡◌, ◌∙◌, ℕ, pos, Bool, List, [], ◌∷◌, map, filter, refl, sym, ap, subst₂, Less, nat_cmp, arith}
 use Rattle.std.specs.Prelude.{◌&&◌, if◌then◌else◌}
 use Rattle.std.specs.List.{flat_map, list_all, AllByRecursion}
@@ -43,16 +43,15 @@ use Rattle.line_traces.proofs.Joins.{joined, join, join-one, join-by, map-join, 
 use Rattle.line_traces.proofs.PlacedColumns.{piece_row, pieces-listed, IsKnown, pieces-known}
 use Rattle.line_traces.proofs.Texts.{pieces_query, select_on, on_board, select_on_is, select_of_lot, of_lot, select_of_lot_is, select_overdue, is_overdue, select_overdue_is}
 
--- ---- what is shown
+-- ---- the shown values
 
--- the reel is the piece's, and so is the entry
 abbrev pub is_reel : Row → Row → Bool
 is_reel piece reel = equal Binary (column reel 0) (column piece 6)
 
 abbrev is_entry : Row → Row → Bool
 is_entry piece entry = equal Binary (column entry 0) (column piece 0)
 
--- the keys of the order, and the columns that are shown
+-- The sort keys, and the shown columns.
 abbrev shown_of_rows : Row → Row → Row → Output
 shown_of_rows r p a = (
   column p 0 ∷ column p 1 ∷ [],
@@ -88,7 +87,6 @@ module _ (test : Term) where
   -- ---- the answer
 
   module _ (params : Row) (passes : Row → Row → Bool) (is : (r p a : Row) → holds (params ∷ r ∷ p ∷ a ∷ []) test ≡ passes (columns line.reel r) (columns line.placement p)) where
-    -- what is shown of all rows
     shown-rows : (db : Database) (rows : List Row) (a : IsAnswer (pieces_query test) (overlay db.trees []) params rows)
         → a.kept ≡ join is_reel is_entry passes shown_of_rows (rows_in line.reel db) (rows_in line.placement db) (accepted_in db)
     shown-rows db rows a =
@@ -105,7 +103,6 @@ module _ (test : Term) where
           join-one is_reel is_entry passes shown_of_rows (rows_in line.reel db) (piece_row p) (accepted_in db) (reel_columns known.reel) known.entry known.found known.only
           ∙ rw (same p known.reel known.lot, known.part, known.lot, known.minute) refl
 
-      -- the rows are those of the pieces that are wanted, in their order
       pub pieces-answer : (db : Database) (H : History) → HoldsList db H → (rows : List Row) → IsAnswer (pieces_query test) (overlay db.trees []) params rows → rows ≡ map placed_columns (pieces_where wanted H)
       pieces-answer db H held rows a =
           let q = pieces_query test in

@@ -27,12 +27,10 @@ use Rattle.line_traces.specs.Committed.{HoldsList, FindsOfList}
 use Rattle.line_traces.proofs.StartedAndReceived.{is_any, board-named, lot-named}
 use Rattle.line_traces.proofs.Texts.{select_board, select_board_is, select_reels, select_reels_is}
 
--- there is a row where one is shown
 any-shown : (show : Row → Row) (passing rows : List Row) → IsPermutation (map show passing) rows → (b : Bool) → b ≡ (length rows == 0) → not b ≡ is_any passing
 any-shown show passing rows same b is = ap not is ∙ ap (λ n. not (n == 0)) (length_permutation _ _ same ∙ length-map passing show)
 
 module _ {S : Type 0} (g : Ghosts S) (old : Held S) (rows : List Row) (b : Bool) where
-  -- a query of one column by a test tells what holds just where some row of the table passes
   asks : (sql : List ℕ) (table : Table) (test project : List Term) (names : List (List ℕ)) → IsSelectBy sql (λ schema. rows_from (tree_in table schema) test project) names → (params : Row) (has : Row → Bool) (show : Row → Row)
       → ((r : Row) → list_all (holds (params ∷ r ∷ [])) test ≡ has (columns table r)) → ((r : Row) → (output (rows_from 0 test project) (params ∷ r ∷ [])).1 ≡ show (columns table r))
       → (of : History → Bool) → ((db : Database) (H : History) → HoldsList db H → is_any (filter has (rows_in table db)) ≡ of H)

@@ -1,4 +1,4 @@
--- Joins of two and of three tables, where each row of one table finds one row of each other.
+-- Joins of two and of three tables, when each row of one table matches one row of each other.
 use Rattle.std.proofs.Common.{◌≡◌, ◌∙◌, Bool, true, false, List, [], ◌∷◌, ◌++◌, map, filter, refl, sym, ap, ap₂, subst₂}
 use Rattle.std.specs.Prelude.{◌&&◌, if◌then◌else◌}
 use Rattle.std.specs.List.{flat_map, AllByRecursion}
@@ -7,9 +7,8 @@ use Rattle.std.proofs.lemmas.List.{append_assoc, append-nil}
 use Rattle.std.proofs.lemmas.List.Sorted.{IsPermutation-refl, IsPermutation-trans, IsPermutation-append_left, IsPermutation-append_right, IsPermutation-append_comm}
 use Rattle.sqlite_trees.proofs.ListLemmas.{map-flat_map, flat_map-map, flat_map_same_on, flat_map_none, flat_map-filter, IsPermutation-same}
 
--- ---- lists beside lists
+-- ---- pairs of lists
 
--- what is found at each two elements is found in either order of the lists
 both-found : {B X : Type 0} (g h : B → List X) (ys : List B) → IsPermutation (flat_map g ys ++ flat_map h ys) (flat_map (λ y. g y ++ h y) ys)
 both-found g h [] = IsPermutation-refl []
 both-found {B} {X} g h (y ∷ ys) = IsPermutation-trans _ _ _ (crossed (g y) (flat_map g ys) (h y) (flat_map h ys)) (IsPermutation-append_right (g y ++ h y) _ _ (both-found g h ys))
@@ -25,11 +24,9 @@ swapped f [] ys = IsPermutation-same _ _ (sym (flat_map_none (λ y. []) (λ y. r
 swapped f (x ∷ xs) ys =
     IsPermutation-trans _ _ _ (IsPermutation-append_right (flat_map (f x) ys) _ _ (swapped f xs ys)) (both-found (f x) (λ y. flat_map (λ z. f z y) xs) ys)
 
--- where one element passes
 pub the-one : {A X : Type 0} (f : A → List X) (h : A → Bool) (xs : List A) (y : A) → filter h xs ≡ y ∷ [] → ((x : A) → h x ≡ false → f x ≡ []) → flat_map f xs ≡ f y
 the-one f h xs y is none = sym (flat_map-filter f h none xs) ∙ ap (flat_map f) is ∙ append-nil (f y)
 
--- it does pass
 pub passes : {A : Type 0} (h : A → Bool) (xs : List A) (y : A) (ys : List A) → filter h xs ≡ y ∷ ys → h y ≡ true
 passes h [] y ys is = cc
 passes h (x ∷ xs) y ys is = by (h x) refl is (passes h xs y ys)
@@ -38,7 +35,6 @@ passes h (x ∷ xs) y ys is = by (h x) refl is (passes h xs y ys)
     by true one is rest = let same : x ≡ y = cc in sym (ap h same) ∙ one
     by false one is rest = rest is
 
--- what is found of those that pass
 pub found-of : {P X : Type 0} (f : P → List X) (test : P → Bool) (o : P → X) (ps : List P) → AllByRecursion (λ p. f p ≡ (if test p then o p ∷ [] else [])) ps → flat_map f ps ≡ map o (filter test ps)
 found-of f test o [] each = refl
 found-of {P} {X} f test o (p ∷ ps) (first, each) = ap₂ (λ (a b : List X). a ++ b) first (found-of f test o ps each) ∙ by (test p)
@@ -50,18 +46,15 @@ found-of {P} {X} f test o (p ∷ ps) (first, each) = ap₂ (λ (a b : List X). a
 -- ---- two lists
 
 module _ {A B X : Type 0} (h : B → A → Bool) (t : A → B → Bool) (o : A → B → X) where
-  -- what is shown of two elements
   abbrev pub paired : A → B → List X
   paired a b = if h b a && t a b then o a b ∷ [] else []
 
   abbrev pub pairing : List A → List B → List X
   pairing xs ys = flat_map (λ a. flat_map (paired a) ys) xs
 
-  -- an element of the second list, where one of the first passes
   pub pair-one : (xs : List A) (b : B) (a : A) → filter (h b) xs ≡ a ∷ [] → flat_map (λ x. paired x b) xs ≡ (if t a b then o a b ∷ [] else [])
   pair-one xs b a one-a = the-one (λ x. paired x b) (h b) xs a one-a (λ x away. rw away refl) ∙ rw (passes (h b) xs a [] one-a) refl
 
-  -- what is found of each two rows that pass, told of their columns
   pub map-pair : {P Q E : Type 0} (f : E → X) (test : P → Q → Bool) (env : P → Q → E) (left : P → A) (right : Q → B)
       → ((p : P) (q : Q) → test p q ≡ (h (right q) (left p) && t (left p) (right q))) → ((p : P) (q : Q) → f (env p q) ≡ o (left p) (right q))
       → (ps : List P) (qs : List Q) → map f (flat_map (λ p. flat_map (λ q. if test p q then env p q ∷ [] else []) qs) ps) ≡ pairing (map left ps) (map right qs)
@@ -86,14 +79,12 @@ module _ {A B X : Type 0} (h : B → A → Bool) (t : A → B → Bool) (o : A �
 -- ---- three lists
 
 module _ {A B C X : Type 0} (h : B → A → Bool) (k : B → C → Bool) (t : A → B → Bool) (o : A → B → C → X) where
-  -- what is shown of three elements
   abbrev pub joined : A → B → C → List X
   joined a b c = if h b a && (k b c && t a b) then o a b c ∷ [] else []
 
   abbrev pub join : List A → List B → List C → List X
   join xs ys zs = flat_map (λ a. flat_map (λ b. flat_map (joined a b) zs) ys) xs
 
-  -- an element of the second list, where one of the first and one of the third pass
   pub join-one : (xs : List A) (b : B) (zs : List C) (a : A) (c : C) → filter (h b) xs ≡ a ∷ [] → filter (k b) zs ≡ c ∷ [] → flat_map (λ x. flat_map (joined x b) zs) xs ≡ (if t a b then o a b c ∷ [] else [])
   join-one xs b zs a c one-a one-c =
       the-one (λ x. flat_map (joined x b) zs) (h b) xs a one-a (λ x away. flat_map_none (joined x b) (λ y. rw away refl) zs)
@@ -104,11 +95,9 @@ module _ {A B C X : Type 0} (h : B → A → Bool) (k : B → C → Bool) (t : A
       first true away = rw away refl
       first false away = refl
 
-  -- the join by the elements of the second list
   pub join-by : (xs : List A) (ys : List B) (zs : List C) → IsPermutation (join xs ys zs) (flat_map (λ b. flat_map (λ a. flat_map (joined a b) zs) xs) ys)
   join-by xs ys zs = swapped (λ a b. flat_map (joined a b) zs) xs ys
 
-  -- what is found of each three rows that pass, told of their columns
   pub map-join : {P Q R E : Type 0} (f : E → X) (test : P → Q → R → Bool) (env : P → Q → R → E) (left : P → A) (mid : Q → B) (right : R → C)
       → ((p : P) (q : Q) (r : R) → test p q r ≡ (h (mid q) (left p) && (k (mid q) (right r) && t (left p) (mid q)))) → ((p : P) (q : Q) (r : R) → f (env p q r) ≡ o (left p) (mid q) (right r))
       → (ps : List P) (qs : List Q) (rs : List R)

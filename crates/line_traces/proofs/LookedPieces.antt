@@ -1,4 +1,4 @@
--- What the lists tell of pieces that were looked up.
+-- Pieces that the trace indexes locate.
 use Rattle.std.proofs.Common.{◌≡◌, ◌∙◌, ℕ, zero, suc, ◌+◌, ◌<◌, Bool, ◌++◌, Option, Some, List, [], ◌∷◌, length, map, take, get_or, sym, ap, ap₂, append_assoc, arith}
 use Rattle.std.specs.List.{AllByRecursion}
 use Rattle.std.proofs.lemmas.List.{map-append}
@@ -15,9 +15,8 @@ use Rattle.line_traces.specs.Pieces.{pieces_where, pieces_of_lot, piece_at}
 use Rattle.line_traces.specs.Beside.{FindsBeside}
 use Rattle.line_traces.proofs.ByKey.{listed-pieces}
 
--- ---- one run after the other
+-- ---- one run after another
 
--- the pieces of a run are added to those before it
 pub run-added : (P : Key → Option Placement) (before after all : List (Option Placement)) (left run rest : List PieceKey) → left ≡ run ++ rest → after ≡ before ++ map P (map key_of run) → before ++ map P (map key_of left) ≡ all
     → after ++ map P (map key_of rest) ≡ all
 run-added P before after all left run rest is added told =
@@ -26,13 +25,11 @@ run-added P before after all left run rest is added told =
     ∙ ap (λ l. before ++ l) (sym (map-append P (map key_of run) (map key_of rest)) ∙ ap (map P) (sym (map-append key_of run rest) ∙ ap (map key_of) (sym is)))
     ∙ told
 
--- what all are, one of them is
 pub all-got : {X : Type 0} (P : X → Type 0) (xs : List X) (i : ℕ) (d : X) → AllByRecursion P xs → i < length xs → P (get_or xs i d)
 all-got P [] i d all within = absurd (omega (arith, within))
 all-got P (x ∷ xs) zero d all within = all.0
 all-got P (x ∷ xs) (suc i) d all within = all-got P xs i d all.1 (omega (arith, within))
 
--- one piece more
 pub one-added : (P : Key → Option Placement) (before : List (Option Placement)) (pieces new : List Placement) (keys : List PieceKey) (i : ℕ) (key : PieceKey) (piece : Placement) → i < length keys → key ≡ get_or keys i key → new ≡ pieces ++ piece ∷ []
     → P (key_of key) ≡ Some piece → map Some pieces ≡ before ++ map P (map key_of (take i keys)) → map Some new ≡ before ++ map P (map key_of (take (i + 1) keys))
 one-added P before pieces new keys i key piece within is added told so_far =
@@ -44,10 +41,9 @@ one-added P before pieces new keys i key piece within is added told so_far =
     sym (map-append P (map key_of (take i keys)) (key_of key ∷ []))
     ∙ ap (map P) (sym (map-append key_of (take i keys) (key ∷ [])) ∙ ap (map key_of) (sym (take-next keys i key within is))))
 
--- ---- what is told
+-- ---- the result
 
 module _ {D : Type 0} (Stands : D → History → Type 0) (lists : TraceLists) (desk : D) (old : State) where
-  -- The pieces with the keys that the lists give are those that pass.
   pub listed-told : (test : Placement → Bool) (keys : List Key) → ((H : History) → IsListed lists H → keys ≡ keys_where test H) → (pieces : List Placement)
       → FindsBeside Stands (Some lists) (Some desk) (λ H. map (piece_at H) keys) old (map Some pieces) → FindsBeside Stands (Some lists) (Some desk) (pieces_where test) old pieces
   listed-told test keys are pieces told = record {
@@ -55,7 +51,6 @@ module _ {D : Type 0} (Stands : D → History → Type 0) (lists : TraceLists) (
     are = λ schema H beside. listed-pieces H beside.held.judged test keys pieces (are H beside.listed) (told.are schema H beside);
   }
 
-  -- The boards of the pieces of the lot are those of the lot.
   pub boards-told : (lot : Name) (pieces : List Placement) (boards : List Name) → boards ≡ set_of (map (λ (p : Placement). p.board) pieces) → FindsBeside Stands (Some lists) (Some desk) (λ H. pieces_of_lot H lot) old pieces
       → FindsBeside Stands (Some lists) (Some desk) (λ H. boards_of H lot) old boards
   boards-told lot pieces boards is told = record {

@@ -1,4 +1,4 @@
--- What a row of `placement` tells of a piece, with the view of its reel and the minute of its entry.
+-- The piece that a row of `placement` describes, with its reel's view and its entry's minute.
 use Rattle.std.proofs.Common.{◌≡◌, ◌∙◌, inl, inr, ◌==◌, ◌&&◌, ℕ, ◌+◌, Bool, true, false, Option, Some, None, List, [], ◌∷◌, ◌++◌, length, find, refl, sym, ap, ap₂, subst, arith}
 use Rattle.std.specs.Prelude.{if◌then◌else◌}
 use Rattle.std.specs.Option.{option_map, option_to_list}
@@ -33,7 +33,6 @@ use Rattle.line_traces.proofs.TwoCalls.{one-flag}
 
 -- ---- the row of a piece
 
--- the columns of a row tell the row
 row-one : (p q : PlacementRow) → placement_columns p ≡ placement_columns q → p ≡ q
 row-one p q is =
     let number : p.number ≡ q.number = cc in
@@ -64,14 +63,12 @@ one-row None p h = absurd h
 one-row (Some q) p (inl same) = ap Some (sym (row-one p q same))
 one-row (Some q) p (inr none) = absurd none
 
--- a row that is in the table is that of the piece with its key
 row-there : (db : Database) (H : History) → HoldsList db H → (p : PlacementRow) → Has (rows_in line.placement db) (placement_columns p) → placement_row H p.number p.place ≡ Some p
 row-there db H held p here =
     one-row (placement_row H p.number p.place) p (
     subst (λ rows. Has rows (placement_columns p)) (held.state.placements.found (p.number, p.place)) (
     has_kept (has_piece (p.number, p.place)) (rows_in line.placement db) (placement_columns p) here (its-key p)))
 
--- what is found passes what all pass
 found-all : {A : Type 0} (P : A → Type 0) (test : A → Bool) (xs : List A) (x : A) → AllByRecursion P xs → find test xs ≡ Some x → P x
 found-all P test [] x all is = cc
 found-all {A} P test (y ∷ ys) x (first, all) is = by (test y) is (found-all P test ys x all)
@@ -103,7 +100,7 @@ minute-there H judged p right =
 
 -- ---- the piece
 
--- a row of the table, with its reel's part and lot and its entry's minute
+-- A row of the table, with its reel's part and lot and its entry's minute.
 abbrev pub piece_with : PlacementRow → ReelView → ℕ → Placement
 piece_with row reel effective = record {
   number = row.number;
@@ -143,7 +140,6 @@ one-piece H judged p right row is reel seen effective at =
       overdue = (is j).overdue;
     }
 
--- The row tells the piece with its key.
 pub row-tells : (db : Database) (H : History) → HoldsList db H → (row : PlacementRow) → Has (rows_in line.placement db) (placement_columns row) → (reel : ReelView) → Some reel ≡ reel_view H row.reel
     → (effective : ℕ) → Some effective ≡ minute_of H row.number → piece_at H (row.number, row.place) ≡ Some (piece_with row reel effective)
 row-tells db H held row here reel seen effective at = by (find (has_key (row.number, row.place)) (placements_of H)) refl (row-there db H held row here)

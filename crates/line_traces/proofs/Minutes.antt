@@ -1,4 +1,4 @@
--- The rows of `accepted` tell the minutes of the entries: how the premise of the calls is met.
+-- The rows of `accepted` give the minutes of the entries. This meets the premise of the calls.
 use Rattle.std.proofs.Common.{◌≡◌, ◌∙◌, ℕ, ◌<◌, ◌≤◌, pos, Bool, true, false, List, [], ◌∷◌, filter, length, refl, ap, subst, arith}
 use Rattle.std.specs.List.{AllByRecursion, AllZip}
 use Rattle.std.specs.List.Sorted.{IsPermutation}
@@ -23,15 +23,14 @@ use Rattle.line_tables.specs.StateRows.{HoldsState}
 use Rattle.line_traces.specs.Committed.{TellsMinute, HoldsList}
 use Rattle.line_traces.proofs.Columns.{one-int, equal-itself}
 
--- the row has the entry's number and its effective minute
+-- The row has the entry's number and its effective minute.
 abbrev pub IsRowOf : Entry → Row → Type 0
 IsRowOf e row = (column row 0 ≡ Int (pos e.number)) × (column row 4 ≡ Int (pos e.effective))
 
--- one of the rows has the entry's number, and it is the entry's
+-- Exactly one of the rows has the entry's number, and it is the entry's row.
 abbrev IsAmong : List Row → Entry → Type 0
 IsAmong rows e = (row : Row) × (filter (has_number e.number) rows ≡ row ∷ []) × (column row 4 ≡ Int (pos e.effective))
 
--- another number
 other-number : (row : Row) (e : Entry) (n : ℕ) → IsRowOf e row → (e.number ≡ n → ⊥) → has_number n row ≡ false
 other-number row e n is other = by (has_number n row) refl
   where
@@ -39,7 +38,6 @@ other-number row e n is other = by (has_number n row) refl
     by true there = absurd (other (one-int (column row 0) e.number n (ap (λ v. equal Binary v (Int (pos e.number))) is.0 ∙ equal-itself e.number) there))
     by false there = there
 
--- no number is above that of the last entry
 none-above : (H : History) (rows : List Row) → IsJudged Two H → AllZip IsRowOf H rows → (n : ℕ) → length H < n → filter (has_number n) rows ≡ []
 none-above [] [] judged are n above = refl
 none-above [] (r ∷ rows) judged are n above = absurd are
@@ -48,7 +46,6 @@ none-above (e ∷ H) (r ∷ rows) (next, judged) (is, are) n above =
     let at = next.number in
     rw (other-number r e n is (λ same. omega (arith, same, at, above))) (none-above H rows judged are n (omega (arith, above)))
 
--- the numbers of the entries are among those up to the length
 numbers-within : (H : History) → IsJudged Two H → AllByRecursion (λ (e : Entry). e.number ≤ length H) H
 numbers-within [] judged = tt
 numbers-within (e ∷ H) (next, judged) =
@@ -66,7 +63,7 @@ each-among (e ∷ H) (r ∷ rows) (next, judged) (is, are) =
           H (numbers-within H judged) (each-among H rows judged are),
     )
 
--- A database holds a judged list where it has its state tables, and rows of `accepted` that are, in some order, those of its entries.
+-- Also gives the rows of `accepted`: those of the entries, in some order.
 pub list-held : (db : Database) (H : History) (rows : List Row) → IsJudged Two H → IsPermutation (accepted_in db) rows → AllZip IsRowOf H rows → HoldsState db (tables_of H) → HoldsList db H
 list-held db H rows judged same are state = record {
   judged = judged;

@@ -1,4 +1,4 @@
--- What a database tells of each placed piece: its reel's row, and its entry's minute.
+-- The database's rows for each placed piece: its reel's row, and its entry's minute.
 use Rattle.std.proofs.Common.{◌≡◌, ◌∙◌, ℕ, pos, Bool, true, false, Some, List, [], ◌∷◌, ◌++◌, map, filter, refl, sym, ap, ap₂, subst, arith, Ordering, Less, Equal, Greater, is_eq, nat_cmp}
 use Rattle.std.specs.Prelude.{◌&&◌}
 use Rattle.std.specs.Option.{option_map, option_to_list}
@@ -40,7 +40,6 @@ use Rattle.line_traces.proofs.RowsByKey.{rows-listed}
 
 -- ---- the rows of all pieces
 
--- a placement as a row of its table
 abbrev pub piece_row : Placement → Row
 piece_row p = placement_columns (columns_of_piece p)
 
@@ -72,7 +71,6 @@ one-key k l is = by (nat_cmp k.0 l.0) (nat_cmp k.1 l.1) refl refl is
     by Less b number place here = cc
     by Greater b number place here = cc
 
--- The rows of `placement` are the placements, in some order.
 pub pieces-listed : (db : Database) (H : History) → HoldsList db H → IsPermutation (rows_in line.placement db) (map piece_row (placements_of H))
 pieces-listed db H held =
     subst (IsPermutation (rows_in line.placement db)) (map-map (λ (e : (ℕ × ℕ) × PlacementRow). placement_columns e.1) entry_of (placements_of H)) (
@@ -82,7 +80,7 @@ pieces-listed db H held =
 
 -- ---- the reel and the entry of a piece
 
--- its reel's row, and a row of its entry with its minute
+-- The row of its reel, and a row of its entry with its minute.
 pub record IsKnown (db : Database) (p : Placement) : Type 0 where
   pub reel : ReelRow
   pub found : filter (has_text 0 p.reel) (rows_in line.reel db) ≡ reel_columns reel ∷ []
@@ -96,7 +94,6 @@ among : (P : Entry → Type 0) (later : List Entry) (e : Entry) (before : Histor
 among P [] e before all = all.0
 among P (x ∷ later) e before all = among P later e before all.1
 
--- the receipt of its reel, before its entry, is that of the list
 pub receipt-there : (H : History) → IsJudged Two H → (p : Placement) → (right : IsRightlyPlaced H p) → receipt_of H p.reel ≡ Some right.receipt
 receipt-there H judged p right =
     let before : IsPrefix right.before H = (right.accepted.0 ++ right.entry ∷ [], right.accepted.1 ∙ sym (append_assoc right.accepted.0 (right.entry ∷ []) right.before)) in
@@ -116,7 +113,6 @@ known-one db H held p right =
       minute = told.minute ∙ ap (λ n. Int (pos n)) right.effective;
     }
 
--- Each placement has them.
 pub pieces-known : (db : Database) (H : History) → HoldsList db H → AllByRecursion (IsKnown db) (placements_of H)
 pieces-known db H held =
     all_weaker (IsRightlyPlaced H) (IsKnown db) (known-one db H held) (placements_of H) (recursion_from_All (IsRightlyPlaced H) (placements_of H) (rightly-placed H held.judged))

@@ -1,4 +1,4 @@
--- Rows that are found by their keys are those of a list of entries.
+-- Rows found by their keys are those of a list of entries.
 use Rattle.std.proofs.Common.{◌≡◌, ◌∙◌, IsTrue, Bool, true, false, not, Some, None, List, [], ◌∷◌, ◌++◌, map, filter, cond, refl, sym, ap, subst, true≢false}
 use Rattle.std.specs.Prelude.{if◌then◌else◌}
 use Rattle.std.specs.Option.{option_map, option_to_list}
@@ -38,7 +38,7 @@ module _ {A : Type 0} (p : A → Bool) where
 
 module _ {K X R : Type 0} (cmp : K → K → Ordering) (has : K → R → Bool) (columns : K → X → R) (itself : (k : K) → is_at (cmp k) k ≡ true) (one : (k l : K) → is_at (cmp k) l ≡ true → k ≡ l)
     (apart : (k l : K) (row : R) → has k row ≡ true → has l row ≡ true → k ≡ l) where
-  -- the rows with each key are those of the entries
+  -- The rows with each key are those of the entries.
   abbrev AreFound : List (K × X) → List R → Type 0
   AreFound es rows = (k : K) → filter (has k) rows ≡ option_to_list (option_map (columns k) (row_at cmp es k))
 
@@ -72,7 +72,6 @@ module _ {K X R : Type 0} (cmp : K → K → Ordering) (has : K → R → Bool) 
       by true is none = cc
       by false is none = let yes = key.1 in cc
 
-  -- The rows are, in some order, those of the entries.
   pub rows-listed : (es : List (K × X)) (rows : List R) → IsStrictlySortedBy cmp (keys_of es) → AreFound es rows → AllByRecursion (λ row. (k : K) × IsTrue (has k row)) rows
       → IsPermutation rows (map (λ (e : K × X). columns e.0 e.1) es)
   unfolding IsStrictlySortedBy

@@ -1,4 +1,4 @@
--- The boards that were started and the lots that were received, by the rows of their tables.
+-- The started boards and the received lots, by the rows of their tables.
 use Rattle.std.proofs.Common.{◌≡◌, ◌∙◌, ℕ, IsTrue, Bool, true, false, not, Option, Some, None, List, [], ◌∷◌, filter, length, refl, sym, ap, subst}
 use Rattle.std.specs.Prelude.{◌==◌, ◌||◌, if◌then◌else◌, is_some, is_none}
 use Rattle.std.specs.Option.{option_or, option_map, option_and_then, option_to_list}
@@ -32,7 +32,6 @@ use Rattle.line_traces.proofs.Columns.{equal-text}
 
 -- ---- lists
 
--- whether there is an element
 abbrev pub is_any : {A : Type 0} → List A → Bool
 is_any xs = not (length xs == 0)
 
@@ -40,7 +39,6 @@ any-first : {A : Type 0} (x : A) (xs : List A) → is_any (x ∷ xs) ≡ true
 any-first x xs = ap not (eqb-suc-zero (length xs))
 
 module _ {A : Type 0} (p q : A → Bool) where
-  -- what passes one test passes the other
   some-pass : (xs : List A) (y : A) (ys : List A) → filter p xs ≡ y ∷ ys → q y ≡ true → is_any (filter q xs) ≡ true
   some-pass [] y ys is passes = cc
   some-pass (x ∷ xs) y ys is passes = by (p x) (q x) refl is (λ rest. some-pass xs y ys rest passes)
@@ -51,7 +49,6 @@ module _ {A : Type 0} (p q : A → Bool) where
       by true false second is rest = let one : x ≡ y = cc in let there = ap q one in cc
       by false false second is rest = rest is
 
--- where each that passes tells something, and one does
 tells-so : {A : Type 0} (q : A → Bool) (c : Bool) (xs : List A) → AllByRecursion (λ x. q x ≡ true → c ≡ true) xs → is_any (filter q xs) ≡ true → c ≡ true
 tells-so q c [] all some = cc
 tells-so q c (x ∷ xs) (first, all) some = by (q x) refl some (tells-so q c xs all)
@@ -60,7 +57,6 @@ tells-so q c (x ∷ xs) (first, all) some = by (q x) refl some (tells-so q c xs 
     by true is some rest = first is
     by false is some rest = rest some
 
--- what holds of the rows with each key holds of all rows that have one
 by-keys : {A K : Type 0} (has : K → A → Bool) (Q : A → Type 0) (xs : List A) → ((k : K) → AllByRecursion Q (filter (has k) xs)) → AllByRecursion (λ x. (k : K) × IsTrue (has k x)) xs → AllByRecursion Q xs
 by-keys has Q [] each keyed = tt
 by-keys {A} {K} has Q (x ∷ xs) each (key, keyed) = (first (has key.0 x) refl (each key.0), by-keys has Q xs (λ k. rest k (has k x) (each k)) keyed)
@@ -94,13 +90,11 @@ started-step H minute board (WorkStarted m b) accepted = by (same b board)
     by false = or-some (product_of H board)
 started-step H minute board _ accepted = or-some (product_of H board)
 
--- A board has a product where some entry started it.
 pub board-started : (H : History) (board : Name) → IsJudged Two H → is_some (product_of H board) ≡ is_board H board
 board-started [] board judged = refl
 board-started (e ∷ H) board (next, judged) =
     started-step H e.effective board e.stamped.command (next-accepted H e next) ∙ ap (λ b. starts board e.stamped.command || b) (board-started H board judged)
 
--- there is a row of the board where some entry started it
 pub board-named : (db : Database) (H : History) → HoldsList db H → (board : Name) → is_any (filter (has_text 0 board) (rows_in line.board db)) ≡ is_board H board
 board-named db H held board = ap is_any (held.state.boards.found board) ∙ by (product_of H board) (work_machine H board) ∙ board-started H board held.judged
   where
@@ -111,7 +105,6 @@ board-named db H held board = ap is_any (held.state.boards.found board) ∙ by (
 
 -- ---- lots
 
--- the lot of a receipt was received
 pub receipt-lot : (H : History) (reel lot : Name) (receipt : Receipt) → receipt_of H reel ≡ Some receipt → same receipt.lot lot ≡ true → is_lot H lot ≡ true
 receipt-lot [] reel lot receipt is here = cc
 receipt-lot (e ∷ H) reel lot receipt is here = by e.stamped.command is (λ before. receipt-lot H reel lot receipt before here)
@@ -129,7 +122,7 @@ receipt-lot (e ∷ H) reel lot receipt is here = by e.stamped.command is (λ bef
         one false is = later (same l lot) (before is)
     by _ is before = before is
 
--- a reel of the lot, with its receipt
+-- A reel of the lot, with its receipt.
 pub record HasReel (H : History) (lot : Name) : Type 0 where
   pub reel : Name
   pub receipt : Receipt
@@ -157,7 +150,6 @@ lot-reel (e ∷ H) lot (next, judged) is = by e.stamped.command refl is (λ befo
         one false its is = before is
     by _ command is before = before is
 
--- there is a row of a reel of the lot where some entry received one
 pub lot-named : (db : Database) (H : History) → HoldsList db H → (lot : Name) → is_any (filter (has_text 2 lot) (rows_in line.reel db)) ≡ is_lot H lot
 lot-named db H held lot = iff _ _ there back
   where

@@ -1,4 +1,4 @@
--- What the texts mean.
+-- The meaning of the texts.
 use Rattle.std.proofs.Common.{List, ℕ, [], ◌∷◌, codes, refl, true, false, None, pos, negsuc, inl}
 use Rattle.sqlite.specs.Term.{Term, lit, col, op2}
 use Rattle.sqlite.specs.Query.{Query, inner, end}
@@ -13,7 +13,7 @@ use Rattle.line_tables.proofs.FindTexts.{IsSelect, rows_from}
 
 -- ---- the pieces that pass a test, with their reels and their entries
 
--- the reel and the entry of a piece, and a test
+-- The reel and the entry of a piece, and a test.
 abbrev pub pieces_query : Term → Query
 pieces_query test = record {
   from = inner 11 (inner 17 (inner 1 end));
@@ -35,7 +35,6 @@ pieces_names =
 abbrev pub select_on : List ℕ
 select_on = codes "SELECT p.number, p.place, p.board, p.designator, r.part, r.lot, p.reel, p.machine, p.slot, a.effective, p.overdue FROM reel r JOIN placement p ON r.reel = p.reel JOIN accepted a ON a.number = p.number WHERE p.board = ?1 ORDER BY p.number, p.place"
 
--- the piece is on the board
 abbrev pub on_board : Term
 on_board = op2 (Compare Eq Binary) (col 2 3) (col 0 0)
 
@@ -46,7 +45,6 @@ select_on_is rules indexed = inl (refl, refl, (refl, refl))
 abbrev pub select_of_lot : List ℕ
 select_of_lot = codes "SELECT p.number, p.place, p.board, p.designator, r.part, r.lot, p.reel, p.machine, p.slot, a.effective, p.overdue FROM reel r JOIN placement p ON r.reel = p.reel JOIN accepted a ON a.number = p.number WHERE r.lot = ?1 ORDER BY p.number, p.place"
 
--- its reel is of the lot
 abbrev pub of_lot : Term
 of_lot = op2 (Compare Eq Binary) (col 1 3) (col 0 0)
 
@@ -57,7 +55,7 @@ select_of_lot_is rules indexed = inl (refl, refl, (refl, refl))
 abbrev pub select_overdue : List ℕ
 select_overdue = codes "SELECT p.number, p.place, p.board, p.designator, r.part, r.lot, p.reel, p.machine, p.slot, a.effective, p.overdue FROM reel r JOIN placement p ON r.reel = p.reel JOIN accepted a ON a.number = p.number WHERE p.overdue = 1 ORDER BY p.number, p.place"
 
--- the floor life of its reel was used up
+-- The floor life of its reel was used up.
 abbrev pub is_overdue : Term
 is_overdue = op2 (Compare Eq Binary) (col 2 8) (lit (Int (pos 1)))
 
@@ -90,7 +88,7 @@ select_reels_is rules indexed = inl (refl, refl, (refl, refl))
 abbrev pub select_names : List ℕ
 select_names = codes "SELECT DISTINCT p.board FROM reel r JOIN placement p ON r.reel = p.reel WHERE r.lot = ?1 ORDER BY p.board"
 
--- the boards of the pieces of a lot, each once
+-- The boards of the pieces of a lot, each once.
 abbrev pub names_query : Query
 names_query = record {
   from = inner 11 (inner 17 end);

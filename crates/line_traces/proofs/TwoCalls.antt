@@ -1,4 +1,4 @@
--- What two calls tell together.
+-- The combined results of two calls.
 use Rattle.std.proofs.Common.{◌≡◌, ◌∙◌, Bool, true, false, Option, Some, None, List, [], ◌∷◌, map, refl, sym, ap, ap₂, subst}
 use Rattle.std.specs.Prelude.{if◌then◌else◌}
 use Rattle.sqlite_value.specs.Order.{Row}
@@ -22,7 +22,6 @@ one-flag false false is = refl
 one-flag true false is = cc
 one-flag false true is = cc
 
--- what is shown of a piece tells the piece
 placed_columns-one : (p q : Placement) → placed_columns p ≡ placed_columns q → p ≡ q
 placed_columns-one p q is =
     let number : p.number ≡ q.number = cc in
@@ -65,14 +64,12 @@ all-placed_columns show one (x ∷ xs) (y ∷ ys) is =
 
 -- ---- calls
 
--- what is read after a call that leaves the commit was so before it
 pub reads-before : (old mid : State) → KeepsCommit old mid → (Is : Database → Type 0) → Reads mid Is → Reads old Is
 reads-before old mid kept Is reads = record {
   was_open = kept.was_open reads.was_open;
   are = λ schema. let same = kept.committed reads.was_open in subst Is same (reads.are (subst (λ (db : Database). IsOurs db.schema) (sym same) schema));
 }
 
--- what the rows show
 placed_columns-told : {X : Type 0} (show : X → Row) → ((x y : X) → show x ≡ show y → x ≡ y) → (of : History → List X) (old : State) (rows : List Row) (found : List X) → FindsOfList (λ H. map show (of H)) old rows
     → rows ≡ map show found → FindsOfList of old found
 placed_columns-told show one of old rows found told is = record { was_open = told.was_open; are = λ schema H held. all-placed_columns show one found (of H) (sym is ∙ told.are schema H held) }
@@ -83,20 +80,18 @@ pieces-told = placed_columns-told placed_columns placed_columns-one
 pub names-told : (of : History → List Name) (old : State) (rows : List Row) (names : List Name) → FindsOfList (λ H. map name_row (of H)) old rows → rows ≡ map name_row names → FindsOfList of old names
 names-told = placed_columns-told name_row placed_columns-name
 
--- ---- beside a list
+-- ---- with trace indexes
 
 module _ {D X : Type 0} (Stands : D → History → Type 0) (lists : Option TraceLists) (desk : Option D) (of : History → X) (old : State) where
-  -- what the tables alone tell
+  -- The facts that follow from the tables alone.
   pub tells-beside : (found : X) → FindsOfList of old found → FindsBeside Stands lists desk of old found
   tells-beside found told = record { was_open = told.was_open; are = λ schema H beside. told.are schema H beside.held }
 
-  -- what is there is told, where a test has held,
   pub there-told : (test : History → Bool) (found : X) → FindsOfList test old true → FindsBeside Stands lists desk of old found → FindsBeside Stands lists desk (λ H. if test H then Some (of H) else None) old (Some found)
   there-told test found holds told = record {
     was_open = told.was_open;
     are = λ schema H beside. ap Some (told.are schema H beside) ∙ ap (λ b. if b then Some (of H) else None) (holds.are schema H beside.held);
   }
 
-  -- and none where it has not.
   pub none-told : (test : History → Bool) → FindsOfList test old false → FindsBeside Stands lists desk (λ H. if test H then Some (of H) else None) old None
   none-told test fails = record { was_open = fails.was_open; are = λ schema H beside. ap (λ b. if b then Some (of H) else None) (fails.are schema H beside.held) }

@@ -1,5 +1,4 @@
-//! The pieces of a board, of a lot, and of overdue reels: by the lists beside a desk where they and the
-//! desk are at hand, and each row is found where they say, or else by a query.
+//! The pieces of the traces, by the trace indexes if they are loaded, or else by a query.
 
 ghost use Rattle.std.specs.Prelude.{◌≡◌, ◌++◌, IfOk, OnOk, map, option_copied};
 ghost use Rattle.sqlite.specs.State.{HasCleanDisk};
@@ -20,7 +19,7 @@ use std::alloc::{AllocError, Global};
 use std::collections::BTreeSet;
 use trace_lists::{Install, PieceKey, TraceLists};
 
-/// The pieces on the board by number, then place.
+/// Returns the pieces on the board by number, then place.
 pub fn pieces_of_board<S: Alter, D: Desk>(
     alloc: Global,
     conn: &mut Connection<S>,
@@ -44,7 +43,7 @@ pub fn pieces_of_board<S: Alter, D: Desk>(
     }
 }
 
-/// The pieces of the lot by number, then place.
+/// Returns the pieces of the lot by number, then place.
 pub fn pieces_of_lot<S: Alter, D: Desk>(
     alloc: Global,
     conn: &mut Connection<S>,
@@ -68,7 +67,7 @@ pub fn pieces_of_lot<S: Alter, D: Desk>(
     }
 }
 
-/// The boards that hold a piece of the lot, each once and in byte order.
+/// Returns the boards that hold a piece of the lot, each once and in byte order.
 pub fn boards_of_lot<S: Alter, D: Desk>(
     alloc: Global,
     conn: &mut Connection<S>,
@@ -91,7 +90,7 @@ pub fn boards_of_lot<S: Alter, D: Desk>(
     }
 }
 
-/// The pieces of reels whose floor life was used up, by number, then place.
+/// Returns the pieces of reels whose floor life was used up, by number, then place.
 pub fn pieces_overdue<S: Alter, D: Desk>(
     alloc: Global,
     conn: &mut Connection<S>,
@@ -115,7 +114,7 @@ pub fn pieces_overdue<S: Alter, D: Desk>(
     }
 }
 
-/// The keys of the pieces of installs, install by install: each one's places from 1.
+/// Returns the keys of the pieces of installs, install by install: each one's places from 1.
 fn keys_of(alloc: Global, installs: &[Install]) -> Result<Vec<PieceKey>, AllocError>
     ensures { IfOk result (λ keys. map key_of keys.items ≡ keys_of_installs installs.now) }
 {
@@ -126,7 +125,6 @@ fn keys_of(alloc: Global, installs: &[Install]) -> Result<Vec<PieceKey>, AllocEr
     Ok(keys)
 }
 
-/// Adds the keys of an install's pieces.
 fn add_keys(keys: &mut Vec<PieceKey>, install: Install) -> Result<(), AllocError>
     ensures { OnOk result (map key_of keys.new.items ≡ map key_of keys.old.items ++ keys_of_install install) }
 {
@@ -139,7 +137,7 @@ fn add_keys(keys: &mut Vec<PieceKey>, install: Install) -> Result<(), AllocError
     Ok(())
 }
 
-/// The boards of the pieces, each once and in byte order.
+/// Returns the boards of the pieces, each once and in byte order.
 fn boards_among(alloc: Global, pieces: &[Placement]) -> Result<IdList, AllocError>
     ensures { IfOk result (λ boards. boards ≡ set_of (map (λ (p : Placement). p.board) pieces.now)) }
 {

@@ -18,7 +18,6 @@ use sqlite::types::{Type, ValueRef};
 use sqlite::{Error, Row};
 use std::alloc::Global;
 
-/// The name in a column.
 fn name(row: &Row, at: usize) -> Result<Id, Error>
     ensures ok { IfOk result (λ id. column row.now at ≡ Text id) }
     ensures err { IfErr result (λ _. (id : List ℕ) → IsId id → column row.now at ≢ Text id) }
@@ -32,7 +31,6 @@ fn name(row: &Row, at: usize) -> Result<Id, Error>
     Err(Error::InvalidColumnType(at, Type::of(value)))
 }
 
-/// The designator in a column.
 fn designator(row: &Row, at: usize) -> Result<Designator, Error>
     ensures ok { IfOk result (λ designator. column row.now at ≡ Text designator) }
     ensures err { IfErr result (λ _. (designator : List ℕ) → IsDesignator designator
@@ -47,7 +45,6 @@ fn designator(row: &Row, at: usize) -> Result<Designator, Error>
     Err(Error::InvalidColumnType(at, Type::of(value)))
 }
 
-/// The minute in a column.
 fn minute(row: &Row, at: usize) -> Result<Minute, Error>
     ensures ok { IfOk result (λ minute. column row.now at ≡ Int (pos minute)) }
     ensures err { IfErr result (OnlyWhere ((minute : ℕ) → IsMinute minute → column row.now at ≢ Int (pos minute))) }
@@ -58,7 +55,6 @@ fn minute(row: &Row, at: usize) -> Result<Minute, Error>
     }
 }
 
-/// The 1 or 0 in a column.
 fn yes_or_no(row: &Row, at: usize) -> Result<bool, Error>
     ensures ok { IfOk result (λ b. column row.now at ≡ Int (flag b)) }
     ensures err { IfErr result (OnlyWhere ((b : Bool) → column row.now at ≢ Int (flag b))) }
@@ -93,8 +89,8 @@ fn piece(row: &Row) -> Result<Placement, Error>
     })
 }
 
-/// The pieces of these rows, in their order. A value that is no name, number, minute or flag is an
-/// error, and so is a row of another length.
+/// Returns the pieces of these rows, in their order. A value that is no name, number, minute or flag is an error, and
+/// so is a row of another length.
 pub fn pieces(alloc: Global, rows: &[Row]) -> Result<PlacedRows, Error>
     ensures { IfOk result (λ pieces. rows.now ≡ map placed_columns pieces) }
 {
@@ -105,7 +101,7 @@ pub fn pieces(alloc: Global, rows: &[Row]) -> Result<PlacedRows, Error>
     Ok(Listing::new(pieces))
 }
 
-/// The row of `placement`. A value that is no name, number or flag is an error, and so is a row of another
+/// Returns the row of `placement`. A value that is no name, number or flag is an error, and so is a row of another
 /// length.
 #[tactic(auto, using(crate::proofs::Columns::no_flag_in_row))]
 pub fn placement(row: &Row) -> Result<PlacementRow, Error>
@@ -138,8 +134,8 @@ fn only_name(row: &Row) -> Result<Id, Error>
     name(row, 0)
 }
 
-/// The names of these rows, in their order. A value that is no name is an error, and so is a row of
-/// another length.
+/// Returns the names of these rows, in their order. A value that is no name is an error, and so is a row of another
+/// length.
 pub fn names(alloc: Global, rows: &[Row]) -> Result<IdList, Error>
     ensures { IfOk result (λ names. rows.now ≡ map name_row names) }
 {

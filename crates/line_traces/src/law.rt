@@ -1,4 +1,4 @@
-//! A law of the traces. It is for proofs, and does nothing when it runs.
+//! A law of the traces. It serves proofs and does nothing when it runs.
 
 ghost use Rattle.std.specs.Prelude.{◌≡◌, ◌↔◌, Contains, Some, List, map};
 ghost use Rattle.desk_types.specs.declared.placement.Placement.{Placement};
@@ -8,9 +8,9 @@ ghost use Rattle.desk_types.specs.History.{History};
 ghost use Rattle.desk_types.specs.Judged.{IsJudged};
 ghost use Rattle.line_traces.specs.Pieces.{board_trace, lot_board_names, AreConverse};
 
-/// Where `board_rows` and `lot_boards` tell of one list, a lot is among the lots of a board's pieces
-/// exactly where the board is among the boards of the lot. This holds of every list; of one that a desk
-/// judged also where a board or a lot is unknown.
+/// If `board_rows` and `lot_boards` report the same history, a lot is among the lots of a board's pieces exactly when
+/// the board is among the boards of the lot. This holds for every history. For a judged one it also covers unknown
+/// boards and lots.
 pub fn rows_are_converse()
     ensures every { (H : History) (board lot : Name) (pieces : List Placement) (boards : List Name)
         → board_trace H board ≡ Some pieces → lot_board_names H lot ≡ Some boards

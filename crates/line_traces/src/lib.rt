@@ -1,6 +1,6 @@
-//! The placed pieces of a file, with their parts, lots and minutes: those of a board, those of a lot, and
-//! those of reels whose floor life was used up. Each call reads what is committed, and changes nothing. In
-//! an open transaction of the caller's it reads nothing.
+//! The placed pieces of a file, with their parts, lots and minutes: those of a board, of a lot, and of reels whose
+//! floor life was used up. Each call reads the committed contents and changes nothing. Inside an open transaction of
+//! the caller it reads nothing.
 #![tactic(auto)]
 
 mod by_lists;

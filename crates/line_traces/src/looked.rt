@@ -1,5 +1,5 @@
-//! Pieces that are looked up where the lists beside a desk say that they are. Each row is looked at: it
-//! has the number and the place that were asked for, or nothing is told by the lists.
+//! Pieces at the places that the trace indexes give. Each row is checked for its number and place; if one differs, the
+//! indexes are not used.
 
 ghost use Rattle.std.specs.Prelude.{◌≡◌, ◌+◌, ◌++◌, ◌<◌, ◌≤◌, ◌↔◌, pos, Some, IsTrue, IfOk, IfSome, OnOk, length, map};
 ghost use Rattle.sqlite.specs.Effect.{Database};
@@ -26,7 +26,7 @@ use sqlite::{Alter, Connection, Error, Row};
 use std::alloc::Global;
 use trace_lists::{PieceKey, TraceLists};
 
-/// An error where the connection does not answer.
+/// The error for a connection that does not answer.
 fn ask<S: Alter>(conn: &mut Connection<S>) -> Result<(), Error>
     ensures answers { HasCleanDisk (state S.Store conn.new) → OnOk result (IsTrue (state S.Store conn.old).is_open) }
     ensures reads { ReadsOnly S.Store conn.old conn.new }
@@ -36,14 +36,13 @@ fn ask<S: Alter>(conn: &mut Connection<S>) -> Result<(), Error>
     Ok(())
 }
 
-/// The rowid of a piece in a file of ours.
 fn rowid_of(piece: PieceKey) -> i64
     ensures { result ≡ pos (placement_id piece.number piece.place) }
 {
     (u64::from(piece.number) * 65_536 + u64::from(piece.place)) as i64
 }
 
-/// The first pieces that stand one after the other in one message, and the others.
+/// Splits off the first pieces that are consecutive in one message.
 fn split_run(pieces: &[PieceKey]) -> (&[PieceKey], &[PieceKey])
     ensures whole { pieces.now ≡ result.0.now ++ result.1.now }
     ensures some { 0 < length pieces.now → 0 < length result.0.now }
@@ -52,7 +51,7 @@ fn split_run(pieces: &[PieceKey]) -> (&[PieceKey], &[PieceKey])
     (&pieces[..length], &pieces[length..])
 }
 
-/// How many pieces, from the first on, stand one after the other in one message.
+/// Returns how many pieces, from the first on, are consecutive in one message.
 fn run_length(pieces: &[PieceKey]) -> usize
     ensures within { result ≤ length pieces.now }
     ensures some { 0 < length pieces.now → 0 < result }
@@ -63,7 +62,7 @@ fn run_length(pieces: &[PieceKey]) -> usize
     1 + more_places(*first, others)
 }
 
-/// How many of the others stand behind the first piece, each in the next place of its message.
+/// Returns how many of the others follow the first piece, each in the next place of its message.
 fn more_places(first: PieceKey, others: &[PieceKey]) -> usize
     ensures { result ≤ length others.now }
 {
@@ -77,15 +76,13 @@ fn more_places(first: PieceKey, others: &[PieceKey]) -> usize
     others.len()
 }
 
-/// Whether the piece is of the same message as the last one, in the next place.
 fn is_next(last: PieceKey, piece: PieceKey) -> bool
     ensures { IsTrue result ↔ (piece.number ≡ last.number) × (piece.place ≡ last.place + 1) }
 {
     piece.number == last.number && piece.place > last.place && piece.place - last.place == 1
 }
 
-/// The piece that a row of `placement` tells, where the row is that of this number and place. Its part and
-/// its lot are those of its reel, and its minute is that of its entry.
+/// Returns the piece of a row of `placement` if the row has this number and place. Its part and lot are its reel's.
 fn piece_of<D: Desk>(
     lists: &TraceLists,
     desk: &D,
@@ -122,8 +119,8 @@ fn piece_of<D: Desk>(
     }))
 }
 
-/// Adds the pieces that the rows tell, where each is that of its key. Whether it did: a row may be missing,
-/// or be that of another piece.
+/// Adds the pieces of the rows, if each row has its expected key. Returns whether it did: a row may be missing or
+/// belong to another piece.
 fn add_rows<D: Desk>(
     lists: &TraceLists,
     desk: &D,
@@ -147,7 +144,7 @@ fn add_rows<D: Desk>(
     Ok(true)
 }
 
-/// The rowids of the first and of the last piece of a run, in a file of ours.
+/// Returns the rowids that our files give the first and the last piece of a run.
 fn ends_of(run: &[PieceKey]) -> (i64, i64) {
     match (run.first(), run.last()) {
         (Some(first), Some(last)) => (rowid_of(*first), rowid_of(*last)),
@@ -155,7 +152,7 @@ fn ends_of(run: &[PieceKey]) -> (i64, i64) {
     }
 }
 
-/// Adds the pieces of a run, where the rows between its ends are theirs. Whether it did.
+/// Adds the pieces of a run, if the rows between its ends are theirs. Returns whether it did.
 fn add_run<S: Alter, D: Desk>(
     conn: &mut Connection<S>,
     lists: &TraceLists,
@@ -175,8 +172,8 @@ fn add_run<S: Alter, D: Desk>(
     add_rows(lists, desk, run, rows.as_slice(), pieces)
 }
 
-/// The pieces with these keys, in their order, by one query for each run of places; none where a row is
-/// missing or is that of another piece.
+/// Returns the pieces with these keys, in their order, by one query for each run of places. Returns `None` if a row is
+/// missing or belongs to another piece.
 pub fn pieces_at<S: Alter, D: Desk>(
     alloc: Global,
     conn: &mut Connection<S>,

@@ -1,4 +1,4 @@
-//! The queries. They need neither lists nor a desk.
+//! The queries. They use neither indexes nor a desk.
 
 ghost use Rattle.std.specs.Prelude.{IfOk};
 ghost use Rattle.sqlite.specs.State.{HasCleanDisk};
@@ -16,7 +16,7 @@ use sqlite::types::ValueRef;
 use sqlite::{Alter, Connection, Error};
 use std::alloc::Global;
 
-/// Whether the board was started.
+/// Returns whether the board was started.
 pub fn has_board<S: Alter>(conn: &mut Connection<S>, board: &Id) -> Result<bool, Error>
     ensures found { HasCleanDisk (state S.Store conn.new)
         → IfOk result (FindsOfList (λ H. is_board H board.now) (state S.Store conn.old)) }
@@ -31,7 +31,7 @@ pub fn has_board<S: Alter>(conn: &mut Connection<S>, board: &Id) -> Result<bool,
     Ok(!rows.is_empty())
 }
 
-/// Whether a reel of the lot was received. Each reel is looked at.
+/// Returns whether a reel of the lot was received. It looks at every reel.
 pub fn has_lot<S: Alter>(conn: &mut Connection<S>, lot: &Id) -> Result<bool, Error>
     ensures found { HasCleanDisk (state S.Store conn.new)
         → IfOk result (FindsOfList (λ H. is_lot H lot.now) (state S.Store conn.old)) }
@@ -46,7 +46,7 @@ pub fn has_lot<S: Alter>(conn: &mut Connection<S>, lot: &Id) -> Result<bool, Err
     Ok(!rows.is_empty())
 }
 
-/// The pieces on the board by number, then place.
+/// Returns the pieces on the board by number, then place.
 pub fn board_pieces<S: Alter>(
     alloc: Global,
     conn: &mut Connection<S>,
@@ -65,7 +65,7 @@ pub fn board_pieces<S: Alter>(
     pieces(alloc, rows.as_slice())
 }
 
-/// The pieces of the lot by number, then place.
+/// Returns the pieces of the lot by number, then place.
 pub fn lot_pieces<S: Alter>(
     alloc: Global,
     conn: &mut Connection<S>,
@@ -84,7 +84,7 @@ pub fn lot_pieces<S: Alter>(
     pieces(alloc, rows.as_slice())
 }
 
-/// The pieces of reels whose floor life was used up, by number, then place.
+/// Returns the pieces of reels whose floor life was used up, by number, then place.
 pub fn overdue<S: Alter>(alloc: Global, conn: &mut Connection<S>) -> Result<PlacedRows, Error>
     ensures pieces { HasCleanDisk (state S.Store conn.new)
         → IfOk result (FindsOfList overdue_of (state S.Store conn.old)) }
@@ -99,7 +99,7 @@ pub fn overdue<S: Alter>(alloc: Global, conn: &mut Connection<S>) -> Result<Plac
     pieces(alloc, rows.as_slice())
 }
 
-/// The boards that hold a piece of the lot, each once and in byte order.
+/// Returns the boards that hold a piece of the lot, each once and in byte order.
 pub fn lot_names<S: Alter>(
     alloc: Global,
     conn: &mut Connection<S>,

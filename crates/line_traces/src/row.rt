@@ -1,4 +1,4 @@
-//! What the calls return.
+//! The results of the calls.
 
 use desk_types::{Listing, Placement};
 

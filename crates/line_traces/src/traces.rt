@@ -1,7 +1,7 @@
 //! The pieces of a board, of a lot, and of overdue reels.
 //!
-//! Where the lists beside a desk and the desk are at hand, the rows of pieces are read where the lists say
-//! that they are, and each is looked at; else, and where one is another, they are found by a query.
+//! If the desk and its trace indexes are loaded, the indexes locate the rows, and each row is checked. Otherwise, or if
+//! a row differs, a query finds them.
 
 ghost use Rattle.std.specs.Prelude.{IfOk, option_copied};
 ghost use Rattle.sqlite.specs.State.{HasCleanDisk};
@@ -19,7 +19,7 @@ use sqlite::{Alter, Connection, Error};
 use std::alloc::Global;
 use trace_lists::TraceLists;
 
-/// The pieces on a board by number, then place; none where no entry started the board.
+/// Returns the pieces on a board by number, then place, or `None` if no entry started the board.
 pub fn board_rows<S: Alter, D: Desk>(
     alloc: Global,
     conn: &mut Connection<S>,
@@ -40,7 +40,7 @@ pub fn board_rows<S: Alter, D: Desk>(
     Ok(Some(pieces_of_board(alloc, conn, lists, desk, board)?))
 }
 
-/// The pieces of a lot by number, then place; none where no entry received a reel of the lot.
+/// Returns the pieces of a lot by number, then place, or `None` if no entry received a reel of the lot.
 pub fn lot_rows<S: Alter, D: Desk>(
     alloc: Global,
     conn: &mut Connection<S>,
@@ -61,7 +61,7 @@ pub fn lot_rows<S: Alter, D: Desk>(
     Ok(Some(pieces_of_lot(alloc, conn, lists, desk, lot)?))
 }
 
-/// The pieces of reels whose floor life was used up, by number, then place.
+/// Returns the pieces of reels whose floor life was used up, by number, then place.
 pub fn overdue_rows<S: Alter, D: Desk>(
     alloc: Global,
     conn: &mut Connection<S>,
@@ -78,8 +78,8 @@ pub fn overdue_rows<S: Alter, D: Desk>(
     pieces_overdue(alloc, conn, lists, desk)
 }
 
-/// The boards that hold a piece of a lot, each once and in byte order; none where no entry received a
-/// reel of the lot.
+/// Returns the boards that hold a piece of a lot, each once and in byte order, or `None` if no entry received a reel of
+/// the lot.
 pub fn lot_boards<S: Alter, D: Desk>(
     alloc: Global,
     conn: &mut Connection<S>,

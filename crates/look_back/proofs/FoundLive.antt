@@ -1,4 +1,4 @@
--- The live reels of a slot, among those that were found.
+-- The live reels of a slot, found on the floor.
 use Rattle.std.proofs.Common.{◌≡◌, ap}
 use Rattle.std.specs.Prelude.{nat_lt}
 use Rattle.std.specs.List.{filter}
@@ -8,7 +8,6 @@ use Rattle.desk_types.specs.Pieces.{left_of, live_on}
 use Rattle.entry_search.specs.Floor.{IsFloor, tape_at}
 use Rattle.entry_search.specs.declared.floor.Floor.{Floor}
 
--- the live reels of a slot are those of the floor's tape with pieces left
 pub floor-tells_live : (H : History) (floor : Floor) (machine slot : Name) → IsFloor H floor
     → filter (λ reel. nat_lt 0 (left_of H reel)) (tape_at floor.tapes machine slot) ≡ live_on H machine slot
 unfolding live_on

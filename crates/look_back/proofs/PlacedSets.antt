@@ -1,4 +1,4 @@
--- The set of the designators that are placed on a board.
+-- The set of designators placed on a board.
 use Rattle.std.proofs.Common.{◌≡◌, Bool, true, false, cond, List, [], ◌∷◌, ◌++◌, refl, sym, ap, ◌∙◌}
 use Rattle.std.specs.Prelude.{◌||◌}
 use Rattle.std.specs.List.{list_any}
@@ -15,7 +15,6 @@ put-or true false z = refl
 put-or false true z = refl
 put-or false false z = refl
 
--- the set after one name more
 pub is_in-push : (old new : BTreeSet Name) (names : List Name) (x : Name) (was : Name → Bool) → ((q : Name) → is_in old q ≡ (list_any (same q) names || was q))
     → ((q : Name) → is_in new q ≡ cond (is_at (by_name x) q) true (is_in old q)) → (q : Name) → is_in new q ≡ (list_any (same q) (names ++ x ∷ []) || was q)
 is_in-push old new names x was before after q =

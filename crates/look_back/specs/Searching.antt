@@ -1,4 +1,4 @@
--- What is found in a list of entries for a judge.
+-- The result of searching the entries for a judgement.
 use Rattle.std.specs.Prelude.{◌≡◌, reverse}
 use Rattle.std.specs.Option.{ForSome}
 use Rattle.desk_types.specs.declared.rules.Rules.TheVariants.{Two}
@@ -12,8 +12,8 @@ use Rattle.entry_search.specs.Floor.{IsFloor}
 use Rattle.look_back.specs.Installs.{IsInstall}
 use Rattle.look_back.specs.declared.searched.Searched.{Searched}
 
--- these are the entries of the list, which is a judged one, and the floor, the parts, the alternates and what is looked up for
--- an install are as it left them
+-- The entries are those of an accepted history; floor, parts, alternates and install lookups
+-- represent it.
 pub record IsSearched (H : History) (searched : Searched) : Type 0 where
   pub judged : IsJudged Two H
   pub entries : reverse searched.entries.now ≡ H

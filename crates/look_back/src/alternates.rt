@@ -1,4 +1,4 @@
-//! The alternates that the entries name.
+//! The alternates named in the entries.
 
 ghost use Rattle.std.specs.Prelude.{◌≡◌, ◌||◌, reverse, IfOk, OnOk};
 ghost use Rattle.desk_types.specs.Id.{Name};
@@ -9,7 +9,7 @@ use desk_types::{Command, Entry};
 use setup_sheets::Alternates;
 use std::alloc::{AllocError, Global};
 
-/// The alternates that the entries name.
+/// Returns the alternates named in the entries.
 pub fn alternates_of(alloc: Global, entries: &[Entry]) -> Result<Alternates, AllocError>
     ensures { IfOk result (λ alternates. AreAlternates (reverse entries.now) alternates) }
 {
@@ -20,7 +20,6 @@ pub fn alternates_of(alloc: Global, entries: &[Entry]) -> Result<Alternates, All
     Ok(alternates)
 }
 
-/// Puts the alternate in, where the command names one.
 fn note_alternate(alternates: &mut Alternates, command: &Command) -> Result<(), AllocError>
     ensures { OnOk result ((p q : Name)
         → is_pair_among alternates.new p q ≡ (allows p q command.now || is_pair_among alternates.old p q)) }

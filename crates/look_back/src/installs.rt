@@ -1,4 +1,4 @@
-//! What is looked up for an install: the sheet of its machine, and the designators that are placed.
+//! The lookups for an install: the machine's sheet, and the placed designators.
 
 ghost use Rattle.std.specs.Prelude.{◌≡◌, ◌||◌, reverse, IfOk, OnOk};
 ghost use Rattle.std.specs.List.{list_any};
@@ -15,7 +15,7 @@ use setup_sheets::Sheet;
 use std::alloc::{AllocError, Global};
 use std::collections::BTreeSet;
 
-/// The sheet of the selected product on a machine, and the designators that are placed on a board.
+/// The selected product's sheet on a machine, and the designators placed on a board.
 #[derive(Drop)]
 pub struct Install {
     pub machine: Id,
@@ -25,7 +25,7 @@ pub struct Install {
 }
 
 impl Install {
-    /// The slot for the designator in that sheet.
+    /// Returns the designator's slot in that sheet.
     pub fn slot(&self, designator: &Designator) -> Option<Id>
         ensures { (H : History) → IsInstall H self.now → result ≡ slot_on H self.now.machine designator.now }
     {
@@ -34,7 +34,6 @@ impl Install {
     }
 }
 
-/// The sheet of the selected product, with its look-ups.
 fn look_up(alloc: Global, entries: &[Entry], machine: &Id) -> Result<Option<Sheet>, AllocError>
     ensures { IfOk result (λ sheet. sheet ≡ sheet_on (reverse entries.now) machine.now) }
 {
@@ -44,7 +43,6 @@ fn look_up(alloc: Global, entries: &[Entry], machine: &Id) -> Result<Option<Shee
     }
 }
 
-/// Puts designators into a set.
 fn add_all(names: &mut BTreeSet<Designator>, designators: &[Designator]) -> Result<(), AllocError>
     ensures { (d : Name) → OnOk result (is_in names.new d ≡ (list_any (same d) designators.now || is_in names.old d)) }
 {
@@ -54,7 +52,6 @@ fn add_all(names: &mut BTreeSet<Designator>, designators: &[Designator]) -> Resu
     Ok(())
 }
 
-/// The designators of the board after a command.
 fn note_placed(
     placed: &mut BTreeSet<Designator>,
     board: &Id,
@@ -73,7 +70,7 @@ fn note_placed(
     Ok(())
 }
 
-/// The designators that are placed on the board. They are looked for in the commands: an accepted
+/// Returns the designators placed on the board. It searches the commands, because an accepted
 /// install places each of its designators.
 fn placed_on(
     alloc: Global,
@@ -89,7 +86,7 @@ fn placed_on(
     Ok(placed)
 }
 
-/// What is looked up for the command, where it is an install.
+/// Returns the lookups for the command if it is an install.
 pub fn install_of(
     alloc: Global,
     entries: &[Entry],

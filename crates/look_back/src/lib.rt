@@ -1,4 +1,4 @@
-//! The plain desk: it keeps the list of accepted entries and answers by searching it.
+//! The plain desk: it stores the accepted entries and answers by searching them.
 #![tactic(auto)]
 
 mod alternates;

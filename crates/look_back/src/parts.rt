@@ -1,4 +1,4 @@
-//! The parts that the entries define.
+//! The parts defined in the entries.
 
 ghost use Rattle.std.specs.Prelude.{◌≡◌, ◌||◌, reverse, IfOk, OnOk};
 ghost use Rattle.desk_types.specs.Id.{Name};
@@ -9,7 +9,7 @@ use desk_types::{Command, Entry};
 use setup_sheets::Parts;
 use std::alloc::{AllocError, Global};
 
-/// The parts that the entries define.
+/// Returns the parts defined in the entries.
 pub fn parts_of(alloc: Global, entries: &[Entry]) -> Result<Parts, AllocError>
     ensures { IfOk result (λ parts. (p : Name) → is_among parts p ≡ is_part (reverse entries.now) p) }
 {
@@ -20,7 +20,6 @@ pub fn parts_of(alloc: Global, entries: &[Entry]) -> Result<Parts, AllocError>
     Ok(parts)
 }
 
-/// Puts the part in, where the command defines one.
 fn note_part(parts: &mut Parts, command: &Command) -> Result<(), AllocError>
     ensures { OnOk result ((p : Name) → is_among parts.new p ≡ (defines p command.now || is_among parts.old p)) }
 {

@@ -1,4 +1,4 @@
-//! The desk that keeps its list and searches it.
+//! The desk that searches its history.
 
 ghost use Rattle.std.specs.Prelude.{◌≡◌, ◌+◌, ◌≤◌, [], length, reverse, OnOk, OnErr};
 ghost use Rattle.std.specs.List.{find};
@@ -23,8 +23,8 @@ use judging::judge;
 use std::alloc::{AllocError, Global};
 use std::marker::Model;
 
-/// A desk that keeps the list of accepted entries, each with its takes, and answers by searching
-/// it. Contracts see it as its rules and that list.
+/// A desk that stores the accepted entries, each with its takes, and answers by searching them.
+/// Contracts see it as its rules and that history.
 #[derive(Drop)]
 pub struct PlainDesk {
     alloc: Global,
@@ -49,14 +49,14 @@ impl Model for PlainDesk {
 }
 
 impl PlainDesk {
-    /// A desk of rules Two that has accepted nothing. Takes no memory.
+    /// Returns an empty desk with rules Two. Takes no memory.
     pub fn new(alloc: Global) -> PlainDesk
         ensures { result ≡ record { rules = Two; history = [] } }
     {
         PlainDesk::with_rules(alloc, Rules::Two)
     }
 
-    /// A desk of these rules that has accepted nothing. Takes no memory.
+    /// Returns an empty desk with these rules. Takes no memory.
     pub fn with_rules(alloc: Global, rules: Rules) -> PlainDesk
         ensures { result ≡ record { rules = rules; history = [] } }
     {
@@ -68,22 +68,22 @@ impl PlainDesk {
         }
     }
 
-    /// The accepted entries, the oldest first. Takes no memory.
+    /// Returns the accepted entries, oldest first. Takes no memory.
     pub fn entries(&self) -> &[Entry]
         ensures { reverse result.now ≡ self.now.history }
     {
         &self.entries
     }
 
-    /// The newest entry with this UniqueID, where there is one. Takes no memory. The desk itself looks
-    /// for no repeats: that is its owner's matter.
+    /// Returns the newest entry with this UniqueID, if there is one. Takes no memory. The desk's
+    /// owner, not the desk, checks for repeats.
     pub fn earlier(&self, uid: &Id) -> Option<&Entry>
         ensures { option_copied result ≡ find (λ e. same e.stamped.uid uid.now) self.now.history }
     {
         earlier(self.entries.as_slice(), uid)
     }
 
-    /// Accepts what was judged. Without memory the desk is as before.
+    /// Accepts a judged command. Out of memory leaves the desk unchanged.
     pub fn append(&mut self, change: Change) -> Result<(), AllocError>
         requires room { length self.old.history + 1 ≤ MOST_ENTRIES }
         requires judged { IsChange self.old.rules self.old.history change.stamped change }
@@ -105,7 +105,6 @@ impl PlainDesk {
     }
 }
 
-/// The newest of the entries with this UniqueID.
 fn earlier<'a>(entries: &'a [Entry], uid: &Id) -> Option<&'a Entry>
     ensures { option_copied result ≡ find (λ e. same e.stamped.uid uid.now) (reverse entries.now) }
 {

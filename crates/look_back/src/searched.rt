@@ -1,4 +1,4 @@
-//! What a judge asks of the accepted commands, found by searching the list of them.
+//! The facts for judging, found by searching the history.
 
 ghost use Rattle.std.specs.Prelude.{◌≡◌, reverse, IfOk};
 ghost use Rattle.desk_types.specs.declared.rules.Rules.TheVariants.{Two};
@@ -22,8 +22,7 @@ use reels::Reel;
 use setup_sheets::{Alternates, Parts, slot_of};
 use std::alloc::{AllocError, Global};
 
-/// The entries, and what is made of them in one pass: the shop floor, the parts and the alternates, and
-/// what is looked up for an install.
+/// The entries, with the shop floor, parts, alternates and install lookups found in one pass.
 #[derive(Drop)]
 pub struct Searched<'a> {
     entries: &'a [Entry],
@@ -33,7 +32,7 @@ pub struct Searched<'a> {
     install: Option<Install>,
 }
 
-/// The entries for a judge of the command.
+/// Searches the entries for judging the command.
 pub fn search<'a>(
     alloc: Global,
     entries: &'a [Entry],
@@ -53,7 +52,6 @@ pub fn search<'a>(
     })
 }
 
-/// The slot for the designator in the sheet of the selected product.
 fn slot_on(entries: &[Entry], machine: &Id, designator: &Designator) -> Option<Id>
     ensures { result ≡ slot_on (reverse entries.now) machine.now designator.now }
 {
@@ -61,14 +59,12 @@ fn slot_on(entries: &[Entry], machine: &Id, designator: &Designator) -> Option<I
     slot_of(rows, designator)
 }
 
-/// Whether the designator is one of these.
 fn is_among(designators: &[Designator], designator: &Designator) -> bool
     ensures { result ≡ list_any (same designator.now) designators.now }
 {
     designators.iter().any(|d| *designator == *d)
 }
 
-/// Whether the command places the designator on the board.
 fn places(board: &Id, designator: &Designator, command: &Command) -> bool
     ensures { result ≡ places board.now designator.now command.now }
 {
@@ -82,8 +78,8 @@ fn places(board: &Id, designator: &Designator, command: &Command) -> bool
     }
 }
 
-/// Whether the designator of the board is placed. It is looked for in the commands: an accepted install
-/// places each of its designators.
+/// Returns whether the designator is placed on the board. It searches the commands, because an
+/// accepted install places each of its designators.
 fn is_placed_on(entries: &[Entry], board: &Id, designator: &Designator) -> bool
     ensures { result ≡ is_placed_on (reverse entries.now) board.now designator.now }
 {

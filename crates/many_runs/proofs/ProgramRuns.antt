@@ -1,4 +1,4 @@
--- What the program's contracts say of a run is what a run is.
+-- The program's contracts give a run in the sense of these definitions.
 use Rattle.std.proofs.Common.{◌≡◌, ◌∙◌, ℕ, List, [], ◌∷◌, true, Option, Some, None, Result, Ok, Err, refl, subst}
 use Rattle.sqlite_disk.specs.declared.Disk as disk
 use Rattle.sqlite_disk.specs.declared.Files.{Files}
@@ -58,7 +58,7 @@ module _ {T D : Type 0} {g : disk.Ghosts D} (first : start.Ghosts T) (make : Opt
         },
       )
 
--- a whole run, by what its files tell
+-- A whole run, by its files.
 module _ {T D : Type 0} (g : disk.Ghosts D) (first : start.Ghosts T) (make : Option ℕ) (files : Files D) (image : Image) where
   pub is_whole_run : (Fact : Ledger → History → Type 0) (calls : List Call) → ((G : Ledger) (H : History) → Fact G H → AnswersByTheList report_of G calls H)
       → RunsTo whole first g (Some files) make Fact → ReadsClean g files image → IsRun report_of (run_of first make calls image)
@@ -77,7 +77,6 @@ module _ {T D : Type 0} (g : disk.Ghosts D) (first : start.Ghosts T) (make : Opt
         },
       )
 
--- a connection, however it ended
 serves : (reports : Reports) (G : Ledger) (sent unread before after : Option (List ℕ)) (ended : Ended) (H : History) → ConnectedSo (request_rule reports G.rules G.greatest) sent unread G.history before ended H after
     → Serves (request_rule reports G.rules G.greatest) G.history sent unread before after ended H
 serves reports G sent unread before after (Ok served) H connected = connected
@@ -85,12 +84,11 @@ serves reports G sent unread before after (Err (Read served)) H connected = conn
 serves reports G sent unread before after (Err (TooManyReads served)) H connected = connected
 serves reports G sent unread before after (Err (Write served)) H connected = connected
 
--- connections one after the other are calls one after the other
 pub serves_each : (exchanges : List Exchange) (G : Ledger) (H : History) → ServesEach exchanges G H → AnswersByTheList report_of G (connections_of exchanges) H
 serves_each [] G H same = same
 serves_each (e ∷ es) G H (H₁, one, rest) = (H₁, serves report_of G e.sent e.unread e.before e.after e.ended H₁ one, serves_each es (record G { history = H₁ }) H rest)
 
--- a run whose desk was let go while it was open
+-- A run whose open desk was dropped.
 module _ {T D : Type 0} {g : disk.Ghosts D} (first : start.Ghosts T) (make : Option ℕ) (desk : LineStore (FileStore D g) StateDesk) (files : Files D) (image : Image) where
   pub is_crashed_run : (Fact : Ledger → History → Type 0) (calls : List Call) → ((G : Ledger) (H : History) → Fact G H → AnswersByTheList report_of G calls H)
       → RunsOn first make (Desk desk) Fact → CrashesTo desk files image → IsRun report_of (record { first = image_at first; make = make; calls = calls; ending = crashed; last = image })
@@ -109,7 +107,7 @@ module _ {T D : Type 0} {g : disk.Ghosts D} (first : start.Ghosts T) (make : Opt
         },
       )
 
--- calls on the desk that was opened are calls from the list with which the run began
+-- Calls on the opened desk are calls from the initial history of the run.
 module _ {T D : Type 0} {g : disk.Ghosts D} (first : start.Ghosts T) (make : Option ℕ) (opened last : LineStore (FileStore D g) StateDesk) (calls : List Call) where
   pub called : RunsOn first make (Desk opened) StaysSame → MakesCalls opened calls last → RunsOn first make (Desk last) (λ G H. AnswersByTheList report_of G calls H)
   called runs made clean alone =
@@ -122,7 +120,7 @@ abbrev pub FindsTables : Type 0
 FindsTables = (image : Image) (trees : Trees) (greatest : ℕ) (H : History) → ∥ HoldsDatabase image trees ∥₁ → HoldsAt (ledger_tables greatest H) trees
     → (db : Database) → IsFoundIn image db → Holds db (ledger_tables greatest H)
 
--- a run that was refused its files keeps their list
+-- A run whose files were refused keeps their history.
 module _ {T D : Type 0} (finds : FindsTables) (g : disk.Ghosts D) (first : start.Ghosts T) (make : Option ℕ) (files : Files D) (image : Image) where
   pub keeps : (StandsIn : OpenFault → Type 0) (MakesNone : Type 0) (fault : OpenFault) → IsRefusedTo whole first g (Some files) StandsIn MakesNone fault → ReadsClean g files image
       → KeepsList (run_of first make [] image)

@@ -1,4 +1,4 @@
--- A run and the next one are as one.
+-- A run and the next one are equivalent to one run.
 use Rattle.std.proofs.Common.{◌≡◌, ◌⊎◌, ℕ, List, [], ◌∷◌, ◌++◌, Option, inl, inr, refl, sym, subst}
 use Rattle.sqlite_wal.specs.Recovery.{Image}
 use Rattle.sqlite_trees.specs.Tree.{Trees}
@@ -10,30 +10,27 @@ use Rattle.desk_answers.specs.Ledger.{Ledger}
 use Rattle.http_answers.specs.Requests.{Reports}
 use Rattle.line_tables.specs.Rows.{Tables, HoldsAt}
 use Rattle.line_rows.specs.Rows.{ledger_tables}
-use Rattle.desk_file.specs.Files.{Begins, HasLineAlone}
+use Rattle.desk_file.specs.Files.{Begins, HasOursFirst}
 use Rattle.headline.specs.Calls.{AnswersByTheList, Call}
 use Rattle.many_runs.specs.Runs.{Ending, closed, crashed, Run, EndsWith, by_two, IsRunFrom, IsRun, KeepsList, AreRuns, run_then, as_one}
 
--- calls that were answered one after the other, and then others
 pub appended : (reports : Reports) (calls later : List Call) (G : Ledger) (H H' : History) → AnswersByTheList reports G calls H
     → AnswersByTheList reports (record G { history = H }) later H' → AnswersByTheList reports G (calls ++ later) H'
 appended reports [] later G H H' same answers = subst (λ (it : History). AnswersByTheList reports (record G { history = it }) later H') same answers
 appended reports (call ∷ calls) later G H H' (H₁, one, rest) answers = (H₁, one, appended reports calls later (record G { history = H₁ }) H H' rest answers)
 
--- the tables are in the trees of the files, however the run ended
 pub held : (ending : Ending) (tables : Tables) (image : Image) → EndsWith ending tables image → (trees : Trees) × HoldsAt tables trees × ∥ HoldsDatabase image trees ∥₁
 held closed tables image (trees, holds, alone) = (trees, holds, alone.both)
 held crashed tables image left = left
 
-abbrev pub Alone : Type 0
-Alone = (image : Image) (trees : Trees) (greatest : ℕ) (H : History) → ∥ HoldsDatabase image trees ∥₁ → HoldsAt (ledger_tables greatest H) trees → HasLineAlone image
+abbrev pub OursFirst : Type 0
+OursFirst = (image : Image) (trees : Trees) (greatest : ℕ) (H : History) → ∥ HoldsDatabase image trees ∥₁ → HoldsAt (ledger_tables greatest H) trees → HasOursFirst image
 
 abbrev pub Same : Type 0
 Same = (image : Image) (trees : Trees) (greatest : ℕ) (H : History) → ∥ HoldsDatabase image trees ∥₁ → HoldsAt (ledger_tables greatest H) trees → IsJudged Two H
     → (make : Option ℕ) (next : ℕ) (H' : History) → Begins image make next H' → IsJudged Two H' → (next ≡ greatest) × (H' ≡ H)
 
-module _ (reports : Reports) (line_alone : Alone) (same_list : Same) where
-  -- the next run went on from the greatest number and the list with which the run ended
+module _ (reports : Reports) (ours_first : OursFirst) (same_list : Same) where
   pub goes_on : (run next : Run) (greatest number : ℕ) (H H₁ G H' : History) → IsRunFrom reports run greatest H H₁ → IsRunFrom reports next number G H'
       → number ≡ greatest → G ≡ H₁ → IsRunFrom reports (run_then run next) greatest H H'
   goes_on run next greatest number H H₁ G H' before after number_is list_is = record {
@@ -51,12 +48,11 @@ module _ (reports : Reports) (line_alone : Alone) (same_list : Same) where
   joins run next same is then alone =
       let (greatest, H, H₁, before) = is alone in
       let (trees, holds, database) = held run.ending (ledger_tables greatest H₁) run.last before.ends in
-      let (number, G, H', after) = then (subst (λ (image : Image). HasLineAlone image) (sym same) (line_alone run.last trees greatest H₁ database holds)) in
+      let (number, G, H', after) = then (subst (λ (image : Image). HasOursFirst image) (sym same) (ours_first run.last trees greatest H₁ database holds)) in
       let begins = subst (λ (image : Image). Begins image next.make number G) same after.begins in
       let told = same_list run.last trees greatest H₁ database holds before.lawful.judged next.make number G begins after.lawful_first.judged in
       (greatest, H, H', goes_on run next greatest number H H₁ G H' before after told.0 told.1)
 
-  -- a run that kept the list adds no answer
   pub stays : (run next : Run) → next.first ≡ run.last → IsRun reports run → KeepsList next → IsRun reports (run_then run next)
   stays run next same is (none, keeps) alone =
       let (greatest, H, H₁, before) = is alone in

@@ -1,7 +1,7 @@
-//! For proofs alone: nothing of it runs. Any number of runs on the same files: what their calls are
-//! answered, and what the files then hold.
+//! Any number of runs on the same files: the answers to their calls, and the files' contents afterwards. This crate
+//! serves proofs; nothing of it runs.
 //!
-//! `specs/Runs.antt` says what a run is, and how runs are as one.
+//! `specs/Runs.antt` defines a run, and how runs combine.
 #![tactic(auto)]
 
 ghost use Rattle.std.specs.Prelude.{ℕ, List, [], ◌∷◌, Option, Some};
@@ -26,15 +26,15 @@ ghost use Rattle.headline.specs.Calls.{AnswersByTheList, Call};
 ghost use Rattle.sqlite_wal.specs.Files.{image_at};
 
 use desk_file::{FileDesk, next_run_goes_on};
-use desk_types::Desk as AnyDesk;
 use feeder_state::StateDesk;
 use line_schema::LineStore;
 use sqlite::{FileFrom, FileStore, Files, Start};
 use sqlite_disk::Disk;
+use state_rows::KeepsRows;
 
-/// A law: runs one after the other, each on the files that the one before it left, are as one run that
-/// makes their calls. So every answer of every run is that of one list of accepted commands, which is
-/// lawful and consistent, and the files hold its tables.
+/// A law: runs one after another, each on the files that the previous one left, are equivalent to one run that makes
+/// all their calls. So every answer of every run is that of one list of accepted commands, which is lawful and
+/// consistent, and the files hold its tables.
 pub fn many_runs_are_one()
     ensures { (reports : Reports) (run : Run) (runs : List Run) → IsRun reports run → AreRuns reports run.last runs
         → IsRun reports (as_one run runs) }
@@ -42,8 +42,7 @@ pub fn many_runs_are_one()
     next_run_goes_on();
 }
 
-/// A law: a run of the program that closed its desk's file is a run, with the calls that its contracts
-/// tell.
+/// A law: a run of the program that closed its desk's file is a run, with the calls that its contracts give.
 pub fn closed_runs_are_runs<T: Start>(desk: &FileDesk<T, StateDesk>, files: &Files<FileFrom<T>>)
     ensures feeds { (make : Option ℕ) (input out out' : Option (List ℕ)) (ended : Ended) (image : Image)
         → RunsOn T.Start make (Desk desk.now) (λ G H. Feeds G input out out' ended H)
@@ -63,8 +62,7 @@ pub fn closed_runs_are_runs<T: Start>(desk: &FileDesk<T, StateDesk>, files: &Fil
         → ClosesTo desk.now files.now image → IsRun report_of (run_of T.Start make [] image) }
 {}
 
-/// A law: a whole run of the program that closed its desk's file is a run, with the calls that its
-/// contract tells.
+/// A law: a whole run of the program that closed its desk's file is a run, with the calls that its contract gives.
 pub fn whole_runs_are_runs<T: Start>(files: &Files<FileFrom<T>>)
     ensures feeds { (make : Option ℕ) (input out out' : Option (List ℕ)) (ended : Ended) (image : Image)
         → RunsTo whole T.Start ⟦<FileFrom<T> as Disk>⟧ (Some files.now) make (λ G H. Feeds G input out out' ended H)
@@ -89,7 +87,7 @@ pub fn whole_runs_are_runs<T: Start>(files: &Files<FileFrom<T>>)
         → ReadsClean ⟦<FileFrom<T> as Disk>⟧ files.now image → IsRun report_of (run_of T.Start make [] image) }
 {}
 
-/// A law: a whole run that was refused its files, and closed them, keeps their list and makes no call.
+/// A law: a whole run that was refused its files, and closed them, keeps their history and makes no call.
 pub fn refused_runs_keep_lists<T: Start>(files: &Files<FileFrom<T>>)
     ensures refused { (make : Option ℕ) (fault : OpenFault) (image : Image)
         → RefusesTo whole T.Start ⟦<FileFrom<T> as Disk>⟧ (Some files.now) make fault
@@ -101,9 +99,9 @@ pub fn refused_runs_keep_lists<T: Start>(files: &Files<FileFrom<T>>)
     next_run_goes_on();
 }
 
-/// A law: after a kill between two calls, which lets the files go without a close, they hold the tables
-/// of the desk's history.
-pub fn let_go<F: Disk + Drop, D: AnyDesk + Drop>(desk: LineStore<FileStore<F>, D>) -> Files<F>
+/// A law: after a kill between two calls, which drops the files without a close, they hold the tables of the desk's
+/// history.
+pub fn let_go<F: Disk + Drop, D: KeepsRows + Drop>(desk: LineStore<FileStore<F>, D>) -> Files<F>
     ensures left { Crashes D.Stands D.kept_rules desk result }
 {
     let conn = desk.into_connection();

@@ -1,4 +1,4 @@
--- A database in memory takes nothing untrue for true, and begins with no table.
+-- A database in memory never lies, and begins with no table.
 use Rattle.std.proofs.Common.{◌≡◌, ℕ, List, [], true, refl, inl, inr, arith}
 use Rattle.sqlite_catalog.proofs.ReadLemmas.{lists_once}
 use Rattle.sqlite_pool.specs.Pool.{state as pool_state}
@@ -14,7 +14,6 @@ use Rattle.sqlite.specs.State.{HasCleanDisk}
 use Rattle.memory_store.specs.declared.file.MemoryFile.{MemoryFile}
 use Rattle.memory_store.specs.contracts.file.MemoryFileDisk.TheImpl.{ghosts as disk}
 
--- each call finds it clean, and leaves it so
 pub stays_clean : (conn : Held (FileStore MemoryFile disk)) → HasCleanDisk (file_state conn)
 unfolding pool_state
 stays_clean conn = no_doubt true refl
@@ -22,7 +21,6 @@ stays_clean conn = no_doubt true refl
 abbrev no_tables : Schema
 no_tables = record { tables = []; indexes = []; views = [] }
 
--- what an open of empty files finds has no table
 pub finds_none : (log : List ℕ) (db : Database) → IsDatabase db → AreFoundIn (record { log = log; db = [] }) db.trees → db.schema ≡ no_tables
 finds_none log db sound (inl found) = absurd (omega (arith, found.3.found.present))
 finds_none log db sound (inr none) = lists_once (db.trees catalog_tree) db.schema no_tables sound.lists (empty_is_sound db.trees none.1.1).lists

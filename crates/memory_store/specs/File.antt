@@ -1,7 +1,7 @@
--- What a file in memory shows.
+-- The contents of a file in memory.
 use Rattle.std.specs.Prelude.{ℕ, List}
 use Rattle.memory_store.specs.declared.file.MemoryFile.{MemoryFile}
 
--- the bytes that it has
+-- Its bytes.
 abbrev pub bytes_in : MemoryFile → List ℕ
 bytes_in m = m.bytes.items

@@ -1,4 +1,4 @@
-//! A file in memory, whose writes stand at once.
+//! A file in memory, whose writes take effect at once.
 
 ghost use Rattle.std.specs.Prelude.{◌≡◌, [], length, true, false, refl, is_ok, IsTrue, OnOk};
 ghost use Rattle.sqlite_disk.specs.Disk.{CountsFault, Cut, Holds, Torn};
@@ -8,7 +8,7 @@ use sqlite_disk::{Disk, Tally, digest_of};
 use std::alloc::{AllocError, Global};
 use std::io;
 
-/// Its bytes, and how many calls found no memory. A sync costs nothing.
+/// Its bytes, and the number of calls that found no memory. A sync costs nothing.
 #[derive(Drop)]
 pub struct MemoryFile {
     bytes: Vec<u8>,
@@ -34,7 +34,7 @@ impl MemoryFile {
 impl Disk for MemoryFile {
     ghost seen = { λ m. m.bytes.items };
 
-    // What was written stands at once.
+    // Writes take effect at once.
     ghost may_leave = { λ m c. c ≡ m.bytes.items };
 
     ghost is_usable = { λ _. true };
@@ -57,7 +57,7 @@ impl Disk for MemoryFile {
         false
     }
 
-    // Memory tells no lie, so it needs no secret.
+    // Memory never lies, so it needs no secret.
     fn key(&self) -> u64 {
         0
     }
@@ -121,7 +121,6 @@ fn count(outcome: Result<(), AllocError>, faults: &mut u64) -> io::Result<()>
     Ok(())
 }
 
-/// Makes the file so long.
 fn resize(file: &mut Vec<u8>, len: usize) -> Result<(), AllocError>
     ensures len { OnOk result (length file.new.items ≡ len) }
     ensures others { Cut len file.old.items file.new.items }
@@ -129,7 +128,6 @@ fn resize(file: &mut Vec<u8>, len: usize) -> Result<(), AllocError>
     file.resize(len, 0)
 }
 
-/// Writes the bytes at the offset. The file gets as long as they need.
 fn overwrite(file: &mut Vec<u8>, at: usize, bytes: &[u8]) -> Result<(), AllocError>
     ensures written { OnOk result (Holds file.new.items at bytes.now) }
     ensures others { Torn at (length bytes.now) file.old.items file.new.items }

@@ -11,8 +11,8 @@ use std::alloc::Global;
 /// A connection to a database in memory.
 pub type MemoryConnection = Connection<FileStore<MemoryFile>>;
 
-/// The number that salts the log. It tells the frames of a log from those that an earlier program
-/// left in the file; a log in memory has none, so any number serves.
+/// The number that salts the log. It distinguishes the frames of a log from those of an earlier program. A log in
+/// memory has no earlier frames, so any number serves.
 const SEED: u64 = 0;
 
 /// A database with no table. An error is out of memory.

@@ -1,4 +1,4 @@
--- A reel that stands for a list goes on standing for it, command by command.
+-- A reel keeps representing its history, command by command.
 use Rattle.std.proofs.Common.{◌≡◌, ℕ, ◌+◌, ◌-◌, ◌≤◌, true, false, Option, Some, None, [], ◌∷◌, refl, sym, ap, ◌∙◌, subst, arith}
 use Rattle.std.specs.Prelude.{unwrap_or, if◌then◌else◌}
 use Rattle.std.specs.Option.{option_or, option_map, option_map_or, ForSome, ForNone}
@@ -16,7 +16,6 @@ use Rattle.desk_types.proofs.ReelCommands.{IsQuiet, IsQuiet-open, IsQuiet-untouc
 use Rattle.reels.specs.declared.reel.Reel.{Reel}
 use Rattle.reels.specs.Reel.{HasReceipt, StandsFor, SameReceipt, SamePieces, exposure_at}
 
--- an entry that doesn't receive the reel leaves its receipt
 HasReceipt-next : (H : History) (e : Entry) (name : Name) (old new : Reel) → HasReceipt H name old → SameReceipt old new → SamePieces old new
     → receipt_by name e.effective e.stamped.command ≡ None → HasReceipt (e ∷ H) name new
 HasReceipt-next H e name old new has same pieces none = record {
@@ -41,7 +40,6 @@ in-bag name = ap (λ b. if b then Some false else None) (same-refl name)
 in-bag-baked : (name : Name) → open_by name (ReelBaked name) ≡ Some false
 in-bag-baked name = ap (λ b. if b then Some false else None) (same-refl name)
 
--- An entry about another reel, or about none, changes nothing.
 pub StandsFor-untouched : (H : History) (e : Entry) (name : Name) (reel : Reel) → StandsFor H name reel → open_by name e.stamped.command ≡ None → StandsFor (e ∷ H) name reel
 StandsFor-untouched H e name reel stands none =
     let quiet = IsQuiet-untouched name e.effective e.stamped.command none in
@@ -65,7 +63,6 @@ since-fits : (o : Option ℕ) (last m : ℕ) → ForSome o (λ s. s ≤ last) �
 since-fits None last m fits le = omega arith
 since-fits (Some s) last m fits le = let here : s ≤ last = fits s refl in let fit : s ≤ m = omega arith in fit
 
--- the minute since which it is out lies between what is used and the open
 pub since-between : (o : Option ℕ) (used last at x : ℕ) → ForSome o (λ s. (used ≤ s) × (s ≤ last)) → ForNone o (used ≤ last) → last ≤ at
     → unwrap_or o at ≡ x → (used ≤ x) × (x ≤ at)
 since-between None used last at x out in_bag le is =
@@ -78,7 +75,6 @@ since-between (Some s) used last at x out in_bag le is =
     let same : s ≡ x = is in
     (omega arith, omega arith)
 
--- the minutes out from the first open on are those up to a minute between and those from there on
 out-on : (o : Option ℕ) (used last m minute : ℕ) → ForSome o (λ s. s ≤ last) → last ≤ m → m ≤ minute
     → used + option_map_or (λ s. minute - s) (Some (unwrap_or o m)) 0 ≡ used + option_map_or (λ s. m - s) o 0 + (minute - m)
 out-on None used last m minute fits le low = let is : used + (minute - m) ≡ used + 0 + (minute - m) = omega arith in is
@@ -87,7 +83,6 @@ out-on (Some s) used last m minute fits le low =
     let is : used + (minute - s) ≡ used + (m - s) + (minute - m) = omega arith in
     is
 
--- the exposure at the minute since which the reel is out
 used-since : (H : History) (name : Name) (reel : Reel) (m : ℕ) (o : Option ℕ) → StandsFor H name reel → reel.open_since ≡ o → reel.last ≤ m
     → reel.used ≡ exposure_of H name (unwrap_or o m)
 used-since H name reel m None stands is le =
@@ -146,7 +141,6 @@ StandsFor-seal H e name old new stands command same pieces baked used le at seal
 
 -- ---- bakes and receipts
 
--- A reel in its bag whose exposure begins at the entry.
 anew : (H : History) (e : Entry) (name : Name) (new : Reel) → HasReceipt (e ∷ H) name new → new.baked ≡ is_baked (e ∷ H) name
     → open_by name e.stamped.command ≡ Some false → exposure_starts (e ∷ H) name ≡ e.effective → e.effective ≡ new.last → new.used ≡ 0 → new.open_since ≡ None
     → StandsFor (e ∷ H) name new

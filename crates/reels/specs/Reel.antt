@@ -1,4 +1,4 @@
--- What a reel stands for.
+-- The state of a reel, and the history that it represents.
 use Rattle.std.specs.Prelude.{◌≡◌, ℕ, ◌+◌, ◌-◌, ◌≤◌, nat_le, Bool, true, false, not, ◌&&◌, Option, Some, None, unwrap_or}
 use Rattle.std.specs.Option.{option_map, option_map_or}
 use Rattle.desk_types.specs.declared.command.Receipt.{Receipt}
@@ -11,23 +11,23 @@ use Rattle.reels.specs.declared.reel.Reel.{Reel}
 use Rattle.reels.specs.declared.reel.Usage.{Usage}
 use Rattle.reels.specs.declared.reel.Usage.TheVariants.{Placed, Scrapped}
 
--- the exposure that the reel says it has at a minute: what it has kept, and the minutes since which it is out
+-- The reel's exposure at a minute: the stored one, and the minutes since it left its bag.
 abbrev pub exposure_at : Reel → ℕ → ℕ
 exposure_at reel minute = reel.used + option_map_or (λ since. minute - since) reel.open_since 0
 
--- the minutes of floor life that the reel says are left, 0 when expired; none without a limit
+-- The reel's remaining minutes of floor life, 0 if expired; none without a limit.
 abbrev pub minutes_left_at : Reel → ℕ → Option ℕ
 minutes_left_at reel minute = option_map (λ limit. limit - exposure_at reel minute) (limit_of reel.level reel.label)
 
--- the exposure that the reel says it has is at least its limit, where it has one
+-- Whether the reel's exposure has reached its limit, if it has one.
 abbrev pub is_expired_at : Reel → ℕ → Bool
 is_expired_at reel minute = option_map_or (λ limit. nat_le limit (exposure_at reel minute)) (limit_of reel.level reel.label) false
 
--- the reel says that it waits for its bake: it is of level 6, and not baked
+-- Whether the reel waits for its bake: it has level 6 and isn't baked.
 abbrev pub is_unbaked_reel : Reel → Bool
 is_unbaked_reel reel = is_six reel.level && not reel.baked
 
--- the list has a receipt of the reel of this name, and it said what the reel says; its pieces are those that were not found since
+-- The history has this reel's receipt; the received pieces are the receipt's and those found later.
 pub record HasReceipt (H : History) (name : Name) (reel : Reel) : Type 0 where
   pub receipt : Receipt
   pub is : receipt_of H name ≡ Some receipt
@@ -37,8 +37,8 @@ pub record HasReceipt (H : History) (name : Name) (reel : Reel) : Type 0 where
   pub label : reel.label ≡ receipt.moisture.label
   pub received : reel.received ≡ receipt.quantity + reel.found
 
--- The reel is what the list says of the reel of this name: its receipt, whether it was baked, since when it is out of its bag,
--- and its exposure at each minute from its last command on.
+-- The reel has the state of this name in the history: receipt, bake, time out of its bag, and
+-- exposure from its last command on.
 pub record StandsFor (H : History) (name : Name) (reel : Reel) : Type 0 where
   pub receipt : HasReceipt H name reel
   pub baked : reel.baked ≡ is_baked H name
@@ -47,7 +47,7 @@ pub record StandsFor (H : History) (name : Name) (reel : Reel) : Type 0 where
   pub used : reel.used ≡ exposure_of H name (unwrap_or reel.open_since reel.last)
   pub exposure : (minute : ℕ) → reel.last ≤ minute → exposure_at reel minute ≡ exposure_of H name minute
 
--- all pieces of the receipt remain, and none were found
+-- All pieces of the receipt remain, and none were found.
 pub record IsReceived (quantity : ℕ) (reel : Reel) : Type 0 where
   pub received : reel.received ≡ quantity
   pub found : reel.found ≡ 0
@@ -55,45 +55,45 @@ pub record IsReceived (quantity : ℕ) (reel : Reel) : Type 0 where
   pub scrapped : reel.scrapped ≡ 0
   pub remaining : reel.remaining ≡ quantity
 
--- the reel says what the receipt said of the part, the lot and the moisture
+-- The reel has the receipt's part, lot and moisture data.
 pub record IsOfReceipt (part lot : Name) (moisture : LevelWithLabel) (reel : Reel) : Type 0 where
   pub is_part : reel.part ≡ part
   pub is_lot : reel.lot ≡ lot
   pub level : reel.level ≡ moisture.level
   pub label : reel.label ≡ moisture.label
 
--- the reel is in its bag, and was neither out of it nor baked
+-- The reel is in its bag, unused and unbaked.
 pub record IsInNewBag (reel : Reel) : Type 0 where
   pub used : reel.used ≡ 0
   pub open_since : reel.open_since ≡ None
   pub baked : reel.baked ≡ false
 
--- the reel is out of its bag, from this minute on where it was not out already
+-- The reel is out of its bag, from this minute on unless it was out already.
 pub record IsOpened (minute : ℕ) (old new : Reel) : Type 0 where
   pub used : new.used ≡ old.used
   pub open_since : new.open_since ≡ Some (unwrap_or old.open_since minute)
   pub baked : new.baked ≡ old.baked
 
--- the reel is in its bag, and keeps the exposure that it had at this minute
+-- The reel is in its bag and keeps its exposure at this minute.
 pub record IsSealed (minute : ℕ) (old new : Reel) : Type 0 where
   pub used : new.used ≡ exposure_at old minute
   pub open_since : new.open_since ≡ None
   pub baked : new.baked ≡ old.baked
 
--- the reel is in its bag, baked and without exposure
+-- The reel is in its bag, baked and without exposure.
 pub record IsBaked (new : Reel) : Type 0 where
   pub used : new.used ≡ 0
   pub open_since : new.open_since ≡ None
   pub baked : new.baked ≡ true
 
--- what the receipt said of the part, the lot and the moisture is as before
+-- Part, lot and moisture data stay the same.
 pub record SameReceipt (old new : Reel) : Type 0 where
   pub part : new.part ≡ old.part
   pub lot : new.lot ≡ old.lot
   pub level : new.level ≡ old.level
   pub label : new.label ≡ old.label
 
--- the pieces are as before
+-- The pieces stay the same.
 pub record SamePieces (old new : Reel) : Type 0 where
   pub received : new.received ≡ old.received
   pub found : new.found ≡ old.found
@@ -101,14 +101,13 @@ pub record SamePieces (old new : Reel) : Type 0 where
   pub scrapped : new.scrapped ≡ old.scrapped
   pub remaining : new.remaining ≡ old.remaining
 
--- the floor life is as before
+-- The floor life stays the same.
 pub record SameLife (old new : Reel) : Type 0 where
   pub used : new.used ≡ old.used
   pub open_since : new.open_since ≡ old.open_since
   pub baked : new.baked ≡ old.baked
   pub last : new.last ≡ old.last
 
--- whether the pieces were placed
 abbrev pub is_placed_usage : Usage → Bool
 is_placed_usage Placed = true
 is_placed_usage Scrapped = false

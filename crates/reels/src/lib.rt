@@ -1,4 +1,4 @@
-//! Reels: how many pieces they have, and how long they may still lie out of their bags.
+//! Reels: their pieces, and how long they may still be out of their bags.
 #![tactic(auto)]
 
 mod reel;

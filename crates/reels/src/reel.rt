@@ -1,4 +1,4 @@
-//! A reel: its pieces and its floor life, counted in constant time and with no clock.
+//! A reel's pieces and floor life, computed in constant time and without a clock.
 
 ghost use Rattle.std.specs.Prelude.{◌≡◌, ℕ, ◌+◌, ◌-◌, ◌≤◌, Some, None};
 ghost use Rattle.std.specs.Option.{ForSome, ForNone};
@@ -6,25 +6,25 @@ ghost use Rattle.desk_types.specs.declared.limits.TheConstants.{GREATEST_LABEL};
 
 use desk_types::{Id, Level, Minute, Moisture, Quantity};
 
-/// What became of pieces that were taken off a reel.
+/// Why pieces left a reel.
 #[derive(Clone, Copy, Debug, PartialEq, Eq)]
 pub enum Usage {
     /// They were placed on boards.
     Placed,
-    /// They were thrown away, or a count showed them missing.
+    /// They were scrapped, or missing at a count.
     Scrapped,
 }
 
-/// A reel as the commands on it left it. Minutes are whole minutes since 1970-01-01T00:00Z.
+/// The state of a reel after its commands. Each `Minute` counts from 1970-01-01T00:00Z.
 ///
-/// `received` are the pieces of its receipt and those that were `found` since, and `scrapped` those
-/// that were thrown away or that a count showed missing. `used` is the exposure at `open_since`, or at
-/// `last` while the reel is in its bag; `open_since` is the minute since which it is out of its bag;
-/// `last` is the minute of its last receipt, open, seal or bake. The idea of floor life is
-/// J-STD-033's; the limits are this project's own profile.
+/// - `received`: the pieces of the receipt and those `found` later.
+/// - `scrapped`: the pieces scrapped, or missing at a count.
+/// - `used`: the exposure in minutes at `open_since`, or at `last` while the reel is in its bag.
+/// - `open_since`: the minute since which the reel is out of its bag.
+/// - `last`: the minute of the last receipt, open, seal or bake.
 ///
-/// A label is at most the greatest one, so that the minutes left can be added to a minute without a
-/// test.
+/// The idea of floor life comes from J-STD-033; the limits are this project's own profile. A label
+/// is bounded so that adding the minutes left to a minute can't overflow.
 #[derive(Clone, Copy, Debug, PartialEq, Eq)]
 pub struct Reel {
     pub part: Id,
@@ -58,7 +58,7 @@ impl Reel {
     ghost use Rattle.desk_types.specs.FloorLife.{open_by, IsUntouched, exposure_of, minutes_left, is_expired, is_unbaked};
     ghost use Rattle.reels.specs.Reel.{StandsFor, SameReceipt, SamePieces, SameLife, IsReceived, IsOfReceipt, IsInNewBag, IsOpened, IsSealed, IsBaked, exposure_at, minutes_left_at, is_expired_at, is_unbaked_reel, is_placed_usage};
 
-    /// A reel that came in at this minute, sealed.
+    /// Returns a sealed reel received at this minute.
     pub fn receive(part: Id, lot: Id, moisture: Moisture, quantity: Quantity, at: Minute) -> Reel
         ensures pieces { IsReceived quantity result }
         ensures receipt { IsOfReceipt part lot moisture result }
@@ -86,7 +86,7 @@ impl Reel {
         }
     }
 
-    /// The reel is out of its bag from this minute on. A reel that is out already stays so.
+    /// Takes the reel out of its bag. A reel that is out already stays so.
     pub fn open(&mut self, at: Minute)
         requires { self.old.last ≤ at }
         ensures receipt { SameReceipt self.old self.new }
@@ -101,7 +101,7 @@ impl Reel {
         self.last = at;
     }
 
-    /// The reel is in its bag from this minute on: its exposure stands still.
+    /// Seals the reel in its bag, which stops its exposure.
     pub fn seal(&mut self, at: Minute)
         requires { self.old.last ≤ at }
         ensures receipt { SameReceipt self.old self.new }
@@ -117,7 +117,7 @@ impl Reel {
         self.last = at;
     }
 
-    /// The reel was baked and is in its bag: its exposure is 0.
+    /// Bakes and seals the reel, which resets its exposure to 0.
     pub fn bake(&mut self, at: Minute)
         requires { self.old.last ≤ at }
         ensures receipt { SameReceipt self.old self.new }
@@ -134,7 +134,7 @@ impl Reel {
         self.last = at;
     }
 
-    /// The minute, or the reel's last one where that is later: a minute at which the reel may be asked.
+    /// Returns the minute, or the reel's last one if that is later.
     pub fn not_before(&self, at: Minute) -> Minute
         ensures last { self.now.last ≤ result }
         ensures value { result ≡ max at self.now.last }
@@ -142,8 +142,8 @@ impl Reel {
         if self.last > at { self.last } else { at }
     }
 
-    /// How many minutes before this one the reel was out of its bag, since its last bake, or else its
-    /// receipt.
+    /// Returns how many minutes the reel was out of its bag before this one, since its last bake or
+    /// its receipt.
     pub fn exposure(&self, at: Minute) -> u64
         requires { self.now.last ≤ at }
         ensures value { result ≡ exposure_at self.now at }
@@ -156,7 +156,7 @@ impl Reel {
         }
     }
 
-    /// The minutes of floor life that are left, 0 when expired, or none where there is no limit.
+    /// Returns the remaining minutes of floor life, 0 if expired, or none without a limit.
     pub fn minutes_left(&self, at: Minute) -> Option<u64>
         requires { self.now.last ≤ at }
         ensures value { result ≡ minutes_left_at self.now at }
@@ -168,7 +168,8 @@ impl Reel {
         Some(limit.saturating_sub(exposure))
     }
 
-    /// Whether the reel waits for its bake: it is of level 6, and was not baked since its receipt.
+    /// Returns whether the reel waits for its bake: it has level 6 and wasn't baked since its
+    /// receipt.
     pub fn is_unbaked(&self) -> bool
         ensures value { result ≡ is_unbaked_reel self.now }
         ensures stands { (H : History) (name : Name) → StandsFor H name self.now → result ≡ is_unbaked H name }
@@ -176,7 +177,7 @@ impl Reel {
         self.level == Level::Six && !self.baked
     }
 
-    /// Whether the reel's floor life is used up at this minute.
+    /// Returns whether the reel has expired by this minute.
     pub fn is_expired(&self, at: Minute) -> bool
         requires { self.now.last ≤ at }
         ensures value { result ≡ is_expired_at self.now at }
@@ -188,7 +189,7 @@ impl Reel {
         }
     }
 
-    /// Whether the reel may be used at this minute: it waits for no bake, and is not expired.
+    /// Returns whether the reel can be used at this minute: it is neither unbaked nor expired.
     pub fn usable(&self, at: Minute) -> bool
         requires { self.now.last ≤ at }
         ensures value { result ≡ (not (is_unbaked_reel self.now) && not (is_expired_at self.now at)) }
@@ -217,7 +218,7 @@ impl Reel {
         }
     }
 
-    /// So many pieces were counted: those that are missing are scrapped.
+    /// Records a count. Missing pieces become scrapped.
     pub fn count(&mut self, pieces: u64)
         requires { pieces ≤ self.old.remaining }
         ensures remaining { self.new.remaining ≡ pieces }
@@ -233,8 +234,7 @@ impl Reel {
         self.take(missing, Usage::Scrapped);
     }
 
-    /// So many pieces were counted, and they are more than remain: those above are found, and count as
-    /// received. It asks that the sum fits.
+    /// Records a count above the remaining pieces. The surplus becomes found and received pieces.
     pub fn rise(&mut self, pieces: u64)
         requires live { 1 ≤ self.old.remaining }
         requires above { self.old.remaining < pieces }
@@ -255,8 +255,8 @@ impl Reel {
         self.received += above;
     }
 
-    /// A law: a command on another reel, or on none, changes nothing of what the reel stands for. It is
-    /// for proofs, and does nothing when it runs.
+    /// A law: a command that doesn't concern the reel keeps it representing its history. It is for
+    /// proofs and does nothing at run time.
     pub fn stays(&self)
         ensures { (H : History) (name : Name) (e : Entry) → StandsFor H name self.now
             → open_by name e.stamped.command ≡ None → StandsFor (e ∷ H) name self.now }

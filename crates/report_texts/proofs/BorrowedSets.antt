@@ -7,7 +7,6 @@ use Rattle.std.specs.declared.cmp.Ordering.{Ordering}
 use Rattle.std.specs.declared.cmp.Ordering.TheVariants.{Less, Equal, Greater}
 use Rattle.report_texts.specs.Sets.{Fields, by_fields, bytes_of}
 
--- the order of borrowed fields
 abbrev pub by_bytes : List (Bor (List ℕ)) → List (Bor (List ℕ)) → Ordering
 by_bytes = slice_cmp (λ x y. slice_cmp nat_cmp x.now y.now)
 
@@ -18,7 +17,6 @@ order-same (x ∷ xs) [] = refl
 order-same (x ∷ xs) (y ∷ ys) = ap (ordering_then (slice_cmp nat_cmp x.now y.now)) (order-same xs ys)
 
 module _ {R : Type 0} (fields : R → List (Bor (List ℕ))) where
-  -- a borrowed record goes to the place of its bytes
   pub put-same : (keys : List R) (k : R)
       → map (λ r. bytes_of (fields r)) (insert_key (λ a b. by_bytes (fields a) (fields b)) keys k) ≡ insert_key by_fields (map (λ r. bytes_of (fields r)) keys) (bytes_of (fields k))
   put-same [] k = refl

@@ -1,4 +1,4 @@
--- Each record of a report has a field.
+-- Each record of a report has at least one field.
 use Rattle.std.proofs.Common.{◌≢◌, All, List, [], ◌∷◌, map}
 use Rattle.std.proofs.lemmas.List.Elements.{All-nil, All-cons}
 use Rattle.std.proofs.lemmas.Map.Views.{All-insert_key}

@@ -10,22 +10,19 @@ use Rattle.desk_types.proofs.LoopSteps.{take-next, drop-next}
 use Rattle.report_texts.specs.declared.kit.KitRow.{KitRow}
 use Rattle.report_texts.specs.Kit.{needed_by, pieces_of_reels, reels_for, rows_for, kit_rows}
 
--- ---- one reel more
+-- ---- one more reel
 
--- what is read of the reels so far and the next one
 pub read-next : {Y : Type 0} (read : ReelView → Y) (reels : List ReelView) (i : ℕ) (reel : ReelView) → i < length reels → reel ≡ get_or reels i reel
     → map read (take (i + 1) reels) ≡ map read (take i reels) ++ read reel ∷ []
 read-next read reels i reel inside is = ap (map read) (take-next reels i reel inside is) ∙ map-append read (take i reels) (reel ∷ [])
 
--- the pieces on them
 pub pieces-next : (reels : List ReelView) (i : ℕ) (reel : ReelView) → i < length reels → reel ≡ get_or reels i reel
     → pieces_of_reels (take (i + 1) reels) ≡ pieces_of_reels (take i reels) + reel.remaining
 pieces-next reels i reel inside is = ap pieces_of_reels (take-next reels i reel inside is) ∙ sum_by_push (λ (r : ReelView). r.remaining) (take i reels) reel
 
--- ---- one sheet row more
+-- ---- one more sheet row
 
 module _ (H : History) (boards : ℕ) (names : List Name) (sheet : List SheetRow) (i : ℕ) where
-  -- the rows so far, with those of one row of the sheet
   pub kit-next : (row : SheetRow) (was now : List KitRow) (needed : ℕ) (reels : List ReelView) → i < length sheet → row ≡ get_or sheet i row
       → needed ≡ needed_by boards row → reels ≡ reels_for H boards names row → now ≡ was ++ rows_for row needed reels
       → now ++ kit_rows H boards (names ++ map (λ (r : ReelView). r.reel) reels) (drop (i + 1) sheet) ≡ was ++ kit_rows H boards names (drop i sheet)
@@ -38,7 +35,6 @@ module _ (H : History) (boards : ℕ) (names : List Name) (sheet : List SheetRow
       ∙ append_assoc was (rows_for row (needed_by boards row) (reels_for H boards names row)) (rest (reels_for H boards names row))
       ∙ ap (λ l. was ++ kit_rows H boards names l) (sym (drop-next sheet i row inside is))
 
-  -- where no row of the sheet is left, these are all
   pub kit-end : (kit all : List KitRow) → drop i sheet ≡ [] → kit ++ kit_rows H boards names (drop i sheet) ≡ all → kit ≡ all
   unfolding kit_rows
   kit-end kit all none is = sym (append-nil kit) ∙ ap (λ l. kit ++ kit_rows H boards names l) (sym none) ∙ is

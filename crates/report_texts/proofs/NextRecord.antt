@@ -1,4 +1,4 @@
--- A report with one row more.
+-- A report with one more row.
 use Rattle.std.proofs.Common.{◌≡◌, ℕ, ◌+◌, ◌<◌, List, [], ◌∷◌, ◌++◌, length, take, map, get_or, sym, ap, ◌∙◌, append_assoc, append-nil}
 use Rattle.std.specs.List.{flat_map}
 use Rattle.std.proofs.lemmas.List.{map-append}
@@ -6,7 +6,6 @@ use Rattle.std.proofs.lemmas.List.Concat.{flat_map-append}
 use Rattle.desk_types.proofs.LoopSteps.{take-next}
 use Rattle.report_texts.specs.Csv.{record_text, csv_text}
 
--- the report of the rows so far and the next one has one record more
 pub text-next : {X : Type 0} (header : List (List ℕ)) (fields : X → List (List ℕ)) (rows : List X) (i : ℕ) (row : X) → i < length rows → row ≡ get_or rows i row
     → csv_text header (map fields (take (i + 1) rows)) ≡ csv_text header (map fields (take i rows)) ++ record_text (fields row)
 text-next header fields rows i row inside is =

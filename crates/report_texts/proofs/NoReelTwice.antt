@@ -37,7 +37,6 @@ name_of r = r.reel
 
 -- ---- received reels
 
--- a reel that was not received is none of the received ones
 not-received : (H : History) (reel : Name) → receipt_of H reel ≡ None → AllByRecursion (λ y. same reel y ≡ false) (reels_received H)
 not-received [] reel none = tt
 not-received (e ∷ H) reel none =
@@ -54,7 +53,6 @@ not-received (e ∷ H) reel none =
         (same-sym reel x ∙ other (same x reel) (record { part = part; lot = lot; moisture = moisture; quantity = quantity; effective = e.effective }) none, rest)
     by _ none rest = rest
 
--- no reel is received twice
 received-distinct : (H : History) → IsJudged Two H → IsDistinct same (reels_received H)
 unfolding IsDistinct
 received-distinct [] judged = tt
@@ -100,7 +98,6 @@ module _ (order : Name → Name → Ordering) where
 
 -- ---- free reels
 
--- the names of what is told of some reels are those of the received ones
 names-told : (H : History) (xs : List Name) → map name_of (filter_map (reel_view H) xs) ≡ filter (λ x. is_some (receipt_of H x)) xs
 names-told H [] = refl
 names-told H (x ∷ xs) = by (receipt_of H x) (names-told H xs)
@@ -111,7 +108,6 @@ names-told H (x ∷ xs) = by (receipt_of H x) (names-told H xs)
     by None rest = rest
     by (Some receipt) rest = ap (λ l. x ∷ l) rest
 
--- the names of some reels that pass a test of names
 names-pass : (test : Name → Bool) (reels : List ReelView) → map name_of (filter (λ (r : ReelView). test r.reel) reels) ≡ filter test (map name_of reels)
 names-pass test [] = refl
 names-pass test (r ∷ reels) = by (test r.reel) (names-pass test reels)
@@ -131,7 +127,7 @@ passed given (x ∷ names) = by (is_among given x) refl (passed given names)
     by true is rest = rest
     by false is rest = (is, rest)
 
--- a reel is given to no row twice, and to none that is given already
+-- The names are distinct, and none was given before.
 pub record IsNewTo (given names : List Name) : Type 0 where
   pub once : IsDistinct same names
   pub new : AllByRecursion (λ y. is_among given y ≡ false) names
@@ -189,7 +185,6 @@ short-named false row needed missing = refl
 reels-append : (xs ys : List KitRow) → reels_in (xs ++ ys) ≡ reels_in xs ++ reels_in ys
 reels-append xs ys = filter_map-append (λ (row : KitRow). reel_in row.supply) xs ys
 
--- the reels that the rows for one sheet row name are those that it gets
 row-names : (row : SheetRow) (needed : ℕ) (reels : List ReelView) (others : List KitRow) → reels_in (rows_for row needed reels ++ others) ≡ map name_of reels ++ reels_in others
 row-names row needed reels others =
     let brought : List KitRow = map (reel_row row needed) reels in
@@ -201,7 +196,6 @@ row-names row needed reels others =
     ∙ ap (λ l. map name_of reels ++ l) (short-named (nat_lt (pieces_of_reels reels) needed) row needed (needed - pieces_of_reels reels))
     ∙ append-nil (map name_of reels))
 
--- what is not among names and then others is neither among the former nor among the latter
 neither : (given more ys : List Name) → AllByRecursion (λ y. is_among (given ++ more) y ≡ false) ys
     → AllByRecursion (λ y. is_among given y ≡ false) ys × AllByRecursion (λ y. is_among more y ≡ false) ys
 neither given more [] all = (tt, tt)
@@ -226,6 +220,5 @@ kit-new H boards given (row ∷ sheet) judged =
       new = all-append (λ y. is_among given y ≡ false) here (reels_in others) first.new apart.0;
     })
 
--- a kit names no reel twice
 pub kit-once : (H : History) (boards : ℕ) (sheet : List SheetRow) → IsJudged Two H → IsDistinct same (reels_in (kit_rows H boards [] sheet))
 kit-once H boards sheet judged = (kit-new H boards [] sheet judged).once

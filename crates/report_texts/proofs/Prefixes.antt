@@ -1,4 +1,4 @@
--- The shortest prefix of some reels that is enough, reel by reel.
+-- The shortest sufficient prefix of some reels, reel by reel.
 use Rattle.std.proofs.Common.{◌≡◌, ℕ, ◌+◌, ◌-◌, ◌<◌, Bool, true, false, cond, Option, None, Some, List, [], ◌∷◌, ◌++◌, length, drop, map, get_or, refl, sym, ap, ◌∙◌, append_assoc, append-nil, arith}
 use Rattle.std.specs.Prelude.{nat_le, unwrap_or}
 use Rattle.std.specs.List.{find, filter}
@@ -9,15 +9,13 @@ use Rattle.desk_types.specs.declared.view.ReelView.{ReelView}
 use Rattle.desk_types.proofs.LoopSteps.{drop-next}
 use Rattle.report_texts.specs.Kit.{pieces_of_reels, prefixes, enough}
 
--- ---- what is enough
+-- ---- sufficient prefixes
 
--- where nothing more is needed, no reel
 pub enough-zero : (reels : List ReelView) → enough 0 reels ≡ []
 unfolding prefixes
 enough-zero [] = refl
 enough-zero (r ∷ reels) = refl
 
--- of no reels, none
 pub enough-nil : (needed : ℕ) → enough needed [] ≡ []
 unfolding prefixes
 enough-nil needed = by (nat_le needed 0)
@@ -26,7 +24,6 @@ enough-nil needed = by (nat_le needed 0)
     by true = refl
     by false = refl
 
--- one reel's pieces are there already
 le-less : (n a b : ℕ) → nat_le n (a + b) ≡ nat_le (n - a) b
 le-less n a b = by (nat_le n (a + b)) (nat_le (n - a) b) refl refl
   where
@@ -36,7 +33,6 @@ le-less n a b = by (nat_le n (a + b)) (nat_le (n - a) b) refl refl
     by true false whole rest = let high = leb-true n (a + b) whole in let low = leb-false (n - a) b rest in absurd (omega (arith, high, low))
     by false true whole rest = let high = leb-false n (a + b) whole in let low = leb-true (n - a) b rest in absurd (omega (arith, high, low))
 
--- the prefixes that begin with a reel
 find-behind : (needed : ℕ) (r : ReelView) (ps : List (List ReelView))
     → find (λ p. nat_le needed (pieces_of_reels p)) (map (λ p. r ∷ p) ps) ≡ option_map (λ p. r ∷ p) (find (λ p. nat_le (needed - r.remaining) (pieces_of_reels p)) ps)
 find-behind needed r [] = refl
@@ -51,7 +47,6 @@ find-behind needed r (p ∷ ps) =
     by true rest = refl
     by false rest = rest
 
--- the first reel, and then what is enough for the rest
 pub enough-next : (needed : ℕ) (r : ReelView) (reels : List ReelView) → 0 < needed → enough needed (r ∷ reels) ≡ r ∷ enough (needed - r.remaining) reels
 unfolding prefixes
 enough-next needed r reels some =
@@ -67,13 +62,12 @@ enough-next needed r reels some =
     by None = refl
     by (Some p) = refl
 
--- ---- one step over reels of which some are passed over
+-- ---- one step over filtered reels
 
 module _ (test : ReelView → Bool) (reels : List ReelView) (i : ℕ) (reel : ReelView) (inside : i < length reels) (is : reel ≡ get_or reels i reel) where
   at : filter test (drop i reels) ≡ cond (test reel) (reel ∷ filter test (drop (i + 1) reels)) (filter test (drop (i + 1) reels))
   at = ap (filter test) (drop-next reels i reel inside is)
 
-  -- a reel that passes is chosen where more is needed
   pub step-chosen : (was now : List ReelView) (missing after : ℕ) → test reel ≡ true → 0 < missing → now ≡ was ++ reel ∷ [] → after ≡ missing - reel.remaining
       → now ++ enough after (filter test (drop (i + 1) reels)) ≡ was ++ enough missing (filter test (drop i reels))
   step-chosen was now missing after passes some put less =
@@ -84,7 +78,6 @@ module _ (test : ReelView → Bool) (reels : List ReelView) (i : ℕ) (reel : Re
       ∙ ap (λ l. was ++ l) (sym (enough-next missing reel rest some))
       ∙ ap (λ l. was ++ enough missing l) (sym (at ∙ ap (λ b. cond b (reel ∷ rest) rest) passes))
 
-  -- one that doesn't is passed over
   pub step-past : (missing : ℕ) → test reel ≡ false → enough missing (filter test (drop (i + 1) reels)) ≡ enough missing (filter test (drop i reels))
   step-past missing fails =
       let rest = filter test (drop (i + 1) reels) in
@@ -92,12 +85,10 @@ module _ (test : ReelView → Bool) (reels : List ReelView) (i : ℕ) (reel : Re
 
 -- ---- the end
 
--- the reels that are chosen are all, where no more is needed
 pub end-reached : (chosen reels all : List ReelView) (missing : ℕ) → missing ≡ 0 → chosen ++ enough missing reels ≡ all → chosen ≡ all
 end-reached chosen reels all missing none is =
     sym (append-nil chosen) ∙ ap (λ l. chosen ++ l) (sym (ap (λ n. enough n reels) none ∙ enough-zero reels)) ∙ is
 
--- and where no reel is left
 pub end-of_reels : (test : ReelView → Bool) (chosen reels all : List ReelView) (missing : ℕ) → reels ≡ [] → chosen ++ enough missing (filter test reels) ≡ all → chosen ≡ all
 end-of_reels test chosen reels all missing none is =
     sym (append-nil chosen) ∙ ap (λ l. chosen ++ l) (sym (ap (λ l. enough missing (filter test l)) none ∙ enough-nil missing)) ∙ is

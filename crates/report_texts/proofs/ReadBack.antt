@@ -1,4 +1,4 @@
--- What csv reads of a report.
+-- Reading a report back with `csv`.
 use Rattle.std.proofs.Common.{◌≡◌, ◌≢◌, ◌≤◌, ◌+◌, ℕ, zero, suc, List, [], ◌∷◌, ◌++◌, All, length, refl, ap, ◌∙◌, arith}
 use Rattle.std.specs.Prelude.{if◌then◌else◌}
 use Rattle.std.specs.List.{flat_map}
@@ -11,12 +11,10 @@ use Rattle.csv.specs.declared.parser.State.TheVariants as st
 use Rattle.csv.proofs.RoundTrip.{read-write}
 use Rattle.report_texts.specs.Csv.{record_text, csv_text}
 
--- a record with a field is read as it was
 as_it_was : (row : List (List ℕ)) → row ≢ [] → read_back row ≡ row
 as_it_was [] some = absurd (some refl)
 as_it_was (x ∷ row) some = refl
 
--- records one after the other are read as they were, and no more
 read-all : (n : ℕ) (rows : List (List (List ℕ))) → length rows ≤ n → All (λ r. r ≢ []) rows
     → records_from default_config n st.StartRecord (flat_map record_text rows) ≡ rows
 unfolding records_from next_record
@@ -28,7 +26,6 @@ read-all (suc n) (row ∷ rows) fits some =
     (ap (λ r. r ∷ records_from default_config n st.StartRecord (flat_map record_text rows)) (as_it_was row (All-head (λ (r : List (List ℕ)). r ≢ []) row rows some))
     ∙ ap (λ l. row ∷ l) (read-all n rows (omega arith) (All-tail (λ (r : List (List ℕ)). r ≢ []) row rows some)))
 
--- each record has a byte
 some-byte : (row : List (List ℕ)) → 1 ≤ length (record_text row)
 some-byte row =
     let blank : List ℕ = if is_blank default_writer row then 34 ∷ 34 ∷ [] else [] in

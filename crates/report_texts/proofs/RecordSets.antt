@@ -19,7 +19,7 @@ use Rattle.report_texts.specs.Traces.{board_rows, lot_rows, pieces_on, pieces_of
 
 -- ---- members
 
--- whether two records are the same
+-- Whether two records are equal.
 abbrev pub alike : Fields → Fields → Bool
 alike = pointwise same
 
@@ -39,7 +39,6 @@ has-insert (x ∷ xs) row other = by (by_fields row x) refl (has-insert xs row o
     by Equal o rest = sym (or_self_left (alike other x) (has xs other)) ∙ ap (λ y. alike other y || (alike other x || has xs other)) (sym (tied row x o))
     by Greater o rest = ap (λ b. alike other x || b) rest ∙ swap-or (alike other x) (alike other row) (has xs other)
 
--- A set has the records that it was made of.
 has-set : (rows : List Fields) (other : Fields) → has (set_of rows) other ≡ has rows other
 has-set [] other = refl
 has-set (x ∷ xs) other = has-insert (set_of xs) x other ∙ ap (λ b. alike other x || b) (has-set xs other)
@@ -54,7 +53,6 @@ has-read read test (x ∷ xs) row = by (test x) (has-read read test xs row)
     by true rest = ap (λ b. alike row (read x) || b) rest
     by false rest = rest
 
--- the rows that are made of some pieces have a record exactly where one of these pieces gives it
 row-of : (read : Placement → Fields) (test : Placement → Bool) (pieces : List Placement) (row : Fields)
     → has (set_of (map read (filter test pieces))) row ≡ list_any (λ p. test p && alike row (read p)) pieces
 row-of read test pieces row = has-set _ row ∙ has-read read test pieces row
@@ -65,7 +63,7 @@ into rows row there = list_any-from_Contains (lists_equiv nat_list_eq_equiv) row
 from : (rows : List Fields) (row : Fields) → has rows row ≡ true → Contains rows row
 from rows row there = Contains-from_any (λ x y. (pointwise_decides bytes_decides x y).0) row rows there
 
--- ---- the two traces
+-- ---- board and lot traces
 
 two : (a p l : Bool) → (a && (p && (l && true))) ≡ (l && (a && (p && true)))
 two true true true = refl
@@ -112,7 +110,6 @@ reels-converse pieces board part lot reel = (
   λ there. from _ _ (reels-agree pieces board part lot reel ∙ into _ _ there),
 )
 
--- a row of the board's parts has the lot: so the board is among the lot's
 lot-listed : (board lot part : Name) (pieces : List Placement)
     → list_any (λ (p : Placement). same p.board board && (same part p.part && (same lot p.lot && true))) pieces ≡ true
     → list_any (λ (p : Placement). same p.lot lot && (same board p.board && true)) pieces ≡ true
@@ -142,7 +139,6 @@ or-later : (a b : Bool) → b ≡ true → (a || b) ≡ true
 or-later true b is = refl
 or-later false b is = is
 
--- the board is among the lot's: so some part of it is of the lot
 part-listed : (board lot : Name) (pieces : List Placement)
     → list_any (λ (p : Placement). same p.lot lot && (same board p.board && true)) pieces ≡ true
     → (part : Name) × (list_any (λ (p : Placement). same p.board board && (same part p.part && (same lot p.lot && true))) pieces ≡ true)

@@ -9,7 +9,7 @@ use Rattle.desk_types.specs.View.{reel_view}
 use Rattle.report_texts.specs.Csv.{csv_text}
 use Rattle.report_texts.specs.Shown.{left_text}
 
--- where the reel is: on a slot, or else out of its bag or in it
+-- Whether the reel is mounted, out of its bag, or sealed.
 abbrev pub state_text : ReelView → List ℕ
 state_text r = if r.mounted then codes "mounted" else if r.is_open then codes "open" else codes "sealed"
 
@@ -23,6 +23,6 @@ card_fields r =
     r.reel ∷ r.part ∷ r.lot ∷ text_of r.level ∷ decimal r.received ∷ decimal r.placed ∷ decimal r.scrapped ∷ decimal r.remaining
     ∷ left_text r.left ∷ state_text r ∷ []
 
--- the card of the reel as the list leaves it, where it was received
+-- The card of the reel, if it was received.
 abbrev pub reel_card : History → Name → Option (List ℕ)
 reel_card H reel = option_map (λ r. csv_text card_header (card_fields r ∷ [])) (reel_view H reel)

@@ -1,19 +1,19 @@
--- A report as CSV.
+-- Reports as CSV.
 use Rattle.std.specs.Global.{Global}
 use Rattle.std.specs.Prelude.{◌≡◌, ℕ, false, Some, List, ◌++◌, Vec}
 use Rattle.std.specs.List.{flat_map}
 use Rattle.csv.specs.Writing.{default_writer, row_text, writer_setup, fields_written, has_written, text_written}
 use Rattle.csv.specs.declared.writer.Writer.{Writer}
 
--- the text of a record, as csv writes it by default: its fields between commas, quoted where that is needed, and a line feed
+-- The text of a record in the default format of `csv`.
 abbrev pub record_text : List (List ℕ) → List ℕ
 record_text fields = row_text default_writer fields
 
--- the text of a report: its header, and then its records
+-- The text of a report: its header, then its records.
 abbrev pub csv_text : List (List ℕ) → List (List (List ℕ)) → List ℕ
 csv_text header records = record_text header ++ flat_map record_text records
 
--- the writer, which writes in csv's default form, has written this text, and no part of a further record
+-- The writer uses the default format of `csv`, has written this text, and is not inside a record.
 pub record HasWritten (writer : Writer (Vec ℕ Global)) (bytes : List ℕ) : Type 0 where
   pub text : text_written (λ (v : Vec ℕ Global). Some v.items) writer ≡ Some bytes
   pub setup : writer_setup writer ≡ default_writer

@@ -1,4 +1,4 @@
--- The kit list of a product on a machine: which reels to bring for so many boards.
+-- The kit list of a product on a machine: the reels to bring for a number of boards.
 use Rattle.std.specs.Prelude.{ℕ, ◌*◌, ◌-◌, nat_le, nat_lt, not, Option, None, Some, List, [], ◌∷◌, ◌++◌, map, length, codes, decimal, if◌then◌else◌, unwrap_or}
 use Rattle.std.specs.Option.{option_map}
 use Rattle.std.specs.List.{find, filter, filter_map, sum_by}
@@ -15,62 +15,62 @@ use Rattle.report_texts.specs.declared.kit.KitRow.{KitRow}
 use Rattle.report_texts.specs.declared.kit.Supply.{Supply}
 use Rattle.report_texts.specs.declared.kit.Supply.TheVariants.{Reel, Short}
 
--- ---- which reels a row of the sheet gets
+-- ---- the reels for a sheet row
 
--- the pieces that a row of the sheet needs: one for each of its designators on each board
+-- The pieces that a sheet row needs: one for each designator on each board.
 abbrev pub needed_by : ℕ → SheetRow → ℕ
 needed_by boards row = boards * length row.designators
 
--- the pieces on some reels together
+-- The total pieces on the reels.
 abbrev pub pieces_of_reels : List ReelView → ℕ
 pieces_of_reels reels = sum_by (λ (r : ReelView). r.remaining) reels
 
--- the prefixes of a list, the shortest first
+-- The prefixes of a list, shortest first.
 unfoldable pub prefixes : {X : Type 0} → List X → List (List X)
 prefixes [] = [] ∷ []
 prefixes (x ∷ xs) = [] ∷ map (λ p. x ∷ p) (prefixes xs)
 
--- the shortest prefix of the reels whose pieces reach what is needed, or else all of them
+-- The shortest prefix of the reels with the pieces needed, or else all of them.
 abbrev pub enough : ℕ → List ReelView → List ReelView
 enough needed reels = unwrap_or (find (λ p. nat_le needed (pieces_of_reels p)) (prefixes reels)) reels
 
--- the free reels for the part, in the order in which they are used, without those that are given already
+-- The free reels for the part in order of use, except those already given.
 abbrev pub still_free : History → List Name → Name → List ReelView
 still_free H given part = filter (λ (r : ReelView). not (is_among given r.reel)) (free_reels H part)
 
--- the reels that a row of the sheet gets, where these are given already
+-- The reels for a sheet row, given the earlier ones.
 abbrev pub reels_for : History → ℕ → List Name → SheetRow → List ReelView
 reels_for H boards given row = enough (needed_by boards row) (still_free H given row.part)
 
--- ---- the rows of the kit
+-- ---- the kit's rows
 
--- a reel for a row of the sheet
+-- One reel for a sheet row.
 abbrev pub reel_row : SheetRow → ℕ → ReelView → KitRow
 reel_row row needed r = record { slot = row.slot; part = row.part; needed = needed; supply = Reel r.reel r.remaining r.left }
 
--- the pieces for which a row of the sheet has no reel
+-- The pieces that a sheet row lacks.
 abbrev pub short_row : SheetRow → ℕ → ℕ → KitRow
 short_row row needed missing = record { slot = row.slot; part = row.part; needed = needed; supply = Short missing }
 
--- the rows of the kit for one row of the sheet: its reels, and where they don't reach what is needed, what is missing
+-- The kit's rows for one sheet row: its reels, then the missing pieces, if any.
 abbrev pub rows_for : SheetRow → ℕ → List ReelView → List KitRow
 rows_for row needed reels =
     map (reel_row row needed) reels
     ++ (if nat_lt (pieces_of_reels reels) needed then short_row row needed (needed - pieces_of_reels reels) ∷ [] else [])
 
--- the rows of the kit for some rows of the sheet in their order, where these reels are given already: no row gets a reel of an earlier one
+-- The kit's rows for the sheet rows in order; no reel is given twice.
 unfoldable pub kit_rows : History → ℕ → List Name → List SheetRow → List KitRow
 kit_rows H boards given [] = []
 kit_rows H boards given (row ∷ rows) =
     rows_for row (needed_by boards row) (reels_for H boards given row)
     ++ kit_rows H boards (given ++ map (λ (r : ReelView). r.reel) (reels_for H boards given row)) rows
 
--- the reel that a row of the kit gives
+-- The reel in a kit row.
 abbrev pub reel_in : Supply → Option Name
 reel_in (Reel reel pieces left) = Some reel
 reel_in (Short missing) = None
 
--- the reels that some rows of the kit give
+-- The reels in the kit's rows.
 abbrev pub reels_in : List KitRow → List Name
 reels_in rows = filter_map (λ (row : KitRow). reel_in row.supply) rows
 
@@ -79,7 +79,8 @@ reels_in rows = filter_map (λ (row : KitRow). reel_in row.supply) rows
 abbrev pub kit_header : List (List ℕ)
 kit_header = codes "slot" ∷ codes "part" ∷ codes "needed" ∷ codes "reel" ∷ codes "pieces" ∷ codes "minutes_left" ∷ []
 
--- the last three fields: a reel, its pieces and its floor life; or no reel, the missing pieces and a word
+-- The last three fields: a reel, its pieces and its floor life; or no reel, the missing pieces and
+-- a word.
 abbrev pub supply_fields : Supply → List (List ℕ)
 supply_fields (Reel reel pieces left) = reel ∷ decimal pieces ∷ left_text left ∷ []
 supply_fields (Short missing) = [] ∷ decimal missing ∷ codes "short" ∷ []
@@ -87,7 +88,7 @@ supply_fields (Short missing) = [] ∷ decimal missing ∷ codes "short" ∷ []
 abbrev pub kit_fields : KitRow → List (List ℕ)
 kit_fields row = row.slot ∷ row.part ∷ decimal row.needed ∷ supply_fields row.supply
 
--- the kit list for so many boards, where the product has a sheet on the machine
+-- The kit list, if the product has a sheet on the machine.
 abbrev pub kit_list : History → Name → Name → ℕ → Option (List ℕ)
 kit_list H product machine boards =
     option_map (λ sheet. csv_text kit_header (map kit_fields (kit_rows H boards [] sheet))) (sheet_of H product machine)

@@ -1,11 +1,10 @@
--- The answers where a report is about what isn't found.
+-- Answers when a report's subject isn't found.
 use Rattle.std.specs.Prelude.{ℕ, List, codes}
 use Rattle.serde_json.specs.Written.{compact_text}
 use Rattle.cfx_profile.specs.Answer.{not_found}
 use Rattle.report_texts.specs.declared.kind.Kind.{Kind}
 use Rattle.report_texts.specs.declared.kind.Kind.TheVariants.{Board, Lot, Reel, Machine, Sheet}
 
--- the word of a kind
 abbrev pub kind_word : Kind → List ℕ
 kind_word Board = codes "Board"
 kind_word Lot = codes "Lot"
@@ -13,6 +12,6 @@ kind_word Reel = codes "Reel"
 kind_word Machine = codes "Machine"
 kind_word Sheet = codes "Sheet"
 
--- the text of the answer where none of the kind is found
+-- The text of the answer when nothing of this kind is found.
 unfoldable pub not_found_text : Kind → List ℕ
 not_found_text kind = compact_text (not_found (kind_word kind))

@@ -15,6 +15,6 @@ slots_header =
 abbrev pub slot_fields : Mount → List (List ℕ)
 slot_fields m = m.slot ∷ decimal m.position ∷ m.reel ∷ m.part ∷ m.lot ∷ decimal m.remaining ∷ left_text m.left ∷ []
 
--- the live reels of the machine's slots, by slot and then by position, where some sheet names the machine
+-- The live reels on the machine's slots, by slot and position, if some sheet is for the machine.
 abbrev pub slot_list : History → Name → Option (List ℕ)
 slot_list H machine = option_map (λ mounts. csv_text slots_header (map slot_fields mounts)) (mounts_on H machine)

@@ -11,7 +11,6 @@ use desk_types::{Desk, Id, ReelView, Text};
 use itoa::Buffer;
 use std::alloc::{AllocError, Global};
 
-/// Where the reel is.
 fn state_text(view: &ReelView) -> &str
     ensures { result.now ≡ state_text view.now }
 {
@@ -24,14 +23,12 @@ fn state_text(view: &ReelView) -> &str
     }
 }
 
-/// The level of the reel, as `2a`.
 fn level_text(view: &ReelView) -> &str
     ensures { result.now ≡ text_of view.now.level }
 {
     view.level.as_str()
 }
 
-/// One reel on a line.
 struct ReelCard;
 
 impl Report<ReelView> for ReelCard {
@@ -78,8 +75,8 @@ impl Report<ReelView> for ReelCard {
     }
 }
 
-/// The card of a reel: what was received of it, where its pieces went, and its floor life at the desk
-/// minute. There is none where no such reel was received.
+/// Returns the reel's card at the desk minute: its receipt, pieces and floor life, or none if it
+/// wasn't received.
 pub fn reel_card<D: Desk>(alloc: Global, desk: &D, reel: &Id) -> Result<Option<Text>, AllocError>
     ensures { (H : History) → D.Stands desk.now H → IfOk result (λ text. text ≡ reel_card H reel.now) }
 {

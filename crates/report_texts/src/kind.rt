@@ -1,4 +1,4 @@
-//! What is not found where a report is not given.
+//! The subjects of reports.
 
 ghost use Rattle.std.specs.Prelude.{◌≡◌, false, IfOk};
 ghost use Rattle.serde_json.specs.View.{view};
@@ -10,7 +10,7 @@ use desk_types::{Listing, Text};
 use serde_json::{Value, json};
 use std::alloc::{AllocError, Global};
 
-/// What a report is about.
+/// The subject of a report.
 #[derive(Clone, Copy, Debug, PartialEq, Eq)]
 pub enum Kind {
     Board,
@@ -21,7 +21,7 @@ pub enum Kind {
 }
 
 impl Kind {
-    /// The word of the kind, as `Lot`.
+    /// Returns the kind's name, such as `Lot`.
     pub fn as_str(self) -> &'static str
         ensures { result.now ≡ kind_word self }
     {
@@ -35,7 +35,8 @@ impl Kind {
     }
 }
 
-/// The text of the answer where none of this kind is found, as `{"Answer":"NotFound","Kind":"Lot"}`.
+/// Returns the text of the answer when none of this kind is found, such as
+/// `{"Answer":"NotFound","Kind":"Lot"}`.
 #[tactic(auto, unfolding(crate::specs::NotFound::not_found_text))]
 pub fn not_found_text(alloc: Global, kind: Kind) -> Result<Text, AllocError>
     ensures { IfOk result (λ text. text ≡ not_found_text kind) }

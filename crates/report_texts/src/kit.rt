@@ -1,4 +1,4 @@
-//! The kit list of a product on a machine: which reels to bring for so many boards.
+//! The kit list of a product on a machine: the reels to bring for a number of boards.
 
 ghost use Rattle.std.specs.Prelude.{◌≡◌, ◌++◌, ℕ, not, List, [], map, IfOk, OnOk};
 ghost use Rattle.std.specs.List.{filter};
@@ -15,27 +15,26 @@ use itoa::Buffer;
 use std::alloc::{AllocError, Global};
 use std::collections::BTreeSet;
 
-/// A row of a kit list: what a row of the sheet needs, and something of what it gets.
+/// A row of a kit list: a sheet row's need, and one of its supplies.
 #[derive(Clone, Copy, Debug, PartialEq, Eq)]
 pub struct KitRow {
     pub slot: Id,
-    /// The part that the sheet says. The reel's own may be an alternate of it.
+    /// The sheet's part. The reel may have an alternate.
     pub part: Id,
-    /// The pieces that the row of the sheet needs for all boards.
+    /// The pieces that the sheet row needs for all boards.
     pub needed: u64,
     pub supply: Supply,
 }
 
-/// A reel to bring, or pieces for which there is none.
+/// A reel to bring, or missing pieces.
 #[derive(Clone, Copy, Debug, PartialEq, Eq)]
 pub enum Supply {
     /// The whole reel, with its remaining pieces.
     Reel { reel: Id, pieces: u64, left: Left },
-    /// So many pieces are missing.
+    /// The number of missing pieces.
     Short { missing: u64 },
 }
 
-/// A row of the kit on a line.
 struct KitList;
 
 impl Report<KitRow> for KitList {
@@ -91,8 +90,6 @@ impl Report<KitRow> for KitList {
     }
 }
 
-/// The shortest front of the reels, without those that are given already, whose pieces reach what is
-/// needed, or else all of them.
 fn enough(
     alloc: Global,
     needed: u64,
@@ -117,7 +114,6 @@ fn enough(
     Ok(chosen)
 }
 
-/// Puts the rows of one sheet row to the kit, and its reels to those that are given.
 fn put_rows(
     row: &SheetRow,
     needed: u64,
@@ -155,14 +151,12 @@ fn put_rows(
     Ok(())
 }
 
-/// The pieces that the sheet row needs for so many boards.
 fn needed_by(boards: Boards, row: &SheetRow) -> u64
     ensures { result ≡ needed_by boards row.now }
 {
     boards.get() * row.designators.as_slice().len() as u64
 }
 
-/// The rows of the kit, sheet row by sheet row.
 fn kit_rows<D: Desk>(
     alloc: Global,
     desk: &D,
@@ -182,8 +176,7 @@ fn kit_rows<D: Desk>(
     Ok(kit)
 }
 
-/// The kit list of the product on the machine for so many boards. There is none where the product has
-/// no sheet there.
+/// Returns the kit list for the boards, or none if the product has no sheet on the machine.
 pub fn kit_list<D: Desk>(
     alloc: Global,
     desk: &D,

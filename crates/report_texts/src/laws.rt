@@ -1,4 +1,4 @@
-//! Laws of the reports. They are for proofs, and do nothing when they run.
+//! Laws of the reports. They are for proofs and do nothing at run time.
 
 ghost use Rattle.std.specs.Prelude.{◌≡◌, ◌≢◌, ◌↔◌, ℕ, List, [], ◌∷◌, All, Contains, map};
 ghost use Rattle.std.specs.List.{IsDistinct};
@@ -15,23 +15,21 @@ ghost use Rattle.report_texts.specs.Csv.{csv_text};
 ghost use Rattle.report_texts.specs.Kit.{kit_rows, reels_in};
 ghost use Rattle.report_texts.specs.Traces.{project, board_columns, lot_columns, board_header, lot_header, overdue_header, overdue_row, board_text, lot_text, overdue_text, board_rows, lot_rows, pieces_on, pieces_of_lot};
 
-/// What `csv` reads of a report is its header and its records, each field as it was: also one with a
-/// comma, a quote or an end of line. So two reports with one text have the same records. This holds of
-/// every header and every records that have a field.
+/// Reading a report with `csv` gives back its header and records, even with commas, quotes or line ends in fields.
+/// Holds for all records with at least one field.
 pub fn texts_read_back()
     ensures { (header : List (List ℕ)) (rows : List (List (List ℕ))) → All (λ r. r ≢ []) (header ∷ rows)
         → records default_config (csv_text header rows) ≡ header ∷ rows }
 {}
 
-/// A kit names no reel twice, neither for one row of the sheet nor for two. This holds of every judged
-/// list, so of every list for which a desk stands.
+/// A kit names no reel twice. Holds for every history that either set of rules accepts.
 pub fn no_reel_is_given_twice()
     ensures { (rules : Rules) (H : History) (boards : ℕ) (sheet : List SheetRow) → IsJudged rules H
         → IsDistinct same (reels_in (kit_rows H boards [] sheet)) }
 {}
 
-/// `csv`'s reader gives the header and the rows of a trace or an overdue list back from its text, whatever
-/// stands in their names: a comma, a quote. So reports with different rows have different texts.
+/// Reading a trace or an overdue list with `csv` gives back its header and rows, whatever the names
+/// contain.
 pub fn reports_read_back()
     ensures board { (detail : TraceDetail) (pieces : List Placement)
         → records default_config (board_text detail pieces) ≡ project
@@ -45,9 +43,7 @@ pub fn reports_read_back()
     texts_read_back();
 }
 
-/// Over the same pieces the traces are converse. Detail 2 of a board has a row with the lot exactly where
-/// detail 1 of the lot lists the board; it has the part and the lot exactly where detail 2 of the lot has
-/// the board and the part; and detail 3 of the one has the reel exactly where detail 3 of the other has.
+/// Board and lot traces of the same pieces agree on boards, lots, parts and reels.
 pub fn traces_are_converse()
     ensures lots { (pieces : List Placement) (board lot : Name)
         → ((part : Name) × Contains (board_rows Two (pieces_on board pieces)) (part ∷ lot ∷ []))

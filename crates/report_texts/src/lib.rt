@@ -1,9 +1,9 @@
-//! What a desk tells on paper, as CSV: the card of a reel, the slot list of a machine, the kit list of
-//! a product, the traces and the overdue list.
+//! The CSV reports of a desk: a reel's card, a machine's slot list, a product's kit list, the
+//! traces and the overdue list.
 //!
-//! Each has a page of definitions in `specs/`, over what the list of accepted commands means or over the
-//! placed pieces that it tells of. A trace has four details, after the idea of IPC-1782's levels: detail
-//! 4 tells all of a piece, each lower one some columns of it.
+//! Each has a definition in `specs/`, from the history or from its placed pieces. A trace has four
+//! details, after the idea of IPC-1782's levels: detail 4 has all columns of a piece, lower ones
+//! have fewer.
 #![tactic(auto)]
 
 mod card;

@@ -1,4 +1,4 @@
-//! What reports tell of pieces, as fields.
+//! The fields of pieces in reports.
 
 ghost use Rattle.std.specs.Prelude.{◌≡◌, ◌∷◌, [], IfOk, map};
 ghost use Rattle.report_texts.specs.Traces.{project, yes_or_no, on_board, of_lot, board_columns, lot_columns, board_rows, lot_rows, board_header, lot_header};
@@ -8,17 +8,15 @@ use desk_types::{Placement, TraceDetail};
 use std::alloc::{AllocError, Global};
 use std::collections::BTreeSet;
 
-/// Fields of one record, which stand in the pieces.
+/// The fields of one record, borrowed from the pieces.
 pub type Record<'a> = Vec<&'a [u8]>;
 
-/// Whether the piece is overdue.
 fn overdue_word(piece: &Placement) -> &[u8]
     ensures { result.now ≡ yes_or_no piece.now.overdue }
 {
     if piece.overdue { b"yes" } else { b"no" }
 }
 
-/// What a detail tells of a piece on a board.
 fn on_board<'a>(
     alloc: Global,
     detail: TraceDetail,
@@ -45,7 +43,6 @@ fn on_board<'a>(
     }
 }
 
-/// What a detail tells of a piece of a lot.
 fn of_lot<'a>(
     alloc: Global,
     detail: TraceDetail,
@@ -72,7 +69,6 @@ fn of_lot<'a>(
     }
 }
 
-/// The rows of a board's trace.
 pub fn board_rows<'a>(
     alloc: Global,
     detail: TraceDetail,
@@ -87,7 +83,6 @@ pub fn board_rows<'a>(
     Ok(rows)
 }
 
-/// The rows of a lot's trace.
 pub fn lot_rows<'a>(
     alloc: Global,
     detail: TraceDetail,
@@ -102,7 +97,6 @@ pub fn lot_rows<'a>(
     Ok(rows)
 }
 
-/// The columns of a board's trace.
 pub fn board_header(detail: TraceDetail) -> &'static [&'static [u8]]
     ensures { bytes_of result.now ≡ project (board_columns detail) board_header }
 {
@@ -122,7 +116,6 @@ pub fn board_header(detail: TraceDetail) -> &'static [&'static [u8]]
     }
 }
 
-/// The columns of a lot's trace.
 pub fn lot_header(detail: TraceDetail) -> &'static [&'static [u8]]
     ensures { bytes_of result.now ≡ project (lot_columns detail) lot_header }
 {

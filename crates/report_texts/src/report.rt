@@ -1,8 +1,7 @@
-//! A report's text, record by record, as the crate `csv` writes records by default.
+//! A report's text, record by record, in the default format of the crate `csv`.
 //!
-//! Fields stand between commas, and each record ends with a line feed. A field with a comma, a quote
-//! or an end of line stands between quotes, and each quote in it is doubled, so the readers of
-//! RFC 4180 give back the field.
+//! Fields are separated by commas, and each record ends with a line feed. A field with a comma,
+//! quote or line end is quoted, with its quotes doubled, so readers of RFC 4180 restore it.
 
 ghost use Rattle.std.specs.Prelude.{◌≡◌, List, ℕ, ◌++◌, map, IfOk, OnOk};
 ghost use Rattle.report_texts.specs.Csv.{record_text, csv_text, HasWritten};
@@ -14,14 +13,14 @@ use std::alloc::{AllocError, Global};
 /// Writes records to memory.
 pub type TextWriter = Writer<Vec<u8>>;
 
-/// What a report shows: a header, and a record for each row.
+/// The content of a report: a header, and a record for each row.
 pub trait Report<T> {
     ghost use Rattle.std.specs.Prelude.{List, ℕ};
 
-    /// The names of its columns.
+    /// The names of the report's columns.
     ghost header: { Self → List (List ℕ) };
 
-    /// The fields of a row, in the order of the columns.
+    /// The fields of a row, in column order.
     ghost fields: { Self → T → List (List ℕ) };
 
     /// Writes the header as a record.
@@ -29,13 +28,13 @@ pub trait Report<T> {
         ensures { (text : List ℕ) → HasWritten writer.old text
             → OnOk result (HasWritten writer.new (text ++ record_text (header self.now))) };
 
-    /// Writes the fields of the row as a record.
+    /// Writes the row as a record.
     fn write_row(&self, row: &T, writer: &mut TextWriter) -> Result<(), AllocError>
         ensures { (text : List ℕ) → HasWritten writer.old text
             → OnOk result (HasWritten writer.new (text ++ record_text (fields self.now row.now))) };
 }
 
-/// Writes one record of these fields. After an `Err` the writer is of no use.
+/// Writes these fields as a record. After an `Err` the writer is unusable.
 pub fn write_fields(writer: &mut TextWriter, fields: &[&[u8]]) -> Result<(), AllocError>
     ensures { (text : List ℕ) → HasWritten writer.old text
         → OnOk result (HasWritten writer.new (text ++ record_text (map (λ f. f.now) fields.now))) }
@@ -46,7 +45,7 @@ pub fn write_fields(writer: &mut TextWriter, fields: &[&[u8]]) -> Result<(), All
     }
 }
 
-/// The report of these rows: its header, and then a record for each row in order.
+/// Returns the report's header and a record for each row in order.
 pub fn csv_text<T, R: Report<T>>(alloc: Global, report: &R, rows: &[T]) -> Result<Text, AllocError>
     ensures { IfOk result (λ text. text ≡ csv_text (R.header report.now) (map (R.fields report.now) rows.now)) }
 {

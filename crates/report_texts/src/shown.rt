@@ -1,4 +1,4 @@
-//! How floor life is shown in a report.
+//! Floor life as reports show it.
 
 ghost use Rattle.std.specs.Prelude.{◌≡◌};
 ghost use Rattle.report_texts.specs.Shown.{left_text};
@@ -6,7 +6,7 @@ ghost use Rattle.report_texts.specs.Shown.{left_text};
 use desk_types::Left;
 use itoa::Buffer;
 
-/// The floor life that is left, with its minutes as digits in the buffer.
+/// Returns the remaining floor life, with the digits of its minutes in the buffer.
 pub fn left_text<'a>(left: Left, digits: &'a mut Buffer) -> &'a str
     ensures { result.now ≡ left_text left }
 {

@@ -10,7 +10,6 @@ use desk_types::{Desk, Id, Mount, Text};
 use itoa::Buffer;
 use std::alloc::{AllocError, Global};
 
-/// A live reel on a line.
 struct SlotList;
 
 impl Report<Mount> for SlotList {
@@ -51,8 +50,8 @@ impl Report<Mount> for SlotList {
     }
 }
 
-/// The slot list of a machine: the live reels of its slots, by slot and then by position, where the
-/// one in position 1 is the front. There is none where no sheet names the machine.
+/// Returns the machine's live reels by slot and position, with the front at position 1, or none if
+/// no sheet is for the machine.
 pub fn slot_list<D: Desk>(alloc: Global, desk: &D, machine: &Id) -> Result<Option<Text>, AllocError>
     ensures { (H : History) → D.Stands desk.now H → IfOk result (λ text. text ≡ slot_list H machine.now) }
 {

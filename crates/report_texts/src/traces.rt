@@ -13,7 +13,6 @@ use itoa::Buffer;
 use std::alloc::{AllocError, Global};
 use std::collections::BTreeSet;
 
-/// The report of a header and a set of rows.
 fn text_of_set(
     alloc: Global,
     header: &[&[u8]],
@@ -32,7 +31,7 @@ fn text_of_set(
     }
 }
 
-/// The trace of a board, over the pieces on it.
+/// Returns a board's trace from its pieces.
 pub fn board_text(
     alloc: Global,
     detail: TraceDetail,
@@ -44,7 +43,7 @@ pub fn board_text(
     text_of_set(alloc, board_header(detail), &rows)
 }
 
-/// The trace of a lot, over its pieces.
+/// Returns a lot's trace from its pieces.
 pub fn lot_text(
     alloc: Global,
     detail: TraceDetail,
@@ -56,7 +55,6 @@ pub fn lot_text(
     text_of_set(alloc, lot_header(detail), &rows)
 }
 
-/// Where pieces were placed past floor life, and when.
 struct OverdueList;
 
 impl Report<Placement> for OverdueList {
@@ -83,8 +81,7 @@ impl Report<Placement> for OverdueList {
     }
 }
 
-/// The list of overdue pieces, in the order in which they are handed in: by the number of the install,
-/// then by the place in its message.
+/// Returns the list of overdue pieces. The caller passes them in order of install and place.
 pub fn overdue_text(alloc: Global, pieces: &[Placement]) -> Result<Text, AllocError>
     ensures { IfOk result (λ text. text ≡ overdue_text pieces.now) }
 {

@@ -1,15 +1,13 @@
--- What goes out of a block.
+-- Bytes taken from a block.
 use Rattle.std.proofs.Common.{◌≡◌, ◌∙◌, ◌+◌, ◌-◌, ◌≤◌, ℕ, List, [], ◌++◌, sym, ap, subst, take, drop, length, Option, Some, None, refl, arith, append_assoc}
 use Rattle.std.proofs.lemmas.List.{take-take}
 use Rattle.std.specs.List.{slice_range}
 use Rattle.std.specs.Io.KnownBytes.{prepend_known, Consumes, IsAtEnd}
 
--- a front of what is pending goes out
 pub front_goes : (xs ys zs : List ℕ) (known : Option (List ℕ)) → xs ≡ ys ++ zs → Consumes (prepend_known xs known) (prepend_known zs known) ys
 front_goes xs ys zs None e = tt
 front_goes xs ys zs (Some ws) e = ap (λ l. l ++ ws) e ∙ append_assoc ys zs ws
 
--- where nothing is pending, what is still to be given is what the reader has left
 pub none_pending : (xs : List ℕ) (known : Option (List ℕ)) → xs ≡ [] → prepend_known xs known ≡ known
 none_pending xs None e = refl
 none_pending xs (Some ws) e = ap (λ l. Some (l ++ ws)) e
@@ -17,7 +15,6 @@ none_pending xs (Some ws) e = ap (λ l. Some (l ++ ws)) e
 pub at_end : (xs : List ℕ) (known : Option (List ℕ)) → xs ≡ [] → IsAtEnd known → IsAtEnd (prepend_known xs known)
 at_end xs known e p = subst IsAtEnd (sym (none_pending xs known e)) p
 
--- the first pending bytes, by where they stand
 pub first_pending : (bytes xs : List ℕ) (at n : ℕ) → xs ≡ slice_range bytes at (at + length xs) → n ≤ length xs → slice_range bytes at (at + n) ≡ take n xs
 first_pending bytes xs at n e few =
     let all : at + length xs - at ≡ length xs = omega arith in

@@ -1,21 +1,20 @@
--- The bytes that were read last, and what is still to be given.
+-- The buffer of the last read, and its pending bytes.
 use Rattle.std.specs.Prelude.{◌≡◌, ℕ, ◌+◌, ◌-◌, ◌*◌, ◌≤◌, List, length, take, drop, Option}
 use Rattle.std.specs.Io.KnownBytes.{prepend_known}
 use Rattle.desk_types.specs.declared.limits.TheConstants.{BLOCK}
 use Rattle.served.specs.declared.block.Block.{Block}
 
--- the bytes from `at` to `end` were read and not given
+-- The pending bytes, from `at` to `end`, lie in a buffer of full size.
 abbrev pub IsBlock : Block → Type 0
 IsBlock block = (block.at ≤ block.end) × (block.end ≤ BLOCK) × (length block.bytes ≡ BLOCK)
 
--- the bytes that were read and not given
 abbrev pub pending_bytes : Block → List ℕ
 pending_bytes block = drop block.at (take block.end block.bytes)
 
--- what is still to be given: those, and then the bytes that the reader has left, where they are known
+-- The bytes still to be taken: the pending ones, then the reader's, if known.
 abbrev pub source : Block → Option (List ℕ) → Option (List ℕ)
 source block known = prepend_known (pending_bytes block) known
 
--- how far a reading can go on: the bytes of the reads that may still be made, and those that are pending
+-- A measure for loops: the bytes of all reads still allowed, and the pending ones.
 abbrev pub fuel : ℕ → ℕ → Block → ℕ
 fuel most_reads reads block = (most_reads - reads) * (BLOCK + 1) + length (pending_bytes block)

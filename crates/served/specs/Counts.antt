@@ -1,17 +1,17 @@
--- How many answers went out.
+-- Counts of the answers sent.
 use Rattle.std.specs.Prelude.{◌+◌, ◌^◌, ◌<◌, ◌≤◌}
 use Rattle.served.specs.declared.serving.Served.{Served}
 
--- nothing was answered yet
+-- Nothing was answered yet.
 abbrev pub none_served : Served
 none_served = record { answered = 0; refused = 0 }
 
--- one answer more can be counted: no more count as refused than went out
+-- One more answer can be counted, and at most all answers are refusals.
 pub record CanCountOne (served : Served) : Type 0 where
   pub few_answers : served.answered < 2 ^ 63
   pub refused : served.refused ≤ served.answered
 
--- one answer more was counted, or none
+-- At most one more answer was counted.
 pub record CountsUpToOne (old new : Served) : Type 0 where
   pub few_answers : new.answered ≤ old.answered + 1
   pub refused : new.refused ≤ new.answered

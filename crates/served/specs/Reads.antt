@@ -1,16 +1,17 @@
--- What reads ask of a wire, and what they leave of it.
+-- The conditions and effects of reads.
 use Rattle.std.specs.Prelude.{◌≡◌, ℕ, ◌+◌, ◌^◌, ◌<◌, ◌≤◌, Result, Err, OnOk}
 use Rattle.desk_types.specs.declared.wire.Wire.{Wire}
 use Rattle.desk_types.specs.Wire.{reads_of, failures_of}
 use Rattle.served.specs.declared.block.ReadFault.{ReadFault}
 use Rattle.served.specs.declared.block.ReadFault.TheVariants.{Failed, TooMany}
 
--- no more reads were made than may be, and one failure more can be counted
+-- The read limit isn't exceeded, and one more failure can be counted.
 pub record MayRead {R : Type 0} (most_reads : ℕ) (wire : Wire R) : Type 0 where
   pub few_reads : reads_of wire ≤ most_reads
   pub few_failures : failures_of wire < 2 ^ 63
 
--- no more reads were made than may be, and none failed but the one that is told; too many are told only where as many were made as may be
+-- The read limit isn't exceeded, no read failed except the one reported, and TooMany is only
+-- reported at the limit.
 pub record ReadsUpTo {A R : Type 0} (most_reads : ℕ) (result : Result A ReadFault) (old new : Wire R) : Type 0 where
   pub few_reads : reads_of new ≤ most_reads
   pub kept : OnOk result (failures_of new ≡ failures_of old)

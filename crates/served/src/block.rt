@@ -1,4 +1,4 @@
-//! The bytes that were read last, and one read more. Nothing is read byte by byte.
+//! A buffer for reads in blocks, instead of byte by byte.
 
 ghost use Rattle.std.specs.Prelude.{◌≡◌, ◌+◌, ◌-◌, ◌^◌, ◌<◌, ◌≤◌, ◌++◌, [], ℕ, List, length, take, drop, slice_range, true, false, IfOk, OnOk, OnErr, Ok};
 ghost use Rattle.std.specs.Io.KnownBytes.{Keeps, Consumes, IsAtEnd};
@@ -9,7 +9,7 @@ ghost use Rattle.served.specs.Reads.{MayRead, ReadsUpTo};
 use desk_types::{BLOCK, Wire};
 use std::io::Read;
 
-/// The bytes that were read last, and which of them are still to be given: those are pending.
+/// The bytes of the last read, and which of them are pending (not taken yet).
 #[derive(Drop)]
 pub struct Block {
     pub bytes: [u8; BLOCK],
@@ -17,17 +17,17 @@ pub struct Block {
     end: usize,
 }
 
-/// Why no more is read.
+/// Why reading stopped.
 #[derive(Drop)]
 pub enum ReadFault {
     /// A read failed.
     Failed,
-    /// As many reads were made as may be.
+    /// The read limit was reached.
     TooMany,
 }
 
 impl Block {
-    /// Nothing was read yet.
+    /// Returns an empty block.
     pub fn new() -> Block
         ensures valid { IsBlock result }
         ensures empty { pending_bytes result ≡ [] }
@@ -39,7 +39,7 @@ impl Block {
         }
     }
 
-    /// The bytes that were read and not given.
+    /// Returns the pending bytes.
     pub fn pending(&self) -> &[u8]
         requires valid { IsBlock self.now }
         ensures { result.now ≡ pending_bytes self.now }
@@ -47,7 +47,7 @@ impl Block {
         &self.bytes[self.at..self.end]
     }
 
-    /// Where the pending bytes begin.
+    /// Returns the position of the pending bytes.
     pub fn start(&self) -> usize
         requires valid { IsBlock self.now }
         ensures within { result + length (pending_bytes self.now) ≤ BLOCK }
@@ -57,7 +57,7 @@ impl Block {
         self.at
     }
 
-    /// Gives pending bytes away. They stand where they stood.
+    /// Takes pending bytes. They stay at their place in the block.
     pub fn give(&mut self, count: usize)
         requires valid { IsBlock self.old }
         requires there { count ≤ length (pending_bytes self.old) }
@@ -68,7 +68,7 @@ impl Block {
         self.at += count;
     }
 
-    /// One read more, behind what is pending; false at the end.
+    /// Reads once more behind the pending bytes. Returns false at the end.
     pub fn more<R: Read>(&mut self, wire: &mut Wire<R>, most_reads: u64) -> Result<bool, ReadFault>
         requires valid { IsBlock self.old }
         requires room { length (pending_bytes self.old) < BLOCK }
@@ -98,7 +98,6 @@ impl Block {
         }
     }
 
-    /// Moves what is pending to the start of the block.
     fn move_down(&mut self)
         requires valid { IsBlock self.old }
         ensures valid { IsBlock self.new }
@@ -114,7 +113,6 @@ impl Block {
     }
 }
 
-/// One read into a block behind its first bytes.
 fn read_behind<R: Read>(
     wire: &mut Wire<R>,
     block: &mut [u8; BLOCK],

@@ -1,5 +1,4 @@
-//! What everything that serves has: the bytes that were read last, whole pieces to a writer, how many
-//! answers went out, and why it stopped.
+//! The shared parts of serving: a read buffer, whole writes, counts of answers, and faults.
 #![tactic(auto)]
 
 mod block;

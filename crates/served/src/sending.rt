@@ -1,4 +1,4 @@
-//! Whole pieces to a writer.
+//! Writing whole pieces.
 
 ghost use Rattle.std.specs.Prelude.{take, ◌≡◌, ◌+◌, ◌^◌, ◌<◌, ◌++◌, ◌∷◌, [], length, OnOk, OnErr};
 ghost use Rattle.std.specs.Io.KnownBytes.{Appends};
@@ -12,7 +12,7 @@ use std::io::Write;
 #[derive(Drop)]
 pub struct WriteFailed;
 
-/// Writes a text and a line feed: in one write where the text is short, which is most of the speed.
+/// Writes a text and a line feed, in one write if the text is short, which gives most of the speed.
 pub fn send_line<W: Write>(wire: &mut Wire<W>, text: &[u8]) -> Result<(), WriteFailed>
     requires few_failures { failures_of wire.old < 2 ^ 63 }
     ensures ok { OnOk result
@@ -30,7 +30,6 @@ pub fn send_line<W: Write>(wire: &mut Wire<W>, text: &[u8]) -> Result<(), WriteF
     send(wire, b"\n")
 }
 
-/// The text with a line feed, in a block.
 fn with_line_feed(text: &[u8]) -> [u8; ONE_WRITE]
     requires { length text.now < ONE_WRITE }
     ensures { take (length text.now + 1) result ≡ text.now ++ 10 ∷ [] }

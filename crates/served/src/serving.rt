@@ -1,9 +1,9 @@
-//! How many answers went out, and why it stopped.
+//! Counts of answers, and why serving stopped.
 
 ghost use Rattle.std.specs.Prelude.{◌≡◌, ◌+◌, if◌then◌else◌};
 ghost use Rattle.served.specs.Counts.{CanCountOne};
 
-/// How many answers went out, and how many of them count as refused.
+/// The number of answers sent, and how many of them are refusals.
 #[derive(Clone, Copy, Debug, PartialEq, Eq)]
 pub struct Served {
     pub answered: u64,
@@ -11,7 +11,7 @@ pub struct Served {
 }
 
 impl Served {
-    /// One more answer.
+    /// Counts one more answer.
     pub fn count(&mut self, refused: bool)
         requires counts { CanCountOne self.old }
         ensures answered { self.new.answered ≡ self.old.answered + 1 }
@@ -24,14 +24,13 @@ impl Served {
     }
 }
 
-/// Why not all was answered, and how much was, each answer whole.
+/// Why serving stopped, with the number of whole answers sent.
 #[derive(Clone, Copy, Debug, PartialEq, Eq)]
 pub enum ServeFault {
     /// A read failed.
     Read(Served),
-    /// A write failed. The first bytes of one answer more may have gone out, and its command may
-    /// be accepted.
+    /// A write failed. Part of one more answer may have been sent, and its command may be accepted.
     Write(Served),
-    /// As many reads were made as may be.
+    /// The read limit was reached.
     TooManyReads(Served),
 }

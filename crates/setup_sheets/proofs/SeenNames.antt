@@ -1,4 +1,4 @@
--- Names looked at one after the other, and put into a set.
+-- Collecting names in a set, one by one.
 use Rattle.std.proofs.Common.{◌≡◌, Bool, true, false, not, cond, Some, None, List, [], ◌∷◌, ◌++◌, refl, sym, ap, ◌∙◌, append_assoc, append-nil}
 use Rattle.std.specs.Prelude.{◌||◌, if◌then◌else◌}
 use Rattle.std.specs.BTreeMap.{is_at}
@@ -16,7 +16,6 @@ put-last true false = refl
 put-last false true = refl
 put-last false false = refl
 
--- a set with one name more has seen one name more
 pub HasSeen-push : (old new : BTreeSet Name) (x : Name) (names : List Name) → HasSeen old names
     → ((q : Name) → contains by_name new q ≡ cond (is_at (by_name x) q) true (contains by_name old q)) → HasSeen new (names ++ x ∷ [])
 HasSeen-push old new x names has after q =
@@ -26,16 +25,13 @@ HasSeen-push old new x names has after q =
     ∙ put-last (same q x) (list_any (same q) names)
     ∙ sym (list_any-append (same q) names (x ∷ []))
 
--- a name that was not seen is passed over
 pub name_twice-new : (before : List Name) (x : Name) (xs : List Name) → list_any (same x) before ≡ false
     → name_twice before (x ∷ xs) ≡ name_twice (before ++ x ∷ []) xs
 name_twice-new before x xs new = ap (λ b. if b then Some x else name_twice (before ++ x ∷ []) xs) new
 
--- a name that was seen is the first
 pub name_twice-seen : (before : List Name) (x : Name) (xs : List Name) → list_any (same x) before ≡ true → name_twice before (x ∷ xs) ≡ Some x
 name_twice-seen before x xs seen = ap (λ b. if b then Some x else name_twice (before ++ x ∷ []) xs) seen
 
--- names in two lists: a first one in the first list
 pub name_twice-append_some : (before xs ys : List Name) (x : Name) → name_twice before xs ≡ Some x → name_twice before (xs ++ ys) ≡ Some x
 name_twice-append_some before [] ys x is = cc
 name_twice-append_some before (z ∷ xs) ys x is = by (list_any (same z) before) refl (name_twice-append_some (before ++ z ∷ []) xs ys x)
@@ -45,7 +41,6 @@ name_twice-append_some before (z ∷ xs) ys x is = by (list_any (same z) before)
     by true seen next = name_twice-seen before z (xs ++ ys) seen ∙ sym (name_twice-seen before z xs seen) ∙ is
     by false new next = name_twice-new before z (xs ++ ys) new ∙ next (sym (name_twice-new before z xs new) ∙ is)
 
--- or none in the first list
 pub name_twice-append_none : (before xs ys : List Name) → name_twice before xs ≡ None → name_twice before (xs ++ ys) ≡ name_twice (before ++ xs) ys
 name_twice-append_none before [] ys none = ap (λ l. name_twice l ys) (sym (append-nil before))
 name_twice-append_none before (z ∷ xs) ys none = by (list_any (same z) before) refl (name_twice-append_none (before ++ z ∷ []) xs ys)
@@ -57,7 +52,6 @@ name_twice-append_none before (z ∷ xs) ys none = by (list_any (same z) before)
         name_twice-new before z (xs ++ ys) new ∙ next (sym (name_twice-new before z xs new) ∙ none)
         ∙ ap (λ l. name_twice l ys) (append_assoc before (z ∷ []) xs)
 
--- a name that went into the set was not among those before it
 pub was-new : (seen : BTreeSet Name) (before : List Name) (x : Name) (added : Bool) → HasSeen seen before
     → added ≡ not (contains by_name seen x) → added ≡ true → is_among before x ≡ false
 was-new seen before x added has told is = sym (has x) ∙ by (contains by_name seen x) (sym told ∙ is)
@@ -66,7 +60,6 @@ was-new seen before x added has told is = sym (has x) ∙ by (contains by_name s
     by true n = sym n
     by false n = refl
 
--- and one that did not was
 pub was-seen : (seen : BTreeSet Name) (before : List Name) (x : Name) (added : Bool) → HasSeen seen before
     → added ≡ not (contains by_name seen x) → added ≡ false → is_among before x ≡ true
 was-seen seen before x added has told is = sym (has x) ∙ by (contains by_name seen x) (sym told ∙ is)

@@ -1,4 +1,4 @@
--- How the look-ups of a sheet are made, from its last row to its first.
+-- The indexes of a sheet are built from its last row to its first.
 use Rattle.std.proofs.Common.{◌≡◌, ℕ, ◌+◌, ◌<◌, Bool, true, false, cond, Option, Some, None, List, [], ◌∷◌, ◌++◌, length, take, get_or, refl, sym, ap, ◌∙◌}
 use Rattle.std.specs.Prelude.{◌||◌}
 use Rattle.std.specs.Option.{option_map, option_or}
@@ -13,7 +13,6 @@ use Rattle.desk_types.proofs.LoopSteps.{take-next}
 
 -- ---- rows by slot
 
--- the row of a slot in some rows and then one more
 pub row_in-last : (rows : List SheetRow) (row : SheetRow) (s : Name) (o : Option SheetRow)
     → option_or (row_in rows s) (cond (same row.slot s) (Some row) o) ≡ option_or (row_in (rows ++ row ∷ []) s) o
 row_in-last [] row s o = by (same row.slot s)
@@ -31,7 +30,6 @@ row_in-last (r ∷ rows) row s o = by (same r.slot s) (row_in-last rows row s o)
     by true is = refl
     by false is = is
 
--- the rows up to the i-th say what the rows before it say over its place
 pub row-placed : (rows : List SheetRow) (i : ℕ) (row : SheetRow) (s : Name) (found was : Option SheetRow) → i < length rows → row ≡ get_or rows i row
     → found ≡ cond (same row.slot s) (slice_get rows i) was → option_or (row_in (take i rows) s) found ≡ option_or (row_in (take (i + 1) rows) s) was
 row-placed rows i row s found was inside is after =
@@ -41,14 +39,12 @@ row-placed rows i row s found was inside is after =
 
 -- ---- slots by designator
 
--- a designator that is put after others, or was put before them, goes to the same slot
 put-slot : {X : Type 0} (a b : Bool) (v o : X) → cond b v (cond a v o) ≡ cond (a || (b || false)) v o
 put-slot true true v o = refl
 put-slot true false v o = refl
 put-slot false true v o = refl
 put-slot false false v o = refl
 
--- the slot of a designator after one more of its row
 pub slot-push : (old : Option Name) (names : List Name) (x d slot : Name) (found was : Option Name) → old ≡ cond (list_any (same d) names) (Some slot) was
     → found ≡ cond (same x d) (Some slot) old → found ≡ cond (list_any (same d) (names ++ x ∷ [])) (Some slot) was
 slot-push old names x d slot found was before after =
@@ -58,7 +54,6 @@ slot-push old names x d slot found was before after =
     ∙ put-slot (list_any (same d) names) (same d x) (Some slot) was
     ∙ ap (λ b. cond b (Some slot) was) (sym (list_any-append (same d) names (x ∷ [])))
 
--- the slot of a designator in some rows and then one more
 pub slot_in-last : (rows : List SheetRow) (row : SheetRow) (d : Name) (o : Option Name)
     → option_or (slot_in rows d) (cond (list_any (same d) row.designators) (Some row.slot) o) ≡ option_or (slot_in (rows ++ row ∷ []) d) o
 slot_in-last [] row d o = by (list_any (same d) row.designators)

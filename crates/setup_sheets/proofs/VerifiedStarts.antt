@@ -1,4 +1,4 @@
--- Verification over the fronts of a list finds why a start of work is refused.
+-- Verification of a history's front reels finds why a start of work is refused.
 use Rattle.std.proofs.Common.{◌≡◌, ℕ, ◌+◌, ◌-◌, ◌≤◌, Bool, true, false, not, map, Option, Some, None, List, [], ◌∷◌, refl, ap, ◌∙◌, arith}
 use Rattle.std.specs.Prelude.{nat_le, is_some, ◌||◌, if◌then◌else◌}
 use Rattle.std.specs.Option.{option_map, option_map_or, option_or}
@@ -32,7 +32,6 @@ same-test a b c d there back = by (nat_le a b) refl (nat_le c d) refl
     by true first false second = let low = there (leb-true a b first) in let high = leb-false c d second in absurd (omega (arith, low, high))
     by false first true second = let low = back (leb-true c d second) in let high = leb-false a b first in absurd (omega (arith, low, high))
 
--- the life that is told at the desk minute ends at the minute at which the reel expires
 until-is : (now limit before after minute : ℕ) → now ≤ minute → after ≡ before + (minute - now)
     → nat_le (now + (limit - before)) minute ≡ nat_le limit after
 until-is now limit before after minute le is =
@@ -70,14 +69,12 @@ part-wrong H alternates row reel are received = by (receipt_of H reel) received
 
 -- ---- slots
 
--- what is wrong with a reel, where only a baked one's life counts
 feeding-is : (slot : Name) (wrong unbaked expired told : Bool) → (unbaked ≡ false → told ≡ expired)
     → feeding_refusal slot wrong unbaked told ≡ feeding_refusal slot wrong unbaked expired
 feeding-is slot true unbaked expired told is = refl
 feeding-is slot false true expired told is = refl
 feeding-is slot false false expired told is = ap (feeding_refusal slot false false) (is refl)
 
--- the front of a row's slot
 front-told : (H : History) (alternates : List (Name × Name)) (minute : ℕ) (machine : Name) (row : SheetRow) → IsJudged Two H → now_of H ≤ minute → AreAlternates H alternates
     → front_fault alternates minute row (option_map (front_reel H (now_of H)) (front_of H machine row.slot)) ≡ front_refusal H minute row (front_of H machine row.slot)
 front-told H alternates minute machine row judged le are = by (front_of H machine row.slot) refl
@@ -91,7 +88,6 @@ front-told H alternates minute machine row judged le are = by (front_of H machin
         ∙ feeding-is row.slot (is_wrong_for H row reel) (is_unbaked H reel) (is_expired H reel minute) (is_expired_life (life_of H (now_of H) reel) minute)
         (life-expired H reel minute le (mounted-goes-on H reel minute judged (front-mounted H machine row.slot reel is) le))
 
--- the refusal in what is found
 abbrev pub refusal_in : Option (Name × Refusal) → Option Refusal
 refusal_in fault = option_map (λ (f : Name × Refusal). f.1) fault
 
@@ -99,7 +95,6 @@ first-of : (slot : Name) (here : Option Refusal) (later : Option (Name × Refusa
 first-of slot None later = refl
 first-of slot (Some refusal) later = refl
 
--- The first faulty slot over the fronts of a list is the one for which a start is refused.
 pub first-told : (H : History) (alternates : List (Name × Name)) (minute : ℕ) (machine : Name) (rows : List SheetRow) → IsJudged Two H → now_of H ≤ minute → AreAlternates H alternates
     → refusal_in (first_fault alternates minute rows (map (front_at H (now_of H) machine) rows)) ≡ slots_refusal H minute machine rows
 first-told H alternates minute machine [] judged le are = refl
@@ -108,7 +103,6 @@ first-told H alternates minute machine (row ∷ rows) judged le are =
     ∙ ap (λ here. option_or here (refusal_in (first_fault alternates minute rows (map (front_at H (now_of H) machine) rows)))) (front-told H alternates minute machine row judged le are)
     ∙ ap (option_or (front_refusal H minute row (front_of H machine row.slot))) (first-told H alternates minute machine rows judged le are)
 
--- the fronts of rows name their slots
 pub fronts-slots : (H : History) (minute : ℕ) (machine : Name) (rows : List SheetRow) → slots_of_fronts (map (front_at H minute machine) rows) ≡ slots_of_rows rows
 fronts-slots H minute machine [] = refl
 fronts-slots H minute machine (row ∷ rows) = ap (λ slots. row.slot ∷ slots) (fronts-slots H minute machine rows)

@@ -6,14 +6,14 @@ use Rattle.desk_types.specs.Pair.{same_pair}
 use Rattle.desk_types.specs.History.{History}
 use Rattle.desk_types.specs.Setup.{is_alternate}
 
--- whether the pairs of a part and its alternate have q for p, in that direction
+-- Whether the pairs name q as an alternate of p.
 abbrev pub is_pair_among : List (Name × Name) → Name → Name → Bool
 is_pair_among alternates p q = list_any (same_pair (p, q)) alternates
 
--- whether part q may stand where a sheet says p: it is p, or the pairs have it as an alternate of p
+-- Whether part q may replace p: it is p, or the pairs name it as an alternate of p.
 abbrev pub is_allowed_by : List (Name × Name) → Name → Name → Bool
 is_allowed_by alternates p q = same q p || is_pair_among alternates p q
 
--- the pairs are those that the list names
+-- The pairs are those that the history names.
 abbrev pub AreAlternates : History → List (Name × Name) → Type 0
 AreAlternates H alternates = (p q : Name) → is_pair_among alternates p q ≡ is_alternate H p q

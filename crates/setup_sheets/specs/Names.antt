@@ -4,10 +4,10 @@ use Rattle.std.specs.BTreeSet.{BTreeSet, contains}
 use Rattle.std.specs.List.{list_any}
 use Rattle.desk_types.specs.Id.{Name, same, by_name}
 
--- whether the name is one of these
+-- Whether the name is one of these.
 abbrev pub is_among : List Name → Name → Bool
 is_among names x = list_any (same x) names
 
--- the set has just these names
+-- The set has exactly these names.
 abbrev pub HasSeen : BTreeSet Name → List Name → Type 0
 HasSeen seen names = (x : Name) → contains by_name seen x ≡ is_among names x

@@ -2,13 +2,14 @@
 
 ghost use Rattle.std.specs.Prelude.{◌≡◌, ◌||◌, [], OnOk, OnErr};
 ghost use Rattle.std.specs.BTreeSet.{insert_key};
+ghost use Rattle.std.specs.List.Sorted.{IsStrictlySortedBy};
 ghost use Rattle.desk_types.specs.Id.{Name};
 ghost use Rattle.desk_types.specs.Pair.{same_pair, by_pair};
 ghost use Rattle.setup_sheets.specs.Alternates.{is_pair_among, is_allowed_by};
 
 use desk_types::Id;
 use std::alloc::{AllocError, Global};
-use std::collections::BTreeSet;
+use std::collections::{BTreeSet, btree_set};
 use std::marker::Model;
 
 /// A set of pairs of a part and its alternate, kept in a search tree. Contracts see it as its
@@ -54,9 +55,28 @@ impl Alternates {
         self.pairs.insert((part, alternate))?;
         Ok(())
     }
+
+    /// The pairs of a part and its alternate in order. Takes no memory.
+    pub fn iter(&self) -> btree_set::Iter<'_, (Id, Id)>
+        ensures all { result ≡ self.now }
+        ensures ordered { IsStrictlySortedBy by_pair result }
+    {
+        self.pairs.iter()
+    }
 }
 
-/// Whether part `q` may stand where a sheet says `p`: it is `p`, or an alternate named for it.
+impl Clone for Alternates {
+    ghost use Rattle.std.specs.Prelude.{◌≡◌};
+
+    ghost is_clone = { λ x y. y ≡ x };
+
+    fn clone(&self) -> Result<Alternates, AllocError> {
+        let pairs = self.pairs.clone()?;
+        Ok(Alternates { pairs })
+    }
+}
+
+/// Returns whether part `q` may replace `p` of a sheet: it is `p`, or an alternate named for it.
 /// Alternates go in one direction and do not chain. Takes no memory.
 pub fn allowed(alternates: &Alternates, p: &Id, q: &Id) -> bool
     ensures { result ≡ is_allowed_by alternates.now p.now q.now }

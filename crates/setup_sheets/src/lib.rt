@@ -1,5 +1,5 @@
-//! Setup sheets: which parts may feed which slots, whether a sheet is well made, and whether a
-//! machine is set up as its sheet says.
+//! Setup sheets: which parts may feed a slot, validation of a sheet, and verification of a
+//! machine's setup.
 #![tactic(auto)]
 
 mod alternates;

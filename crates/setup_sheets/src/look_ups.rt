@@ -1,4 +1,4 @@
-//! A sheet with its look-ups.
+//! A sheet with indexes by slot and by designator.
 
 ghost use Rattle.std.specs.Prelude.{◌≡◌, Some, if◌then◌else◌, IfOk, OnOk};
 ghost use Rattle.std.specs.Option.{option_copied};
@@ -12,8 +12,8 @@ use std::alloc::{AllocError, Global};
 use std::collections::BTreeMap;
 use std::marker::Model;
 
-/// The rows of a sheet, with the place of each slot's row and the slot of each designator, so that
-/// either is found without a walk over the rows. Contracts see it as its rows in sheet order.
+/// The rows of a sheet, indexed by slot and by designator. Contracts see it as its rows in sheet
+/// order.
 #[derive(Drop)]
 pub struct Sheet {
     rows: SheetRows,
@@ -34,7 +34,7 @@ impl Model for Sheet {
 }
 
 impl Sheet {
-    /// The sheet of these rows. Fails only where memory is refused.
+    /// Returns the sheet with these rows. Fails only if memory runs out.
     pub fn new(alloc: Global, rows: SheetRows) -> Result<Sheet, AllocError>
         ensures { IfOk result (λ sheet. sheet ≡ rows) }
     {
@@ -47,14 +47,14 @@ impl Sheet {
         })
     }
 
-    /// The rows in sheet order.
+    /// Returns the rows in sheet order.
     pub fn rows(&self) -> &SheetRows
         ensures { result.now ≡ self.now }
     {
         &self.rows
     }
 
-    /// The first row for the slot. Takes no memory.
+    /// Returns the slot's first row. Takes no memory.
     pub fn row(&self, slot: &Id) -> Option<&SheetRow>
         ensures { option_copied result ≡ row_in self.now slot.now }
     {
@@ -62,7 +62,7 @@ impl Sheet {
         self.rows.as_slice().get(*place)
     }
 
-    /// The slot of the first row that has the designator. Takes no memory.
+    /// Returns the slot of the first row with the designator. Takes no memory.
     pub fn slot(&self, designator: &Designator) -> Option<Id>
         ensures { result ≡ slot_in self.now designator.now }
     {
@@ -73,7 +73,6 @@ impl Sheet {
     }
 }
 
-/// The place of the first row of each slot.
 fn places_in(alloc: Global, rows: &[SheetRow]) -> Result<BTreeMap<Id, usize>, AllocError>
     ensures { (s : Name) → IfOk result (λ places. row_at rows.now places s ≡ row_in rows.now s) }
 {
@@ -84,7 +83,6 @@ fn places_in(alloc: Global, rows: &[SheetRow]) -> Result<BTreeMap<Id, usize>, Al
     Ok(places)
 }
 
-/// The designators of a row go to its slot.
 fn note_row(slots: &mut BTreeMap<Designator, Id>, row: &SheetRow) -> Result<(), AllocError>
     ensures { (d : Name)
         → OnOk result
@@ -97,7 +95,6 @@ fn note_row(slots: &mut BTreeMap<Designator, Id>, row: &SheetRow) -> Result<(), 
     Ok(())
 }
 
-/// The slot of each designator of a sheet; the first row that has it counts.
 fn slots_in(alloc: Global, rows: &[SheetRow]) -> Result<BTreeMap<Designator, Id>, AllocError>
     ensures { (d : Name) → IfOk result (λ slots. slot_at slots d ≡ slot_in rows.now d) }
 {

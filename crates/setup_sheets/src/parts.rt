@@ -2,12 +2,13 @@
 
 ghost use Rattle.std.specs.Prelude.{◌≡◌, ◌||◌, [], OnOk, OnErr};
 ghost use Rattle.std.specs.BTreeSet.{insert_key};
+ghost use Rattle.std.specs.List.Sorted.{IsStrictlySortedBy};
 ghost use Rattle.desk_types.specs.Id.{Name, same, by_name};
 ghost use Rattle.setup_sheets.specs.Names.{is_among};
 
 use desk_types::Id;
 use std::alloc::{AllocError, Global};
-use std::collections::BTreeSet;
+use std::collections::{BTreeSet, btree_set};
 use std::marker::Model;
 
 /// A set of parts, kept in a search tree. Contracts see it as its names, each once and in byte
@@ -51,5 +52,24 @@ impl Parts {
     {
         self.names.insert(part)?;
         Ok(())
+    }
+
+    /// The parts in byte order. Takes no memory.
+    pub fn iter(&self) -> btree_set::Iter<'_, Id>
+        ensures all { result ≡ self.now }
+        ensures ordered { IsStrictlySortedBy by_name result }
+    {
+        self.names.iter()
+    }
+}
+
+impl Clone for Parts {
+    ghost use Rattle.std.specs.Prelude.{◌≡◌};
+
+    ghost is_clone = { λ x y. y ≡ x };
+
+    fn clone(&self) -> Result<Parts, AllocError> {
+        let names = self.names.clone()?;
+        Ok(Parts { names })
     }
 }

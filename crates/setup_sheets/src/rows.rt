@@ -1,4 +1,4 @@
-//! The row of a slot and the slot of a designator.
+//! Searches for a slot's row and a designator's slot.
 
 ghost use Rattle.std.specs.Prelude.{◌≡◌};
 ghost use Rattle.std.specs.Option.{option_copied};
@@ -8,14 +8,14 @@ ghost use Rattle.desk_types.specs.Setup.{row_in, slot_in};
 
 use desk_types::{Designator, Id, SheetRow, SheetRows};
 
-/// The first row of the sheet for the slot. Takes no memory.
+/// Returns the slot's first row. Takes no memory.
 pub fn row_of<'a>(rows: &'a SheetRows, slot: &Id) -> Option<&'a SheetRow>
     ensures { option_copied result ≡ row_in rows.now slot.now }
 {
     rows.as_slice().iter().find(|row| row.slot == *slot)
 }
 
-/// The slot of the first row of the sheet that has the designator. Takes no memory.
+/// Returns the slot of the first row with the designator. Takes no memory.
 pub fn slot_of(rows: &SheetRows, designator: &Designator) -> Option<Id>
     ensures { result ≡ slot_in rows.now designator.now }
 {

@@ -1,4 +1,4 @@
-//! Is a sheet well made?
+//! Validation of a sheet.
 
 ghost use Rattle.std.specs.Prelude.{◌≡◌, ◌++◌, List, [], Ok, None, IfOk};
 ghost use Rattle.desk_types.specs.Id.{Name};
@@ -11,12 +11,12 @@ use desk_types::{Designator, Id, Refusal, SheetRow};
 use std::alloc::{AllocError, Global};
 use std::collections::BTreeSet;
 
-/// Why a sheet is not taken.
+/// Why a sheet is invalid.
 #[derive(Clone, Copy, Debug, PartialEq, Eq)]
 pub enum SheetFault {
-    /// SlotTwice, DesignatorTwice or UnknownPart, with its place.
+    /// `SlotTwice`, `DesignatorTwice` or `UnknownPart`, with the name at fault.
     Refused(Refusal),
-    /// Memory was refused while the sheet was looked at.
+    /// There was too little memory to check the sheet.
     NoMemory,
 }
 
@@ -31,10 +31,9 @@ impl From<AllocError> for SheetFault {
     }
 }
 
-/// Looks for what is wrong with the rows of a sheet: first a slot that an earlier row has, then a
-/// designator that stands earlier in the sheet, then a part that is not among the parts.
+/// Checks a sheet for a repeated slot, then a repeated designator, then an unknown part.
 ///
-/// It looks names up in search trees, so its time grows hardly faster than the sheet.
+/// It uses search trees, so the time grows little faster than the sheet.
 #[tactic(auto, unfolding(desk_types::specs::Refusals::sheet_refusal))]
 pub fn check_sheet(alloc: Global, parts: &Parts, rows: &[SheetRow]) -> Result<(), SheetFault>
     ensures { IsChecked parts.now rows.now result }
@@ -51,7 +50,6 @@ pub fn check_sheet(alloc: Global, parts: &Parts, rows: &[SheetRow]) -> Result<()
     }
 }
 
-/// The slot of the first row whose slot an earlier row has.
 fn slot_twice(alloc: Global, rows: &[SheetRow]) -> Result<Option<Id>, AllocError>
     ensures { IfOk result (λ twice. twice ≡ name_twice [] (slots_of_rows rows.now)) }
 {
@@ -64,7 +62,6 @@ fn slot_twice(alloc: Global, rows: &[SheetRow]) -> Result<Option<Id>, AllocError
     Ok(None)
 }
 
-/// The first designator that stands earlier in the sheet.
 fn designator_twice(alloc: Global, rows: &[SheetRow]) -> Result<Option<Designator>, AllocError>
     ensures { IfOk result (λ twice. twice ≡ name_twice [] (designators_of_rows rows.now)) }
 {
@@ -77,8 +74,7 @@ fn designator_twice(alloc: Global, rows: &[SheetRow]) -> Result<Option<Designato
     Ok(None)
 }
 
-/// The first of some designators that was seen before, or stands earlier among them. Where there is
-/// none, all have been seen afterwards.
+/// Returns the first designator that was seen before. Otherwise all of them are added to `seen`.
 fn twice_in(
     seen: &mut BTreeSet<Designator>,
     designators: &[Designator],
@@ -96,7 +92,6 @@ fn twice_in(
     Ok(None)
 }
 
-/// The part of the first row whose part is not among the parts.
 fn part_unknown(parts: &Parts, rows: &[SheetRow]) -> Option<Id>
     ensures { result ≡ unknown_part (is_among parts.now) rows.now }
 {

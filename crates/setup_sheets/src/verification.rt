@@ -1,4 +1,4 @@
-//! Feeder verification: does each slot of a sheet hold a reel that may feed it?
+//! Feeder verification: checks that each slot of a sheet has a reel that may feed it.
 
 ghost use Rattle.std.specs.Prelude.{◌≡◌, ◌≤◌, None, Some, OnOk, IfErr};
 ghost use Rattle.desk_types.specs.declared.rules.Rules.{Rules};
@@ -12,13 +12,11 @@ ghost use Rattle.setup_sheets.specs.Verification.{first_fault, front_fault, slot
 use crate::alternates::{Alternates, allowed};
 use desk_types::{Front, FrontReel, Fronts, Id, Life, Minute, Refusal, SheetRow, SheetRows};
 
-/// Looks at the fronts of a machine's slots before a board is started. The first slot of the sheet
-/// that holds no reel, or one that may not feed it at this minute, is named with the reason:
-/// SlotEmpty, WrongPart, NotBaked or Expired, tested in this order. Over the rows of the selected
-/// product's sheet, with the fronts and alternates of a list that a desk can come to have, at a minute
-/// not before its desk minute, the slots are ready exactly where a start of work finds nothing wrong
-/// with them, and the fault is what it is refused for where nothing else is wrong with it. Takes no
-/// memory.
+/// Checks the front reels before a start of work, without taking memory.
+///
+/// It reports the first faulty slot in sheet order with `SlotEmpty`, `WrongPart`, `NotBaked` or `Expired`, tested in
+/// this order. Given the selected product's sheet, and the fronts and alternates of an accepted history, it agrees with
+/// a start of work at or after the desk minute.
 pub fn verify(
     rows: &SheetRows,
     fronts: &Fronts,
@@ -41,7 +39,6 @@ pub fn verify(
     }
 }
 
-/// The first faulty slot in sheet order, with what is wrong.
 fn first_faulty(
     rows: &[SheetRow],
     fronts: &[Front],
@@ -60,7 +57,6 @@ fn first_faulty(
     None
 }
 
-/// What is wrong with the front of a row's slot.
 fn front_fault(
     row: &SheetRow,
     front: &Front,

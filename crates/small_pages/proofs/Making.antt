@@ -1,4 +1,4 @@
--- Files in which no database has been made.
+-- Files without a database.
 use Rattle.std.proofs.Common.{◌≡◌, ◌≤◌, sym, subst, arith}
 use Rattle.sqlite_wal.specs.Recovery.{Image}
 use Rattle.sqlite_pool.specs.Stored.{reserved}
@@ -7,7 +7,6 @@ use Rattle.sqlite_trees.specs.Tree.{Trees}
 use Rattle.sqlite.specs.Files.{HoldsDatabase}
 use Rattle.small_pages.specs.Found.{IsNew}
 
--- they hold none, with pages of whatever size
 pub new_holds_none : (image : Image) (trees : Trees) → IsNew image → ¬ HoldsDatabase image trees
 new_holds_none image trees new held =
     let few : reserved held.0 ≤ 8 = grind arith in

@@ -1,4 +1,4 @@
--- What an open finds in two files, by what they held.
+-- The result of opening two files, by their contents.
 use Rattle.std.specs.Prelude.{◌≡◌, ◌⊎◌, IsTrue}
 use Rattle.sqlite_disk.specs.declared.Disk.{Ghosts}
 use Rattle.sqlite_disk.specs.declared.Files.{Files}
@@ -13,20 +13,20 @@ use Rattle.sqlite.specs.State.{State}
 use Rattle.sqlite.specs.Steps.{IsFresh}
 use Rattle.desk_types.specs.declared.limits.TheConstants.{PAGE_SIZE}
 
--- no database has been made in the files yet, or its making with pages of this size was stopped
+-- No database has been made in the files yet, or its creation with pages of this size was interrupted.
 abbrev pub IsNew : Image → Type 0
 IsNew = IsBlankFile PAGE_SIZE
 
--- the trees are what the files hold; where no database has been made, they are empty
+-- The trees are those of the files. If no database has been made, they are empty.
 abbrev pub AreReadIn : Image → Trees → Type 0
 AreReadIn image trees = AreFoundIn image trees ⊎ (IsNew image × IsEmpty trees)
 
--- what is committed is what the files held
+-- The committed contents are those of the files.
 pub record FindsAs (image : Image) (s : State) : Type 0 where
   pub holds : (trees : Trees) → HoldsDatabase image trees → s.committed.trees ≡ trees
   pub reads : AreReadIn image s.committed.trees
 
--- an empty database was made, by files that told the truth
+-- An empty database was made in files that did not lie.
 pub record IsMadeOf {D : Type 0} {g : Ghosts D} (files : Files D) (store : FileStore D g) : Type 0 where
   pub honest : AreClean g files.log files.db
   pub fresh : IsFresh (view store)

@@ -1,4 +1,4 @@
-//! A database in files, which are made with small pages where there are none yet.
+//! A database in files. New files get small pages.
 #![tactic(auto)]
 
 mod opening;

@@ -1,4 +1,4 @@
-//! A connection to two files, whatever they are on.
+//! A connection to two files of any store.
 
 ghost use Rattle.std.specs.Prelude.{◌≡◌, [], false, IsTrue, IfOk, IfSome};
 ghost use Rattle.sqlite_pool.specs.Opening.{IsBlankFile};
@@ -18,8 +18,7 @@ use sqlite_store::Unopened;
 use sqlite_wal::PageSize;
 use std::alloc::{AllocFailed, Global};
 
-/// Opens the database that the files hold, or makes one where there is none yet, also where an
-/// earlier call was stopped in its making.
+/// Opens the database in the files, or makes it, even if an earlier creation was interrupted.
 pub fn open_files<D: Disk + Drop>(
     alloc: Global,
     mut files: Files<D>,
@@ -53,7 +52,6 @@ pub fn open_files<D: Disk + Drop>(
 
 const FAILED: Error = Error::SqliteFailure(ErrorCode::SystemIoFailure);
 
-/// Makes an empty database in the files.
 fn new_store<D: Disk + Drop>(
     alloc: Global,
     files: Files<D>,
@@ -71,7 +69,6 @@ fn new_store<D: Disk + Drop>(
     }
 }
 
-/// The files, of which nothing is read yet.
 fn unopened_files<D: Disk + Drop>(
     alloc: Global,
     files: Files<D>,

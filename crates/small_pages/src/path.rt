@@ -10,8 +10,8 @@ use crate::opening::open_files;
 use sqlite::{Connection, Error, ErrorCode, FileFrom, FileStore, Options, Start};
 use std::hash::{BuildHasher, RandomState};
 
-/// Opens the database in the file at a path, or makes it, where `T` says what the file and its log
-/// held. The system's clock is not asked, so a statement that reads the time is refused.
+/// Opens the database in the file at a path, or makes it. `T` is the contents of the file and its log. The system's
+/// clock is not read, so a statement that reads the time is refused.
 pub fn open<T: Start>(
     rt: &HostRuntime,
     path: &str,

@@ -1,4 +1,4 @@
--- In one slot the front has the least number: the live reels stand in the order in which they were put there.
+-- The live reels of a slot are in the order of their numbers, so the front has the least number.
 use Rattle.std.proofs.Common.{◌≡◌, ℕ, ◌<◌, ◌≤◌, Bool, true, false, Option, Some, None, List, [], ◌∷◌, ◌++◌, length, filter, refl, sym, ap, ◌∙◌, subst, arith, nat_lt}
 use Rattle.std.specs.Prelude.{if◌then◌else◌, ◌&&◌, ◌||◌, ⊤}
 use Rattle.std.specs.Option.{option_or, option_map_or}
@@ -20,11 +20,10 @@ use Rattle.desk_laws.proofs.Mounts.{has, live-mounted}
 use Rattle.desk_types.specs.declared.row.MountRow.{MountRow}
 use Rattle.desk_types.specs.Tables.{put_by, last_put}
 
--- the number of the reel's last load or splice
+-- The number of the reel's last load or splice.
 abbrev pub since_of : History → Name → ℕ
 since_of H reel = option_map_or (λ (row : MountRow). row.since) (last_put H reel) 0
 
--- the numbers rise along the reels
 abbrev pub Ascends : (Name → ℕ) → List Name → Type 0
 Ascends since [] = ⊤
 Ascends since (r ∷ rs) = AllByRecursion (λ x. since r < since x) rs × Ascends since rs
@@ -46,7 +45,6 @@ ascends-filter since test (r ∷ rs) (first, up) = by (test r) (all-filter (λ x
     by true first rest = (first, rest)
     by false first rest = rest
 
--- one more with a greater number
 all-end : (P : Name → Type 0) (rs : List Name) (r : Name) → AllByRecursion P rs → P r → AllByRecursion P (rs ++ r ∷ [])
 all-end P [] r all last = (last, tt)
 all-end P (x ∷ xs) r (first, all) last = (first, all-end P xs r all last)
@@ -55,7 +53,6 @@ ascends-end : (since : Name → ℕ) (rs : List Name) (r : Name) → Ascends sin
 ascends-end since [] r up less = (tt, tt)
 ascends-end since (x ∷ xs) r (first, up) (here, less) = (all-end (λ y. since x < since y) xs r first here, ascends-end since xs r up less)
 
--- numbers that agree on the reels
 all-agree : (P Q : Name → Type 0) (rs : List Name) → ((r : Name) → has rs r ≡ true → P r → Q r) → AllByRecursion P rs → AllByRecursion Q rs
 all-agree P Q [] agree all = tt
 all-agree P Q (r ∷ rs) agree (first, all) =
@@ -84,7 +81,6 @@ since-put reel number (MaterialsSpliced m s r) row is = by (same r reel) is
     by false is = cc
 since-put reel number _ row is = cc
 
--- no number is above that of the last entry
 pub since-within : (H : History) (reel : Name) → IsJudged Two H → since_of H reel ≤ length H
 since-within [] reel judged = omega arith
 since-within (e ∷ H) reel (next, judged) = by (put_by reel e.number e.stamped.command) refl (since-within H reel judged)
@@ -96,11 +92,9 @@ since-within (e ∷ H) reel (next, judged) = by (put_by reel e.number e.stamped.
 
 -- ---- one entry more
 
--- where the reels of a slot are not put anew
 unput : (H : History) (number : ℕ) (command : Command) (r : Name) → put_by r number command ≡ None → since_of H r ≡ option_map_or (λ (row : MountRow). row.since) (option_or (put_by r number command) (last_put H r)) 0
 unput H number command r none = sym (ap (λ o. option_map_or (λ (row : MountRow). row.since) (option_or o (last_put H r)) 0) none)
 
--- a live reel is not the one that is put onto a slot
 other : (H : History) (machine slot r x : Name) → is_mounted H r ≡ false → has (live_on H machine slot) x ≡ true → same r x ≡ false
 other H machine slot r x rests live = by (same r x) refl
   where
@@ -157,7 +151,7 @@ step H minute number machine slot (MaterialsUnloaded m s) judged accepted later 
     by false = up
 step H minute number machine slot _ judged accepted later up = up
 
--- The live reels of a slot stand in the order of the numbers of their loads and splices.
+-- The live reels of a slot are in the order of the numbers of their loads and splices.
 pub since-ascends : (H : History) (machine slot : Name) → IsJudged Two H → Ascends (since_of H) (live_on H machine slot)
 unfolding live_on tape_of
 since-ascends [] machine slot judged = tt
@@ -168,7 +162,6 @@ since-ascends (e ∷ H) machine slot (next, judged) =
 
 -- ---- uniqueness
 
--- what holds of all reels holds of one
 all-at : (P : Name → Type 0) (rs : List Name) (r : Name) → AllByRecursion P rs → has rs r ≡ true → P r
 all-at P [] r all there = cc
 all-at P (x ∷ xs) r (first, all) there = by (same r x) refl there (all-at P xs r all)
@@ -177,7 +170,6 @@ all-at P (x ∷ xs) r (first, all) there = by (same r x) refl there (all-at P xs
     by true here there rest = subst P (sym (same-true r x here)) first
     by false away there rest = rest there
 
--- the first reel does not stand among the others
 not-again : (since : Name → ℕ) (r : Name) (rs : List Name) → AllByRecursion (λ x. since r < since x) rs → has rs r ≡ false
 not-again since r rs first = by (has rs r) refl
   where
@@ -185,7 +177,7 @@ not-again since r rs first = by (has rs r) refl
     by true there = let less = all-at (λ x. since r < since x) rs r first there in absurd (omega (arith, less))
     by false there = there
 
--- Lists with the same members, along which the same numbers rise, are one: so the mounts of a slot, by their numbers, are its live reels.
+-- The mounts of a slot, by their numbers, are its live reels: both lists have the same members, with rising numbers.
 pub ascending-same : (since : Name → ℕ) (xs ys : List Name) → Ascends since xs → Ascends since ys → ((r : Name) → has xs r ≡ has ys r) → xs ≡ ys
 ascending-same since [] [] up up' agree = refl
 ascending-same since [] (y ∷ ys) up up' agree = let at = agree y in let here = or_left (same y y) (has ys y) (same-refl y) in cc

@@ -21,9 +21,6 @@ use Rattle.desk_types.specs.declared.row.BoardRow.{BoardRow}
 use Rattle.desk_types.specs.Tables.{board_row}
 use Rattle.state_rows.specs.After.{board_after}
 
--- ---- tests
-
--- an accepted selection is on a machine with no board in work
 selectable : (H : History) (machine product : Name) → selection_refusal H machine product ≡ None → is_some (in_work_on H machine) ≡ false
 unfolding selection_refusal
 selectable H machine product none =
@@ -31,16 +28,14 @@ selectable H machine product none =
 
 -- ---- boards in work
 
--- the machine that last started the board
 abbrev pub last_start : History → Name → Option Name
 last_start H board = latest (λ e. start_by board e.stamped.command) H
 
--- the board in work, where it is this one
 pub on-is : (at : Option Name) (board : Name) → option_map_or (same board) at false ≡ true → at ≡ Some board
 on-is None board is = cc
 on-is (Some b) board is = ap (λ x. Some x) (sym (same-true board b is))
 
--- the board was last started on the machine, and its product is the one that is selected there
+-- The board was last started on the machine, and its product is the one that is selected there.
 pub record AreWorking (last selected made : Option Name) (machine : Name) : Type 0 where
   pub there : last ≡ Some machine
   pub product : Name
@@ -50,11 +45,9 @@ pub record AreWorking (last selected made : Option Name) (machine : Name) : Type
 abbrev pub IsWorking : History → Name → Name → Type 0
 IsWorking H machine board = AreWorking (last_start H board) (selected_on H machine) (product_of H board) machine
 
--- what is there is not changed by what else there may be
 kept : (had more : Option Name) (product : Name) → had ≡ Some product → option_or had more ≡ Some product
 kept had more product is = ap (λ o. option_or o more) is
 
--- two products, where a start is not refused for them, are one
 agreed : (made selected : Option Name) (product : Name) → selected ≡ Some product → differ made selected ≡ false → option_or made selected ≡ Some product
 agreed None selected product is same_one = is
 agreed (Some q) selected product is same_one = by (same q product) refl (sym (ap (differ (Some q)) is) ∙ same_one)
@@ -71,7 +64,6 @@ idle-off : (working : Option Name) (board : Name) → is_some working ≡ false 
 idle-off None board idle = refl
 idle-off (Some x) board idle = cc
 
--- after an accepted command
 working-step : (H : History) (minute : ℕ) (machine board : Name) (command : Command) → command_refusal Two H minute command ≡ None
     → (is_in_work_on H machine board ≡ true → IsWorking H machine board)
     → option_map_or (same board) (unwrap_or (option_or (work_by machine command) (latest (λ (e : Entry). work_by machine e.stamped.command) H)) None) false ≡ true
@@ -93,7 +85,6 @@ working-step H minute machine board (WorkStarted m b) accepted before working = 
     tests : IsStartable H m b
     tests = startable H minute m b accepted
 
-    -- the machine goes on with its board
     on : (c : Bool) → same b board ≡ c → is_in_work_on H machine board ≡ true
         → AreWorking (option_or (if c then Some m else None) (last_start H board)) (selected_on H machine)
         (option_or (product_of H board) (option_and_then (selected_on H) (if c then Some m else None))) machine
@@ -104,7 +95,6 @@ working-step H minute machine board (WorkStarted m b) accepted before working = 
     on false here working =
         let w = before working in record { there = w.there; product = w.product; is_selected = w.is_selected; is_made = kept _ None w.product w.is_made }
 
-    -- the machine begins this board
     begun : (c : Bool) → same b board ≡ c → same board b ≡ true → same m machine ≡ true
         → AreWorking (option_or (if c then Some m else None) (last_start H board)) (selected_on H machine)
         (option_or (product_of H board) (option_and_then (selected_on H) (if c then Some m else None))) machine
@@ -148,7 +138,6 @@ or-nothing : (o : Option Name) → option_or o None ≡ o
 or-nothing None = refl
 or-nothing (Some x) = refl
 
--- where the same boards are in work on the same machines
 unmoved : (H : History) (board : Name) (test : Name → Bool) → ((m : Name) → test m ≡ is_in_work_on H m board)
     → option_map (λ product. record { board = board; product = product; machine = option_and_then (λ m. if test m then Some m else None) (last_start H board) }) (option_or (product_of H board) None)
     ≡ board_row H board
@@ -212,7 +201,6 @@ row-step H minute board (WorkCompleted m b) judged accepted = by (same b board) 
     off : test m ≡ false
     off = ap (λ c. option_map_or (same board) (unwrap_or (option_or (if c then Some None else None) (latest (λ (e : Entry). work_by m e.stamped.command) H)) None) false) (same-refl m)
 
-    -- a machine works on one board
     one : (w : Option Name) → option_map_or (same b) w false ≡ true → same b board ≡ false → option_map_or (same board) w false ≡ false
     one None is other = refl
     one (Some x) is other = ap (same board) (sym (same-true b x is)) ∙ same-sym board b ∙ other
@@ -236,7 +224,6 @@ row-step H minute board (WorkCompleted m b) judged accepted = by (same b board) 
     by false here = unmoved H board test (elsewhere here)
 row-step H minute board _ judged accepted = unmoved H board (λ m. is_in_work_on H m board) (λ m. refl)
 
--- The row of a board after one entry more, from its row before.
 pub board_row-next : (H : History) (e : Entry) (board : Name) → IsJudged Two (e ∷ H)
     → board_row (e ∷ H) board ≡ board_after (selected_on H) board e.stamped.command (board_row H board)
 board_row-next H e board (next, judged) = row-step H e.effective board e.stamped.command judged (next-accepted H e next)

@@ -35,30 +35,27 @@ use Rattle.state_rows.proofs.MountRows.{left_after}
 use Rattle.state_rows.proofs.ReelRows.{same-rows, found-kept}
 use Rattle.state_rows.proofs.TablesLess.{OnlyTakes, none-step, unpicked}
 
--- the row of a count for the reel
 abbrev row_of : List CountRow → Name → Option CountRow
 row_of rows reel = find (λ (row : CountRow). same row.reel reel) rows
 
 -- ---- edits, row by row
 
--- a reel's row after a row of a count, where the reel has this view
+-- A reel's row after one element of a count, if the reel has this view.
 abbrev reel_counted : ℕ → Option ReelView → Option ReelRow → Option ReelRow
 reel_counted n None before = before
 reel_counted n (Some view) before = Some (counted_row n (columns_of view))
 
--- its found pieces
 abbrev found_counted : ℕ → Option ReelView → Option ℕ → Option ℕ
 found_counted n None before = before
 found_counted n (Some view) before = if nat_lt view.remaining n then Some (view.found + (n - view.remaining)) else before
 
--- the tables after a count: of each reel by its row
+-- The tables after a count: of each reel by its row.
 abbrev after_counts : History → List CountRow → Tables → Tables
 after_counts H rows t = record t {
   reels = λ r. option_map_or (λ (row : CountRow). reel_counted row.quantity (reel_view H row.reel) (t.reels r)) (row_of rows r) (t.reels r);
   found = λ r. option_map_or (λ (row : CountRow). found_counted row.quantity (reel_view H row.reel) (t.found r)) (row_of rows r) (t.found r);
 }
 
--- a view has the reel's name
 view-named : (H : History) (reel : Name) (view : ReelView) → reel_view H reel ≡ Some view → view.reel ≡ reel
 view-named H reel view is = by (receipt_of H reel) is
   where
@@ -66,7 +63,6 @@ view-named H reel view is = by (receipt_of H reel) is
     by None is = cc
     by (Some receipt) is = sym (ap (λ o. option_map_or (λ (x : ReelView). x.reel) o []) is)
 
--- one row's edits
 row-edited : (H : History) (row : CountRow) (t : Tables)
     → with_edits (count_edits H row) t
     ≡ record t {
@@ -107,7 +103,6 @@ row-edited H row t = by (reel_view H row.reel) (view-named H row.reel)
         more false =
             λ j. record t { reels = λ r. if same (named j) r then Some (counted_row n (columns_of view)) else t.reels r; found = λ r. stays (same row.reel r) (t.found r) j }
 
--- a reel of a row before has no further row
 once-counted : (H : History) (seen : List Name) (rows : List CountRow) (reel : Name) → counts_refusal Two H seen rows ≡ None → list_any (same reel) seen ≡ true
     → row_of rows reel ≡ None
 once-counted H seen [] reel none before = refl
@@ -120,7 +115,6 @@ once-counted H seen (row ∷ rows) reel none before =
     by true here rest = let one = same-true row.reel reel here in let once = (countable H seen row rows none).0.once in cc
     by false here rest = rest
 
--- all rows' edits
 counts-edited : (H : History) (seen : List Name) (rows : List CountRow) (t : Tables) → counts_refusal Two H seen rows ≡ None
     → with_edits (flat_map (count_edits H) rows) t ≡ after_counts H rows t
 counts-edited H seen [] t none = refl
@@ -149,9 +143,8 @@ counts-edited H seen (row ∷ rows) t none =
     step change r x true here = ap (λ o. option_map_or (λ c. change c (change row x)) o (change row x)) (absent r here)
     step change r x false here = refl
 
--- ---- what they lead to
+-- ---- their effect
 
--- off a reel that has no row no piece comes
 uncounted : (pieces : Name → ℕ) (rows : List CountRow) (reel : Name) → row_of rows reel ≡ None → is_picked (count_picks pieces rows) reel ≡ false
 uncounted pieces [] reel none = refl
 uncounted pieces (row ∷ rows) reel none = by (same row.reel reel) refl none (uncounted pieces rows reel)
@@ -169,26 +162,22 @@ uncounted pieces (row ∷ rows) reel none = by (same row.reel reel) refl none (u
         ∙ ap (λ c. c || is_picked (count_picks pieces rows) reel) (off (nat_lt 0 (pieces row.reel - row.quantity)) here)
         ∙ rest none
 
--- A count leaves of a reel that has no row what it had.
 pub uncounted-left : (H : History) (rows : List CountRow) (reel : Name) → row_of rows reel ≡ None → left_after H (CountsTaken rows) reel ≡ left_of H reel
 uncounted-left H rows reel none =
     let nothing = unpicked (count_picks (left_of H) rows) reel (uncounted (left_of H) rows reel none) in
     ap (λ o. unwrap_or (option_map (λ (row : CountRow). row.quantity) o) (left_of H reel - pieces_picked (count_picks (left_of H) rows) reel)) none
     ∙ (let all : left_of H reel - pieces_picked (count_picks (left_of H) rows) reel ≡ left_of H reel = omega (arith, nothing) in all)
 
--- a count places no piece
 nothing-placed : (picks : List Pick) (reel : Name) → AreUnplaced picks → placed_in picks reel ≡ 0
 nothing-placed [] reel all = refl
 nothing-placed (p ∷ ps) reel (first, all) =
     ap (λ b. pieces_picked (if b then p ∷ filter (λ (x : Pick). is_placed x.purpose) ps else filter (λ (x : Pick). is_placed x.purpose) ps) reel) first ∙ nothing-placed ps reel all
 
--- the row of a reel after the count
+-- The row of a reel after the count.
 module _ (H : History) (minute : ℕ) (rows : List CountRow) (judged : IsJudged Two H) (accepted : counts_refusal Two H [] rows ≡ None) (r : Name) where
-  -- what the count takes
   abbrev picks : List Pick
   picks = count_picks (left_of H) rows
 
-  -- what the row says of its reel's view it says of the reel's
   by-reel : {X : Type 0} (change : ℕ → Option ReelView → X) (x : X)
       → option_map_or (λ (row : CountRow). change row.quantity (reel_view H row.reel)) (row_of rows r) x ≡ option_map_or (λ (row : CountRow). change row.quantity (reel_view H r)) (row_of rows r) x
   by-reel change x = by (row_of rows r) refl
@@ -198,7 +187,6 @@ module _ (H : History) (minute : ℕ) (rows : List CountRow) (judged : IsJudged 
       by None is = refl
       by (Some row) is = ap (λ k. change row.quantity (reel_view H k)) (same-true row.reel r (find-passes (λ (c : CountRow). same c.reel r) rows row is))
 
-  -- a row that is counted
   step-counted : (row : CountRow) (before : ReelRow) → row_of rows r ≡ Some row → before.remaining ≡ left_of H r
       → counted_row row.quantity before ≡ step_row minute picks r (CountsTaken rows) before
   step-counted row before is left =
@@ -224,7 +212,6 @@ module _ (H : History) (minute : ℕ) (rows : List CountRow) (judged : IsJudged 
           ∙ said.told
           ∙ ap (λ o. left_of H r - pieces_picked picks r + option_map_or (λ (x : CountRow). x.quantity - left_of H r) o 0) is
 
-  -- the rows of reels
   reels-counted : option_map_or (λ (row : CountRow). reel_counted row.quantity (reel_view H row.reel) (reel_row H r)) (row_of rows r) (reel_row H r)
       ≡ option_map (step_row minute picks r (CountsTaken rows)) (reel_row H r)
   reels-counted = by-reel (λ n view. reel_counted n view (reel_row H r)) (reel_row H r) ∙ by (row_of rows r) refl (receipt_of H r)
@@ -245,7 +232,6 @@ module _ (H : History) (minute : ℕ) (rows : List CountRow) (judged : IsJudged 
       by None is (Some receipt) = ap Some (none-step minute picks r (CountsTaken rows) (columns_of (view_of H r receipt)) (uncounted (left_of H) rows r is) (only is))
       by (Some row) is (Some receipt) = ap Some (step-counted row (columns_of (view_of H r receipt)) is refl)
 
-  -- the found pieces
   founds-counted : option_map_or (λ (row : CountRow). found_counted row.quantity (reel_view H row.reel) (found_row H r)) (row_of rows r) (found_row H r)
       ≡ found_after (left_of H r) r (CountsTaken rows) (found_row H r)
   founds-counted =

@@ -1,4 +1,4 @@
--- What the rows of boards say of the desk whose rows they are.
+-- The rows of boards, for the desk that has these rows.
 use Rattle.std.proofs.Common.{◌≡◌, ◌↔◌, Bool, true, false, Option, Some, None, [], refl, sym, ap, ◌∙◌, unwrap_or}
 use Rattle.std.specs.Prelude.{if◌then◌else◌, is_some}
 use Rattle.std.specs.Option.{option_map, option_map_or, option_and_then}
@@ -16,7 +16,7 @@ use Rattle.state_rows.proofs.BoardRows.{last_start, IsWorking, on-is, working}
 
 -- ---- boards in work
 
--- the machine where a board is in work, by its row
+-- The machine where a board is in work, by its row.
 abbrev pub machine_in : Option BoardRow → Option Name
 machine_in row = option_and_then (λ (r : BoardRow). r.machine) row
 
@@ -48,11 +48,9 @@ row-work H machine board says = on-is (in_work_on H machine) board (by (product_
     by None is = cc
     by (Some p) is = at (last_start H board) is
 
--- A board is in work on a machine exactly where its row says so.
 pub work-on_row : (H : History) (machine board : Name) → IsJudged Two H → (in_work_on H machine ≡ Some board) ↔ (machine_in (board_row H board) ≡ Some machine)
 work-on_row H machine board judged = (work-row H machine board judged, row-work H machine board)
 
--- A board is in work exactly where its row has a machine.
 pub in_work-row : (H : History) (board : Name) → IsJudged Two H → is_in_work H board ≡ is_some (machine_in (board_row H board))
 in_work-row H board judged =
     iff _ _ (λ is. let on = in_work-somewhere H board is in ap is_some (work-row H on.0 board judged on.1)) (back (machine_in (board_row H board)) refl)

@@ -1,7 +1,7 @@
 -- What lists of edits make of tables.
-use Rattle.std.proofs.Common.{◌≡◌, ℕ, ◌+◌, Bool, true, false, Option, Some, None, List, [], ◌∷◌, ◌++◌, map, refl, ap, ◌∙◌, arith, ◌<◌, length, take, get_or}
+use Rattle.std.proofs.Common.{◌≡◌, ℕ, ◌+◌, Bool, true, false, Option, Some, None, List, [], ◌∷◌, ◌++◌, map, refl, sym, ap, ◌∙◌, arith, ◌<◌, length, take, get_or}
 use Rattle.std.specs.Prelude.{if◌then◌else◌, ◌==◌, ◌&&◌, ◌||◌, is_some}
-use Rattle.std.specs.Option.{option_or}
+use Rattle.std.specs.Option.{option_or, option_map}
 use Rattle.std.proofs.lemmas.Bool.{eqb-true}
 use Rattle.desk_types.specs.declared.sheet.SheetRow.{SheetRow}
 use Rattle.desk_types.specs.Id.{Name, same}
@@ -9,13 +9,13 @@ use Rattle.desk_types.proofs.LoopSteps.{take-next}
 use Rattle.desk_laws.proofs.Mounts.{has}
 use Rattle.desk_types.specs.declared.row.MountRow.{MountRow}
 use Rattle.desk_types.specs.declared.edit.RowEdit.{RowEdit}
-use Rattle.desk_types.specs.declared.edit.RowEdit.TheVariants.{TakeMount}
+use Rattle.desk_types.specs.declared.edit.RowEdit.TheVariants.{TakeMount, PutMount}
 use Rattle.desk_types.specs.Tables.{Tables, at_place}
 use Rattle.desk_types.specs.Edits.{with_edit, with_edits}
 use Rattle.state_rows.specs.EditsOf.{taken_rows, put_rows}
+use Rattle.state_rows.specs.Kept.{without_number, unnumbered}
 use Rattle.state_rows.proofs.PlacementRows.{at_place-before}
 
--- two sets of tables with the same rows
 pub same-tables : (a b : Tables) → ((p : Name) → a.parts p ≡ b.parts p) → ((p q : Name) → a.alternates p q ≡ b.alternates p q)
     → ((p m : Name) (k : ℕ) → a.sheets p m k ≡ b.sheets p m k) → ((m : Name) → a.selected m ≡ b.selected m) → ((r : Name) → a.reels r ≡ b.reels r)
     → ((r : Name) → a.mounts r ≡ b.mounts r) → ((b' : Name) → a.boards b' ≡ b.boards b') → ((n k : ℕ) → a.placements n k ≡ b.placements n k) → ((r : Name) → a.found r ≡ b.found r) → a ≡ b
@@ -31,10 +31,33 @@ same-tables a b parts alternates sheets selected reels mounts boards placements 
   found = λ r. found r j;
 }
 
--- edits one list after the other
 pub with_edits-append : (xs ys : List RowEdit) (t : Tables) → with_edits (xs ++ ys) t ≡ with_edits ys (with_edits xs t)
 with_edits-append [] ys t = refl
 with_edits-append (x ∷ xs) ys t = with_edits-append xs ys (with_edit x t)
+
+-- ---- tables without numbers
+
+twice : (row : Option MountRow) → option_map without_number row ≡ option_map without_number (option_map without_number row)
+twice None = refl
+twice (Some row) = refl
+
+edit-unnumbered : (x : RowEdit) (t : Tables) → unnumbered (with_edit x t) ≡ unnumbered (with_edit x (unnumbered t))
+edit-unnumbered (TakeMount reel) t = ap (λ (f : Name → Option MountRow). record (unnumbered t) { mounts = f }) (λ j r. by (same reel r) (t.mounts r) j)
+  where
+    by : (b : Bool) (o : Option MountRow) → option_map without_number (if b then None else o) ≡ option_map without_number (if b then None else option_map without_number o)
+    by true o = refl
+    by false o = twice o
+edit-unnumbered (PutMount row) t = ap (λ (f : Name → Option MountRow). record (unnumbered t) { mounts = f }) (λ j r. by (same row.reel r) (t.mounts r) j)
+  where
+    by : (b : Bool) (o : Option MountRow) → option_map without_number (if b then Some row else o) ≡ option_map without_number (if b then Some row else option_map without_number o)
+    by true o = refl
+    by false o = twice o
+edit-unnumbered x t = ap (λ (f : Name → Option MountRow). record (unnumbered (with_edit x t)) { mounts = f }) (λ j r. twice (t.mounts r) j)
+
+pub edits-unnumbered : (xs : List RowEdit) (s t : Tables) → unnumbered s ≡ unnumbered t → unnumbered (with_edits xs s) ≡ unnumbered (with_edits xs t)
+edits-unnumbered [] s t is = is
+edits-unnumbered (x ∷ xs) s t is =
+    edits-unnumbered xs (with_edit x s) (with_edit x t) (edit-unnumbered x s ∙ ap (λ u. unnumbered (with_edit x u)) is ∙ sym (edit-unnumbered x t))
 
 -- ---- slots
 
@@ -58,7 +81,6 @@ mounts-taken (x ∷ xs) t flip =
 -- ---- sheets
 
 module _ (product machine : Name) where
-  -- whether the sheet is this one
   abbrev is_sheet : Name → Name → Bool
   is_sheet p m = same product p && same machine m
 
@@ -100,7 +122,6 @@ module _ (product machine : Name) where
       one true false rest o = refl
       one false c rest o = refl
 
--- one more edit
 pub edits-next : (edits : List RowEdit) (i : ℕ) (edit : RowEdit) (t : Tables) → i < length edits → edit ≡ get_or edits i edit
     → with_edits (take (i + 1) edits) t ≡ with_edit edit (with_edits (take i edits) t)
 edits-next edits i edit t inside is = ap (λ xs. with_edits xs t) (take-next edits i edit inside is) ∙ with_edits-append (take i edits) (edit ∷ []) t

@@ -1,4 +1,4 @@
--- The edits of an accepted command lead the tables of a list to those of the list with it.
+-- The edits of an accepted command turn the tables of a history into those of the history with it.
 use Rattle.std.proofs.Common.{◌≡◌, ℕ, ◌+◌, ◌-◌, nat_lt, Bool, true, false, Option, Some, None, List, [], ◌∷◌, map, refl, sym, ap, ◌∙◌, unwrap_or, add-zero, arith}
 use Rattle.std.specs.Prelude.{if◌then◌else◌, ◌==◌, ◌&&◌, ◌||◌, is_some}
 use Rattle.std.specs.Option.{option_or, option_map, option_map_or, option_and_then}
@@ -15,6 +15,7 @@ use Rattle.desk_types.specs.Id.{Name, same}
 use Rattle.desk_types.specs.History.{History}
 use Rattle.desk_types.specs.Setup.{defines, is_part, allows, is_alternate, sheet_by, sheet_of, selection_by, selected_on, receipt_by, receipt_of}
 use Rattle.desk_types.specs.declared.take.Pick.{Pick}
+use Rattle.desk_types.specs.declared.take.Take.{Take}
 use Rattle.desk_types.specs.declared.take.Purpose.{Purpose}
 use Rattle.desk_types.specs.declared.take.Purpose.TheVariants.{Placed, Rejected, Counted}
 use Rattle.desk_types.specs.Pieces.{pieces_picked, picks_of, pieces_by, is_placed, found_by, found_of, left_of, live_on, is_mounted}
@@ -33,9 +34,11 @@ use Rattle.desk_laws.proofs.BoardsInWork.{startable, completable}
 use Rattle.desk_types.specs.declared.row.ReelRow.{ReelRow}
 use Rattle.desk_types.specs.declared.row.MountRow.{MountRow}
 use Rattle.desk_types.specs.declared.row.BoardRow.{BoardRow}
+use Rattle.desk_types.specs.declared.row.PlacementRow.{PlacementRow}
 use Rattle.desk_types.specs.declared.edit.RowEdit.{RowEdit}
 use Rattle.desk_types.specs.Tables.{at_place, columns_of, sheet_row, reel_row, last_put, mount_row, board_row, placement_row, found_row, Tables, tables_of}
 use Rattle.desk_types.specs.Edits.{with_edits}
+use Rattle.state_rows.specs.Kept.{without_number, unnumbered}
 use Rattle.state_rows.specs.After.{fresh_row, used_after, bakes, step_row, reel_after, mount_after, board_after, placed_row, placement_after, found_after}
 use Rattle.state_rows.specs.EditsOf.{opened_row, sealed_row, baked_row, reel_edit, board_edit, taken_rows, put_rows, reels_on, pick_of, picked_rows, after_rows, after_placing, AreEditsOf}
 use Rattle.state_rows.proofs.ReelRows.{same-rows, reel_row-next, found_row-next}
@@ -49,7 +52,7 @@ use Rattle.state_rows.proofs.TablesLess.{OnlyTakes, picks-again, reels-took, mou
 
 -- ---- one entry more
 
--- the tables of the list with a command, by what they were before
+-- The tables of the history with a command, in terms of the earlier tables.
 abbrev tables_after : History → ℕ → ℕ → Command → Tables
 tables_after H number minute command = record {
   parts = λ p. defines p command || is_part H p;
@@ -63,6 +66,15 @@ tables_after H number minute command = record {
   found = λ r. found_after (left_of H r) r command (found_row H r);
 }
 
+-- The row of a placed piece after edits of this number, whether or not a piece has the number already.
+abbrev placement_by : ℕ → List Take → ℕ → ℕ → Option PlacementRow → Option PlacementRow
+placement_by number takes n k before = option_or (if number == n then option_and_then (placed_row n k) (at_place 1 takes k) else None) before
+
+-- The tables after the edits of a command, of whatever number.
+abbrev tables_by : History → ℕ → ℕ → Command → Tables
+tables_by H number minute command =
+    record (tables_after H number minute command) { placements = λ n k. placement_by number (takes_by H minute command) n k (placement_row H n k) }
+
 tables-next : (H : History) (e : Entry) → IsJudged Two (e ∷ H) → tables_of (e ∷ H) ≡ tables_after H e.number e.effective e.stamped.command
 unfolding left_of
 tables-next H e judged =
@@ -71,7 +83,6 @@ tables-next H e judged =
 
 -- ---- commands that take nothing
 
--- a row from which nothing is taken, and of whose pieces nothing is told
 untaken : (minute : ℕ) (reel : Name) (command : Command) (row : ReelRow) → pieces_by reel command ≡ None → ((left : ℕ) → found_by left reel command ≡ 0)
     → step_row minute [] reel command row
     ≡ record row {
@@ -85,24 +96,17 @@ untaken minute reel command row told finds =
     (add-zero row.placed) (add-zero row.scrapped)
     (ap (λ o. unwrap_or o (row.remaining - 0)) told ∙ (let is : row.remaining - 0 ≡ row.remaining = omega arith in is)) refl refl refl
 
--- a command that says nothing of the reel leaves its row
 quiet : (H : History) (minute : ℕ) (command : Command) (r : Name) → open_by r command ≡ None → baked_by r command ≡ None → pieces_by r command ≡ None
     → ((left : ℕ) → found_by left r command ≡ 0) → reel_row H r ≡ option_map (step_row minute [] r command) (reel_row H r)
 quiet H minute command r out baked told finds = reels-took H minute [] command r (record { out = out; baked = baked; told = told; finds = finds })
 
--- no piece has this number yet
-abbrev IsFree : History → ℕ → Type 0
-IsFree H number = (n k : ℕ) → (number == n) ≡ true → placement_row H n k ≡ None
-
--- no row of `placement` is put in
-unplaced : (H : History) (number n k : ℕ) → IsFree H number → placement_row H n k ≡ placement_after number [] n k (placement_row H n k)
-unplaced H number n k free = by (number == n) refl
+unplaced : (H : History) (number n k : ℕ) → placement_row H n k ≡ placement_by number [] n k (placement_row H n k)
+unplaced H number n k = by (number == n)
   where
-    by : (b : Bool) → (number == n) ≡ b → placement_row H n k ≡ (if b then None else placement_row H n k)
-    by true is = free n k is
-    by false is = refl
+    by : (b : Bool) → placement_row H n k ≡ option_or (if b then option_and_then (placed_row n k) (at_place 1 [] k) else None) (placement_row H n k)
+    by true = refl
+    by false = refl
 
--- a command that finds no piece of the reel leaves what was found
 unfound : (H : History) (r : Name) (command : Command) → found_by (left_of H r) r command ≡ 0 → found_row H r ≡ found_after (left_of H r) r command (found_row H r)
 unfound H r command none = by (found_of H r == 0) refl
   where
@@ -114,7 +118,6 @@ unfound H r command none = by (found_of H r == 0) refl
 
 -- ---- reels
 
--- the edit of a received reel's row
 reel-edited : (H : History) (reel : Name) (change : ReelRow → ReelRow) (t : Tables) → ((row : ReelRow) → (change row).reel ≡ row.reel)
     → with_edits (reel_edit change (reel_row H reel)) t
     ≡ record t { reels = λ q. if same reel q then option_or (option_map change (reel_row H reel)) (t.reels q) else t.reels q }
@@ -131,7 +134,6 @@ reel-edited H reel change t keeps = by (receipt_of H reel)
         ap (λ (f : Name → Option ReelRow). record t { reels = f })
         (λ j q. if same (keeps (columns_of (view_of H reel receipt)) j) q then Some (change (columns_of (view_of H reel receipt))) else t.reels q)
 
--- a changed row is the row after the command
 changed : (H : History) (minute : ℕ) (reel q : Name) (command : Command) (change : ReelRow → ReelRow) (out : Bool) (baked : Option Bool)
     → open_by q command ≡ (if same reel q then Some out else None) → baked_by q command ≡ (if same reel q then baked else None)
     → pieces_by q command ≡ None → ((left : ℕ) → found_by left q command ≡ 0)
@@ -161,7 +163,6 @@ neither false = refl
 
 -- ---- boards and sheets
 
--- the row of a board that is started or completed
 board-edited : (H : History) (board : Name) (machine product : Option Name) (t : Tables) → (p : Name) → product ≡ Some p
     → with_edits (board_edit board machine product) t
     ≡ record t { boards = λ b. if same board b then option_map (λ q. record { board = b; product = q; machine = machine }) product else t.boards b }
@@ -177,7 +178,6 @@ board-edited H board machine product t p is = ap (λ o. with_edits (board_edit b
         by true here = ap (λ x. Some (row x)) (same-true board b here)
         by false here = refl
 
--- the rows of a new sheet
 sheet-edited : (H : History) (product machine : Name) (rows : List SheetRow) (p m : Name) (k : ℕ)
     → (if (same product p && same machine m)
     then option_or (at_place 1 rows k) (if ((same product p && same machine m) && is_some (at_place 1 (unwrap_or (sheet_of H product machine) []) k)) then None else sheet_row H p m k)
@@ -217,7 +217,6 @@ sheet-edited H product machine rows p m k = by (same product p && same machine m
 
 -- ---- mounts and receipts
 
--- what is put onto a slot
 put-row : (H : History) (number : ℕ) (machine slot reel r : Name)
     → (if same reel r then Some (record { since = number; machine = machine; slot = slot; reel = reel }) else mount_row H r)
     ≡ (if same reel r then Some (record { since = number; machine = machine; slot = slot; reel = r }) else mount_row H r)
@@ -248,7 +247,7 @@ received-row H minute reel part lot moisture quantity r = by (same reel r) refl
 
 -- ---- counts
 
--- a count leaves the rows of mounted reels: it counts none of them
+-- A count leaves mounted reels unchanged, since it counts none of them.
 counted-mount : (H : History) (minute : ℕ) (counts : List CountRow) → IsJudged Two H → command_refusal Two H minute (CountsTaken counts) ≡ None
     → (r : Name) → mount_row H r ≡ (if nat_lt 0 (left_after H (CountsTaken counts) r) then mount_row H r else None)
 unfolding command_refusal
@@ -265,7 +264,6 @@ counted-mount H minute counts judged accepted r = by (is_mounted H r) refl
         let some = (and_parts _ (some_left H r) (sym (mounted-is H r judged) ∙ mounted)).1 in
         sym (ap (λ n. if nat_lt 0 n then last_put H r else None) (uncounted-left H counts r absent) ∙ ap (λ b. if b then last_put H r else None) some)
 
--- a count places no piece
 count-places : (H : History) (minute n k i : ℕ) (picks : List Pick) → AreUnplaced picks → option_and_then (placed_row n k) (at_place i (map (take_of H minute) picks) k) ≡ None
 count-places H minute n k i [] all = refl
 count-places H minute n k i (p ∷ ps) (first, all) = by (i == k) (count-places H minute n k (i + 1) ps all)
@@ -280,26 +278,25 @@ count-places H minute n k i (p ∷ ps) (first, all) = by (i == k) (count-places 
     by true rest = off p.purpose first
     by false rest = rest
 
-counted-places : (H : History) (minute number n k : ℕ) (counts : List CountRow) → IsFree H number
-    → placement_row H n k ≡ placement_after number (takes_by H minute (CountsTaken counts)) n k (placement_row H n k)
-counted-places H minute number n k counts free = by (number == n) refl
+counted-places : (H : History) (minute number n k : ℕ) (counts : List CountRow)
+    → placement_row H n k ≡ placement_by number (takes_by H minute (CountsTaken counts)) n k (placement_row H n k)
+counted-places H minute number n k counts = by (number == n)
   where
-    by : (b : Bool) → (number == n) ≡ b → placement_row H n k ≡ (if b then option_and_then (placed_row n k) (at_place 1 (takes_by H minute (CountsTaken counts)) k) else placement_row H n k)
-    by true is = free n k is ∙ sym (count-places H minute n k 1 (picks_of H (CountsTaken counts)) (unplaced-count (left_of H) counts))
-    by false is = refl
+    by : (b : Bool) → placement_row H n k ≡ option_or (if b then option_and_then (placed_row n k) (at_place 1 (takes_by H minute (CountsTaken counts)) k) else None) (placement_row H n k)
+    by true = sym (ap (λ o. option_or o (placement_row H n k)) (count-places H minute n k 1 (picks_of H (CountsTaken counts)) (unplaced-count (left_of H) counts)))
+    by false = refl
 
 -- ---- any command
 
--- a command that takes pieces and tells nothing
-lead-took : (H : History) (minute number : ℕ) (command : Command) (edits : List RowEdit) → IsJudged Two H → IsFree H number
+lead-took : (H : History) (minute number : ℕ) (command : Command) (edits : List RowEdit) → IsJudged Two H
     → ((t : Tables) → with_edits edits t ≡ after_placing number (takes_by H minute command) (after_rows (picked_rows (reel_row H) (map pick_of (takes_by H minute command))) t))
     → ((p : Name) → is_part H p ≡ (defines p command || is_part H p)) → ((p q : Name) → is_alternate H p q ≡ (allows p q command || is_alternate H p q))
     → ((p m : Name) → sheet_by p m command ≡ None) → ((m : Name) → selection_by m command ≡ None) → ((r : Name) → receipt_by r minute command ≡ None)
     → ((r : Name) → OnlyTakes r command)
     → ((r : Name) → mount_after (nat_lt 0 (left_after H command r)) (λ m s. has (live_on H m s) r) r number command (mount_row H r) ≡ (if nat_lt 0 (left_after H command r) then mount_row H r else None))
     → ((b : Name) → board_row H b ≡ board_after (selected_on H) b command (board_row H b))
-    → with_edits edits (tables_of H) ≡ tables_after H number minute command
-lead-took H minute number command edits judged free are parts alternates sheets selected fresh only mounts boards =
+    → with_edits edits (tables_of H) ≡ tables_by H number minute command
+lead-took H minute number command edits judged are parts alternates sheets selected fresh only mounts boards =
     are (tables_of H)
     ∙ ap (λ ps. after_placing number (takes_by H minute command) (after_rows (picked_rows (reel_row H) ps) (tables_of H))) (picks-again H minute (picks_of H command))
     ∙ same-tables _ _ parts alternates
@@ -309,98 +306,126 @@ lead-took H minute number command edits judged free are parts alternates sheets 
     ∙ sym (ap (λ o. option_or (option_map (fresh_row r) o) (option_map (step_row minute (picks_of H command) r command) (reel_row H r))) (fresh r)))
     (λ r. mounts-took H (picks_of H command) command r judged refl (ap (λ o. unwrap_or o (left_of H r - pieces_picked (picks_of H command) r)) (only r).told) ∙ sym (mounts r))
     boards
-    (λ n k. placements-took (number == n) (option_and_then (placed_row n k) (at_place 1 (takes_by H minute command) k)) (placement_row H n k) (free n k))
+    (λ n k. refl)
     (λ r. unfound H r command ((only r).finds (left_of H r)))
 
-lead : (H : History) (minute number : ℕ) (command : Command) (edits : List RowEdit) → IsJudged Two H → command_refusal Two H minute command ≡ None → IsFree H number
+lead : (H : History) (minute number : ℕ) (command : Command) (edits : List RowEdit) → IsJudged Two H → command_refusal Two H minute command ≡ None
     → AreEditsOf H number minute (takes_by H minute command) command edits
-    → with_edits edits (tables_of H) ≡ tables_after H number minute command
+    → with_edits edits (tables_of H) ≡ tables_by H number minute command
 unfolding command_refusal
-lead H minute number (PartDefined part) edits judged accepted free are =
+lead H minute number (PartDefined part) edits judged accepted are =
     ap (λ xs. with_edits xs (tables_of H)) are
-    ∙ same-tables _ _ (λ p. refl) (λ p q. refl) (λ p m k. refl) (λ m. refl) (λ r. quiet H minute (PartDefined part) r refl refl refl (λ left. refl)) (λ r. refl) (λ b. refl) (λ n k. unplaced H number n k free) (λ r. unfound H r (PartDefined part) refl)
-lead H minute number (AlternateAllowed part alternate) edits judged accepted free are =
+    ∙ same-tables _ _ (λ p. refl) (λ p q. refl) (λ p m k. refl) (λ m. refl) (λ r. quiet H minute (PartDefined part) r refl refl refl (λ left. refl)) (λ r. refl) (λ b. refl) (λ n k. unplaced H number n k) (λ r. unfound H r (PartDefined part) refl)
+lead H minute number (AlternateAllowed part alternate) edits judged accepted are =
     ap (λ xs. with_edits xs (tables_of H)) are
-    ∙ same-tables _ _ (λ p. refl) (λ p q. refl) (λ p m k. refl) (λ m. refl) (λ r. quiet H minute (AlternateAllowed part alternate) r refl refl refl (λ left. refl)) (λ r. refl) (λ b. refl) (λ n k. unplaced H number n k free) (λ r. unfound H r (AlternateAllowed part alternate) refl)
-lead H minute number (SheetDefined product machine rows) edits judged accepted free are =
+    ∙ same-tables _ _ (λ p. refl) (λ p q. refl) (λ p m k. refl) (λ m. refl) (λ r. quiet H minute (AlternateAllowed part alternate) r refl refl refl (λ left. refl)) (λ r. refl) (λ b. refl) (λ n k. unplaced H number n k) (λ r. unfound H r (AlternateAllowed part alternate) refl)
+lead H minute number (SheetDefined product machine rows) edits judged accepted are =
     ap (λ xs. with_edits xs (tables_of H)) are
     ∙ with_edits-append (taken_rows product machine 1 (unwrap_or (sheet_of H product machine) [])) (put_rows product machine 1 rows) (tables_of H)
     ∙ ap (with_edits (put_rows product machine 1 rows)) (rows-taken product machine (unwrap_or (sheet_of H product machine) []) 1 (tables_of H))
     ∙ rows-put product machine rows 1 _
-    ∙ same-tables _ _ (λ p. refl) (λ p q. refl) (sheet-edited H product machine rows) (λ m. refl) (λ r. quiet H minute (SheetDefined product machine rows) r refl refl refl (λ left. refl)) (λ r. refl) (λ b. refl) (λ n k. unplaced H number n k free) (λ r. unfound H r (SheetDefined product machine rows) refl)
-lead H minute number (ProductSelected machine product) edits judged accepted free are =
+    ∙ same-tables _ _ (λ p. refl) (λ p q. refl) (sheet-edited H product machine rows) (λ m. refl) (λ r. quiet H minute (SheetDefined product machine rows) r refl refl refl (λ left. refl)) (λ r. refl) (λ b. refl) (λ n k. unplaced H number n k) (λ r. unfound H r (SheetDefined product machine rows) refl)
+lead H minute number (ProductSelected machine product) edits judged accepted are =
     ap (λ xs. with_edits xs (tables_of H)) are
-    ∙ same-tables _ _ (λ p. refl) (λ p q. refl) (λ p m k. refl) (λ m. chosen (same machine m) (selected_on H m)) (λ r. quiet H minute (ProductSelected machine product) r refl refl refl (λ left. refl)) (λ r. refl) (λ b. refl) (λ n k. unplaced H number n k free) (λ r. unfound H r (ProductSelected machine product) refl)
+    ∙ same-tables _ _ (λ p. refl) (λ p q. refl) (λ p m k. refl) (λ m. chosen (same machine m) (selected_on H m)) (λ r. quiet H minute (ProductSelected machine product) r refl refl refl (λ left. refl)) (λ r. refl) (λ b. refl) (λ n k. unplaced H number n k) (λ r. unfound H r (ProductSelected machine product) refl)
   where
     chosen : (b : Bool) (o : Option Name) → (if b then Some product else o) ≡ option_or (if b then Some product else None) o
     chosen true o = refl
     chosen false o = refl
-lead H minute number (ReelReceived reel part lot moisture quantity) edits judged accepted free are =
+lead H minute number (ReelReceived reel part lot moisture quantity) edits judged accepted are =
     ap (λ xs. with_edits xs (tables_of H)) are
-    ∙ same-tables _ _ (λ p. refl) (λ p q. refl) (λ p m k. refl) (λ m. refl) (received-row H minute reel part lot moisture quantity) (λ r. refl) (λ b. refl) (λ n k. unplaced H number n k free) (λ r. unfound H r (ReelReceived reel part lot moisture quantity) refl)
-lead H minute number (ReelOpened reel) edits judged accepted free are =
+    ∙ same-tables _ _ (λ p. refl) (λ p q. refl) (λ p m k. refl) (λ m. refl) (received-row H minute reel part lot moisture quantity) (λ r. refl) (λ b. refl) (λ n k. unplaced H number n k) (λ r. unfound H r (ReelReceived reel part lot moisture quantity) refl)
+lead H minute number (ReelOpened reel) edits judged accepted are =
     ap (λ xs. with_edits xs (tables_of H)) are
     ∙ reel-edited H reel (opened_row minute) (tables_of H) (λ row. refl)
     ∙ same-tables _ _ (λ p. refl) (λ p q. refl) (λ p m k. refl) (λ m. refl)
-    (λ r. changed H minute reel r (ReelOpened reel) (opened_row minute) true None refl (neither (same reel r)) refl (λ left. refl) (λ row. refl)) (λ r. refl) (λ b. refl) (λ n k. unplaced H number n k free) (λ r. unfound H r (ReelOpened reel) refl)
-lead H minute number (ReelSealed reel) edits judged accepted free are =
+    (λ r. changed H minute reel r (ReelOpened reel) (opened_row minute) true None refl (neither (same reel r)) refl (λ left. refl) (λ row. refl)) (λ r. refl) (λ b. refl) (λ n k. unplaced H number n k) (λ r. unfound H r (ReelOpened reel) refl)
+lead H minute number (ReelSealed reel) edits judged accepted are =
     ap (λ xs. with_edits xs (tables_of H)) are
     ∙ reel-edited H reel (sealed_row minute) (tables_of H) (λ row. refl)
     ∙ same-tables _ _ (λ p. refl) (λ p q. refl) (λ p m k. refl) (λ m. refl)
-    (λ r. changed H minute reel r (ReelSealed reel) (sealed_row minute) false None refl (neither (same reel r)) refl (λ left. refl) (λ row. refl)) (λ r. refl) (λ b. refl) (λ n k. unplaced H number n k free) (λ r. unfound H r (ReelSealed reel) refl)
-lead H minute number (ReelBaked reel) edits judged accepted free are =
+    (λ r. changed H minute reel r (ReelSealed reel) (sealed_row minute) false None refl (neither (same reel r)) refl (λ left. refl) (λ row. refl)) (λ r. refl) (λ b. refl) (λ n k. unplaced H number n k) (λ r. unfound H r (ReelSealed reel) refl)
+lead H minute number (ReelBaked reel) edits judged accepted are =
     ap (λ xs. with_edits xs (tables_of H)) are
     ∙ reel-edited H reel baked_row (tables_of H) (λ row. refl)
     ∙ same-tables _ _ (λ p. refl) (λ p q. refl) (λ p m k. refl) (λ m. refl)
-    (λ r. changed H minute reel r (ReelBaked reel) baked_row false (Some true) refl refl refl (λ left. refl) (λ row. refl)) (λ r. refl) (λ b. refl) (λ n k. unplaced H number n k free) (λ r. unfound H r (ReelBaked reel) refl)
-lead H minute number (MaterialsLoaded machine slot reel) edits judged accepted free are =
+    (λ r. changed H minute reel r (ReelBaked reel) baked_row false (Some true) refl refl refl (λ left. refl) (λ row. refl)) (λ r. refl) (λ b. refl) (λ n k. unplaced H number n k) (λ r. unfound H r (ReelBaked reel) refl)
+lead H minute number (MaterialsLoaded machine slot reel) edits judged accepted are =
     ap (λ xs. with_edits xs (tables_of H)) are
     ∙ reel-edited H reel (opened_row minute) _ (λ row. refl)
     ∙ same-tables _ _ (λ p. refl) (λ p q. refl) (λ p m k. refl) (λ m. refl)
     (λ r. changed H minute reel r (MaterialsLoaded machine slot reel) (opened_row minute) true None refl (neither (same reel r)) refl (λ left. refl) (λ row. refl))
-    (put-row H number machine slot reel) (λ b. refl) (λ n k. unplaced H number n k free) (λ r. unfound H r (MaterialsLoaded machine slot reel) refl)
-lead H minute number (MaterialsSpliced machine slot reel) edits judged accepted free are =
+    (put-row H number machine slot reel) (λ b. refl) (λ n k. unplaced H number n k) (λ r. unfound H r (MaterialsLoaded machine slot reel) refl)
+lead H minute number (MaterialsSpliced machine slot reel) edits judged accepted are =
     ap (λ xs. with_edits xs (tables_of H)) are
     ∙ reel-edited H reel (opened_row minute) _ (λ row. refl)
     ∙ same-tables _ _ (λ p. refl) (λ p q. refl) (λ p m k. refl) (λ m. refl)
     (λ r. changed H minute reel r (MaterialsSpliced machine slot reel) (opened_row minute) true None refl (neither (same reel r)) refl (λ left. refl) (λ row. refl))
-    (put-row H number machine slot reel) (λ b. refl) (λ n k. unplaced H number n k free) (λ r. unfound H r (MaterialsSpliced machine slot reel) refl)
-lead H minute number (MaterialsUnloaded machine slot) edits judged accepted free are =
+    (put-row H number machine slot reel) (λ b. refl) (λ n k. unplaced H number n k) (λ r. unfound H r (MaterialsSpliced machine slot reel) refl)
+lead H minute number (MaterialsUnloaded machine slot) edits judged accepted are =
     ap (λ xs. with_edits xs (tables_of H)) are
     ∙ mounts-taken (reels_on H machine slot) (tables_of H) same-sym
     ∙ same-tables _ _ (λ p. refl) (λ p q. refl) (λ p m k. refl) (λ m. refl) (λ r. quiet H minute (MaterialsUnloaded machine slot) r refl refl refl (λ left. refl))
-    (λ r. ap (λ b. if b then None else mount_row H r) (reels_on-live H machine slot r judged)) (λ b. refl) (λ n k. unplaced H number n k free) (λ r. unfound H r (MaterialsUnloaded machine slot) refl)
-lead H minute number (WorkStarted machine board) edits judged accepted free are =
+    (λ r. ap (λ b. if b then None else mount_row H r) (reels_on-live H machine slot r judged)) (λ b. refl) (λ n k. unplaced H number n k) (λ r. unfound H r (MaterialsUnloaded machine slot) refl)
+lead H minute number (WorkStarted machine board) edits judged accepted are =
     let chosen = some-of (selected_on H machine) (startable H minute machine board accepted).selected in
     ap (λ xs. with_edits xs (tables_of H)) are
     ∙ board-edited H board (Some machine) (selected_on H machine) (tables_of H) chosen.0 chosen.1
-    ∙ same-tables _ _ (λ p. refl) (λ p q. refl) (λ p m k. refl) (λ m. refl) (λ r. quiet H minute (WorkStarted machine board) r refl refl refl (λ left. refl)) (λ r. refl) (λ b. refl) (λ n k. unplaced H number n k free) (λ r. unfound H r (WorkStarted machine board) refl)
-lead H minute number (WorkCompleted machine board) edits judged accepted free are =
+    ∙ same-tables _ _ (λ p. refl) (λ p q. refl) (λ p m k. refl) (λ m. refl) (λ r. quiet H minute (WorkStarted machine board) r refl refl refl (λ left. refl)) (λ r. refl) (λ b. refl) (λ n k. unplaced H number n k) (λ r. unfound H r (WorkStarted machine board) refl)
+lead H minute number (WorkCompleted machine board) edits judged accepted are =
     let at_work = working H machine board judged (ap (λ o. option_map_or (same board) o false) (completable H machine board accepted) ∙ same-refl board) in
     ap (λ xs. with_edits xs (tables_of H)) are
     ∙ board-edited H board None (selected_on H machine) (tables_of H) at_work.product at_work.is_selected
-    ∙ same-tables _ _ (λ p. refl) (λ p q. refl) (λ p m k. refl) (λ m. refl) (λ r. quiet H minute (WorkCompleted machine board) r refl refl refl (λ left. refl)) (λ r. refl) (λ b. refl) (λ n k. unplaced H number n k free) (λ r. unfound H r (WorkCompleted machine board) refl)
-lead H minute number (MaterialsInstalled machine board ds) edits judged accepted free are =
-    lead-took H minute number (MaterialsInstalled machine board ds) edits judged free are.lead (λ p. refl) (λ p q. refl) (λ p m. refl) (λ m. refl) (λ r. refl)
+    ∙ same-tables _ _ (λ p. refl) (λ p q. refl) (λ p m k. refl) (λ m. refl) (λ r. quiet H minute (WorkCompleted machine board) r refl refl refl (λ left. refl)) (λ r. refl) (λ b. refl) (λ n k. unplaced H number n k) (λ r. unfound H r (WorkCompleted machine board) refl)
+lead H minute number (MaterialsInstalled machine board ds) edits judged accepted are =
+    lead-took H minute number (MaterialsInstalled machine board ds) edits judged are.lead (λ p. refl) (λ p q. refl) (λ p m. refl) (λ m. refl) (λ r. refl)
     (λ r. record { out = refl; baked = refl; told = refl; finds = λ left. refl }) (λ r. refl) (λ b. refl)
-lead H minute number (MaterialsScrapped machine slot n) edits judged accepted free are =
-    lead-took H minute number (MaterialsScrapped machine slot n) edits judged free are.lead (λ p. refl) (λ p q. refl) (λ p m. refl) (λ m. refl) (λ r. refl)
+lead H minute number (MaterialsScrapped machine slot n) edits judged accepted are =
+    lead-took H minute number (MaterialsScrapped machine slot n) edits judged are.lead (λ p. refl) (λ p q. refl) (λ p m. refl) (λ m. refl) (λ r. refl)
     (λ r. record { out = refl; baked = refl; told = refl; finds = λ left. refl }) (λ r. refl) (λ b. refl)
-lead H minute number (CountsTaken counts) edits judged accepted free are =
+lead H minute number (CountsTaken counts) edits judged accepted are =
     ap (λ xs. with_edits xs (tables_of H)) are
     ∙ counts-lead H minute counts judged accepted
     ∙ same-tables _ _ (λ p. refl) (λ p q. refl) (λ p m k. refl) (λ m. refl) (λ r. refl) (counted-mount H minute counts judged accepted) (λ b. refl)
-    (λ n k. counted-places H minute number n k counts free) (λ r. refl)
-lead H minute number ClockSet edits judged accepted free are =
+    (λ n k. counted-places H minute number n k counts) (λ r. refl)
+lead H minute number ClockSet edits judged accepted are =
     ap (λ xs. with_edits xs (tables_of H)) are
-    ∙ same-tables _ _ (λ p. refl) (λ p q. refl) (λ p m k. refl) (λ m. refl) (λ r. quiet H minute ClockSet r refl refl refl (λ left. refl)) (λ r. refl) (λ b. refl) (λ n k. unplaced H number n k free) (λ r. unfound H r ClockSet refl)
+    ∙ same-tables _ _ (λ p. refl) (λ p q. refl) (λ p m k. refl) (λ m. refl) (λ r. quiet H minute ClockSet r refl refl refl (λ left. refl)) (λ r. refl) (λ b. refl) (λ n k. unplaced H number n k) (λ r. unfound H r ClockSet refl)
 
--- The edits of the next entry's command lead the tables of a list to those of the list with the entry.
-pub edits-lead : (H : History) (e : Entry) (edits : List RowEdit) → IsJudged Two (e ∷ H)
-    → AreEditsOf H e.number e.effective (takes_by H e.effective e.stamped.command) e.stamped.command edits
-    → with_edits edits (tables_of H) ≡ tables_of (e ∷ H)
-unfolding left_of
-edits-lead H e edits (next, judged) are =
-    lead H e.effective e.number e.stamped.command edits judged (next-accepted H e next)
-    (λ n k is. unplaced-later H n k judged (let one = eqb-true e.number n is in let at = next.number in omega (arith, one, at))) are
-    ∙ sym (tables-next H e (next, judged))
+module _ (H : History) (e : Entry) (number : ℕ) (edits : List RowEdit) (judged : IsJudged Two (e ∷ H))
+    (are : AreEditsOf H number e.effective (takes_by H e.effective e.stamped.command) e.stamped.command edits) where
+  lead-next : with_edits edits (tables_of H) ≡ tables_by H number e.effective e.stamped.command
+  lead-next = lead H e.effective number e.stamped.command edits judged.1 (next-accepted H e judged.0) are
+
+  -- The edits of the next entry's command turn the tables of a history into those of the history with the entry.
+  pub edits-lead : number ≡ e.number → with_edits edits (tables_of H) ≡ tables_of (e ∷ H)
+  unfolding left_of
+  edits-lead is =
+      lead-next
+      ∙ ap (λ n. tables_by H n e.effective e.stamped.command) is
+      ∙ same-tables _ _ (λ p. refl) (λ p q. refl) (λ p m k. refl) (λ m. refl) (λ r. refl) (λ r. refl) (λ b. refl)
+      (λ n k. placements-took (e.number == n) (option_and_then (placed_row n k) (at_place 1 (takes_by H e.effective e.stamped.command) k)) (placement_row H n k)
+      (λ at. unplaced-later H n k judged.1 (let one = eqb-true e.number n at in let next = judged.0.number in omega (arith, one, next))))
+      (λ r. refl)
+      ∙ sym (tables-next H e judged)
+
+  -- Under any number they lead to the same tables, except for values that depend on the number.
+  pub edits-lead-same : unnumbered (with_edits edits (tables_of H)) ≡ unnumbered (tables_of (e ∷ H))
+  unfolding left_of
+  edits-lead-same =
+      ap unnumbered lead-next
+      ∙ ap (λ (f : Name → Option MountRow). record (unnumbered (tables_after H e.number e.effective e.stamped.command)) { mounts = f }) (λ j r. mounts-same r e.stamped.command j)
+      ∙ ap unnumbered (sym (tables-next H e judged))
+    where
+      put : (a b : ℕ) (r m s : Name) (here : Bool) (row : Option MountRow)
+          → option_map without_number (if here then Some (record { since = a; machine = m; slot = s; reel = r }) else row)
+          ≡ option_map without_number (if here then Some (record { since = b; machine = m; slot = s; reel = r }) else row)
+      put a b r m s true row = refl
+      put a b r m s false row = refl
+
+      mounts-same : (r : Name) (command : Command)
+          → option_map without_number (mount_after (nat_lt 0 (left_after H command r)) (λ m s. has (live_on H m s) r) r number command (mount_row H r))
+          ≡ option_map without_number (mount_after (nat_lt 0 (left_after H command r)) (λ m s. has (live_on H m s) r) r e.number command (mount_row H r))
+      mounts-same r (MaterialsLoaded m s reel) = put number e.number r m s (same reel r) (mount_row H r)
+      mounts-same r (MaterialsSpliced m s reel) = put number e.number r m s (same reel r) (mount_row H r)
+      mounts-same r command = refl

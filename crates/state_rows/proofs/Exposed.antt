@@ -17,22 +17,18 @@ use Rattle.desk_laws.proofs.Openings.{starts-by}
 
 -- ---- the desk minute
 
--- The desk minute after the entry is its own,
 pub now-next : (H : History) (e : Entry) → IsNext Two H e → now_of (e ∷ H) ≡ e.effective
 now-next H e next = let is = next.effective in omega (arith, is)
 
--- and the one before it is no later.
 pub now-before : (H : History) (e : Entry) → IsNext Two H e → now_of H ≤ e.effective
 now-before H e next = let is = next.effective in omega (arith, is)
 
 -- ---- in its bag
 
--- what is opened has a minute
 or-not-none : {P : Type 0} (since : Option ℕ) (minute : ℕ) → option_or since (Some minute) ≡ None → P
 or-not-none None minute none = cc
 or-not-none (Some s) minute none = cc
 
--- from the last entry on, a reel in its bag is in it
 in-at : (H : History) (reel : Name) (minute : ℕ) → AreBy H minute → out_since H reel ≡ None → is_out_at H reel minute ≡ false
 unfolding is_out_at
 in-at [] reel minute all in_bag = refl
@@ -44,7 +40,6 @@ in-at (e ∷ H) reel minute (first, all) in_bag = by (open_by reel e.stamped.com
     by (Some false) is none before = is_out-after H e reel false minute is first
     by None is none before = is_out-untouched H e reel minute is ∙ before none
 
--- The exposure of a reel in its bag stands still from the desk minute on.
 pub exposure-in_bag : (H : History) (reel : Name) (minute : ℕ) → out_since H reel ≡ None → now_of H ≤ minute
     → exposure_of H reel minute ≡ exposure_of H reel (now_of H)
 unfolding exposure_of
@@ -56,7 +51,6 @@ exposure-in_bag H reel minute in_bag le =
 
 -- ---- out of its bag
 
--- from the minute since which it is out, a reel is out
 out-from : (H : History) (reel : Name) (since t : ℕ) → out_since H reel ≡ Some since → since ≤ t → is_out_at H reel t ≡ true
 out-from [] reel since t out le = cc
 out-from (e ∷ H) reel since t out le = by (open_by reel e.stamped.command) refl out (λ is. out-from H reel since t is le)
@@ -77,7 +71,6 @@ out-from (e ∷ H) reel since t out le = by (open_by reel e.stamped.command) ref
     by (Some false) says is before = cc
     by None says is before = is_out-untouched H e reel t says ∙ before is
 
--- a reel is out since no later than the last entry
 pub since-by : (H : History) (reel : Name) (since minute : ℕ) → AreBy H minute → out_since H reel ≡ Some since → since ≤ minute
 since-by [] reel since minute all out = cc
 since-by (e ∷ H) reel since minute (first, all) out = by (open_by reel e.stamped.command) out (since-by H reel since minute all)
@@ -91,7 +84,6 @@ since-by (e ∷ H) reel since minute (first, all) out = by (open_by reel e.stamp
     by (Some false) is before = cc
     by None is before = before is
 
--- exposure begins no later than the minute since which the reel is out
 starts-since : (H : History) (reel : Name) (since : ℕ) → IsJudged Two H → out_since H reel ≡ Some since → exposure_starts H reel ≤ since
 starts-since [] reel since judged out = cc
 starts-since (e ∷ H) reel since (next, judged) out = by (open_by reel e.stamped.command) refl out (starts-since H reel since judged)
@@ -109,7 +101,7 @@ starts-since (e ∷ H) reel since (next, judged) out = by (open_by reel e.stampe
     by None says is before =
         subst (λ n. n ≤ since) (sym (exposure_starts-quiet H e reel (IsQuiet-untouched reel e.effective e.stamped.command says))) (before is)
 
--- The exposure of a reel that is out goes on minute by minute from when it came out.
+-- The exposure of an opened reel goes on minute by minute.
 pub exposure-out : (H : History) (reel : Name) (since minute : ℕ) → IsJudged Two H → out_since H reel ≡ Some since → since ≤ minute
     → exposure_of H reel minute ≡ exposure_of H reel since + (minute - since)
 unfolding exposure_of

@@ -32,7 +32,6 @@ use Rattle.state_rows.proofs.TablesLess.{unpicked, unpicked-some}
 
 -- ---- one pick
 
--- how many pieces one pick is, of those that pass a test
 one : (test : Pick → Bool) (p : Pick) (reel : Name) → pieces_picked (filter test (p ∷ [])) reel ≡ (if test p then (if same p.reel reel then p.quantity else 0) else 0)
 one test p reel = by (test p)
   where
@@ -40,17 +39,14 @@ one test p reel = by (test p)
     by true = zero-add _
     by false = refl
 
--- a choice turned round
 flip-not : (b : Bool) (n : ℕ) → (if not b then n else 0) ≡ (if b then 0 else n)
 flip-not true n = refl
 flip-not false n = refl
 
--- nothing either way
 zeros : (b : Bool) → (if◌then◌else◌ {A = ℕ} b 0 0) ≡ 0
 zeros true = refl
 zeros false = refl
 
--- the pieces with one pick more
 more-placed : (ps : List Pick) (p : Pick) (reel : Name) (here : Bool) → same p.reel reel ≡ here
     → placed_in (ps ++ p ∷ []) reel ≡ placed_in ps reel + (if is_placed p.purpose then (if here then p.quantity else 0) else 0)
 more-placed ps p reel here is =
@@ -71,7 +67,6 @@ more-pieces_picked ps p reel here is = pieces_picked-append ps (p ∷ []) reel �
 
 -- ---- rows
 
--- one pick more of the row's reel
 less-more : (ps : List Pick) (p : Pick) (row : ReelRow) → same p.reel row.reel ≡ true → less_by p (less_row ps row) ≡ less_row (ps ++ p ∷ []) row
 less-more ps p row here =
     same-rows _ _ refl refl refl refl refl refl
@@ -79,7 +74,6 @@ less-more ps p row here =
     (let m = more-scrapped ps p row.reel true here in omega (arith, m))
     (let m = more-pieces_picked ps p row.reel true here in omega (arith, m)) refl refl refl
 
--- one pick more of another reel
 less-other : (ps : List Pick) (p : Pick) (row : ReelRow) → same p.reel row.reel ≡ false → less_row (ps ++ p ∷ []) row ≡ less_row ps row
 less-other ps p row away =
     same-rows _ _ refl refl refl refl refl refl
@@ -87,7 +81,6 @@ less-other ps p row away =
     (let m = more-scrapped ps p row.reel false away in let z = zeros (is_placed p.purpose) in omega (arith, m, z))
     (let m = more-pieces_picked ps p row.reel false away in omega (arith, m)) refl refl refl
 
--- off a row whose reel is not picked nothing comes
 less-none : (ps : List Pick) (row : ReelRow) → is_picked ps row.reel ≡ false → less_row ps row ≡ row
 less-none ps row none =
     same-rows _ _ refl refl refl refl refl refl
@@ -95,14 +88,12 @@ less-none ps row none =
     (let z = unpicked _ row.reel (unpicked-some (λ (p : Pick). not (is_placed p.purpose)) ps row.reel none) in omega (arith, z))
     (let z = unpicked ps row.reel none in omega (arith, z)) refl refl refl
 
--- whether a reel is picked, with one pick more
 pieces_picked-more : (ps : List Pick) (p : Pick) (reel : Name) (here : Bool) → same p.reel reel ≡ here → is_picked (ps ++ p ∷ []) reel ≡ (is_picked ps reel || here)
 pieces_picked-more ps p reel here is =
     list_any-append (λ (x : Pick). same x.reel reel) ps (p ∷ []) ∙ ap (λ b. is_picked ps reel || b) (or-false (same p.reel reel) ∙ is)
 
 -- ---- gathered rows
 
--- The rows of a list's reels have their names.
 pub rows-named : (H : History) → AreNamed (reel_row H)
 rows-named H r row is = by (receipt_of H r) is
   where
@@ -110,7 +101,6 @@ rows-named H r row is = by (receipt_of H r) is
     by None is = cc
     by (Some receipt) is = sym (ap (λ o. option_map_or (λ (x : ReelRow). x.reel) o []) is)
 
--- The gathered rows with one pick more.
 pub picked_rows-next : (rows : Name → Option ReelRow) (ps : List Pick) (p : Pick) (r : Name) → AreNamed rows
     → picked_rows rows (ps ++ p ∷ []) r ≡ (if same p.reel r then option_map (less_by p) (option_or (picked_rows rows ps r) (rows r)) else picked_rows rows ps r)
 picked_rows-next rows ps p r named = by (same p.reel r) refl (is_picked ps r) refl (rows r) (named r)
@@ -134,7 +124,6 @@ picked_rows-next rows ps p r named = by (same p.reel r) refl (is_picked ps r) re
     by false here false before (Some row) of =
         ap (λ c. if c then Some (less_row (ps ++ p ∷ []) row) else None) (pieces_picked-more ps p r false here ∙ ap (λ c. c || false) before)
 
--- The sums with one pick more fit, where those of all picks do.
 pub picked_rows-fits : (H : History) (ps : List Pick) (p : Pick) (rest : List Pick) (row : ReelRow) → ArePiecesFitting H (ps ++ p ∷ rest)
     → option_or (picked_rows (reel_row H) ps p.reel) (reel_row H p.reel) ≡ Some row → LessFits p row
 picked_rows-fits H ps p rest row fits is = by (is_picked ps p.reel) refl (receipt_of H p.reel) is
@@ -183,7 +172,6 @@ picked_rows-fits H ps p rest row fits is = by (is_picked ps p.reel) refl (receip
 
 -- ---- placements
 
--- The rows of a message's pieces are put in their places.
 pub places-put : (number : ℕ) (takes : List Take) (n : ℕ) (t : Tables)
     → with_edits (place_rows number n takes) t
     ≡ record t { placements = λ m k. option_or (if number == m then option_and_then (placed_row m k) (at_place n takes k) else None) (t.placements m k) }
@@ -203,7 +191,6 @@ places-put number (take ∷ takes) n t =
     past : (k : ℕ) → (n == k) ≡ true → rest k ≡ None
     past k here = at_place-before takes (n + 1) k (let is = eqb-true n k here in omega (arith, is))
 
-    -- a take that is not placed
     skip : (m k : ℕ) (a b : Bool) (x : Take) (o : Option PlacementRow) → placed_row m k x ≡ None → (b ≡ true → rest k ≡ None)
         → option_or (if a then option_and_then (placed_row m k) (rest k) else None) o
         ≡ option_or (if a then option_and_then (placed_row m k) (if b then Some x else rest k) else None) o

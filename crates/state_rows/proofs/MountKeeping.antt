@@ -1,4 +1,4 @@
--- Mount rows by numbers and by reels.
+-- Mount rows by number and by reel.
 use Rattle.std.proofs.Common.{◌≡◌, ℕ, Bool, true, false, cond, Option, Some, None, List, [], ◌∷◌, refl, sym, ap, ◌∙◌, subst, arith}
 use Rattle.std.specs.Prelude.{◌==◌, ◌&&◌, if◌then◌else◌}
 use Rattle.std.specs.BTreeMap.{is_at}
@@ -20,7 +20,6 @@ and-false : (b : Bool) → (b && false) ≡ false
 and-false true = refl
 and-false false = refl
 
--- One reel's row is written in both lists.
 pub both-written : (numbered numbered' : List ((ℕ × Name) × MountRow)) (named named' : List (Name × MountRow)) (since : ℕ) (reel : Name) (w : Option MountRow)
     → ((k : ℕ × Name) → row_at by_since numbered' k ≡ cond (is_at (by_since (since, reel)) k) w (row_at by_since numbered k))
     → ((r : Name) → row_at by_name named' r ≡ cond (same reel r) w (row_at by_name named r))
@@ -40,7 +39,6 @@ both-written numbered numbered' named named' since reel w put put' step alike k 
         ∙ step k.0
     by false here = ap (λ c. cond c w (since_is k.0 (row_at by_name named k.1))) (and-false (since == k.0))
 
--- a row is taken out of both
 pub step-taken : (since : ℕ) (row : MountRow) (o : Option MountRow) → o ≡ Some row → row.since ≡ since → (s : ℕ) → cond (since == s) None (since_is s o) ≡ since_is s None
 step-taken since row o is number s = ap (λ x. cond (since == s) None (since_is s x)) is ∙ ap (λ n. cond (since == s) None (if n == s then Some row else None)) number ∙ by (since == s)
   where
@@ -48,11 +46,9 @@ step-taken since row o is number s = ap (λ x. cond (since == s) None (since_is 
     by true = refl
     by false = refl
 
--- a row is put into both
 pub step-put : (row : MountRow) (o : Option MountRow) → o ≡ None → (s : ℕ) → cond (row.since == s) (Some row) (since_is s o) ≡ since_is s (Some row)
 step-put row o none s = ap (λ x. cond (row.since == s) (Some row) (since_is s x)) none
 
--- A row is put into one list and taken out again.
 pub undone : (numbered numbered' : List ((ℕ × Name) × MountRow)) (named between named' : List (Name × MountRow)) (reel : Name) (w : Option MountRow)
     → numbered' ≡ numbered → ((r : Name) → row_at by_name between r ≡ cond (same reel r) w (row_at by_name named r))
     → ((r : Name) → row_at by_name named' r ≡ cond (same reel r) None (row_at by_name between r)) → row_at by_name named reel ≡ None
@@ -66,7 +62,6 @@ undone numbered numbered' named between named' reel w rests put taken none alike
     by true here = sym (ap (row_at by_name named) (sym (same-true reel k.1 here)) ∙ none)
     by false here = refl
 
--- a row is put over one that was taken out
 pub put-over : (reel r : Name) (w between before : Option MountRow) → between ≡ cond (same reel r) None before → cond (same reel r) w between ≡ cond (same reel r) w before
 put-over reel r w between before is = ap (cond (same reel r) w) is ∙ by (same reel r)
   where
@@ -77,9 +72,8 @@ put-over reel r w between before is = ap (cond (same reel r) w) is ∙ by (same 
 pub none-left : (reel : Name) (taken before : Name → Option MountRow) → ((r : Name) → taken r ≡ cond (same reel r) None (before r)) → taken reel ≡ None
 none-left reel taken before is = is reel ∙ ap (λ b. cond b None (before reel)) (same-refl reel)
 
--- ---- the list by numbers
+-- ---- the rows by number
 
--- what is found of a reel among entries that are rows of the table
 found-none : (reel : Name) (table : Name → Option MountRow) (es : List ((ℕ × Name) × MountRow)) → All (λ e. since_is e.0.0 (table e.0.1) ≡ Some e.1) es
     → table reel ≡ None → lookup (λ k. same reel k.1) es ≡ None
 found-none reel table [] each none = refl

@@ -25,36 +25,30 @@ use Rattle.desk_types.specs.declared.row.MountRow.{MountRow}
 use Rattle.desk_types.specs.Tables.{put_by, last_put, mount_row}
 use Rattle.state_rows.specs.After.{mount_after}
 
--- whether the reel has pieces left
 abbrev pub some_left : History → Name → Bool
 some_left H reel = nat_lt 0 (left_of H reel)
 
--- what is left of the reel after the command
 abbrev pub left_after : History → Command → Name → ℕ
 left_after H command reel = unwrap_or (pieces_by reel command) (left_of H reel - pieces_picked (picks_of H command) reel)
 
--- taking nothing leaves all
 less-none : (n : ℕ) → n - 0 ≡ n
 less-none n = omega arith
 
--- A reel that was not received is not mounted.
 pub unreceived-unmounted : (H : History) (reel : Name) → IsJudged Two H → receipt_of H reel ≡ None → is_mounted H reel ≡ false
 unreceived-unmounted H reel judged none =
     mounted-is H reel judged ∙ ap (λ p. is_some p && some_left H reel) (untouched-unplaced H reel (untouched H reel judged none))
 
--- a reel that is loaded or spliced has pieces left after that too
 some-after : (H : History) (r reel : Name) → same r reel ≡ true → (left_of H r == 0) ≡ false → nat_lt 0 (left_of H reel - 0) ≡ true
 some-after H r reel here some =
     ap (nat_lt 0) (less-none (left_of H reel)) ∙ ap (λ x. nat_lt 0 (left_of H x)) (sym (same-true r reel here)) ∙ not-zero (left_of H r) some
 
--- a mounted reel that has none left is on no slot
+-- A mounted reel without pieces left is on no slot.
 spent : (b some : Bool) (o : Option MountRow) → (if (b && some) then o else None) ≡ (if some then (if b then o else None) else None)
 spent true true o = refl
 spent true false o = refl
 spent false true o = refl
 spent false false o = refl
 
--- after an accepted command
 step : (H : History) (minute number : ℕ) (reel : Name) (command : Command) → IsJudged Two H → command_refusal Two H minute command ≡ None
     → (if mounted_after (nat_lt 0 (left_after H command reel)) (λ m s. has (live_on H m s) reel) reel command (is_mounted H reel)
     then option_or (put_by reel number command) (last_put H reel) else None)
@@ -102,7 +96,6 @@ step H minute number reel (MaterialsScrapped m s n) judged accepted = spent (is_
 step H minute number reel (CountsTaken counts) judged accepted = spent (is_mounted H reel) _ (last_put H reel)
 step H minute number reel _ judged accepted = refl
 
--- The row of a mounted reel after one entry more, from its row before.
 pub mount_row-next : (H : History) (e : Entry) (reel : Name) → IsJudged Two (e ∷ H)
     → mount_row (e ∷ H) reel ≡ mount_after (some_left (e ∷ H) reel) (λ m s. has (live_on H m s) reel) reel e.number e.stamped.command (mount_row H reel)
 unfolding left_of

@@ -1,4 +1,4 @@
--- What the rows of mounted reels mean: a row says exactly that its reel is live on its slot.
+-- The meaning of the rows of mounted reels: a reel has a row exactly if it is live on the row's slot.
 use Rattle.std.proofs.Common.{◌≡◌, ℕ, Bool, true, false, Option, Some, None, [], ◌∷◌, refl, sym, ap, ◌∙◌}
 use Rattle.std.specs.Prelude.{if◌then◌else◌, ◌&&◌, is_some}
 use Rattle.std.specs.Option.{option_or, option_map_or}
@@ -21,7 +21,7 @@ use Rattle.state_rows.proofs.MountRows.{some_left}
 
 -- ---- mounts
 
--- the last load or splice of the reel put it onto this slot
+-- The last load or splice of the reel put it onto this slot.
 record IsPutAt (last : Option MountRow) (reel : Name) (slot : Name × Name) : Type 0 where
   row : MountRow
   is : last ≡ Some row
@@ -75,7 +75,6 @@ unfolding place_of
 put-there [] reel q is = cc
 put-there (e ∷ H) reel q is = put-step reel e.number e.stamped.command (place_of H reel) (last_put H reel) q (put-there H reel q) is
 
--- A row of `mount` is of a reel that is live on its slot.
 pub mount-live : (H : History) (reel : Name) (row : MountRow) → IsJudged Two H → mount_row H reel ≡ Some row → has (live_on H row.machine row.slot) reel ≡ true
 mount-live H reel row judged is = by (is_mounted H reel) refl is
   where
@@ -95,7 +94,6 @@ mount-live H reel row judged is = by (is_mounted H reel) refl is
     by true mounted is = at (place_of H reel) refl (sym (mounted-is H reel judged) ∙ mounted) is
     by false off is = cc
 
--- a row of this reel on this slot
 pub record IsMountOf (row : Option MountRow) (machine slot reel : Name) : Type 0 where
   pub mount : MountRow
   pub is : row ≡ Some mount
@@ -103,7 +101,6 @@ pub record IsMountOf (row : Option MountRow) (machine slot reel : Name) : Type 0
   pub machine_is : mount.machine ≡ machine
   pub slot_is : mount.slot ≡ slot
 
--- A reel that is live on a slot has a row of `mount` with it.
 pub live-mount : (H : History) (machine slot reel : Name) → IsJudged Two H → has (live_on H machine slot) reel ≡ true → IsMountOf (mount_row H reel) machine slot reel
 live-mount H machine slot reel judged live = at (place_of H reel) refl (live-placed H machine slot reel judged live)
   where

@@ -47,16 +47,14 @@ pub record AreFit (edits : List RowEdit) (t : Tables) : Type 0 where
   pub takes_first : AreTakesFirst edits
   pub balanced : AreBalanced edits
 
--- the edit takes no row out, and these tables take it
+-- The edit takes no row out, and these tables take it.
 abbrev IsPutIn : RowEdit → Tables → Type 0
 IsPutIn x t = (takes_out x ≡ false) × IsBalanced x × IsNew x t
 
--- so it is of each edit, made one after the other
 abbrev ArePutIn : List RowEdit → Tables → Type 0
 ArePutIn [] t = ⊤
 ArePutIn (x ∷ xs) t = IsPutIn x t × ArePutIn xs (with_edit x t)
 
--- each edit takes a row out
 abbrev AreTaken : List RowEdit → Type 0
 AreTaken edits = AllByRecursion (λ x. takes_out x ≡ true) edits
 
@@ -76,7 +74,6 @@ put-fit (x ∷ xs) t ((put, balanced, new), puts) =
       ap (λ b. b || list_any takes_out xs) put ∙ rest.1,
     )
 
--- rows are taken out, and then others are put in
 fit : (xs ys : List RowEdit) (t : Tables) → AreTaken xs → ArePutIn ys (with_edits xs t) → AreFit (xs ++ ys) t
 fit [] ys t taken puts = (put-fit ys t puts).0
 fit (x ∷ xs) ys t (takes, taken) puts =
@@ -89,7 +86,6 @@ fit (x ∷ xs) ys t (takes, taken) puts =
     one (TakeMount reel) is = (tt, tt)
     one _ is = cc
 
--- rows that are taken out leave the placed pieces
 taken-places : (xs : List RowEdit) (t : Tables) (n k : ℕ) → AreTaken xs → (with_edits xs t).placements n k ≡ t.placements n k
 taken-places [] t n k taken = refl
 taken-places (x ∷ xs) t n k (takes, taken) = taken-places xs (with_edit x t) n k taken ∙ one x takes
@@ -100,7 +96,6 @@ taken-places (x ∷ xs) t n k (takes, taken) = taken-places xs (with_edit x t) n
 
 -- ---- reels
 
--- the row of a reel accounts for its pieces
 row-balanced : (H : History) (reel : Name) (row : ReelRow) → IsJudged Two H → reel_row H reel ≡ Some row → IsBalanced (PutReel row)
 row-balanced H reel row judged = by (receipt_of H reel)
   where
@@ -108,7 +103,6 @@ row-balanced H reel row judged = by (receipt_of H reel)
     by None is = cc
     by (Some receipt) is = subst (λ x. IsBalanced (PutReel x)) (ap (λ o. option_map_or (λ (x : ReelRow). x) o row) is) (balance H reel judged)
 
--- and so does a changed one, where the change leaves the pieces
 reel-in : (H : History) (reel : Name) (change : ReelRow → ReelRow) (t : Tables) → IsJudged Two H → ((row : ReelRow) → IsBalanced (PutReel row) → IsBalanced (PutReel (change row)))
     → ArePutIn (reel_edit change (reel_row H reel)) t
 reel-in H reel change t judged keeps = by (reel_row H reel) refl
@@ -117,7 +111,6 @@ reel-in H reel change t judged keeps = by (reel_row H reel) refl
     by None is = tt
     by (Some row) is = ((refl, keeps row (row-balanced H reel row judged is), tt), tt)
 
--- a count accounts for what is missing and for what is above
 count-in : (H : History) (counts : List CountRow) (t : Tables) → IsJudged Two H → ArePutIn (flat_map (count_edits H) counts) t
 count-in H [] t judged = tt
 count-in H (row ∷ rows) t judged =
@@ -138,7 +131,6 @@ count-in H (row ∷ rows) t judged =
         found true more = ((refl, tt, (let above = ltb-true view.remaining n more in let some : 0 < view.found + (n - view.remaining) = omega (arith, above) in some)), tt)
         found false few = tt
 
--- the row of a reel off which a command takes pieces accounts for them
 took-balanced : (H : History) (e : Entry) (reel : Name) (row : ReelRow) → IsJudged Two (e ∷ H) → OnlyTakes reel e.stamped.command → receipt_by reel e.effective e.stamped.command ≡ None
     → picked_rows (reel_row H) (picks_of H e.stamped.command) reel ≡ Some row → IsBalanced (PutReel row)
 took-balanced H e reel row judged only other is =
@@ -150,11 +142,10 @@ took-balanced H e reel row judged only other is =
 
 -- ---- sheets
 
--- the tables of a list, but with these placements
 abbrev tables_with : History → (ℕ → ℕ → Option PlacementRow) → Tables
 tables_with H placed = record (tables_of H) { placements = placed }
 
--- no row of the sheet is in this place or a later one
+-- No row of the sheet is in this place or a later one.
 abbrev IsFreeFrom : Name → Name → ℕ → Tables → Type 0
 IsFreeFrom product machine n t = (k : ℕ) → n ≤ k → t.sheets product machine k ≡ None
 
@@ -173,7 +164,6 @@ taken-out : (product machine : Name) (rows : List SheetRow) (n : ℕ) → AreTak
 taken-out product machine [] n = tt
 taken-out product machine (row ∷ rows) n = (refl, taken-out product machine rows (n + 1))
 
--- the rows of a sheet that were taken out are gone
 sheet-free : (H : History) (placed : ℕ → ℕ → Option PlacementRow) (product machine : Name)
     → IsFreeFrom product machine 1 (with_edits (taken_rows product machine 1 (unwrap_or (sheet_of H product machine) [])) (tables_with H placed))
 sheet-free H placed product machine k le =
@@ -225,12 +215,10 @@ spent-taken (row ∷ rows) = by (row.remaining == 0) (spent-taken rows)
     by false rest = rest
 
 module _ (H : History) (number : ℕ) (takes : List Take) (balanced : (reel : Name) (row : ReelRow) → picked_rows (reel_row H) (map pick_of takes) reel ≡ Some row → IsBalanced (PutReel row)) where
-  -- gathered rows are put
   rows-in : (rows : List ReelRow) (t : Tables) → AllByRecursion (λ row. picked_rows (reel_row H) (map pick_of takes) row.reel ≡ Some row) rows → ArePutIn (map (λ row. PutReel row) rows) t
   rows-in [] t each = tt
   rows-in (row ∷ rows) t (is, each) = ((refl, balanced row.reel row is, tt), rows-in rows (with_edit (PutReel row) t) each)
 
-  -- and leave the placed pieces
   rows-places : (rows : List ReelRow) (t : Tables) (n k : ℕ) → (with_edits (map (λ row. PutReel row) rows) t).placements n k ≡ t.placements n k
   rows-places [] t n k = refl
   rows-places (row ∷ rows) t n k = rows-places rows (with_edit (PutReel row) t) n k
@@ -258,7 +246,7 @@ unload-taken (r ∷ rs) = (refl, unload-taken rs)
 -- ---- any command
 
 module _ (H : History) (minute number : ℕ) (takes : List Take) (placed : ℕ → ℕ → Option PlacementRow) (judged : IsJudged Two H) (free : (k : ℕ) → placed number k ≡ None) where
-  -- the gathered rows account for the pieces that the command takes
+  -- The gathered rows account for the pieces that the command takes.
   abbrev TakesBalance : Command → Type 0
   TakesBalance command = (reel : Name) (row : ReelRow) → OnlyTakes reel command → receipt_by reel minute command ≡ None
       → picked_rows (reel_row H) (map pick_of takes) reel ≡ Some row → IsBalanced (PutReel row)
@@ -266,7 +254,6 @@ module _ (H : History) (minute number : ℕ) (takes : List Take) (placed : ℕ �
   put-only : (edits given : List RowEdit) → edits ≡ given → ArePutIn given (tables_with H placed) → AreFit edits (tables_with H placed)
   put-only edits given are puts = subst (λ xs. AreFit xs (tables_with H placed)) (sym are) (put-fit given (tables_with H placed) puts).0
 
-  -- a load or a splice is of a reel that is not mounted
   mount-fit : (machine slot reel : Name) (edits : List RowEdit) → is_mounted H reel ≡ false
       → edits ≡ PutMount (record { since = number; machine = machine; slot = slot; reel = reel }) ∷ reel_edit (opened_row minute) (reel_row H reel) → AreFit edits (tables_with H placed)
   mount-fit machine slot reel edits rests are =
@@ -300,7 +287,7 @@ module _ (H : History) (minute number : ℕ) (takes : List Take) (placed : ℕ �
   command-fit (ProductSelected machine product) edits accepted balance_of are = put-only edits _ are ((refl, tt, tt), tt)
   command-fit ClockSet edits accepted balance_of are = put-only edits _ are tt
 
--- The tables of a list take the edits of the next entry's command, where no piece with the edits' number is placed.
+-- The tables of a history accept the edits of the next entry's command, if no placed piece has the edits' number.
 pub edits-fit : (H : History) (e : Entry) (number : ℕ) (placed : ℕ → ℕ → Option PlacementRow) (edits : List RowEdit) → IsJudged Two (e ∷ H) → ((k : ℕ) → placed number k ≡ None)
     → AreEditsOf H number e.effective (takes_by H e.effective e.stamped.command) e.stamped.command edits → AreFit edits (tables_with H placed)
 edits-fit H e number placed edits (next, judged) free are =

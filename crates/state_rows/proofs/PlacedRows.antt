@@ -26,11 +26,9 @@ use Rattle.desk_types.specs.declared.row.PlacementRow.{PlacementRow}
 use Rattle.desk_types.specs.Tables.{placement_columns, placement_row}
 use Rattle.state_rows.specs.Kept.{by_piece, row_at, Lists}
 
--- a placement as a row with its key
 abbrev pub entry_of : Placement → (ℕ × ℕ) × PlacementRow
 entry_of p = ((p.number, p.place), placement_columns p)
 
--- the rows of the placements, in their order
 abbrev pub piece_entries : History → List ((ℕ × ℕ) × PlacementRow)
 piece_entries H = map entry_of (placements_of H)
 
@@ -44,7 +42,6 @@ same-number a b = by (nat_lt a b) refl (a == b) refl
     by false is true at = let e = eqb-true a b at in sym (eq-eqb b a (sym e))
     by false is false at = sym (ne_eqb b a (λ e. let back = eq-eqb a b (sym e) in cc))
 
--- A look-up among these rows gives the row of the table. This holds of every list.
 pub pieces-found : (H : History) (key : ℕ × ℕ) → row_at by_piece (piece_entries H) key ≡ placement_row H key.0 key.1
 pieces-found H key = among (placements_of H)
   where
@@ -88,7 +85,7 @@ all-weaker : {X : Type 0} (P Q : X → Type 0) → ((x : X) → P x → Q x) →
 all-weaker P Q weaker [] all = tt
 all-weaker P Q weaker (x ∷ xs) (first, all) = (weaker x first, all-weaker P Q weaker xs all)
 
--- the keys of an entry's placements, the first of whose takes is in this place
+-- The keys of an entry's placements, the first of whose takes is in this place.
 module _ (number effective : ℕ) where
   abbrev as_take : ℕ × Take → EntryTake
   as_take (place, take) = record { number = number; place = place; effective = effective; take = take }
@@ -96,7 +93,7 @@ module _ (number effective : ℕ) where
   abbrev keys_from : ℕ → List Take → List (ℕ × ℕ)
   keys_from i takes = keys_of (map entry_of (filter_map placement_of (map as_take (enumerate_from i takes))))
 
-  -- they have its number, and places from this one on
+  -- The key has the entry's number, and a place from this one on.
   abbrev IsFrom : ℕ → ℕ × ℕ → Type 0
   IsFrom i key = (key.0 ≡ number) × (i ≤ key.1)
 
@@ -122,7 +119,6 @@ module _ (number effective : ℕ) where
       by (Rejected machine slot) above rest = rest
       by Counted above rest = rest
 
--- the keys of one list after the other
 keys-append : (ps qs : List Placement) → keys_of (map entry_of (ps ++ qs)) ≡ keys_of (map entry_of ps) ++ keys_of (map entry_of qs)
 keys-append [] qs = refl
 keys-append (p ∷ ps) qs = ap (λ l. (p.number, p.place) ∷ l) (keys-append ps qs)
@@ -131,7 +127,6 @@ keys-next : (H : History) (e : Entry) → keys_of (piece_entries (e ∷ H)) ≡ 
 unfolding takes_of
 keys-next H e = ap (λ ps. keys_of (map entry_of ps)) (filter_map-append placement_of (takes_of H) (entry_takes H e)) ∙ keys-append (placements_of H) (filter_map placement_of (entry_takes H e))
 
--- no number is above that of the last entry
 keys-within : (H : History) → IsJudged Two H → AllByRecursion (λ key. key.0 ≤ length H) (keys_of (piece_entries H))
 unfolding takes_of
 keys-within [] judged = tt
@@ -142,7 +137,6 @@ keys-within (e ∷ H) (next, judged) =
     (all-weaker (IsFrom e.number e.effective 1) (λ key. key.0 ≤ length (e ∷ H)) (λ key is. let one = is.0 in let at = next.number in omega (arith, one, at)) _
     (from-place e.number e.effective (takes_by H e.effective e.stamped.command) 1)))
 
--- The numbers and places rise along the placements.
 pub pieces-ascend : (H : History) → IsJudged Two H → IsStrictlySortedBy by_piece (keys_of (piece_entries H))
 unfolding takes_of IsStrictlySortedBy
 pieces-ascend [] judged = tt
@@ -156,6 +150,5 @@ pieces-ascend (e ∷ H) (next, judged) =
         all-weaker (IsFrom e.number e.effective 1) (λ later. by_piece key later ≡ Less) (λ later is. less-number key later (let one = is.0 in let at = next.number in omega (arith, one, at, le))) _
         (from-place e.number e.effective (takes_by H e.effective e.stamped.command) 1)
 
--- The rows of the placements are those of the table `placement`.
 pub pieces-listed : (H : History) → IsJudged Two H → Lists by_piece (piece_entries H) (λ key. placement_row H key.0 key.1)
 pieces-listed H judged = record { ascending = pieces-ascend H judged; rows = pieces-found H }

@@ -20,9 +20,6 @@ use Rattle.desk_types.specs.declared.row.PlacementRow.{PlacementRow}
 use Rattle.desk_types.specs.Tables.{at_place, placement_columns, placement_row}
 use Rattle.state_rows.specs.After.{placed_row, placement_after}
 
--- ---- places
-
--- no element is at a place before the first
 pub at_place-before : {X : Type 0} (xs : List X) (i place : ℕ) → place < i → at_place i xs place ≡ None
 at_place-before [] i place lt = refl
 at_place-before (x ∷ xs) i place lt =
@@ -40,7 +37,6 @@ module _ (number effective n k : ℕ) where
   abbrev found : List (ℕ × Take) → Option PlacementRow
   found takes = option_map placement_columns (find is_at (filter_map placement_of (map as_take takes)))
 
-  -- a take as the row of its number and its place
   here : (i : ℕ) (take : Take) (rest : List (ℕ × Take)) → (number == n) ≡ true → (i == k) ≡ true → found rest ≡ None → found ((i, take) ∷ rest) ≡ placed_row n k take
   here i take rest is_n is_k none = by take.purpose
     where
@@ -66,7 +62,6 @@ module _ (number effective n k : ℕ) where
       by (Rejected machine slot) = none
       by Counted = none
 
-  -- a take that has another number or another place
   other : (i : ℕ) (take : Take) (rest : List (ℕ × Take)) → ((number == n) && (i == k)) ≡ false → found ((i, take) ∷ rest) ≡ found rest
   other i take rest away = by take.purpose
     where
@@ -79,12 +74,10 @@ module _ (number effective n k : ℕ) where
       by (Rejected machine slot) = refl
       by Counted = refl
 
-  -- where the numbers differ
   none-found : (takes : List Take) (i : ℕ) → (number == n) ≡ false → found (enumerate_from i takes) ≡ None
   none-found [] i away = refl
   none-found (t ∷ takes) i away = other i t (enumerate_from (i + 1) takes) (ap (λ b. b && (i == k)) away) ∙ none-found takes (i + 1) away
 
-  -- where they are one
   found-at : (takes : List Take) (i : ℕ) → (number == n) ≡ true → found (enumerate_from i takes) ≡ option_and_then (placed_row n k) (at_place i takes k)
   found-at [] i is = refl
   found-at (t ∷ takes) i is = by (i == k) refl (found-at takes (i + 1) is)
@@ -109,7 +102,6 @@ map-or : {X Y : Type 0} (f : X → Y) (a b : Option X) → option_map f (option_
 map-or f None b = refl
 map-or f (Some x) b = refl
 
--- the row of a placed piece is among those before the entry, or is the entry's. This holds of every list.
 placement-or : (H : History) (e : Entry) (n k : ℕ)
     → placement_row (e ∷ H) n k
     ≡ option_or (placement_row H n k) (if e.number == n then option_and_then (placed_row n k) (at_place 1 (takes_by H e.effective e.stamped.command) k) else None)
@@ -120,7 +112,6 @@ placement-or H e n k =
     ∙ map-or placement_columns (find (is_at e.number e.effective n k) (placements_of H)) _
     ∙ ap (option_or (placement_row H n k)) (entry-found e.number e.effective n k (takes_by H e.effective e.stamped.command))
 
--- No piece is placed by an entry that is still to come.
 pub unplaced-later : (H : History) (n k : ℕ) → IsJudged Two H → length H < n → placement_row H n k ≡ None
 unfolding takes_of
 unplaced-later [] n k judged later = refl
@@ -132,7 +123,6 @@ unplaced-later (e ∷ H) n k (next, judged) later =
     (ne_eqb e.number n (λ is. omega (arith, is, at, longer)))
     ∙ ap (λ o. option_or o None) (unplaced-later H n k judged (omega (arith, longer)))
 
--- The row of a placed piece after one entry more.
 pub placement_row-next : (H : History) (e : Entry) (n k : ℕ) → IsJudged Two (e ∷ H)
     → placement_row (e ∷ H) n k ≡ placement_after e.number (takes_by H e.effective e.stamped.command) n k (placement_row H n k)
 placement_row-next H e n k (next, judged) = placement-or H e n k ∙ by (e.number == n) refl

@@ -25,7 +25,6 @@ put-append product machine n [] x = ap (λ k. PutSheetRow product machine k x �
 put-append product machine n (y ∷ ys) x =
     ap (λ l. PutSheetRow product machine n y ∷ l) (put-append product machine (n + 1) ys x ∙ ap (λ k. put_rows product machine (n + 1) ys ++ PutSheetRow product machine k x ∷ []) (let is : n + 1 + length ys ≡ n + length (y ∷ ys) = omega arith in is))
 
--- one more row
 pub taken-next : (product machine : Name) (rows : List SheetRow) (i : ℕ) (row : SheetRow) (before edits : List RowEdit) → i < length rows → row ≡ get_or rows i row
     → edits ≡ before ++ taken_rows product machine 1 (take i rows) → edits ++ TakeSheetRow product machine (i + 1) ∷ [] ≡ before ++ taken_rows product machine 1 (take (i + 1) rows)
 taken-next product machine rows i row before edits inside is so_far =
@@ -46,7 +45,6 @@ put-next product machine rows i row before edits inside is so_far =
     ∙ sym (put-append product machine 1 (take i rows) row)
     ∙ ap (put_rows product machine 1) (sym (take-next rows i row inside is)))
 
--- one more mount
 pub mount-next : (slot : Name) (mounts : List Mount) (i : ℕ) (mount : Mount) (before edits : List RowEdit) → i < length mounts → mount ≡ get_or mounts i mount
     → edits ≡ before ++ map (λ r. TakeMount r) (filter_map (reel_on_slot slot) (take i mounts))
     → edits ++ map (λ r. TakeMount r) (option_to_list (reel_on_slot slot mount)) ≡ before ++ map (λ r. TakeMount r) (filter_map (reel_on_slot slot) (take (i + 1) mounts))
@@ -64,7 +62,6 @@ mount-next slot mounts i mount before edits inside is so_far =
     one None = refl
     one (Some x) = refl
 
--- one more row of a count
 pub count-next : (H : History) (rows : List CountRow) (i : ℕ) (row : CountRow) (edits : List RowEdit) → i < length rows → row ≡ get_or rows i row
     → edits ≡ flat_map (count_edits H) (take i rows) → edits ++ count_edits H row ≡ flat_map (count_edits H) (take (i + 1) rows)
 count-next H rows i row edits inside is so_far =

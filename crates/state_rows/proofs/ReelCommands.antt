@@ -1,4 +1,4 @@
--- What a command says that receives, bakes or only handles a reel.
+-- Commands that receive, bake or only handle a reel.
 use Rattle.std.proofs.Common.{◌≡◌, ℕ, Bool, true, false, Option, Some, None, [], ◌∷◌, refl, sym, ap, ◌∙◌, unwrap_or}
 use Rattle.std.specs.Prelude.{if◌then◌else◌}
 use Rattle.std.specs.Option.{option_or, option_map_or}
@@ -13,7 +13,6 @@ use Rattle.desk_types.specs.FloorLife.{open_by, IsUntouched, bake_by, baked_by, 
 use Rattle.desk_types.proofs.ReelCommands.{IsQuiet, IsQuiet-untouched}
 use Rattle.state_rows.specs.After.{bakes}
 
--- a command that receives the reel
 pub record IsReceipt (reel : Name) (minute : ℕ) (command : Command) (receipt : Receipt) : Type 0 where
   pub in_bag : open_by reel command ≡ Some false
   pub bake : bake_by reel minute command ≡ None
@@ -39,7 +38,6 @@ IsReceipt-said reel minute (ReelReceived r part lot moisture quantity) receipt i
     by false here is = cc
 IsReceipt-said reel minute _ receipt is = cc
 
--- a command that bakes the reel
 pub record IsBake (reel : Name) (minute : ℕ) (command : Command) : Type 0 where
   pub in_bag : open_by reel command ≡ Some false
   pub bake : bake_by reel minute command ≡ Some minute
@@ -62,7 +60,6 @@ IsBake-said reel minute (ReelBaked r) is = by (same r reel) refl is
     by false here is = cc
 IsBake-said reel minute _ is = cc
 
--- a command that neither receives nor bakes the reel
 pub IsQuiet-said : (reel : Name) (minute : ℕ) (command : Command) → receipt_by reel minute command ≡ None → bakes reel command ≡ false → IsQuiet reel minute command
 IsQuiet-said reel minute (ReelReceived r part lot moisture quantity) none is = by (same r reel) refl none
   where
@@ -80,7 +77,6 @@ IsQuiet-said reel minute (ReelBaked r) none is = by (same r reel) refl is
     by false here is = record { receipt = refl; bake = ap (λ c. if c then Some minute else None) here; baked = ap (λ c. if c then Some true else None) here }
 IsQuiet-said reel minute _ none is = record { receipt = refl; bake = refl; baked = refl }
 
--- a reel that no command handles was not baked
 pub unbaked : (H : History) (reel : Name) → IsUntouched H reel → last_bake H reel ≡ None
 unbaked [] reel all = refl
 unbaked (e ∷ H) reel (none, all) =

@@ -27,18 +27,15 @@ use Rattle.state_rows.proofs.ReelCommands.{IsReceipt, IsReceipt-said, IsBake-sai
 
 -- ---- pieces
 
--- what was found, with the next entry
 found-next : (H : History) (e : Entry) (reel : Name) → found_of (e ∷ H) reel ≡ found_of H reel + found_by (left_of H reel) reel e.stamped.command
 unfolding found_of
 found-next H e reel = refl
 
--- what is left after the next entry, as it tells or takes
 left-told : (H : History) (e : Entry) (reel : Name)
     → left_of (e ∷ H) reel ≡ unwrap_or (pieces_by reel e.stamped.command) (left_of H reel - pieces_picked (picks_of H e.stamped.command) reel)
 unfolding left_of
 left-told H e reel = refl
 
--- On a reel that was not received nothing was found.
 unreceived-unfound : (H : History) (reel : Name) → IsJudged Two H → receipt_of H reel ≡ None → found_of H reel ≡ 0
 unfolding found_of
 unreceived-unfound [] reel judged none = refl
@@ -52,14 +49,12 @@ unreceived-unfound (e ∷ H) reel (next, judged) none =
 
 -- ---- exposure
 
--- the exposure before the entry at its minute, by what is kept of it
 pub used-then : (H : History) (reel : Name) (minute : ℕ) (since : Option ℕ) → IsJudged Two H → out_since H reel ≡ since → now_of H ≤ minute
     → exposure_of H reel minute ≡ exposure_of H reel (unwrap_or since (now_of H)) + option_map_or (λ from. minute - from) since 0
 used-then H reel minute None judged in_bag le = let still = exposure-in_bag H reel minute in_bag le in omega (arith, still)
 used-then H reel minute (Some from) judged out le =
     let early = since-by H reel from (now_of H) (by-desk_minute H) out in exposure-out H reel from minute judged out (omega (arith, early, le))
 
--- a quiet entry
 used-quiet : (H : History) (e : Entry) (reel : Name) (said : Option Bool) (since : Option ℕ) → IsJudged Two (e ∷ H) → IsQuiet reel e.effective e.stamped.command
     → open_by reel e.stamped.command ≡ said → out_since H reel ≡ since
     → exposure_of (e ∷ H) reel (unwrap_or (since_after said e.effective since) (now_of (e ∷ H))) ≡ used_after false said e.effective since (exposure_of H reel (unwrap_or since (now_of H)))
@@ -79,7 +74,6 @@ used-quiet H e reel (Some false) before (next, judged) quiet says since =
     ∙ exposure-before H e reel (exposure_starts-quiet H e reel quiet) e.effective (omega arith)
     ∙ used-then H reel e.effective before judged since (now-before H e next)
 
--- an entry that does not receive the reel
 used-next : (H : History) (e : Entry) (reel : Name) → IsJudged Two (e ∷ H) → receipt_by reel e.effective e.stamped.command ≡ None
     → used_of (e ∷ H) reel ≡ used_after (bakes reel e.stamped.command) (open_by reel e.stamped.command) e.effective (out_since H reel) (used_of H reel)
 used-next H e reel judged other = by (bakes reel e.stamped.command) refl
@@ -94,7 +88,6 @@ used-next H e reel judged other = by (bakes reel e.stamped.command) refl
 
 -- ---- rows
 
--- two rows with the same columns
 pub same-rows : (a b : ReelRow) → a.reel ≡ b.reel → a.part ≡ b.part → a.lot ≡ b.lot → a.level ≡ b.level → a.label ≡ b.label → a.received ≡ b.received → a.placed ≡ b.placed
     → a.scrapped ≡ b.scrapped → a.remaining ≡ b.remaining → a.used ≡ b.used → a.open_since ≡ b.open_since → a.baked ≡ b.baked → a ≡ b
 same-rows a b reel part lot level label received placed scrapped remaining used open_since baked = λ j. record {
@@ -112,11 +105,9 @@ same-rows a b reel part lot level label received placed scrapped remaining used 
   baked = baked j;
 }
 
--- the row of a reel with this receipt
 abbrev pub row_with : History → Name → Receipt → ReelRow
 row_with H reel receipt = columns_of (view_of H reel receipt)
 
--- the row of a reel that the entry does not receive
 row-step : (H : History) (e : Entry) (reel : Name) (receipt : Receipt) → IsJudged Two (e ∷ H) → receipt_by reel e.effective e.stamped.command ≡ None
     → row_with (e ∷ H) reel receipt ≡ step_row e.effective (picks_of H e.stamped.command) reel e.stamped.command (row_with H reel receipt)
 row-step H e reel receipt judged other =
@@ -135,7 +126,6 @@ row-step H e reel receipt judged other =
     baked : is_baked (e ∷ H) reel ≡ unwrap_or (baked_by reel e.stamped.command) (is_baked H reel)
     baked = told (baked_by reel e.stamped.command)
 
--- the row of a reel that the entry receives
 row-fresh : (H : History) (e : Entry) (reel : Name) (receipt : Receipt) → IsJudged Two (e ∷ H) → receipt_by reel e.effective e.stamped.command ≡ Some receipt
     → row_with (e ∷ H) reel receipt ≡ fresh_row reel receipt
 row-fresh H e reel receipt (next, judged) is =
@@ -173,7 +163,6 @@ row-fresh H e reel receipt (next, judged) is =
     used : used_of (e ∷ H) reel ≡ 0
     used = exposure-anew H e reel said.in_bag starts _
 
--- The row of a reel after one entry more, from its row before.
 pub reel_row-next : (H : History) (e : Entry) (reel : Name) → IsJudged Two (e ∷ H)
     → reel_row (e ∷ H) reel ≡ reel_after e.effective (picks_of H e.stamped.command) reel e.stamped.command (reel_row H reel)
 reel_row-next H e reel judged = by (receipt_by reel e.effective e.stamped.command) refl
@@ -192,7 +181,6 @@ reel_row-next H e reel judged = by (receipt_by reel e.effective e.stamped.comman
 
 -- ---- found pieces
 
--- what the row says that was found is what was found
 pub found-kept : (H : History) (reel : Name) → unwrap_or (found_row H reel) 0 ≡ found_of H reel
 found-kept H reel = by (found_of H reel == 0) refl
   where
@@ -200,7 +188,6 @@ found-kept H reel = by (found_of H reel == 0) refl
     by true none = sym (eqb-true (found_of H reel) 0 none)
     by false some = refl
 
--- The found pieces of a reel after one entry more, from those before it.
 pub found_row-next : (H : History) (e : Entry) (reel : Name) → found_row (e ∷ H) reel ≡ found_after (left_of H reel) reel e.stamped.command (found_row H reel)
 found_row-next H e reel =
     ap (λ (n : ℕ). if n == 0 then None else Some n)

@@ -9,7 +9,9 @@ use Rattle.std.specs.declared.cmp.Ordering.{Ordering}
 use Rattle.std.specs.declared.cmp.Ordering.TheVariants.{Less, Equal, Greater}
 use Rattle.std.proofs.lemmas.Bool.{eqb-true, ltb-true}
 use Rattle.desk_types.specs.Id.{Name, same, by_name}
-use Rattle.desk_types.proofs.Keys.{is_at-by_name, is_at-by_pair, is_eq-ordering_then}
+use Rattle.desk_types.proofs.Keys.{is_at-by_name, is_at-by_pair, is_eq-ordering_then, list_any-same}
+use Rattle.setup_sheets.specs.Names.{is_among}
+use Rattle.setup_sheets.specs.Alternates.{is_pair_among}
 use Rattle.desk_types.specs.Pair.{same_pair, by_pair}
 use Rattle.desk_types.specs.declared.sheet.SheetRow.{SheetRow}
 use Rattle.desk_types.specs.declared.row.ReelRow.{ReelRow}
@@ -61,13 +63,11 @@ module _ {K : Type 0} (cmp : K → K → Ordering) (is : K → K → Bool) (agre
       → ((q : K) → row_at cmp new q ≡ cond (is_at (cmp k) q) w (row_at cmp old q)) → (q : K) → row_at cmp new q ≡ cond (is k q) w (row_at cmp old q)
   row-written old new k w after q = after q ∙ ap (λ b. cond b w (row_at cmp old q)) (agree k q)
 
-  pub key-written : (old new : List K) (k : K) → ((q : K) → has_key cmp new q ≡ cond (is_at (cmp k) q) true (has_key cmp old q))
-      → (q : K) → has_key cmp new q ≡ (is k q || has_key cmp old q)
-  key-written old new k after q = after q ∙ by (is_at (cmp k) q) ∙ ap (λ b. b || has_key cmp old q) (agree k q)
-    where
-      by : (b : Bool) → cond b true (has_key cmp old q) ≡ (b || has_key cmp old q)
-      by true = refl
-      by false = refl
+pub key-among : (ks : List Name) (p : Name) → has_key by_name ks p ≡ is_among ks p
+key-among ks p = list_any-same (is_at (by_name p)) (same p) (is_at-by_name p) ks
+
+pub pair-among : (ks : List (Name × Name)) (p q : Name) → has_key by_pair ks (p, q) ≡ is_pair_among ks p q
+pair-among ks p q = list_any-same (is_at (by_pair (p, q))) (same_pair (p, q)) (is_at-by_pair (p, q)) ks
 
 -- ---- lists of tables
 
@@ -79,25 +79,23 @@ pub lists-keys : {K : Type 0} (cmp : K → K → Ordering) (given kept : List K)
     → ((k : K) → has_key cmp kept k ≡ table k) → ListsKeys cmp given table
 lists-keys cmp given kept table is up found = subst (λ ks. ListsKeys cmp ks table) (sym is) (record { ascending = up; rows = found })
 
--- ---- edits, where s is what was kept and the list is new
+-- ---- edits, from the old entries s to the new list
 
 module _ (s now : KeptRows) (is : s ≡ now) where
-  -- what a map by keys becomes
+  -- The map by keys after an edit.
   abbrev Writes : {K X : Type 0} → (K → K → Ordering) → List (K × X) → List (K × X) → K → Option X → Type 0
   Writes {K} cmp old new k w = (q : K) → row_at cmp new q ≡ cond (is_at (cmp k) q) w (row_at cmp old q)
 
-  abbrev Adds : {K : Type 0} → (K → K → Ordering) → List K → List K → K → Type 0
-  Adds {K} cmp old new k = (q : K) → has_key cmp new q ≡ cond (is_at (cmp k) q) true (has_key cmp old q)
-
-  pub part-put : (new : List Name) (part : Name) → Adds by_name s.parts new part → tables_in (record s { parts = new }) ≡ with_edit (PutPart part) (tables_in now)
+  pub part-put : (new : List Name) (part : Name) → ((p : Name) → is_among new p ≡ (same part p || is_among s.parts p)) → tables_in (record s { parts = new }) ≡ with_edit (PutPart part) (tables_in now)
   part-put new part adds =
-      ap (λ (f : Name → Bool). record (tables_in s) { parts = f }) (λ j p. key-written by_name same is_at-by_name s.parts new part adds p j)
+      ap (λ (f : Name → Bool). record (tables_in s) { parts = f }) (λ j p. (key-among new p ∙ adds p ∙ ap (λ b. same part p || b) (sym (key-among s.parts p))) j)
       ∙ ap (λ t. with_edit (PutPart part) (tables_in t)) is
 
-  pub alternate-put : (new : List (Name × Name)) (part alternate : Name) → Adds by_pair s.alternates new (part, alternate)
+  pub alternate-put : (new : List (Name × Name)) (part alternate : Name) → ((p q : Name) → is_pair_among new p q ≡ (same_pair (part, alternate) (p, q) || is_pair_among s.alternates p q))
       → tables_in (record s { alternates = new }) ≡ with_edit (PutAlternate part alternate) (tables_in now)
   alternate-put new part alternate adds =
-      ap (λ (f : Name → Name → Bool). record (tables_in s) { alternates = f }) (λ j p q. key-written by_pair same_pair is_at-by_pair s.alternates new (part, alternate) adds (p, q) j)
+      ap (λ (f : Name → Name → Bool). record (tables_in s) { alternates = f })
+      (λ j p q. (pair-among new p q ∙ adds p q ∙ ap (λ b. same_pair (part, alternate) (p, q) || b) (sym (pair-among s.alternates p q))) j)
       ∙ ap (λ t. with_edit (PutAlternate part alternate) (tables_in t)) is
 
   sheet-written : (new : List ((Name × Name × ℕ) × SheetRow)) (k : Name × Name × ℕ) (w : Option SheetRow) → Writes by_sheet_place s.sheets new k w
@@ -159,9 +157,8 @@ module _ (s now : KeptRows) (is : s ≡ now) where
       ap (λ (f : Name → Option ℕ). record (tables_in s) { found = f }) (λ j r. row-written by_name same is_at-by_name s.found new reel (Some pieces) writes r j)
       ∙ ap (λ t. with_edit (PutFound reel pieces) (tables_in t)) is
 
--- ---- edits but those of placements
+-- ---- edits except those of placements
 
--- an edit of tables whose placements are kept
 but-step : (e : RowEdit) (t kept : Tables) → but_placements (with_edit e (but_placements t kept)) kept ≡ but_placements (with_edit e t) kept
 but-step (PutPlacement row) t kept = refl
 but-step (TakeSheetRow product machine place) t kept = refl

@@ -33,18 +33,17 @@ use Rattle.desk_types.specs.declared.edit.RowEdit.{RowEdit}
 use Rattle.desk_types.specs.declared.edit.RowEdit.TheVariants.{TakeMount, PutReel, PutPlacement}
 use Rattle.desk_types.specs.Tables.{Tables, tables_of, reel_row, placement_row}
 use Rattle.desk_types.specs.Edits.{with_edits, AreNew, AreTakesFirst, AreBalanced}
-use Rattle.state_rows.specs.Kept.{row_at}
+use Rattle.state_rows.specs.Kept.{row_at, unnumbered}
 use Rattle.state_rows.specs.After.{placed_row}
 use Rattle.state_rows.specs.EditsOf.{pick_of, is_picked, is_spent, less_row, AreTakeEdits, AreEditsOf, less_by, LessFits, ArePiecesFitting, picked_rows, with_reels, without_spent, take_spent, after_rows, place_rows, AreNamed}
 use Rattle.state_rows.proofs.EditLists.{with_edits-append}
 use Rattle.state_rows.proofs.GatheredPieces.{rows-named, picked_rows-next, picked_rows-fits, places-put}
 use Rattle.state_rows.proofs.SumsInRange.{pieces-fit, entry-next}
-use Rattle.state_rows.proofs.EditsLead.{edits-lead}
+use Rattle.state_rows.proofs.EditsLead.{edits-lead, edits-lead-same}
 use Rattle.state_rows.proofs.NewRows.{edits-fit}
 use Rattle.state_rows.proofs.PlacementRows.{unplaced-later}
 use Rattle.state_rows.proofs.TablesLess.{picks-again}
 
--- the row that is written over what was found
 pub noted : (old rows : Name → Option ReelRow) (k : Name) (p : Pick) (row less : ReelRow) → option_or (old k) (rows k) ≡ Some row → less ≡ less_by p row → (r : Name)
     → cond (same k r) (Some less) (old r) ≡ (if same k r then option_map (less_by p) (option_or (old r) (rows r)) else old r)
 noted old rows k p row less is lesser r = by (same k r) refl
@@ -53,7 +52,6 @@ noted old rows k p row less is lesser r = by (same k r) refl
     by true here = ap Some lesser ∙ sym (ap (λ x. option_map (less_by p) (option_or (old x) (rows x))) (sym (same-true k r here)) ∙ ap (option_map (less_by p)) is)
     by false here = refl
 
--- the picks so far and one more
 picks-next : (takes : List Take) (i : ℕ) (item : Take) → i < length takes → item ≡ get_or takes i item
     → map pick_of (take (i + 1) takes) ≡ map pick_of (take i takes) ++ pick_of item ∷ []
 picks-next takes i item inside is = ap (map pick_of) (take-next takes i item inside is) ∙ map-append pick_of (take i takes) (item ∷ [])
@@ -63,7 +61,6 @@ picks-all : (takes : List Take) (i : ℕ) (item : Take) → i < length takes →
 picks-all takes i item inside is =
     ap (map pick_of) (sym (take-append-drop i takes) ∙ ap (λ l. take i takes ++ l) (drop-next takes i item inside is)) ∙ map-append pick_of (take i takes) (item ∷ drop (i + 1) takes)
 
--- the sums with one more take fit
 pub next-fits : (H : History) (takes : List Take) (i : ℕ) (item : Take) (so_far : Name → Option ReelRow) → i < length takes → item ≡ get_or takes i item
     → ArePiecesFitting H (map pick_of takes) → ((r : Name) → so_far r ≡ picked_rows (reel_row H) (map pick_of (take i takes)) r)
     → (row : ReelRow) → option_or (so_far item.reel) (reel_row H item.reel) ≡ Some row → LessFits (pick_of item) row
@@ -72,7 +69,6 @@ next-fits H takes i item so_far inside is fits gathers row found =
     (subst (ArePiecesFitting H) (picks-all takes i item inside is) fits)
     (sym (ap (λ o. option_or o (reel_row H item.reel)) (gathers item.reel)) ∙ found)
 
--- one more take is gathered
 pub gather-next : (H : History) (takes : List Take) (i : ℕ) (item : Take) (so_far now : Name → Option ReelRow) → i < length takes → item ≡ get_or takes i item
     → ((r : Name) → so_far r ≡ picked_rows (reel_row H) (map pick_of (take i takes)) r)
     → ((r : Name) → now r ≡ (if same item.reel r then option_map (less_by (pick_of item)) (option_or (so_far r) (reel_row H r)) else so_far r))
@@ -106,7 +102,6 @@ place-next number takes i item before edits inside is so_far =
 
 -- ---- rows in a map
 
--- the key of the first entry is not among the others
 alone : (e : Name × ReelRow) (es : List (Name × ReelRow)) → IsStrictlySortedBy by_name (keys_of (e ∷ es)) → row_at by_name es e.0 ≡ None
 unfolding IsStrictlySortedBy
 alone e es (above, up) = among es above
@@ -119,7 +114,6 @@ up-tail : (e : Name × ReelRow) (es : List (Name × ReelRow)) → IsStrictlySort
 unfolding IsStrictlySortedBy
 up-tail e es (above, up) = up
 
--- what the first entry is at a name
 first-at : (e : Name × ReelRow) (es : List (Name × ReelRow)) (r : Name) → row_at by_name (e ∷ es) r ≡ cond (same e.0 r) (Some e.1) (row_at by_name es r)
 first-at e es r = ap (λ b. cond b (Some e.1) (row_at by_name es r)) (is_at-by_name r e.0 ∙ same-sym r e.0)
 
@@ -129,7 +123,6 @@ first-own e es = first-at e es e.0 ∙ ap (λ b. cond b (Some e.1) (row_at by_na
 first-named : (e : Name × ReelRow) (es : List (Name × ReelRow)) → AreNamed (row_at by_name (e ∷ es)) → e.1.reel ≡ e.0
 first-named e es named = named e.0 e.1 (first-own e es)
 
--- a row of the others is found among all
 rest-at : (e : Name × ReelRow) (es : List (Name × ReelRow)) (r : Name) (row : ReelRow) → IsStrictlySortedBy by_name (keys_of (e ∷ es)) → row_at by_name es r ≡ Some row
     → row_at by_name (e ∷ es) r ≡ Some row
 rest-at e es r row up is = by (same e.0 r) refl
@@ -141,14 +134,12 @@ rest-at e es r row up is = by (same e.0 r) refl
 rest-named : (e : Name × ReelRow) (es : List (Name × ReelRow)) → IsStrictlySortedBy by_name (keys_of (e ∷ es)) → AreNamed (row_at by_name (e ∷ es)) → AreNamed (row_at by_name es)
 rest-named e es up named r row is = named r row (rest-at e es r row up is)
 
--- what holds of each row that is found holds of each row
 each-row : (P : ReelRow → Type 0) (es : List (Name × ReelRow)) → IsStrictlySortedBy by_name (keys_of es) → ((r : Name) (row : ReelRow) → row_at by_name es r ≡ Some row → P row)
     → AllByRecursion P (values_of es)
 each-row P [] up holds = tt
 each-row P (e ∷ es) up holds =
     (holds e.0 e.1 (first-own e es), each-row P es (up-tail e es up) (λ r row is. holds r row (rest-at e es r row up is)))
 
--- Each row is put in its place.
 pub rows-put : (es : List (Name × ReelRow)) (t : Tables) → IsStrictlySortedBy by_name (keys_of es) → AreNamed (row_at by_name es)
     → with_edits (map (λ row. PutReel row) (values_of es)) t ≡ with_reels (row_at by_name es) t
 rows-put [] t up named = refl
@@ -163,7 +154,6 @@ rows-put (e ∷ es) t up named =
     by r true here = ap (λ o. option_or o (Some e.1)) (ap (row_at by_name es) (sym (same-true e.0 r here)) ∙ alone e es up)
     by r false here = refl
 
--- Each reel with nothing left is taken off.
 pub spent-taken : (es : List (Name × ReelRow)) (t : Tables) → IsStrictlySortedBy by_name (keys_of es) → AreNamed (row_at by_name es)
     → with_edits (flat_map take_spent (values_of es)) t ≡ without_spent (row_at by_name es) t
 spent-taken [] t up named = refl
@@ -194,7 +184,6 @@ spent-taken (e ∷ es) t up named =
 
 -- ---- a command that takes
 
--- gathered rows are of the reels by whose names they are found
 picked_rows-named : (rows : Name → Option ReelRow) (picks : List Pick) → AreNamed rows → AreNamed (picked_rows rows picks)
 picked_rows-named rows picks named r row is = by (is_picked picks r) (rows r) (named r) is
   where
@@ -203,7 +192,6 @@ picked_rows-named rows picks named r row is = by (is_picked picks r) (rows r) (n
     by true (Some x) of is = sym (ap (λ o. option_map_or (λ (y : ReelRow). y.reel) o []) is) ∙ of x refl
     by false o of is = cc
 
--- The edits of the takes of a command, by the rows that were gathered.
 pub taken-all : (H : History) (number : ℕ) (takes : List Take) (es : List (Name × ReelRow)) (edits : List RowEdit) → IsStrictlySortedBy by_name (keys_of es)
     → ((r : Name) → row_at by_name es r ≡ picked_rows (reel_row H) (map pick_of takes) r)
     → edits ≡ (flat_map take_spent (values_of es) ++ map (λ row. PutReel row) (values_of es)) ++ place_rows number 1 takes
@@ -266,13 +254,15 @@ module _ (rules : Rules) (H : History) (s : Stamped) (change : Change) (is : IsC
 
       pub rows-lead : number ≡ length H + 1 → with_edits edits (tables_of H) ≡ tables_of (accept H s)
       rows-lead next =
-          edits-lead H (entry_of H s) edits next-judged
-          (subst (λ n. AreEditsOf H n (effective_minute H s.minute) (takes_by H (effective_minute H s.minute) s.command) s.command edits) next are-edits)
+          edits-lead H (entry_of H s) number edits next-judged are-edits next
+
+      pub rows-same : unnumbered (with_edits edits (tables_of H)) ≡ unnumbered (tables_of (accept H s))
+      rows-same = edits-lead-same H (entry_of H s) number edits next-judged are-edits
 
       pub rows-new : number ≡ length H + 1 → AreNew edits (tables_of H)
       rows-new next =
           (edits-fit H (entry_of H s) number (placement_row H) edits next-judged (λ k. unplaced-later H number k (judged-by-two rules H judged) (omega (arith, next))) are-edits).new
 
-      -- whatever the number, its pieces are new in tables without placements
+      -- Whatever the number, its pieces are new in tables without placements.
       pub rows-fit : AreTakesFirst edits × AreBalanced edits
       rows-fit = let is_fit = edits-fit H (entry_of H s) number (λ n k. None) edits next-judged (λ k. refl) are-edits in (is_fit.takes_first, is_fit.balanced)

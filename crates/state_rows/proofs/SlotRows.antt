@@ -27,7 +27,6 @@ use Rattle.state_rows.proofs.Ascending.{since_of, Ascends, since-put, since-with
 
 -- ---- numbers
 
--- the reel that the command puts onto a slot
 abbrev put_reel : Command → Option Name
 put_reel (MaterialsLoaded m s r) = Some r
 put_reel (MaterialsSpliced m s r) = Some r
@@ -78,18 +77,17 @@ row-last H r row is = by (is_mounted H r) is
     by true is = is
     by false is = cc
 
--- A row of `mount` names its reel.
 pub mount-named : (H : History) (r : Name) (row : MountRow) → IsJudged Two H → mount_row H r ≡ Some row → row.reel ≡ r
 mount-named H r row judged is =
     let put = live-mount H row.machine row.slot r judged (mount-live H r row judged is) in
     ap (λ o. option_map_or (λ (x : MountRow). x.reel) o row.reel) (sym is ∙ put.is) ∙ put.reel_is
 
--- the entry's row is that of its reel, and its number that of the row
+-- The entry's row is that of its reel, and its number that of the row.
 record IsEntryOf (H : History) (e : (ℕ × Name) × MountRow) : Type 0 where
   row : mount_row H e.0.1 ≡ Some e.1
   number : e.1.since ≡ e.0.0
 
--- the same, as the list of the rows says it
+-- The same, in terms of the list of rows.
 abbrev IsListed : History → (ℕ × Name) × MountRow → Type 0
 IsListed H e = since_is e.0.0 (mount_row H e.0.1) ≡ Some e.1
 
@@ -106,16 +104,13 @@ entry-is H e is = by (mount_row H e.0.1) refl is
 
 -- ---- the reels of a slot
 
--- whether the entry's reel is on the slot
 abbrev is_on : Name → Name → (ℕ × Name) × MountRow → Bool
 is_on machine slot e = same e.1.machine machine && same e.1.slot slot
 
--- the reels of the rows of a slot, in their order
 abbrev pub slot_reels : Name → Name → List ((ℕ × Name) × MountRow) → List Name
 slot_reels machine slot entries = filter_map (λ e. if is_on machine slot e then Some e.1.reel else None) entries
 
 module _ (H : History) (machine slot : Name) (judged : IsJudged Two H) where
-  -- the reel of a row of the slot is live there,
   rows-live : (r : Name) (es : List ((ℕ × Name) × MountRow)) → All (IsListed H) es → has (slot_reels machine slot es) r ≡ true → has (live_on H machine slot) r ≡ true
   rows-live r [] each there = cc
   rows-live r (e ∷ es) each there = by (is_on machine slot e) refl there (rows-live r es (All-tail (IsListed H) e es each))
@@ -139,7 +134,6 @@ module _ (H : History) (machine slot : Name) (judged : IsJudged Two H) where
       by true on there rest = first on (same r e.1.reel) refl there rest
       by false on there rest = rest there
 
-  -- a reel whose row is of the slot is among the slot's,
   live-rows : (r : Name) (m : MountRow) (es : List ((ℕ × Name) × MountRow)) → m.reel ≡ r → m.machine ≡ machine → m.slot ≡ slot → lookup (λ k. same r k.1) es ≡ Some m → has (slot_reels machine slot es) r ≡ true
   live-rows r m [] named on_machine on_slot found = cc
   live-rows r m (e ∷ es) named on_machine on_slot found = by (same r e.0.1) found (live-rows r m es named on_machine on_slot)
@@ -156,7 +150,6 @@ module _ (H : History) (machine slot : Name) (judged : IsJudged Two H) where
           ∙ or_left (same r e.1.reel) _ (ap (same r) (ap (λ (x : MountRow). x.reel) one ∙ named) ∙ same-refl r)
       by false found rest = later (rest found) (is_on machine slot e)
 
-  -- and their numbers rise.
   less-since : (a b : ℕ × Name) → by_since a b ≡ Less → (a.0 ≡ b.0 → a.1 ≡ b.1) → a.0 < b.0
   less-since a b less once = by (nat_lt a.0 b.0) refl (a.0 == b.0) refl less
     where
@@ -173,7 +166,6 @@ module _ (H : History) (machine slot : Name) (judged : IsJudged Two H) where
   rows-ascend [] sorted each = tt
   rows-ascend (e ∷ es) (above, sorted) each = by (is_on machine slot e) (rows-ascend es sorted (All-tail (IsListed H) e es each))
     where
-      -- the number of an entry's reel
       numbered : (x : (ℕ × Name) × MountRow) → IsEntryOf H x → since_of H x.1.reel ≡ x.0.0
       numbered x entry =
           ap (since_of H) (mount-named H x.0.1 x.1 judged entry.row) ∙ ap (λ o. option_map_or (λ (y : MountRow). y.since) o 0) (row-last H x.0.1 x.1 entry.row) ∙ entry.number

@@ -1,4 +1,4 @@
--- The live reels of a slot, as a machine's live reels tell them.
+-- The live reels of a slot, from a machine's live reels.
 use Rattle.std.proofs.Common.{◌≡◌, ℕ, ◌+◌, Bool, true, false, Option, Some, None, List, [], ◌∷◌, filter_map, map, refl, sym, ap, ◌∙◌, nat_lt, unwrap_or}
 use Rattle.std.specs.Prelude.{if◌then◌else◌, ◌&&◌, ◌||◌, is_none}
 use Rattle.std.specs.Option.{option_or, option_and_then}
@@ -77,7 +77,6 @@ bare-step H minute machine slot (MaterialsUnloaded m s) accepted none = by (same
     by false = refl
 bare-step H minute machine slot _ accepted none = refl
 
--- A machine that no sheet names has no tapes.
 pub no-tape : (H : History) (machine slot : Name) → IsJudged Two H → has_sheet H machine ≡ false → tape_of H machine slot ≡ []
 unfolding tape_of
 no-tape [] machine slot judged none = refl
@@ -88,7 +87,6 @@ no-tape (e ∷ H) machine slot (next, judged) none =
 
 -- ---- the reels of a slot
 
--- of the live reels of one slot
 of-slot : (H : History) (slot s : Name) (reels : List Name) (n : ℕ)
     → filter_map (reel_on_slot slot) (map (mount_of H s) (enumerate_from n reels)) ≡ if same s slot then reels else []
 of-slot H slot s [] n = by (same s slot)
@@ -103,7 +101,6 @@ of-slot H slot s (r ∷ rs) n = by (same s slot) (of-slot H slot s rs (n + 1))
     by true rest = ap (λ l. r ∷ l) rest
     by false rest = rest
 
--- of those of several slots
 of-slots : (H : History) (machine slot reel : Name) (slots : List Name)
     → has (filter_map (reel_on_slot slot) (flat_map (slot_mounts H machine) slots)) reel ≡ (has slots slot && has (live_on H machine slot) reel)
 of-slots H machine slot reel [] = refl
@@ -127,7 +124,7 @@ of-slots H machine slot reel (s ∷ ss) =
         ∙ ap (λ c. (c || has ss slot) && has (live_on H machine slot) reel) flip
     by false away flip = ap (λ c. (c || has ss slot) && has (live_on H machine slot) reel) flip
 
--- A machine's live reels tell those of each slot.
+-- A machine's live reels determine those of each slot.
 pub reels_on-live : (H : History) (machine slot reel : Name) → IsJudged Two H → has (reels_on H machine slot) reel ≡ has (live_on H machine slot) reel
 reels_on-live H machine slot reel judged = by (has_sheet H machine) refl
   where

@@ -30,7 +30,6 @@ use Rattle.state_rows.proofs.ReelRows.{used-then}
 
 -- ---- exposure
 
--- What is kept of the exposure at a seal is no more than the minute.
 pub kept-fits : (H : History) (reel : Name) (minute : ℕ) (row : ReelRow) → IsJudged Two H → now_of H ≤ minute → reel_row H reel ≡ Some row
     → row.used + option_map_or (λ from. minute - from) row.open_since 0 ≤ minute
 kept-fits H reel minute row judged le is = by (receipt_of H reel) is
@@ -44,11 +43,10 @@ kept-fits H reel minute row judged le is = by (receipt_of H reel) is
 
 -- ---- pieces
 
--- all pieces of a reel, and as many more as a count may tell, fit
+-- All pieces of a reel, plus the most that a count may give, fit.
 received-fits : (H : History) (reel : Name) → IsJudged Two H → length H ≤ MOST_ENTRIES → received_of H reel + GREATEST_QUANTITY < 2 ^ 64
 received-fits H reel judged few = let range = received-range H reel judged in omega (arith, range, few)
 
--- The sums of the next entry's pieces fit.
 pub pieces-fit : (H : History) (e : Entry) → IsJudged Two (e ∷ H) → length H + 1 ≤ MOST_ENTRIES → ArePiecesFitting H (picks_of H e.stamped.command)
 pieces-fit H e judged few = λ r.
     let all = balance (e ∷ H) r judged in
@@ -57,7 +55,6 @@ pieces-fit H e judged few = λ r.
     let scrapped = scrapped-next H e r in
     (omega (arith, all, fits, placed), omega (arith, all, fits, scrapped))
 
--- The sums of a count of a reel fit.
 pub count-fits : (H : History) (reel : Name) (n : ℕ) (view : ReelView) → IsJudged Two H → length H ≤ MOST_ENTRIES → IsCountedQuantity n → reel_view H reel ≡ Some view
     → CountFits n view
 count-fits H reel n view judged few range is = by (receipt_of H reel) is
@@ -75,8 +72,6 @@ count-fits H reel n view judged few range is = by (receipt_of H reel) is
           scrapped = omega (arith, all, parts, range);
           found = omega (arith, all, range);
         })
-
--- ---- entries
 
 -- A command that is accepted, by either rules, makes the next entry.
 pub entry-next : (rules : Rules) (H : History) (s : Stamped) → IsStamped s → IsMinute (effective_minute H s.minute) → refusal_of rules H s ≡ None → IsNext Two H (entry_of H s)

@@ -26,17 +26,14 @@ use Rattle.state_rows.specs.EditsOf.{pick_of, is_picked, less_row, picked_rows, 
 use Rattle.state_rows.proofs.ReelRows.{same-rows}
 use Rattle.state_rows.proofs.MountRows.{left_after, unreceived-unmounted}
 
--- a take is its pick, and what is looked up
 pub picks-again : (H : History) (minute : ℕ) (picks : List Pick) → map pick_of (map (take_of H minute) picks) ≡ picks
 picks-again H minute [] = refl
 picks-again H minute (p ∷ ps) = ap (λ l. p ∷ l) (picks-again H minute ps)
 
--- where neither holds, each does not
 neither : (a b : Bool) → (a || b) ≡ false → (a ≡ false) × (b ≡ false)
 neither true b is = cc
 neither false b is = (refl, is)
 
--- off a reel that is not picked no piece comes
 pub unpicked : (picks : List Pick) (reel : Name) → is_picked picks reel ≡ false → pieces_picked picks reel ≡ 0
 unpicked [] reel none = refl
 unpicked (p ∷ ps) reel none =
@@ -46,7 +43,6 @@ unpicked (p ∷ ps) reel none =
     ∙ zero-add (pieces_picked ps reel)
     ∙ unpicked ps reel both.1
 
--- nor is it picked among those that pass a test
 pub unpicked-some : (test : Pick → Bool) (picks : List Pick) (reel : Name) → is_picked picks reel ≡ false → is_picked (filter test picks) reel ≡ false
 unpicked-some test [] reel none = refl
 unpicked-some test (p ∷ ps) reel none =
@@ -58,14 +54,13 @@ unpicked-some test (p ∷ ps) reel none =
 
 -- ---- reels
 
--- a command that says nothing of the reel's bag, of a bake or of its pieces, and finds none
+-- A command that does not concern the reel's bag, a bake or its pieces, and finds none.
 pub record OnlyTakes (reel : Name) (command : Command) : Type 0 where
   pub out : open_by reel command ≡ None
   pub baked : baked_by reel command ≡ None
   pub told : pieces_by reel command ≡ None
   pub finds : (left : ℕ) → found_by left reel command ≡ 0
 
--- the row after it, where it has so many pieces placed, scrapped and left
 took-step : (minute : ℕ) (picks : List Pick) (reel : Name) (command : Command) (row took : ReelRow) → OnlyTakes reel command
     → took ≡ record row { placed = took.placed; scrapped = took.scrapped; remaining = took.remaining }
     → took.placed ≡ row.placed + placed_in picks reel → took.scrapped ≡ row.scrapped + scrapped_in picks reel → took.remaining ≡ row.remaining - pieces_picked picks reel
@@ -80,14 +75,12 @@ took-step minute picks reel command row took only is placed scrapped remaining =
     (sym (ap (λ o. since_after o minute row.open_since) only.out))
     (sym (ap (λ o. unwrap_or o row.baked) only.baked))
 
--- the row of a reel off which the pieces come
 less-step : (minute : ℕ) (picks : List Pick) (reel : Name) (command : Command) (row : ReelRow) → row.reel ≡ reel → OnlyTakes reel command
     → less_row picks row ≡ step_row minute picks reel command row
 less-step minute picks reel command row named only =
     took-step minute picks reel command row (less_row picks row) only refl
     (ap (λ r. row.placed + placed_in picks r) named) (ap (λ r. row.scrapped + scrapped_in picks r) named) (ap (λ r. row.remaining - pieces_picked picks r) named)
 
--- the row of a reel that is not picked
 pub none-step : (minute : ℕ) (picks : List Pick) (reel : Name) (command : Command) (row : ReelRow) → is_picked picks reel ≡ false → OnlyTakes reel command
     → row ≡ step_row minute picks reel command row
 none-step minute picks reel command row none only =
@@ -96,7 +89,6 @@ none-step minute picks reel command row none only =
     (let zero_of = unpicked _ reel (unpicked-some (λ (p : Pick). not (is_placed p.purpose)) picks reel none) in omega (arith, zero_of))
     (let zero_of = unpicked picks reel none in omega (arith, zero_of))
 
--- The rows of the reels after a command that only takes pieces.
 pub reels-took : (H : History) (minute : ℕ) (picks : List Pick) (command : Command) (r : Name) → OnlyTakes r command
     → option_or (picked_rows (reel_row H) picks r) (reel_row H r) ≡ option_map (step_row minute picks r command) (reel_row H r)
 reels-took H minute picks command r only = by (is_picked picks r) refl (receipt_of H r)
@@ -111,7 +103,6 @@ reels-took H minute picks command r only = by (is_picked picks r) refl (receipt_
 
 -- ---- mounts
 
--- what is nothing is not some
 none-some : (n : ℕ) → nat_lt 0 n ≡ not (n == 0)
 none-some n = by (nat_lt 0 n) refl
   where
@@ -133,7 +124,6 @@ mounts-took H picks command r judged taken after = by (is_mounted H r) refl
     choose true o = refl
     choose false o = refl
 
-    -- of a mounted reel
     of : (b : Bool) → is_picked picks r ≡ b → is_mounted H r ≡ true → (said : Option Receipt) → receipt_of H r ≡ said
         → (if is_spent (if b then option_map (less_row picks) (option_map columns_of (option_map (view_of H r) said)) else None) then None else mount_row H r)
         ≡ (if nat_lt 0 (left_after H command r) then mount_row H r else None)
@@ -161,7 +151,6 @@ mounts-took H picks command r judged taken after = by (is_mounted H r) refl
 
 -- ---- placements
 
--- The rows of the placed pieces after it, of one number.
 pub placements-took : (b : Bool) (new old : Option PlacementRow) → (b ≡ true → old ≡ None) → option_or (if b then new else None) old ≡ (if b then new else old)
 placements-took true new old none = ap (option_or new) (none refl) ∙ last new
   where

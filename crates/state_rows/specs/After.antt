@@ -1,4 +1,5 @@
--- What a command does to rows: no definitions of the tables', but words that make it short to prove that edits lead to them.
+-- The effect of a command on rows. These are no definitions of the tables; they make the proof short that edits lead to
+-- them.
 use Rattle.std.specs.Prelude.{ℕ, ◌+◌, ◌-◌, Bool, true, false, not, Option, Some, None, List, unwrap_or, if◌then◌else◌, ◌==◌}
 use Rattle.std.specs.Option.{option_map, option_map_or, option_or, option_and_then}
 use Rattle.std.specs.List.{filter}
@@ -19,14 +20,14 @@ use Rattle.desk_types.specs.declared.row.BoardRow.{BoardRow}
 use Rattle.desk_types.specs.declared.row.PlacementRow.{PlacementRow}
 use Rattle.desk_types.specs.Tables.{at_place}
 
--- how many pieces of the reel the picks place, and how many they scrap
+-- How many pieces of the reel the picks place, and how many they scrap.
 abbrev pub placed_in : List Pick → Name → ℕ
 placed_in picks reel = pieces_picked (filter (λ p. is_placed p.purpose) picks) reel
 
 abbrev pub scrapped_in : List Pick → Name → ℕ
 scrapped_in picks reel = pieces_picked (filter (λ p. not (is_placed p.purpose)) picks) reel
 
--- the row of a reel that was just received
+-- The row of a reel that was just received.
 abbrev pub fresh_row : Name → Receipt → ReelRow
 fresh_row reel receipt = record {
   reel = reel;
@@ -43,18 +44,19 @@ fresh_row reel receipt = record {
   baked = false;
 }
 
--- the exposure that is kept after a command, by whether it bakes the reel and how it leaves its bag
+-- The exposure that is kept after a command, by whether it bakes the reel and how it leaves its bag.
 abbrev pub used_after : Bool → Option Bool → ℕ → Option ℕ → ℕ → ℕ
 used_after true out minute since used = 0
 used_after false (Some false) minute since used = used + option_map_or (λ from. minute - from) since 0
 used_after false (Some true) minute since used = used
 used_after false None minute since used = used
 
--- whether the command bakes the reel
+-- Whether the command bakes the reel.
 abbrev pub bakes : Name → Command → Bool
 bakes reel command = unwrap_or (baked_by reel command) false
 
--- a received reel's row after a command that takes these pieces; a count says what is left, and finds what it says above that
+-- A received reel's row after a command that takes these pieces. A count gives the pieces left, and finds those above
+-- the old number.
 abbrev pub step_row : ℕ → List Pick → Name → Command → ReelRow → ReelRow
 step_row minute picks reel command row = record row {
   received = row.received + found_by row.remaining reel command;
@@ -66,19 +68,20 @@ step_row minute picks reel command row = record row {
   baked = unwrap_or (baked_by reel command) row.baked;
 }
 
--- the reel's row after a command
+-- The reel's row after a command.
 abbrev pub reel_after : ℕ → List Pick → Name → Command → Option ReelRow → Option ReelRow
 reel_after minute picks reel command row =
     option_or (option_map (fresh_row reel) (receipt_by reel minute command)) (option_map (step_row minute picks reel command) row)
 
--- the found pieces of a reel after a command, where it had so many left
+-- The found pieces of a reel after a command, if it had this many left.
 abbrev pub found_after : ℕ → Name → Command → Option ℕ → Option ℕ
 found_after left reel command found = some_of (unwrap_or found 0 + found_by left reel command)
   where
     some_of : ℕ → Option ℕ
     some_of n = if n == 0 then None else Some n
 
--- the row of a mounted reel after the entry of this number, by whether the reel has pieces left then, and on which slots it was live
+-- The row of a mounted reel after the entry of this number, by whether the reel then has pieces left and on which slots
+-- it was live.
 abbrev pub mount_after : Bool → (Name → Name → Bool) → Name → ℕ → Command → Option MountRow → Option MountRow
 mount_after some live reel number (MaterialsLoaded m s r) row = if same r reel then Some (record { since = number; machine = m; slot = s; reel = reel }) else row
 mount_after some live reel number (MaterialsSpliced m s r) row = if same r reel then Some (record { since = number; machine = m; slot = s; reel = reel }) else row
@@ -88,7 +91,7 @@ mount_after some live reel number (MaterialsScrapped m s quantity) row = if some
 mount_after some live reel number (CountsTaken counts) row = if some then row else None
 mount_after some live reel number command row = row
 
--- the row of a board after a command, by what was selected on the machines before it
+-- The row of a board after a command, by the products selected before it.
 abbrev pub board_after : (Name → Option Name) → Name → Command → Option BoardRow → Option BoardRow
 board_after selected board (WorkStarted m b) row =
     if same b board then option_map (λ product. record { board = board; product = product; machine = Some m }) (selected m) else row
@@ -96,7 +99,7 @@ board_after selected board (WorkCompleted m b) row =
     if same b board then option_map (λ product. record { board = board; product = product; machine = None }) (selected m) else row
 board_after selected board command row = row
 
--- a take as a row of `placement`, where its piece was placed
+-- A take as a row of `placement`, if its piece was placed.
 abbrev pub placed_row : ℕ → ℕ → Take → Option PlacementRow
 placed_row number place take = row take.purpose
   where
@@ -113,6 +116,6 @@ placed_row number place take = row take.purpose
     })
     row _ = None
 
--- the row of a placed piece after the entry of a number, by its takes
+-- The row of a placed piece after the entry of a number, by its takes.
 abbrev pub placement_after : ℕ → List Take → ℕ → ℕ → Option PlacementRow → Option PlacementRow
 placement_after number takes n k row = if number == n then option_and_then (placed_row n k) (at_place 1 takes k) else row

@@ -1,4 +1,5 @@
--- The edits of a command, by what the list says before it: no definitions of the tables', but words for the code and its proof.
+-- The edits of a command, by the history before it. These are no definitions of the tables; the code and its proof use
+-- them.
 use Rattle.std.specs.Prelude.{◌≡◌, ◌<◌, ◌^◌, ℕ, ◌+◌, ◌-◌, ◌==◌, nat_lt, Bool, true, false, Option, Some, None, List, [], ◌∷◌, ◌++◌, map, if◌then◌else◌, unwrap_or}
 use Rattle.std.specs.Option.{option_map, option_and_then, option_or, option_to_list, option_map_or}
 use Rattle.std.specs.List.{AllByRecursion, list_any, filter_map, flat_map}
@@ -25,7 +26,7 @@ use Rattle.state_rows.specs.After.{placed_in, scrapped_in, fresh_row, placed_row
 
 -- ---- sheets
 
--- the rows of a sheet before are taken out, and its rows now are put in
+-- The rows of a sheet before are taken out, and its rows now are put in.
 abbrev pub taken_rows : Name → Name → ℕ → List SheetRow → List RowEdit
 taken_rows product machine n [] = []
 taken_rows product machine n (row ∷ rows) = TakeSheetRow product machine n ∷ taken_rows product machine (n + 1) rows
@@ -45,13 +46,13 @@ sealed_row minute row = record row { used = row.used + option_map_or (λ from. m
 abbrev pub baked_row : ReelRow → ReelRow
 baked_row row = record row { used = 0; open_since = None; baked = true }
 
--- the changed row of a reel that has one
+-- The changed row of a reel that has one.
 abbrev pub reel_edit : (ReelRow → ReelRow) → Option ReelRow → List RowEdit
 reel_edit change row = option_to_list (option_map (λ (r : ReelRow). PutReel (change r)) row)
 
 -- ---- slots
 
--- the reels of a slot, as the machine's live reels tell them
+-- The reels of a slot, from the machine's live reels.
 abbrev pub reel_on_slot : Name → Mount → Option Name
 reel_on_slot slot mount = if same mount.slot slot then Some mount.reel else None
 
@@ -68,11 +69,11 @@ board_edit board machine product = option_to_list (option_map (λ p. PutBoard (r
 abbrev pub pick_of : Take → Pick
 pick_of take = record { reel = take.reel; quantity = take.quantity; purpose = take.purpose }
 
--- whether some pick is of the reel
+-- Whether some pick is of the reel.
 abbrev pub is_picked : List Pick → Name → Bool
 is_picked picks reel = list_any (λ (p : Pick). same p.reel reel) picks
 
--- the row of a reel off which these pieces come
+-- The row of a reel off which these pieces come.
 abbrev pub less_row : List Pick → ReelRow → ReelRow
 less_row picks row = record row {
   placed = row.placed + placed_in picks row.reel;
@@ -80,40 +81,40 @@ less_row picks row = record row {
   remaining = row.remaining - pieces_picked picks row.reel;
 }
 
--- the rows of the reels off which these pieces come, where the reels have these rows before
+-- The rows of the reels that lose these pieces, if the reels have these rows before.
 abbrev pub picked_rows : (Name → Option ReelRow) → List Pick → Name → Option ReelRow
 picked_rows rows picks r = if is_picked picks r then option_map (less_row picks) (rows r) else None
 
--- whether the row is one of a reel with nothing left
+-- Whether the row is one of a reel with nothing left.
 abbrev pub is_spent : Option ReelRow → Bool
 is_spent row = option_map_or (λ (r : ReelRow). r.remaining == 0) row false
 
--- the tables after some reels have these rows
+-- The tables after some reels have these rows.
 abbrev pub with_reels : (Name → Option ReelRow) → Tables → Tables
 with_reels rows t = record t { reels = λ r. option_or (rows r) (t.reels r) }
 
--- the tables after the spent ones of these rows are on no slot
+-- The tables after the spent ones of these rows are on no slot.
 abbrev pub without_spent : (Name → Option ReelRow) → Tables → Tables
 without_spent rows t = record t { mounts = λ r. if is_spent (rows r) then None else t.mounts r }
 
--- the tables after both
+-- The tables after both.
 abbrev pub after_rows : (Name → Option ReelRow) → Tables → Tables
 after_rows rows t = with_reels rows (without_spent rows t)
 
--- the rows of a message's pieces, the first of which is in this place
+-- The rows of a message's pieces, the first of them at this place.
 abbrev pub place_rows : ℕ → ℕ → List Take → List RowEdit
 place_rows number n [] = []
 place_rows number n (take ∷ takes) = option_to_list (option_map (λ (r : PlacementRow). PutPlacement r) (placed_row number n take)) ++ place_rows number (n + 1) takes
 
--- the edit that takes a reel off its slot, where its row has nothing left
+-- The edit that takes a reel off its slot, if its row has nothing left.
 abbrev pub take_spent : ReelRow → List RowEdit
 take_spent row = if row.remaining == 0 then TakeMount row.reel ∷ [] else []
 
--- the rows are of the reels by whose names they are found
+-- The rows are of the reels by whose names they are found.
 abbrev pub AreNamed : (Name → Option ReelRow) → Type 0
 AreNamed rows = (r : Name) (row : ReelRow) → rows r ≡ Some row → row.reel ≡ r
 
--- one pick's pieces off a row
+-- One pick's pieces off a row.
 abbrev pub less_by : Pick → ReelRow → ReelRow
 less_by pick row = record row {
   placed = row.placed + (if is_placed pick.purpose then pick.quantity else 0);
@@ -121,7 +122,7 @@ less_by pick row = record row {
   remaining = row.remaining - pick.quantity;
 }
 
--- the sums fit
+-- The sums fit.
 abbrev pub LessFits : Pick → ReelRow → Type 0
 LessFits pick row =
     (row.placed + (if is_placed pick.purpose then pick.quantity else 0) < 2 ^ 64) × (row.scrapped + (if is_placed pick.purpose then 0 else pick.quantity) < 2 ^ 64)
@@ -129,7 +130,7 @@ LessFits pick row =
 abbrev pub ArePiecesFitting : History → List Pick → Type 0
 ArePiecesFitting H picks = (r : Name) → (placed_of H r + placed_in picks r < 2 ^ 64) × (scrapped_of H r + scrapped_in picks r < 2 ^ 64)
 
--- the tables after the pieces of an entry are placed
+-- The tables after the pieces of an entry are placed.
 abbrev pub after_placing : ℕ → List Take → Tables → Tables
 after_placing number takes t = record t {
   placements = λ n k. option_or (if number == n then option_and_then (placed_row n k) (at_place 1 takes k) else None) (t.placements n k);
@@ -144,17 +145,17 @@ pub record AreTakeEdits (H : History) (number : ℕ) (takes : List Take) (edits 
 
 -- ---- counts
 
--- a reel's row with so many pieces counted: what is missing is scrapped, and what is above is received
+-- A reel's row with this number of pieces counted. Missing pieces are scrapped, and extra pieces received.
 abbrev pub counted_row : ℕ → ReelRow → ReelRow
 counted_row n row = record row { received = row.received + (n - row.remaining); scrapped = row.scrapped + (row.remaining - n); remaining = n }
 
--- the edits of a count of a reel that has this view: its row, and what was found where there is more than was left
+-- The edits of a count for a reel with this view: its row, and its found pieces if the count is above the pieces left.
 abbrev pub counted_edits : ℕ → Option ReelView → List RowEdit
 counted_edits n None = []
 counted_edits n (Some view) =
     PutReel (counted_row n (columns_of view)) ∷ (if nat_lt view.remaining n then PutFound view.reel (view.found + (n - view.remaining)) ∷ [] else [])
 
--- the sums fit
+-- The sums fit.
 pub record CountFits (n : ℕ) (view : ReelView) : Type 0 where
   pub received : view.received + (n - view.remaining) < 2 ^ 64
   pub scrapped : view.scrapped + (view.remaining - n) < 2 ^ 64
@@ -165,7 +166,7 @@ count_edits H row = counted_edits row.quantity (reel_view H row.reel)
 
 -- ---- any command
 
--- these are edits of the command
+-- These are edits of the command.
 abbrev pub AreEditsOf : History → ℕ → ℕ → List Take → Command → List RowEdit → Type 0
 AreEditsOf H number minute takes (PartDefined part) edits = edits ≡ PutPart part ∷ []
 AreEditsOf H number minute takes (AlternateAllowed part alternate) edits = edits ≡ PutAlternate part alternate ∷ []

@@ -4,7 +4,7 @@ use Rattle.std.specs.BTreeMap.{is_at}
 use Rattle.std.specs.List.{All, list_any}
 use Rattle.std.specs.List.Sorted.{IsStrictlySortedBy}
 use Rattle.std.specs.Map.{keys_of, lookup}
-use Rattle.std.specs.Option.{option_and_then}
+use Rattle.std.specs.Option.{option_and_then, option_map}
 use Rattle.std.specs.Ordering.{ordering_then, nat_cmp}
 use Rattle.std.specs.declared.cmp.Ordering.{Ordering}
 use Rattle.desk_types.specs.declared.sheet.SheetRow.{SheetRow}
@@ -20,15 +20,15 @@ use Rattle.desk_types.specs.Tables.{Tables}
 
 -- ---- orders of keys
 
--- by product, then machine, then place
+-- By product, then machine, then place.
 abbrev pub by_sheet_place : Name × Name × ℕ → Name × Name × ℕ → Ordering
 by_sheet_place a b = ordering_then (ordering_then (by_name a.0 b.0) (by_name a.1 b.1)) (nat_cmp a.2 b.2)
 
--- by number, then place
+-- By number, then place.
 abbrev pub by_piece : ℕ × ℕ → ℕ × ℕ → Ordering
 by_piece a b = ordering_then (nat_cmp a.0 b.0) (nat_cmp a.1 b.1)
 
--- by number, then name
+-- By number, then name.
 abbrev pub by_since : ℕ × Name → ℕ × Name → Ordering
 by_since a b = ordering_then (nat_cmp a.0 b.0) (by_name a.1 b.1)
 
@@ -46,15 +46,15 @@ pub record KeptRows : Type 0 where
   pub placements : List ((ℕ × ℕ) × PlacementRow)
   pub found : List (Name × ℕ)
 
--- whether the key is in the list
+-- Whether the key is in the list.
 abbrev pub has_key : {K : Type 0} → (K → K → Ordering) → List K → K → Bool
 has_key cmp ks k = list_any (is_at (cmp k)) ks
 
--- the row with the key
+-- The row with the key.
 abbrev pub row_at : {K X : Type 0} → (K → K → Ordering) → List (K × X) → K → Option X
 row_at cmp es k = lookup (is_at (cmp k)) es
 
--- the tables that have these rows, each row found by its key
+-- The tables that have these rows, each row found by its key.
 abbrev pub tables_in : KeptRows → Tables
 tables_in kept = record {
   parts = has_key by_name kept.parts;
@@ -68,28 +68,36 @@ tables_in kept = record {
   found = row_at by_name kept.found;
 }
 
--- whether the edit is of `placement`
+-- Whether the edit is of `placement`.
 abbrev pub is_placement : RowEdit → Bool
 is_placement (PutPlacement row) = true
 is_placement edit = false
 
--- the tables t, but with the placements of another
+-- The tables t, with the placements of other tables.
 abbrev pub but_placements : Tables → Tables → Tables
 but_placements t other = record t { placements = other.placements }
 
+-- The row without its number.
+abbrev pub without_number : MountRow → MountRow
+without_number row = record row { since = 0 }
+
+-- The tables without the numbers of commands: without placements, and without the `since` of each mount.
+abbrev pub unnumbered : Tables → Tables
+unnumbered t = record t { mounts = λ r. option_map without_number (t.mounts r); placements = λ n k. None }
+
 -- ---- lists of a table's rows
 
--- The entries are the rows of the table: their keys ascend, and each key has the row that the table has, or none.
+-- The entries are the rows of the table: their keys ascend, and each key has the table's row, if any.
 pub record Lists {K X : Type 0} (cmp : K → K → Ordering) (entries : List (K × X)) (table : K → Option X) : Type 0 where
   pub ascending : IsStrictlySortedBy cmp (keys_of entries)
   pub rows : (k : K) → row_at cmp entries k ≡ table k
 
--- The keys are those of the table: they ascend, and a key is among them where the table has it.
+-- The keys are those of the table, in ascending order.
 pub record ListsKeys {K : Type 0} (cmp : K → K → Ordering) (keys : List K) (table : K → Bool) : Type 0 where
   pub ascending : IsStrictlySortedBy cmp keys
   pub rows : (k : K) → has_key cmp keys k ≡ table k
 
--- the row, where its number is this one
+-- The row, if its number is this one.
 abbrev pub since_is : ℕ → Option MountRow → Option MountRow
 since_is since row = option_and_then (λ (m : MountRow). if m.since == since then Some m else None) row
 
@@ -99,6 +107,6 @@ pub record ListsMounts (entries : List ((ℕ × Name) × MountRow)) (table : Nam
   pub rows : (reel : Name) → lookup (λ k. same reel k.1) entries ≡ table reel
   pub each : All (λ e. since_is e.0.0 (table e.0.1) ≡ Some e.1) entries
 
--- the rows by numbers and reels are those by reels
+-- The rows by numbers and reels are those by reels.
 abbrev pub AreTheSame : List ((ℕ × Name) × MountRow) → List (Name × MountRow) → Type 0
 AreTheSame numbered named = (k : ℕ × Name) → row_at by_since numbered k ≡ since_is k.0 (row_at by_name named k.1)

@@ -10,10 +10,10 @@ ghost use Rattle.desk_types.specs.Tables.{columns_of};
 ghost use Rattle.state_rows.specs.EditsOf.{counted_row, counted_edits, count_edits, CountFits};
 
 use crate::reels::columns;
-use desk_types::{CountRow, Desk, ReelRow, ReelView, RowEdit};
+use crate::views::Views;
+use desk_types::{CountRow, ReelRow, ReelView, RowEdit};
 use std::alloc::{AllocError, Global};
 
-/// The reel's row with so many pieces counted.
 fn counted_row(view: &ReelView, pieces: u64) -> ReelRow
     requires { CountFits pieces view.now }
     ensures { result ≡ counted_row pieces (columns_of view.now) }
@@ -33,7 +33,6 @@ fn counted_row(view: &ReelView, pieces: u64) -> ReelRow
     }
 }
 
-/// The edits of a reel on which so many pieces were counted.
 fn note(edits: &mut Vec<RowEdit>, view: &ReelView, pieces: u64) -> Result<(), AllocError>
     requires { CountFits pieces view.now }
     ensures { OnOk result (edits.new.items ≡ edits.old.items ++ counted_edits pieces (Some view.now)) }
@@ -51,8 +50,7 @@ fn note(edits: &mut Vec<RowEdit>, view: &ReelView, pieces: u64) -> Result<(), Al
     Ok(())
 }
 
-/// The edits of one row of a count.
-fn count_row<D: Desk>(edits: &mut Vec<RowEdit>, desk: &D, row: &CountRow) -> Result<(), AllocError>
+fn count_row<D: Views>(edits: &mut Vec<RowEdit>, desk: &D, row: &CountRow) -> Result<(), AllocError>
     requires room { HasRoom D.Stands desk.now 1 }
     requires judged { (H : History) → D.Stands desk.now H → IsJudged Two H }
     ensures { (H : History) → D.Stands desk.now H
@@ -69,7 +67,7 @@ fn count_row<D: Desk>(edits: &mut Vec<RowEdit>, desk: &D, row: &CountRow) -> Res
 }
 
 /// The edits of a count.
-pub fn count<D: Desk>(
+pub fn count<D: Views>(
     alloc: Global,
     desk: &D,
     rows: &[CountRow],

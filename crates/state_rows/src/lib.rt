@@ -1,7 +1,8 @@
-//! What each accepted command edits in the state tables, and sets of their rows.
+//! The edits that each accepted command makes in the state tables, and sets of their rows.
 #![tactic(auto)]
 
 mod counted;
+mod keeping;
 mod mounts;
 mod reels;
 mod rows;
@@ -9,7 +10,10 @@ mod set;
 mod sheets;
 mod slot_rows;
 mod takes;
+mod views;
 
 pub use desk_types::{BoardRow, MountRow, PlacementRow, ReelRow, RowEdit, RowEdits};
-pub use rows::rows_of;
+pub use keeping::KeepsRows;
+pub use rows::{edits_for, rows_of};
 pub use set::RowSet;
+pub use views::Views;

@@ -49,7 +49,7 @@ impl Mounts {
         take_both(&mut self.by_reel, &mut self.by_since, reel);
     }
 
-    /// Puts a row in the place of its reel's. After an `Err` the reel has none.
+    /// Puts a row in place of its reel's. After an `Err` the reel has no row.
     pub fn put(&mut self, row: &MountRow) -> Result<(), AllocError>
         ensures { (r : Name)
             → OnOk result
@@ -75,7 +75,18 @@ impl Mounts {
     }
 }
 
-/// Takes the reel's row out of both maps.
+impl Clone for Mounts {
+    ghost use Rattle.std.specs.Prelude.{◌≡◌};
+
+    ghost is_clone = { λ x y. y ≡ x };
+
+    fn clone(&self) -> Result<Mounts, AllocError> {
+        let by_reel = self.by_reel.clone()?;
+        let by_since = self.by_since.clone()?;
+        Ok(Mounts { by_reel, by_since })
+    }
+}
+
 fn take_both(
     by_reel: &mut BTreeMap<Id, MountRow>,
     by_since: &mut BTreeMap<(u64, Id), MountRow>,
@@ -92,7 +103,7 @@ fn take_both(
     }
 }
 
-/// Puts the row of a reel that has none into both maps, or into neither.
+/// Puts the row of a reel without one into both maps, or into neither.
 fn put_both(
     by_reel: &mut BTreeMap<Id, MountRow>,
     by_since: &mut BTreeMap<(u64, Id), MountRow>,

@@ -10,7 +10,8 @@ ghost use Rattle.desk_types.specs.Tables.{columns_of, reel_row};
 ghost use Rattle.state_rows.specs.EditsOf.{opened_row, sealed_row, baked_row, reel_edit};
 ghost use Rattle.desk_types.specs.declared.edit.RowEdit.TheVariants.{PutMount};
 
-use desk_types::{Desk, Id, Minute, Moisture, MountRow, Quantity, ReelRow, ReelView, RowEdit};
+use crate::views::Views;
+use desk_types::{Id, Minute, Moisture, MountRow, Quantity, ReelRow, ReelView, RowEdit};
 use std::alloc::{AllocError, Global};
 
 /// What of a reel's view does not change with the minute.
@@ -34,7 +35,7 @@ pub fn columns(view: &ReelView) -> ReelRow
 }
 
 /// The row of a received reel.
-pub fn row<D: Desk>(desk: &D, reel: &Id) -> Option<ReelRow>
+pub fn row<D: Views>(desk: &D, reel: &Id) -> Option<ReelRow>
     ensures { (H : History) → D.Stands desk.now H → result ≡ reel_row H reel.now }
 {
     match desk.reel(reel) {
@@ -54,7 +55,6 @@ fn opened_row(row: ReelRow, minute: Minute) -> ReelRow
     ReelRow { open_since, ..row }
 }
 
-/// The exposure at the minute.
 fn exposure_at(row: &ReelRow, minute: Minute) -> u64
     ensures { row.now.used + option_map_or (λ from. minute - from) row.now.open_since 0 < 2 ^ 64
         → result ≡ row.now.used + option_map_or (λ from. minute - from) row.now.open_since 0 }
@@ -67,7 +67,6 @@ fn exposure_at(row: &ReelRow, minute: Minute) -> u64
     }
 }
 
-/// The row of a reel that is put into its bag.
 fn sealed_row(row: ReelRow, minute: Minute) -> ReelRow
     ensures { row.used + option_map_or (λ from. minute - from) row.open_since 0 < 2 ^ 64
         → result ≡ sealed_row minute row }
@@ -80,7 +79,6 @@ fn sealed_row(row: ReelRow, minute: Minute) -> ReelRow
     }
 }
 
-/// The row of a baked reel.
 fn baked_row(row: ReelRow) -> ReelRow
     ensures { result ≡ baked_row row }
 {
@@ -93,7 +91,7 @@ fn baked_row(row: ReelRow) -> ReelRow
 }
 
 /// The edit of an opened reel.
-pub fn open<D: Desk>(
+pub fn open<D: Views>(
     alloc: Global,
     desk: &D,
     reel: &Id,
@@ -113,7 +111,7 @@ pub fn open<D: Desk>(
 }
 
 /// The edit of a sealed reel.
-pub fn seal<D: Desk>(
+pub fn seal<D: Views>(
     alloc: Global,
     desk: &D,
     reel: &Id,
@@ -134,7 +132,7 @@ pub fn seal<D: Desk>(
 }
 
 /// The edit of a baked reel.
-pub fn bake<D: Desk>(alloc: Global, desk: &D, reel: &Id) -> Result<Vec<RowEdit>, AllocError>
+pub fn bake<D: Views>(alloc: Global, desk: &D, reel: &Id) -> Result<Vec<RowEdit>, AllocError>
     ensures { (H : History) → D.Stands desk.now H
         → IfOk result (λ edits. edits.items ≡ reel_edit baked_row (reel_row H reel.now)) }
 {
@@ -149,7 +147,7 @@ pub fn bake<D: Desk>(alloc: Global, desk: &D, reel: &Id) -> Result<Vec<RowEdit>,
 }
 
 /// The edits of a reel that is put onto a slot.
-pub fn mount<D: Desk>(
+pub fn mount<D: Views>(
     alloc: Global,
     desk: &D,
     put: MountRow,

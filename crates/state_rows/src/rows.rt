@@ -7,6 +7,7 @@ ghost use Rattle.desk_types.specs.Judged.{IsJudged};
 ghost use Rattle.desk_types.specs.Desk.{HasRoom, IsChange};
 ghost use Rattle.desk_types.specs.Tables.{tables_of};
 ghost use Rattle.desk_types.specs.Edits.{with_edits, AreNew, AreTakesFirst, AreBalanced};
+ghost use Rattle.state_rows.specs.Kept.{unnumbered};
 ghost use Rattle.state_rows.specs.EditsOf.{pick_of, AreEditsOf, ArePiecesFitting};
 
 use crate::counted::count;
@@ -14,10 +15,10 @@ use crate::reels::{bake, fresh_row, mount, open, seal};
 use crate::sheets::define;
 use crate::slot_rows::{board, unload};
 use crate::takes::take;
+use crate::views::{DeskViews, Views};
 use desk_types::{Change, Command, Desk, Listing, Minute, MountRow, RowEdit, RowEdits, Take};
 use std::alloc::{AllocError, Global};
 
-/// One edit.
 fn one(alloc: Global, edit: RowEdit) -> Result<Vec<RowEdit>, AllocError>
     ensures { IfOk result (λ edits. edits.items ≡ edit ∷ []) }
 {
@@ -26,8 +27,7 @@ fn one(alloc: Global, edit: RowEdit) -> Result<Vec<RowEdit>, AllocError>
     Ok(edits)
 }
 
-/// The edits of a command that takes effect at the minute, with this number and these takes.
-fn edits_of<D: Desk>(
+fn edits_of<D: Views>(
     alloc: Global,
     desk: &D,
     command: &Command,
@@ -109,11 +109,9 @@ fn edits_of<D: Desk>(
     }
 }
 
-/// The edits that lead the state tables to those with the change, which is accepted with this number.
-/// Made one after the other, they keep each table's keys and checks: rows are taken out before others
-/// are put in, a placement, a mount or a row of a sheet is only put where there is none, and each row
-/// that is put adds up.
-pub fn rows_of<D: Desk>(
+/// Makes the edits of a change, as `rows_of`, from views. Under any number they lead to the tables with
+/// the change, except for what has that number: placements, and the `since` of a mount.
+pub fn edits_for<D: Views>(
     alloc: Global,
     desk: &D,
     change: &Change,
@@ -126,6 +124,9 @@ pub fn rows_of<D: Desk>(
         → IfOk result (λ edits. with_edits edits (tables_of H) ≡ tables_of (accept H change.now.stamped)) }
     ensures new { (H : History) → D.Stands desk.now H → number ≡ length H + 1
         → IfOk result (λ edits. AreNew edits (tables_of H)) }
+    ensures same { (H : History) → D.Stands desk.now H
+        → IfOk result
+        (λ edits. unnumbered (with_edits edits (tables_of H)) ≡ unnumbered (tables_of (accept H change.now.stamped))) }
     ensures takes_first { IfOk result (λ edits. AreTakesFirst edits) }
     ensures balanced { IfOk result (λ edits. AreBalanced edits) }
 {
@@ -141,4 +142,30 @@ pub fn rows_of<D: Desk>(
         change.takes(),
     )?;
     Ok(Listing::new(edits))
+}
+
+/// Returns the edits that turn the state tables into those with the change, accepted under this number. Made one after
+/// another, they keep each table's keys and checks: rows are removed before others are inserted; a placement, a mount
+/// or a row of a sheet is inserted only if its key is free; and the pieces in each new row add up.
+pub fn rows_of<D: Desk>(
+    alloc: Global,
+    desk: &D,
+    change: &Change,
+    number: u64,
+) -> Result<RowEdits, AllocError>
+    requires room { HasRoom D.Stands desk.now 1 }
+    requires judged { (H : History) → D.Stands desk.now H
+        → IsChange (D.kept_rules desk.now) H change.now.stamped change.now }
+    ensures lead { (H : History) → D.Stands desk.now H → number ≡ length H + 1
+        → IfOk result (λ edits. with_edits edits (tables_of H) ≡ tables_of (accept H change.now.stamped)) }
+    ensures new { (H : History) → D.Stands desk.now H → number ≡ length H + 1
+        → IfOk result (λ edits. AreNew edits (tables_of H)) }
+    ensures same { (H : History) → D.Stands desk.now H
+        → IfOk result
+        (λ edits. unnumbered (with_edits edits (tables_of H)) ≡ unnumbered (tables_of (accept H change.now.stamped))) }
+    ensures takes_first { IfOk result (λ edits. AreTakesFirst edits) }
+    ensures balanced { IfOk result (λ edits. AreBalanced edits) }
+{
+    let views = DeskViews { desk };
+    edits_for(alloc, &views, change, number)
 }

@@ -2,8 +2,11 @@
 
 ghost use Rattle.std.specs.Prelude.{◌≡◌, [], Some, OnOk, if◌then◌else◌, IfOk, is_some, unwrap_or};
 ghost use Rattle.std.specs.BTreeMap.{get, is_at};
-ghost use Rattle.desk_types.specs.Id.{by_name};
 ghost use Rattle.desk_types.specs.Pair.{by_pair};
+ghost use Rattle.setup_sheets.specs.Names.{is_among};
+ghost use Rattle.setup_sheets.specs.Alternates.{is_pair_among};
+ghost use Rattle.desk_types.specs.Id.{Name, by_name};
+ghost use Rattle.std.specs.Option.{option_copied};
 ghost use Rattle.desk_types.specs.Tables.{tables_of};
 ghost use Rattle.desk_types.specs.Edits.{with_edit, with_edits};
 ghost use Rattle.state_rows.specs.Kept.{tables_in, is_placement, but_placements, Lists, ListsKeys, ListsMounts, by_sheet_place, by_piece};
@@ -13,15 +16,16 @@ use crate::mounts::Mounts;
 use desk_types::{
     BoardRow, Id, Minute, MountRow, PlacementRow, ReelRow, RowEdit, RowEdits, SheetRow,
 };
+use setup_sheets::{Alternates, Parts};
 use std::alloc::{AllocError, Global};
-use std::collections::{BTreeMap, BTreeSet, btree_map, btree_set};
+use std::collections::{BTreeMap, btree_map, btree_set};
 use std::marker::Model;
 
 /// The rows of the state tables.
 #[derive(Drop)]
 pub struct RowSet {
-    parts: BTreeSet<Id>,
-    alternates: BTreeSet<(Id, Id)>,
+    parts: Parts,
+    alternates: Alternates,
     sheets: BTreeMap<(Id, Id, u64), SheetRow>,
     selected: BTreeMap<Id, Id>,
     reels: BTreeMap<Id, ReelRow>,
@@ -37,8 +41,8 @@ impl Model for RowSet {
     ghost Value = { KeptRows };
 
     ghost view = { λ a. record {
-      parts = a.parts.keys;
-      alternates = a.alternates.keys;
+      parts = a.parts;
+      alternates = a.alternates;
       sheets = a.sheets.entries;
       selected = a.selected.entries;
       reels = a.reels.entries;
@@ -55,8 +59,8 @@ impl RowSet {
         ensures { tables_in result ≡ tables_of [] }
     {
         RowSet {
-            parts: BTreeSet::new(alloc),
-            alternates: BTreeSet::new(alloc),
+            parts: Parts::new(alloc),
+            alternates: Alternates::new(alloc),
             sheets: BTreeMap::new(alloc),
             selected: BTreeMap::new(alloc),
             reels: BTreeMap::new(alloc),
@@ -77,8 +81,7 @@ impl RowSet {
         Ok(())
     }
 
-    /// Makes the edits of all tables but `placement`, whose rows are as before. After an `Err`
-    /// nothing is known of the set.
+    /// Makes the edits of all tables except `placement`, whose rows are unchanged. After an `Err` drop the set.
     pub fn apply_but_placements(&mut self, edits: &[RowEdit]) -> Result<(), AllocError>
         ensures { OnOk result
             (tables_in self.new ≡ but_placements (with_edits edits.now (tables_in self.old)) (tables_in self.old)) }
@@ -89,7 +92,6 @@ impl RowSet {
         Ok(())
     }
 
-    /// Makes one edit, where it is not of `placement`.
     fn make_but_placement(&mut self, edit: &RowEdit) -> Result<(), AllocError>
         ensures { OnOk result
             (tables_in self.new ≡ but_placements (with_edit edit.now (tables_in self.old)) (tables_in self.old)) }
@@ -101,7 +103,6 @@ impl RowSet {
         Ok(())
     }
 
-    /// Makes one edit.
     fn make(&mut self, edit: &RowEdit) -> Result<(), AllocError>
         ensures { OnOk result (tables_in self.new ≡ with_edit edit.now (tables_in self.old)) }
     {
@@ -150,14 +151,14 @@ impl RowSet {
     fn put_part(&mut self, part: Id) -> Result<(), AllocError>
         ensures { OnOk result (tables_in self.new ≡ with_edit (PutPart part) (tables_in self.old)) }
     {
-        self.parts.insert(part)?;
+        self.parts.add(part)?;
         Ok(())
     }
 
     fn put_alternate(&mut self, part: Id, alternate: Id) -> Result<(), AllocError>
         ensures { OnOk result (tables_in self.new ≡ with_edit (PutAlternate part alternate) (tables_in self.old)) }
     {
-        self.alternates.insert((part, alternate))?;
+        self.alternates.add(part, alternate)?;
         Ok(())
     }
 
@@ -226,7 +227,7 @@ impl RowSet {
         self.parts.iter()
     }
 
-    /// Parts, each with one that may stand in its place.
+    /// The parts, each with one of its alternates.
     pub fn alternates(&self) -> btree_set::Iter<'_, (Id, Id)>
         ensures { ListsKeys by_pair result (λ k. (tables_in self.now).alternates k.0 k.1) }
     {
@@ -282,6 +283,44 @@ impl RowSet {
         self.found.iter()
     }
 
+    /// Returns the parts as a set. Takes no memory, like the next four.
+    pub fn part_set(&self) -> &Parts
+        ensures { (part : Name) → is_among result.now part ≡ (tables_in self.now).parts part }
+    {
+        &self.parts
+    }
+
+    /// Returns the alternates as a set.
+    pub fn alternate_set(&self) -> &Alternates
+        ensures { (p q : Name) → is_pair_among result.now p q ≡ (tables_in self.now).alternates p q }
+    {
+        &self.alternates
+    }
+
+    /// Returns the product that is selected on the machine.
+    pub fn selected_on(&self, machine: &Id) -> Option<Id>
+        ensures { result ≡ (tables_in self.now).selected machine.now }
+    {
+        match self.selected.get(machine) {
+            Some(product) => Some(*product),
+            None => None,
+        }
+    }
+
+    /// Returns the row of the reel.
+    pub fn reel(&self, reel: &Id) -> Option<&ReelRow>
+        ensures { option_copied result ≡ (tables_in self.now).reels reel.now }
+    {
+        self.reels.get(reel)
+    }
+
+    /// Returns the row of the board.
+    pub fn board(&self, board: &Id) -> Option<&BoardRow>
+        ensures { option_copied result ≡ (tables_in self.now).boards board.now }
+    {
+        self.boards.get(board)
+    }
+
     /// The pieces that counts found on the reel. Takes no memory, as the next one.
     pub fn found_on(&self, reel: &Id) -> u64
         ensures { result ≡ unwrap_or ((tables_in self.now).found reel.now) 0 }
@@ -300,7 +339,26 @@ impl RowSet {
     }
 }
 
-/// Whether the edit is of `placement`.
+impl Clone for RowSet {
+    ghost use Rattle.std.specs.Prelude.{◌≡◌};
+
+    ghost is_clone = { λ x y. y ≡ x };
+
+    fn clone(&self) -> Result<RowSet, AllocError> {
+        Ok(RowSet {
+            parts: self.parts.clone()?,
+            alternates: self.alternates.clone()?,
+            sheets: self.sheets.clone()?,
+            selected: self.selected.clone()?,
+            reels: self.reels.clone()?,
+            mounts: self.mounts.clone()?,
+            boards: self.boards.clone()?,
+            placements: self.placements.clone()?,
+            found: self.found.clone()?,
+        })
+    }
+}
+
 fn is_placement(edit: &RowEdit) -> bool
     ensures { result ≡ is_placement edit.now }
 {

@@ -5,10 +5,10 @@ ghost use Rattle.desk_types.specs.History.{History};
 ghost use Rattle.desk_types.specs.Setup.{sheet_of};
 ghost use Rattle.state_rows.specs.EditsOf.{taken_rows, put_rows};
 
-use desk_types::{Desk, Id, RowEdit, SheetRow};
+use crate::views::Views;
+use desk_types::{Id, RowEdit, SheetRow};
 use std::alloc::{AllocError, Global};
 
-/// The rows of the sheet before are taken out.
 fn take_old(
     edits: &mut Vec<RowEdit>,
     product: &Id,
@@ -28,7 +28,6 @@ fn take_old(
     Ok(())
 }
 
-/// The rows of the sheet are put in.
 fn put_new(
     edits: &mut Vec<RowEdit>,
     product: &Id,
@@ -50,7 +49,7 @@ fn put_new(
 }
 
 /// The edits of a new sheet.
-pub fn define<D: Desk>(
+pub fn define<D: Views>(
     alloc: Global,
     desk: &D,
     product: &Id,

@@ -9,17 +9,17 @@ ghost use Rattle.desk_types.specs.Setup.{selected_on};
 ghost use Rattle.state_rows.specs.EditsOf.{reel_on_slot, reels_on, board_edit};
 ghost use Rattle.desk_types.specs.declared.edit.RowEdit.TheVariants.{TakeMount};
 
-use desk_types::{BoardRow, Desk, Id, Mount, RowEdit};
+use crate::views::Views;
+use desk_types::{BoardRow, Id, Mount, RowEdit};
 use std::alloc::{AllocError, Global};
 
-/// The reel of a live reel's row, where it is on the slot.
+/// Returns the reel of a live reel's row, if it is on the slot.
 fn on_slot(slot: &Id, mount: &Mount) -> Option<Id>
     ensures { result ≡ reel_on_slot slot.now mount.now }
 {
     (mount.slot == *slot).then_some(mount.reel)
 }
 
-/// The reel, where there is one, is taken off its slot.
 fn take_if(edits: &mut Vec<RowEdit>, reel: Option<Id>) -> Result<(), AllocError>
     ensures { OnOk result (edits.new.items ≡ edits.old.items ++ map (λ r. TakeMount r) (option_to_list reel)) }
 {
@@ -32,7 +32,6 @@ fn take_if(edits: &mut Vec<RowEdit>, reel: Option<Id>) -> Result<(), AllocError>
     }
 }
 
-/// The reels on the slot are taken off it.
 fn take_mounts(edits: &mut Vec<RowEdit>, slot: &Id, mounts: &[Mount]) -> Result<(), AllocError>
     ensures { OnOk result
         (edits.new.items ≡ edits.old.items ++ map (λ r. TakeMount r) (filter_map (reel_on_slot slot.now) mounts.now)) }
@@ -44,7 +43,7 @@ fn take_mounts(edits: &mut Vec<RowEdit>, slot: &Id, mounts: &[Mount]) -> Result<
 }
 
 /// The edits of an unload.
-pub fn unload<D: Desk>(
+pub fn unload<D: Views>(
     alloc: Global,
     desk: &D,
     machine: &Id,
@@ -64,7 +63,7 @@ pub fn unload<D: Desk>(
 }
 
 /// The edit of a board that is started or completed.
-pub fn board<D: Desk>(
+pub fn board<D: Views>(
     alloc: Global,
     desk: &D,
     machine: &Id,

@@ -16,7 +16,8 @@ ghost use Rattle.state_rows.specs.After.{placed_row};
 ghost use Rattle.state_rows.specs.EditsOf.{pick_of, less_by, LessFits, ArePiecesFitting, picked_rows, take_spent, place_rows, AreTakeEdits};
 
 use crate::reels::row;
-use desk_types::{Desk, Id, PlacementRow, Purpose, ReelRow, RowEdit, Take};
+use crate::views::Views;
+use desk_types::{Id, PlacementRow, Purpose, ReelRow, RowEdit, Take};
 use std::alloc::{AllocError, Global};
 use std::collections::BTreeMap;
 
@@ -41,7 +42,7 @@ fn lessen(row: &mut ReelRow, take: &Take)
 }
 
 /// Takes a take's pieces off the row of its reel: that among the rows, or else the desk's.
-fn note<D: Desk>(rows: &mut BTreeMap<Id, ReelRow>, desk: &D, take: &Take) -> Result<(), AllocError>
+fn note<D: Views>(rows: &mut BTreeMap<Id, ReelRow>, desk: &D, take: &Take) -> Result<(), AllocError>
     requires fits { (H : History) × D.Stands desk.now H
         × ((row : ReelRow) → option_or (get by_name rows.old take.now.reel) (reel_row H take.now.reel) ≡ Some row
         → LessFits (pick_of take.now) row) }
@@ -62,7 +63,7 @@ fn note<D: Desk>(rows: &mut BTreeMap<Id, ReelRow>, desk: &D, take: &Take) -> Res
 }
 
 /// The rows of the reels off which pieces come.
-fn gather<D: Desk>(
+fn gather<D: Views>(
     alloc: Global,
     desk: &D,
     takes: &[Take],
@@ -78,7 +79,6 @@ fn gather<D: Desk>(
     Ok(rows)
 }
 
-/// Reels with nothing left are taken off their slots.
 fn take_off(edits: &mut Vec<RowEdit>, rows: &BTreeMap<Id, ReelRow>) -> Result<(), AllocError>
     ensures { OnOk result (edits.new.items ≡ edits.old.items ++ flat_map take_spent (values rows.now)) }
 {
@@ -88,7 +88,6 @@ fn take_off(edits: &mut Vec<RowEdit>, rows: &BTreeMap<Id, ReelRow>) -> Result<()
     Ok(())
 }
 
-/// A reel with nothing left is taken off its slot.
 fn take_if(edits: &mut Vec<RowEdit>, row: &ReelRow) -> Result<(), AllocError>
     ensures { OnOk result (edits.new.items ≡ edits.old.items ++ take_spent row.now) }
 {
@@ -99,7 +98,6 @@ fn take_if(edits: &mut Vec<RowEdit>, row: &ReelRow) -> Result<(), AllocError>
     Ok(())
 }
 
-/// The rows are put in the place of those before.
 fn put_all(edits: &mut Vec<RowEdit>, rows: &BTreeMap<Id, ReelRow>) -> Result<(), AllocError>
     ensures put { OnOk result (edits.new.items ≡ edits.old.items ++ map (λ row. PutReel row) (values rows.now)) }
     ensures ordered { IsStrictlySortedBy by_name (keys rows.now) }
@@ -110,7 +108,6 @@ fn put_all(edits: &mut Vec<RowEdit>, rows: &BTreeMap<Id, ReelRow>) -> Result<(),
     Ok(())
 }
 
-/// The row of a placed piece.
 fn placed_row(number: u64, place: u64, take: &Take) -> Option<PlacementRow>
     ensures { result ≡ placed_row number place take.now }
 {
@@ -134,7 +131,6 @@ fn placed_row(number: u64, place: u64, take: &Take) -> Option<PlacementRow>
     }
 }
 
-/// The row, where there is one, is put in.
 fn place_if(edits: &mut Vec<RowEdit>, row: Option<PlacementRow>) -> Result<(), AllocError>
     ensures { OnOk result
         (edits.new.items ≡ edits.old.items ++ option_to_list (option_map (λ (r : PlacementRow). PutPlacement r) row)) }
@@ -159,7 +155,7 @@ fn place_all(edits: &mut Vec<RowEdit>, number: u64, takes: &[Take]) -> Result<()
 }
 
 /// The edits of takes.
-pub fn take<D: Desk>(
+pub fn take<D: Views>(
     alloc: Global,
     desk: &D,
     number: u64,

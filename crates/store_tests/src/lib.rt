@@ -1,4 +1,4 @@
-//! What the store answers and keeps when it runs, with ample memory and with memory refused.
+//! The store's answers and contents at run time, with ample memory and with refused memory.
 #![tactic(auto)]
 
 #[cfg(test)]

@@ -1,4 +1,4 @@
-//! A store in memory: each allocation refused in turn by `dev/faults/refuse-memory`, and the boards of a lot.
+//! A store in memory: each allocation refused in turn by `dev/faults/run memory`, and the boards of a lot.
 
 mod sending;
 mod stopping;
@@ -6,15 +6,15 @@ mod stopping;
 use desk_types::Id;
 use feeder_state::StateDesk;
 use line_schema::{LineStore, in_memory};
-use sending::{BOARDS, FIRST_RUN, Sent, send, send_over};
+use sending::{BOARDS, FIRST_RUN, Sent, send, send_over, viewed};
 use sqlite::{Alter, Connection};
 use std::alloc::{AllocError, Global};
 use std::test::Fail;
 
-/// Makes tables of version 2 those of version 1.
+/// Turns tables of version 2 into those of version 1.
 const VERSION_ONE: &str = "BEGIN; DROP TABLE found; UPDATE version SET number = 1; COMMIT";
 
-/// The version of the tables, which are migrated where it is 1. None where that fails.
+/// Returns the version of the tables, which are migrated if it is 1, or `None` if that fails.
 fn migrated<S: Alter>(alloc: Global, conn: &mut Connection<S>) -> Option<i64> {
     let version = conn.query_row("SELECT number FROM version", &[]);
     let version: i64 = version.ok()?.get(0).ok()?;
@@ -24,11 +24,10 @@ fn migrated<S: Alter>(alloc: Global, conn: &mut Connection<S>) -> Option<i64> {
     Some(version)
 }
 
-/// Whichever allocation is refused, that of the fifth command's settling or a later one among them: the
-/// command that meets it may be Unavailable, no second one is, and each has one answer for good. Where it
-/// was refused in settling, the next command has the desk made again, which is told. A migration that
-/// meets it leaves the tables of version 1, whole, so that the next one makes version 2 of them. The
-/// connection that is given back is no blank for a store, and is opened with all that was accepted.
+/// For each refused allocation, in the fifth command's settling or later, at most one command is Unavailable, and each
+/// has one final answer. If memory was refused in settling, the next command rebuilds the desk, and the test prints
+/// that. A migration that meets it leaves complete tables of version 1, so the next one succeeds. The returned
+/// connection opens with all accepted commands.
 #[test]
 fn refused_memory_is_made_good(rt: HostRuntime) -> Result<(), Fail> {
     let alloc = rt.alloc();
@@ -54,9 +53,8 @@ fn refused_memory_is_made_good(rt: HostRuntime) -> Result<(), Fail> {
     Ok(())
 }
 
-/// The boards of a lot are told each once and in byte order, and none of a lot that there isn't. No report
-/// asks the store for them: it is for a caller that wants the names alone, and needs no rows. They are told
-/// by a query where rows don't stand where the lists have them.
+/// The boards of a lot are returned once each and in byte order, and none for an unknown lot. No report calls this; it
+/// serves callers that want only the names. If rows are not at the places in the trace indexes, a query finds them.
 #[test]
 fn boards_of_a_lot(rt: HostRuntime) -> Result<(), Fail> {
     let lot = Id::read(b"L1").ok_or("no lot")?;
@@ -67,6 +65,7 @@ fn boards_of_a_lot(rt: HostRuntime) -> Result<(), Fail> {
         return Err(Fail::from(AllocError));
     };
     let told = send(&rt, rt.alloc(), &mut store, BOARDS);
+    let is_viewed = viewed(&mut store).is_some();
     let by_lists = store.lot_boards(&lot);
     let mut conn = store.into_connection();
     let moved = conn.execute_batch("UPDATE placement SET rowid = -rowid");
@@ -78,6 +77,7 @@ fn boards_of_a_lot(rt: HostRuntime) -> Result<(), Fail> {
     store.into_connection().close()?;
     moved?;
     assert_eq!(rt; told?.count, 11);
+    assert!(rt; is_viewed);
     assert!(rt; matches!(of_none, Ok(None)));
     for boards in [by_lists, by_query] {
         let Ok(Some(boards)) = boards else {

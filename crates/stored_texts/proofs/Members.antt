@@ -1,4 +1,4 @@
--- A command is its word and its members.
+-- A command consists of its kind and its members.
 use Rattle.std.proofs.Common.{◌≡◌, ℕ, Result, Ok, Err, List, [], ◌∷◌, ◌++◌, refl, sym, ap, subst, ◌∙◌, arith}
 use Rattle.std.specs.Prelude.{⊤}
 use Rattle.std.specs.Result.{IsErrAnd}
@@ -22,7 +22,6 @@ use Rattle.stored_texts.specs.declared.word.Word.{Word}
 use Rattle.stored_texts.specs.declared.word.Word.TheVariants.{PartDefined, AlternateAllowed, SheetDefined, ProductSelected, ReelReceived, ReelOpened, ReelSealed, ReelBaked, MaterialsLoaded, MaterialsSpliced, MaterialsUnloaded, WorkStarted, WorkCompleted, MaterialsInstalled, MaterialsScrapped, CountsTaken, ClockSet}
 use Rattle.stored_texts.proofs.Words.{word_text-apart}
 
--- the word of a command
 abbrev pub word_of : Command → Word
 word_of (command.PartDefined _) = PartDefined
 word_of (command.AlternateAllowed _ _) = AlternateAllowed
@@ -42,7 +41,6 @@ word_of (command.MaterialsScrapped _ _ _) = MaterialsScrapped
 word_of (command.CountsTaken _) = CountsTaken
 word_of command.ClockSet = ClockSet
 
--- what a command of a word has beside it
 abbrev pub MembersOf : Word → Type 0
 MembersOf PartDefined = Name
 MembersOf AlternateAllowed = Name × Name
@@ -62,7 +60,7 @@ MembersOf MaterialsScrapped = Name × Name × ℕ
 MembersOf CountsTaken = List CountRow
 MembersOf ClockSet = ⊤
 
--- the command of a word with these members
+-- The command of this kind with these members.
 abbrev pub made : (word : Word) → MembersOf word → Command
 made PartDefined m = command.PartDefined m
 made AlternateAllowed m = command.AlternateAllowed m.0 m.1
@@ -82,7 +80,6 @@ made MaterialsScrapped m = command.MaterialsScrapped m.0 m.1 m.2
 made CountsTaken m = command.CountsTaken m
 made ClockSet m = command.ClockSet
 
--- each command is made of its word and its members
 opened : (c : Command) → (m : MembersOf (word_of c)) × (c ≡ made (word_of c) m)
 opened (command.PartDefined part) = (part, refl)
 opened (command.AlternateAllowed part alternate) = ((part, alternate), refl)
@@ -102,7 +99,6 @@ opened (command.MaterialsScrapped machine slot quantity) = ((machine, slot, quan
 opened (command.CountsTaken counts) = (counts, refl)
 opened command.ClockSet = (tt, refl)
 
--- the fields of a command are its word and its members
 pub fields_are : (c : Command) → fields_of c ≡ word_text (word_of c) ∷ members_of c
 fields_are (command.PartDefined part) = refl
 fields_are (command.AlternateAllowed part alternate) = refl
@@ -122,13 +118,11 @@ fields_are (command.MaterialsScrapped machine slot quantity) = refl
 fields_are (command.CountsTaken counts) = refl
 fields_are command.ClockSet = refl
 
--- a command that is said by a word is made of it
 pub said : (word : Word) (c : Command) → fields_of c ≡ word_text word ∷ members_of c → (m : MembersOf word) × (c ≡ made word m)
 said word c is =
     let texts : word_text (word_of c) ≡ word_text word = let e = fields_are c in cc in
     subst (λ w. (m : MembersOf w) × (c ≡ made w m)) (word_text-apart (word_of c) word texts) (opened c)
 
--- where the members of a word are not read, no command of that word is
 pub word_unread : (W : Word) (Is : MembersOf W → Type 0) (spelling : MembersOf W → List Field)
     → ((m : MembersOf W) → IsCommand (made W m) → Is m) → ((m : MembersOf W) → members_of (made W m) ≡ spelling m)
     → (word : Word) → word ≡ W → (before after then : List Field) (fault : Unread) (r : Result Command Unread)
@@ -143,7 +137,6 @@ word_unread W Is spelling is spelled word same before after then fault (Err f) e
         let m = said W c here.1 in
         unread m.0 more (is m.0 (subst IsCommand m.1 here.0)) (e ∙ ap (λ x. members_of x ++ more) m.1 ∙ ap (λ fields. fields ++ more) (spelled m.0))
 
--- a label fits 64 bits
 pub label_fits : (level : Level) (label : ℕ) → IsLabel level label → IsNumber label
 label_fits One label is = omega arith
 label_fits Two label is = omega arith
@@ -154,7 +147,7 @@ label_fits Five label is = omega arith
 label_fits FiveA label is = omega arith
 label_fits Six label is = omega arith
 
--- what a receipt has beside its word, as it is read
+-- The members of a receipt, in reading order.
 abbrev pub AreOfReceipt : MembersOf ReelReceived → Type 0
 AreOfReceipt m = TripleInRange IsId IsId IsId m.0 × TripleInRange (λ _. ⊤) IsQuantity IsNumber m.1
 
@@ -177,7 +170,6 @@ receipts_apart =
     (triples_apart IsId IsId IsId name_fields name_fields name_fields (names_apart IsId) (names_apart IsId) (names_apart IsId))
     (triples_apart (λ _. ⊤) IsQuantity IsNumber level_fields number_fields number_fields (levels_apart (λ _. ⊤)) (numbers_apart IsQuantity quantities_fit) (numbers_apart IsNumber (λ n fits. fits)))
 
--- the members of no command begin those of another of its word
 apart_by_word : (word : Word) → IsPrefixFree (λ (m : MembersOf word). IsCommand (made word m)) (λ m. members_of (made word m))
 apart_by_word PartDefined = names_apart IsId
 apart_by_word AlternateAllowed = two_names
@@ -197,7 +189,6 @@ apart_by_word MaterialsScrapped = two_names_and IsQuantity number_fields (number
 apart_by_word CountsTaken = lists_apart IsCountRow count_fields counts_apart
 apart_by_word ClockSet = λ a b left right is_a is_b e. (refl, e)
 
--- and so of commands
 pub commands_apart : (word : Word) → IsPrefixFree (IsSaidBy word) members_of
 commands_apart word a b left right is_a is_b e =
     let m = said word a is_a.1 in

@@ -1,4 +1,4 @@
--- Readings that are made of others.
+-- Reading composed values.
 use Rattle.std.proofs.Common.{◌≡◌, ℕ, ◌<◌, ◌^◌, Result, Ok, Err, List, [], ◌∷◌, ◌++◌, length, flat_map, decimal, sym, ap, subst, ◌∙◌, append_assoc, arith}
 use Rattle.std.specs.List.{AllByRecursion}
 use Rattle.std.specs.Result.{IsErrAnd}
@@ -11,7 +11,6 @@ use Rattle.stored_texts.specs.StoredText.{Field, list_fields}
 use Rattle.stored_texts.specs.declared.fields.Unread.{Unread}
 use Rattle.stored_texts.specs.declared.fields.Unread.TheVariants.{NoMemory, NotStored}
 
--- where no value of one kind is read, none is of a kind whose values are spelled as some of the first
 pub unread_as : {X Y : Type 0} (Is : X → Type 0) (spelling : X → List Field) (IsY : Y → Type 0) (spelling_y : Y → List Field) (of : Y → X)
     → ((y : Y) → IsY y → Is (of y)) → ((y : Y) → spelling_y y ≡ spelling (of y)) → (before after then : List Field) (fault : Unread) (r : Result Y Unread)
     → IsErrAnd r (λ e. e ≡ fault) → Reads Is spelling before after (Err fault) → Reads IsY spelling_y before then r
@@ -22,7 +21,6 @@ unread_as {X} {Y} Is spelling IsY spelling_y of is spelled before after then fau
     by NoMemory unread = tt
     by NotStored unread = λ y more is_y e. unread (of y) more (is y is_y) (e ∙ ap (λ fields. fields ++ more) (spelled y))
 
--- One more value of some that are as many as a count is not there.
 pub value_unread : {X : Type 0} (Is : X → Type 0) (spelling : X → List Field) → IsPrefixFree Is spelling
     → (count : ℕ) (found : List X) (before here after then : List Field) (fault : Unread) (r : Result (List X) Unread)
     → AllByRecursion Is found → before ≡ flat_map spelling found ++ here → length found < count → IsErrAnd r (λ e. e ≡ fault)
@@ -41,13 +39,11 @@ value_unread {X} Is spelling apart count found before here after then fault (Err
         let front = front_apart Is spelling apart found xs here more each (recursion_from_All Is xs is.0) (omega (arith, is.1)) (sym so_far ∙ e) in
         next xs more unread is.1 front.0 front.1 front.2 front.3
 
--- the length that was read is that of any list that the fields begin with
 pub length_read : {X : Type 0} (Is : X → Type 0) (spelling : X → List Field) (count : ℕ) (before here : List Field) → count < 2 ^ 64 → before ≡ decimal count ∷ here
     → (xs : List X) (more : List Field) → IsListOf Is xs → before ≡ list_fields spelling xs ++ more → (count ≡ length xs) × (here ≡ flat_map spelling xs ++ more)
 length_read Is spelling count before here fits read xs more is e =
     numbers_apart IsNumber (λ n fits. fits) count (length xs) here (flat_map spelling xs ++ more) fits (lengths_fit (length xs) is.count) (sym read ∙ e)
 
--- no list is read where its elements are not
 pub list_unread : {X : Type 0} (Is : X → Type 0) (spelling : X → List Field) (count : ℕ) (before here after then : List Field) (fault : Unread) (r : Result (List X) Unread)
     → count < 2 ^ 64 → before ≡ decimal count ∷ here → IsErrAnd r (λ e. e ≡ fault) → Reads (AreCounted Is count) (flat_map spelling) here after (Err fault)
     → Reads (IsListOf Is) (list_fields spelling) before then r

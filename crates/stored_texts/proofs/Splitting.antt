@@ -1,4 +1,4 @@
--- A text is its first field and the fields behind the first tab.
+-- Splitting a text at its first tab.
 use Rattle.std.proofs.Common.{◌≡◌, ◌==◌, ℕ, ◌+◌, ◌≤◌, Bool, true, false, Some, None, List, [], ◌∷◌, cond, length, take, drop, nat_lt, position, refl, ap, ◌∙◌, arith}
 use Rattle.std.specs.List.{position_or_len}
 use Rattle.std.proofs.lemmas.Bool.Decides.{nat_tests}
@@ -9,7 +9,6 @@ use Rattle.stored_texts.specs.Fields.{fields_in}
 abbrev is_tab : ℕ → Bool
 is_tab byte = byte == 0x09
 
--- behind a tab stand the other fields
 pub cut_at : (text : List ℕ) (end : ℕ) → position is_tab text ≡ Some end → fields_in text ≡ take end text ∷ fields_in (drop (end + 1) text)
 cut_at text end is = by (nat_lt (position_or_len is_tab text) (length text)) refl is
   where
@@ -20,7 +19,6 @@ cut_at text end is = by (nat_lt (position_or_len is_tab text) (length text)) ref
         slice_split_first is_tab text 0 (grind (arith, nat_tests)) ∙ ap (λ n. take n text ∷ fields_in (drop (n + 1) text)) at
     by false past is = absurd cc
 
--- a text without a tab is one field
 pub cut_nowhere : (text : List ℕ) → position is_tab text ≡ None → fields_in text ≡ text ∷ []
 cut_nowhere text is = by (nat_lt (position_or_len is_tab text) (length text)) refl is
   where
@@ -30,6 +28,5 @@ cut_nowhere text is = by (nat_lt (position_or_len is_tab text) (length text)) re
         let far : length text ≤ position_or_len is_tab text = grind (arith, nat_tests) in
         slice_split_none is_tab text (λ k d inside. fails_before_first is_tab text k d (omega arith))
 
--- each text has a field
 pub some_field : (text : List ℕ) → ¬ (fields_in text ≡ [])
 some_field text none = let n = length-slice_split is_tab text in let z = ap length none in absurd (omega arith)

@@ -1,4 +1,4 @@
--- Texts of commands, worked out from the definition.
+-- Worked cases of the texts of commands.
 use Rattle.std.proofs.Common.{◌≡◌, [], ◌∷◌, codes, refl}
 use Rattle.std.specs.Fmt.{digits}
 use Rattle.stored_texts.specs.StoredText.{stored_text, word_text}

@@ -1,4 +1,4 @@
--- No field of a command has a tab, so its text is cut into its fields again.
+-- A command's fields have no tabs, so splitting its text gives them back.
 use Rattle.std.proofs.Common.{◌≡◌, ◌==◌, ℕ, ◌<◌, ◌≤◌, ◌^◌, true, false, not, List, [], ◌∷◌, ◌++◌, All, length, flat_map, decimal, refl, sym, ap, ◌∙◌, append-nil, drop, arith}
 use Rattle.std.specs.List.{AllByRecursion, join_with_byte, list_all}
 use Rattle.std.proofs.lemmas.Bool.Decides.{nat_tests}
@@ -25,14 +25,12 @@ use Rattle.stored_texts.specs.declared.word.Word.TheVariants as word
 use Rattle.desk_types.proofs.Ascii.{printable-marks}
 use Rattle.stored_texts.proofs.Members.{word_of, fields_are, commands_apart, label_fits}
 
--- a field without a tab
 abbrev HasNoTab : Field → Type 0
 HasNoTab field = All (λ byte. (byte == 0x09) ≡ false) field
 
 abbrev HaveNoTab : List Field → Type 0
 HaveNoTab fields = AllByRecursion HasNoTab fields
 
--- fields without a tab, joined by tabs and cut at each tab, are the same again
 cut_again : (field : Field) (fields : List Field) → HaveNoTab (field ∷ fields) → fields_in (join_with_byte 0x09 (field ∷ fields)) ≡ field ∷ fields
 cut_again field [] none = slice_split_none (λ byte. byte == 0x09) field none.0
 cut_again field (next ∷ fields) none =
@@ -123,7 +121,6 @@ no_tab (MaterialsScrapped machine slot quantity) is = (no_tab_word word.Material
 no_tab (CountsTaken counts) is = (no_tab_word word.CountsTaken, no_tab_list IsCountRow count_fields no_tab_count counts is)
 no_tab ClockSet is = (no_tab_word word.ClockSet, tt)
 
--- the text of a command in its ranges has just its fields
 pub fields_in-stored_text : (c : Command) → IsCommand c → fields_in (stored_text c) ≡ fields_of c
 unfolding stored_text
 fields_in-stored_text c is = by (fields_of c) (word_text (word_of c)) (members_of c) (fields_are c) (no_tab c is)
@@ -132,12 +129,10 @@ fields_in-stored_text c is = by (fields_of c) (word_text (word_of c)) (members_o
     by [] field fields e none = absurd cc
     by (x ∷ xs) field fields e none = cut_again x xs none
 
--- the fields of a text that are those of a command make it the text of that command
 pub stored_text-fields_in : (c : Command) (text : List ℕ) → fields_in text ≡ fields_of c → text ≡ stored_text c
 unfolding stored_text
 stored_text-fields_in c text e = sym (join_with_byte-slice_split 0x09 text) ∙ ap (join_with_byte 0x09) e
 
--- fields joined by tabs are the first, and the others behind a tab each
 pub stored_text-fields_text : (c : Command) → stored_text c ≡ fields_text (fields_of c)
 unfolding stored_text
 stored_text-fields_text c = by (fields_of c)
@@ -150,7 +145,6 @@ stored_text-fields_text c = by (fields_of c)
     by [] = refl
     by (field ∷ fields) = behind field fields
 
--- two commands in their ranges have two texts
 pub texts_apart : (a b : Command) → IsCommand a → IsCommand b → stored_text a ≡ stored_text b → a ≡ b
 texts_apart a b is_a is_b e =
     let fields : fields_of a ≡ fields_of b = sym (fields_in-stored_text a is_a) ∙ ap fields_in e ∙ fields_in-stored_text b is_b in

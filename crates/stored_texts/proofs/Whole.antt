@@ -1,4 +1,4 @@
--- A whole text, from its fields.
+-- Reading a whole text from its fields.
 use Rattle.std.proofs.Common.{◌≡◌, ℕ, Result, Ok, Err, List, [], ◌∷◌, ◌++◌, sym, ap, subst, ◌∙◌, append-nil}
 use Rattle.std.specs.Result.{IsErrAnd}
 use Rattle.desk_types.specs.Command.{IsCommand}
@@ -11,11 +11,9 @@ use Rattle.stored_texts.specs.declared.word.Word.{Word}
 use Rattle.stored_texts.proofs.Members.{word_of, fields_are}
 use Rattle.stored_texts.proofs.Tabs.{fields_in-stored_text}
 
--- the fields of the text of a command are its word and its members
 pub begins : (text : List ℕ) (c : Command) → IsCommand c → text ≡ stored_text c → fields_in text ≡ word_text (word_of c) ∷ members_of c
 begins text c is e = ap fields_in e ∙ fields_in-stored_text c is ∙ fields_are c
 
--- the command of a text that begins with a word is said by that word, and the other fields are its members
 pub said_in : (text : List ℕ) (first : Field) (rest : List Field) (word : Word) → fields_in text ≡ first ∷ rest → first ≡ word_text word
     → (c : Command) → IsCommand c → text ≡ stored_text c → IsSaidBy word c × (rest ≡ members_of c ++ [])
 said_in text first rest word fields is_word c is e =
@@ -25,7 +23,6 @@ said_in text first rest word fields is_word c is e =
     let others : rest ≡ members_of c = cc in
     ((is, word_is), others ∙ sym (append-nil (members_of c)))
 
--- where no command of the word is read, the text is that of none
 pub unread : (text : List ℕ) (first : Field) (rest after : List Field) (word : Word) → fields_in text ≡ first ∷ rest → first ≡ word_text word
     → (fault : Unread) (r : Result Command Unread) → IsErrAnd r (λ e. e ≡ fault) → Reads (IsSaidBy word) members_of rest after (Err fault) → IsReading text r
 unread text first rest after word fields is_word fault (Ok c) err none = absurd err

@@ -1,4 +1,4 @@
--- The words of stored texts.
+-- The kinds of commands in stored texts.
 use Rattle.std.proofs.Common.{◌≡◌, Bool, true, false, Option, Some, None, IfSome, IfNone, List, [], ◌∷◌, cond, find, refl, sym, ap, subst, ◌∙◌}
 use Rattle.desk_types.specs.Id.{same}
 use Rattle.stored_texts.specs.StoredText.{Field, word_text}
@@ -9,11 +9,10 @@ use Rattle.desk_types.proofs.Keys.{same-true}
 abbrev pub words : List Word
 words = PartDefined ∷ AlternateAllowed ∷ SheetDefined ∷ ProductSelected ∷ ReelReceived ∷ ReelOpened ∷ ReelSealed ∷ ReelBaked ∷ MaterialsLoaded ∷ MaterialsSpliced ∷ MaterialsUnloaded ∷ WorkStarted ∷ WorkCompleted ∷ MaterialsInstalled ∷ MaterialsScrapped ∷ CountsTaken ∷ ClockSet ∷ []
 
--- the word of a text, by its text
+-- The kind with this text.
 abbrev pub word_in : Field → Option Word
 word_in text = find (λ word. same (word_text word) text) words
 
--- each word is found by its own text
 pub word_in-word_text : (word : Word) → word_in (word_text word) ≡ Some word
 unfolding word_text
 word_in-word_text PartDefined = refl
@@ -34,7 +33,6 @@ word_in-word_text MaterialsScrapped = refl
 word_in-word_text CountsTaken = refl
 word_in-word_text ClockSet = refl
 
--- two words have two texts
 pub word_text-apart : (a b : Word) → word_text a ≡ word_text b → a ≡ b
 word_text-apart a b e = let found : Some a ≡ Some b = sym (word_in-word_text a) ∙ ap word_in e ∙ word_in-word_text b in cc
 
@@ -43,13 +41,11 @@ found_passes test [] = tt
 found_passes {X} test (x ∷ xs) =
     elim (test x) as (λ b. test x ≡ b → IfSome (cond b (Some x) (find test xs)) (λ y. test y ≡ true)) [ true ↦ λ is. is | false ↦ λ _. found_passes test xs ] refl
 
--- what is found has this text
 pub word_in-read : (text : Field) (r : Option Word) → r ≡ word_in text → IfSome r (λ word. text ≡ word_text word)
 word_in-read text None e = tt
 word_in-read text (Some word) e =
     sym (same-true (word_text word) text (subst (λ r. IfSome r (λ w. same (word_text w) text ≡ true)) (sym e) (found_passes (λ w. same (word_text w) text) words)))
 
--- where none is found, no word has this text
 pub word_in-refused : (text : Field) (r : Option Word) → r ≡ word_in text → IfNone r ((word : Word) → ¬ (text ≡ word_text word))
 word_in-refused text (Some word) e = tt
 word_in-refused text None e = λ word is. let found : None ≡ Some word = e ∙ ap word_in is ∙ word_in-word_text word in cc

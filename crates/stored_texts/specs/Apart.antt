@@ -1,4 +1,4 @@
--- The spelling of no value begins that of another.
+-- No value's spelling is a prefix of another's.
 use Rattle.std.proofs.Common.{◌≡◌, ℕ, ◌<◌, ◌≤◌, ◌^◌, Some, List, [], ◌∷◌, ◌++◌, length, flat_map, decimal, refl, sym, ap, ◌∙◌, append_assoc, arith}
 use Rattle.std.proofs.lemmas.Fmt.{decimal_injective}
 use Rattle.desk_types.specs.declared.level.Level.{Level}
@@ -32,7 +32,6 @@ counted_quantities_fit n is = omega arith
 pub lengths_fit : (n : ℕ) → IsListLength n → n < 2 ^ 64
 lengths_fit n is = omega arith
 
--- each level is named by its own text
 pub level_of-text_of : (level : Level) → level_of (text_of level) ≡ Some level
 level_of-text_of One = refl
 level_of-text_of Two = refl
@@ -63,7 +62,7 @@ triples_apart First Second Third first second third first_apart second_apart thi
     (a.0, (a.1, a.2)) (b.0, (b.1, b.2)) left right (is_a.0, (is_a.1, is_a.2)) (is_b.0, (is_b.1, is_b.2)) e in
     (ap (λ p. (p.0, p.1.0, p.1.1)) pair.0, pair.1)
 
--- Of two rows of values that begin alike, the longer one begins with the shorter one.
+-- If two sequences of values have a common prefix, the shorter sequence is a prefix of the longer.
 pub front_apart : {X : Type 0} (InRange : X → Type 0) (spelling : X → List Field) → IsPrefixFree InRange spelling
     → (xs ys : List X) (left right : List Field) → AllByRecursion InRange xs → AllByRecursion InRange ys → length xs ≤ length ys
     → flat_map spelling xs ++ left ≡ flat_map spelling ys ++ right → (rest : List X) × (ys ≡ xs ++ rest) × AllByRecursion InRange rest × (left ≡ flat_map spelling rest ++ right)
@@ -75,7 +74,6 @@ front_apart InRange spelling apart (x ∷ xs) (y ∷ ys) left right is_x is_y n 
     let others = front_apart InRange spelling apart xs ys left right is_x.1 is_y.1 (omega arith) one.1 in
     (others.0, ap (λ z. z ∷ ys) (sym one.0) ∙ ap (λ zs. x ∷ zs) others.1, others.2, others.3)
 
--- as many values on both sides
 values_apart : {X : Type 0} (InRange : X → Type 0) (spelling : X → List Field) → IsPrefixFree InRange spelling
     → (xs ys : List X) (left right : List Field) → AllByRecursion InRange xs → AllByRecursion InRange ys → length xs ≡ length ys
     → flat_map spelling xs ++ left ≡ flat_map spelling ys ++ right → (xs ≡ ys) × (left ≡ right)

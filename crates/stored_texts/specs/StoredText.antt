@@ -1,4 +1,4 @@
--- The text of a command that a table of accepted commands keeps: its word and its members, with a tab between each two.
+-- The stored text of an accepted command: its kind and its members, separated by tabs.
 use Rattle.std.specs.Prelude.{ℕ, List, [], ◌∷◌, codes, length, flat_map, decimal}
 use Rattle.std.specs.List.{join_with_byte}
 use Rattle.desk_types.specs.declared.command.Command.{Command}
@@ -9,11 +9,11 @@ use Rattle.stored_texts.specs.declared.word.Word.{Word}
 use Rattle.stored_texts.specs.declared.word.Word.TheVariants as word
 use Rattle.desk_types.specs.Level.{text_of}
 
--- A field of a text: its bytes.
+-- A field's bytes.
 abbrev pub Field : Type 0
 Field = List ℕ
 
--- the word that a text begins with
+-- The first field of a command's text.
 unfoldable pub word_text : Word → Field
 word_text word.PartDefined = codes "PartDefined"
 word_text word.AlternateAllowed = codes "AlternateAllowed"
@@ -33,11 +33,10 @@ word_text word.MaterialsScrapped = codes "MaterialsScrapped"
 word_text word.CountsTaken = codes "CountsTaken"
 word_text word.ClockSet = codes "ClockSet"
 
--- a list: its length, and then the fields of each element
+-- A list's length, followed by the fields of its elements.
 abbrev pub list_fields : {X : Type 0} → (X → List Field) → List X → List Field
 list_fields fields xs = decimal (length xs) ∷ flat_map fields xs
 
--- a name is one field
 abbrev pub name_fields : Field → List Field
 name_fields name = name ∷ []
 
@@ -47,7 +46,7 @@ row_fields row = row.slot ∷ row.part ∷ list_fields name_fields row.designato
 abbrev pub count_fields : CountRow → List Field
 count_fields row = row.reel ∷ decimal row.quantity ∷ []
 
--- the word of a command, and its members in the order of its message; numbers are in decimal with no leading zero
+-- The command's kind and its members in message order; numbers are decimal without leading zeros.
 abbrev pub fields_of : Command → List Field
 fields_of (PartDefined part) = word_text word.PartDefined ∷ part ∷ []
 fields_of (AlternateAllowed part alternate) = word_text word.AlternateAllowed ∷ part ∷ alternate ∷ []
@@ -69,6 +68,6 @@ fields_of (MaterialsScrapped machine slot quantity) = word_text word.MaterialsSc
 fields_of (CountsTaken counts) = word_text word.CountsTaken ∷ list_fields count_fields counts
 fields_of ClockSet = word_text word.ClockSet ∷ []
 
--- the text that is kept of a command, with a tab between each two fields
+-- The command's text: its fields, separated by tabs.
 unfoldable pub stored_text : Command → List ℕ
 stored_text command = join_with_byte 0x09 (fields_of command)

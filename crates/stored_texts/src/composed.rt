@@ -1,4 +1,4 @@
-//! Values that are made of others: two and three in a row, lists, and rows.
+//! Composed values: pairs, triples, lists and sheet rows.
 
 ghost use Rattle.std.specs.Prelude.{◌≡◌, ◌∷◌, [], ◌++◌, flat_map, OnOk};
 ghost use Rattle.stored_texts.specs.Apart.{pairs_apart, triples_apart, lists_apart, rows_apart, counts_apart};
@@ -58,7 +58,6 @@ fn put<T: Drop>(found: &mut Vec<T>, value: T) -> Result<(), AllocError>
     Ok(())
 }
 
-/// This many values, one after another.
 fn values<T: Stored>(alloc: Global, fields: &mut Fields, count: u64) -> Result<Listing<T>, Unread>
     ensures { Reads (AreCounted T.in_range count) (flat_map T.spelling) fields.old fields.new result }
 {

@@ -1,4 +1,4 @@
-//! The fields of a stored text, one after another.
+//! The fields of a stored text.
 
 ghost use Rattle.std.specs.Prelude.{◌≡◌, ◌∷◌, [], IsTrue, ◌↔◌, MatchOption, position, ◌==◌};
 ghost use Rattle.stored_texts.specs.Fields.{fields_in};
@@ -6,15 +6,15 @@ ghost use Rattle.stored_texts.specs.Fields.{fields_in};
 use std::alloc::AllocError;
 use std::marker::Model;
 
-/// What stands between two fields.
+/// The separator of fields.
 pub const TAB: u8 = b'\t';
 
-/// Why a value was not read.
+/// Why a value could not be read.
 #[derive(Clone, Copy, Debug, PartialEq, Eq)]
 pub enum Unread {
-    /// Memory was refused.
+    /// There was too little memory.
     NoMemory,
-    /// The fields don't begin with what is kept of such a value.
+    /// The fields don't start with a stored value of this kind.
     NotStored,
 }
 
@@ -29,10 +29,10 @@ impl From<AllocError> for Unread {
     }
 }
 
-/// The fields of a text that are still to be read.
+/// The unread fields of a text.
 #[derive(Drop)]
 pub struct Fields<'a> {
-    /// The text from the next field on; none after the last field.
+    /// The text from the next field on, or none after the last field.
     rest: Option<&'a [u8]>,
 }
 
@@ -47,14 +47,13 @@ impl<'a> Model for Fields<'a> {
 }
 
 impl<'a> Fields<'a> {
-    /// The fields of a text.
     pub fn new(text: &'a [u8]) -> Fields<'a>
         ensures { result ≡ fields_in text.now }
     {
         Fields { rest: Some(text) }
     }
 
-    /// Takes the next field, where there is one.
+    /// Takes the next field, if there is one.
     pub fn take_next(&mut self) -> Option<&'a [u8]>
         ensures { MatchOption result (self.old ≡ []) (λ field. self.old ≡ field.now ∷ self.new) }
     {
@@ -71,7 +70,6 @@ impl<'a> Fields<'a> {
         }
     }
 
-    /// Whether no field is left.
     pub fn is_empty(&self) -> bool
         ensures { IsTrue result ↔ (self.now ≡ []) }
     {
@@ -79,7 +77,6 @@ impl<'a> Fields<'a> {
     }
 }
 
-/// Where the first tab of a text stands.
 fn first_tab(text: &[u8]) -> Option<usize>
     ensures { result ≡ position (λ byte. byte == 0x09) text.now }
 {

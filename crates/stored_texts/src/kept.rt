@@ -1,4 +1,4 @@
-//! A command as its text, and back.
+//! Writing a command as text, and reading it back.
 
 ghost use Rattle.std.specs.Prelude.{◌≡◌, IfOk, IfSome, IfNone};
 ghost use Rattle.desk_types.specs.Command.{IsCommand};
@@ -10,21 +10,21 @@ use crate::writing::fields_text;
 use desk_types::{Command, Text};
 use std::alloc::{AllocError, Global};
 
-/// What is kept as a text of its own.
+/// A value stored as a text of its own.
 pub trait Kept: Drop + Sized {
     ghost use Rattle.std.specs.Prelude.{List, ℕ};
 
-    /// Whether it may be kept.
+    /// Whether the value can be stored.
     ghost in_range: { Self → Type 0 };
 
-    /// Its text.
+    /// The value's text.
     ghost stored: { Self → List ℕ };
 
-    /// The text that is kept of it.
+    /// Returns the value's text.
     fn write_text(&self, alloc: Global) -> Result<Text, AllocError>
         ensures { IfOk result (λ text. text ≡ stored self.now) };
 
-    /// What has this text. Takes memory for its lists alone.
+    /// Returns the value with this text. Takes memory only for its lists.
     fn read_text(alloc: Global, text: &[u8]) -> Result<Option<Self>, AllocError>
         ensures read { IfOk result (λ found. IfSome found (λ it. text.now ≡ stored it)) }
         ensures range { IfOk result (λ found. IfSome found in_range) }

@@ -1,9 +1,9 @@
-//! The text that is kept of a command: its word and its members, with a tab between each two.
+//! The stored text of a command: its kind and its members, separated by tabs.
 //!
-//! A table keeps each accepted command as such a text and reads it back for years, so a command has
-//! one text, and no other text is read. The format is this project's own: numbers are in decimal
-//! with no leading zero and no sign, a list is its length and then its elements, and a receipt ends
-//! with the minutes of its label, 0 where its level is not 6.
+//! A table keeps each accepted command as such a text for years, so a command has exactly one text,
+//! and reading accepts no other. The format is this project's own. Numbers are decimal without sign
+//! or leading zeros. A list is its length followed by its elements. A receipt ends with the minutes
+//! of its label, which are 0 except at level 6.
 #![tactic(auto)]
 
 ghost use Rattle.std.specs.Prelude.{◌≡◌};
@@ -22,7 +22,7 @@ mod writing;
 
 pub use kept::Kept;
 
-/// Two commands have two texts. A law for proofs, which does nothing when it runs.
+/// A law: different commands have different texts. It is for proofs and does nothing at run time.
 pub fn texts_tell_commands_apart()
     ensures { (a b : Command) → IsCommand a → IsCommand b → stored_text a ≡ stored_text b → a ≡ b }
 {}

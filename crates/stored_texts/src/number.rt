@@ -1,13 +1,13 @@
-//! Numbers in decimal, each with one spelling.
+//! Decimal numbers with exactly one spelling.
 //!
-//! A table keeps texts for years and compares them byte by byte, so a number has one text, and no other
-//! text is read as a number.
+//! Stored texts are compared byte by byte for years, so a number has one text, and reading accepts
+//! no other.
 
 ghost use Rattle.std.specs.Prelude.{◌≡◌, ◌<◌, ◌^◌, ℕ, decimal, IfSome, IfNone};
 
 use itoa::Buffer;
 
-/// The number that a text is in decimal, with no leading zero and no sign.
+/// Returns the decimal number in the text, which has no sign or leading zeros.
 pub fn number(text: &[u8]) -> Option<u64>
     ensures read { IfSome result (λ n. text.now ≡ decimal n) }
     ensures refused { IfNone result ((n : ℕ) → n < 2 ^ 64 → ¬ (text.now ≡ decimal n)) }

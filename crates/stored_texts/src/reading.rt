@@ -1,4 +1,4 @@
-//! The command that a text says.
+//! Reading a command from its text.
 
 ghost use Rattle.stored_texts.specs.Fields.{Reads, IsReading, IsSaidBy, members_of};
 
@@ -8,7 +8,7 @@ use crate::word::Word;
 use desk_types::{Command, Moisture};
 use std::alloc::Global;
 
-/// The command that all of a text says.
+/// Reads a command from the whole text.
 pub fn whole(alloc: Global, text: &[u8]) -> Result<Command, Unread>
     ensures { IsReading text.now result }
 {
@@ -26,7 +26,6 @@ pub fn whole(alloc: Global, text: &[u8]) -> Result<Command, Unread>
     Ok(command)
 }
 
-/// The command of this word that the fields begin with.
 fn members(alloc: Global, word: Word, fields: &mut Fields) -> Result<Command, Unread>
     ensures { Reads (IsSaidBy word) members_of fields.old fields.new result }
 {
@@ -111,7 +110,6 @@ fn members(alloc: Global, word: Word, fields: &mut Fields) -> Result<Command, Un
     }
 }
 
-/// The members of a receipt.
 fn receipt(alloc: Global, fields: &mut Fields) -> Result<Command, Unread>
     ensures { Reads (IsSaidBy Word.ReelReceived) members_of fields.old fields.new result }
 {

@@ -1,4 +1,4 @@
-//! Values that texts are made of, and how each is read from the front of some fields.
+//! The values in stored texts, and how each is read.
 
 ghost use Rattle.std.specs.Prelude.{◌≡◌, ◌∷◌, [], ⊤, IfOk, IfErr, OnOk, ◌++◌};
 ghost use Rattle.desk_types.specs.Designator.{IsDesignator};
@@ -15,29 +15,28 @@ use desk_types::{CountedQuantity, Designator, Id, Level, Quantity};
 use itoa::Buffer;
 use std::alloc::{AllocError, Global};
 
-/// A value that a text has as some of its fields.
+/// A value stored as one or more fields.
 pub trait Stored: Drop + Sized {
     ghost use Rattle.std.specs.Prelude.{List, ℕ};
 
-    /// Whether it is in its range.
+    /// Whether the value is in range.
     ghost in_range: { Self → Type 0 };
 
-    /// Its fields.
+    /// The value's fields.
     ghost spelling: { Self → List (List ℕ) };
 
-    /// Writes its fields at the end of the text, each behind a tab.
+    /// Appends the value's fields to the text, each preceded by a tab.
     fn write(&self, text: &mut Vec<u8>) -> Result<(), AllocError>
         ensures { OnOk result (text.new.items ≡ text.old.items ++ after_tabs (spelling self.now)) };
 
-    /// Reads one from the front of the fields. After an error what is left of them is of no use.
+    /// Reads a value from the first fields. After an error the remaining fields are unusable.
     fn read(alloc: Global, fields: &mut Fields) -> Result<Self, Unread>
         ensures { Reads in_range spelling fields.old fields.new result };
 
-    /// No value's fields begin those of another.
+    /// No value's fields are a prefix of another's.
     ghost apart: { IsPrefixFree in_range spelling };
 }
 
-/// Writes a field at the end of the text, behind a tab.
 fn put_field(text: &mut Vec<u8>, field: &[u8]) -> Result<(), AllocError>
     ensures { OnOk result (text.new.items ≡ text.old.items ++ after_tabs (field.now ∷ [])) }
 {
@@ -45,7 +44,6 @@ fn put_field(text: &mut Vec<u8>, field: &[u8]) -> Result<(), AllocError>
     text.extend_from_slice(field)
 }
 
-/// The next field.
 fn next_field<'a>(fields: &mut Fields<'a>) -> Result<&'a [u8], Unread>
     ensures ok { IfOk result (λ field. fields.old ≡ field.now ∷ fields.new) }
     ensures err { IfErr result (λ fault. (fault ≡ NotStored) × (fields.old ≡ [])) }

@@ -1,10 +1,10 @@
-//! The words that stored texts begin with.
+//! The first field of a stored text, which names the command.
 
 ghost use Rattle.std.specs.Prelude.{◌≡◌, find, option_map, IfSome, IfNone};
 ghost use Rattle.desk_types.specs.Id.{same};
 ghost use Rattle.stored_texts.specs.StoredText.{word_text};
 
-/// Which of the seventeen commands a text is of.
+/// The kind of command in a stored text.
 #[derive(Clone, Copy, Debug, PartialEq, Eq)]
 pub enum Word {
     PartDefined,
@@ -26,7 +26,6 @@ pub enum Word {
     ClockSet,
 }
 
-/// All seventeen.
 const WORDS: [Word; 17] = [
     Word::PartDefined,
     Word::AlternateAllowed,
@@ -48,7 +47,7 @@ const WORDS: [Word; 17] = [
 ];
 
 impl Word {
-    /// The word of this text, where it is one of the seventeen.
+    /// Returns the kind with this text, if there is one.
     pub fn read(text: &[u8]) -> Option<Word>
         ensures read { IfSome result (λ word. text.now ≡ word_text word) }
         ensures refused { IfNone result ((word : Word) → ¬ (text.now ≡ word_text word)) }
@@ -56,7 +55,7 @@ impl Word {
         first_named(&WORDS, text).copied()
     }
 
-    /// The text of the word.
+    /// Returns the kind's text.
     #[tactic(auto, unfolding(crate::specs::StoredText::word_text))]
     pub fn as_str(self) -> &'static str
         ensures { result.now ≡ word_text self }
@@ -83,7 +82,6 @@ impl Word {
     }
 }
 
-/// The first of some words with this text.
 fn first_named<'a>(words: &'a [Word], text: &[u8]) -> Option<&'a Word>
     ensures { option_map (λ word. word.now) result ≡ find (λ word. same (word_text word) text.now) words.now }
 {

@@ -1,4 +1,4 @@
-//! The text of a command.
+//! Writing a command as text.
 
 ghost use Rattle.std.specs.Prelude.{◌≡◌, ◌∷◌, ◌++◌, IfOk, OnOk};
 ghost use Rattle.stored_texts.specs.Fields.{after_tabs, members_of, fields_text};
@@ -9,7 +9,7 @@ use crate::word::Word;
 use desk_types::Command;
 use std::alloc::{AllocError, Global};
 
-/// The fields of a command, each but the first behind a tab.
+/// Returns the command's fields, separated by tabs.
 pub fn fields_text(alloc: Global, command: &Command) -> Result<Vec<u8>, AllocError>
     ensures { IfOk result (λ text. text.items ≡ fields_text (fields_of command.now)) }
 {
@@ -18,7 +18,6 @@ pub fn fields_text(alloc: Global, command: &Command) -> Result<Vec<u8>, AllocErr
     Ok(text)
 }
 
-/// The word of a command.
 fn word_of(command: &Command) -> Word
     ensures { fields_of command.now ≡ word_text result ∷ members_of command.now }
 {
@@ -43,7 +42,6 @@ fn word_of(command: &Command) -> Word
     }
 }
 
-/// Writes the members of a command at the end of the text, each behind a tab.
 fn write_members(command: &Command, text: &mut Vec<u8>) -> Result<(), AllocError>
     ensures { OnOk result (text.new.items ≡ text.old.items ++ after_tabs (members_of command.now)) }
 {

@@ -1,4 +1,4 @@
--- The pieces of an install are all on its board; no other command places any.
+-- An install places its pieces on its own board; no other command places any.
 use Rattle.std.proofs.Common.{◌≡◌, ℕ, ◌+◌, ◌-◌, min, nat_lt, Bool, true, false, Option, Some, None, List, [], ◌∷◌, ◌++◌, map, filter, filter_map, find, length, refl, ap, sym, ◌∙◌, option_map, option_and_then, option_to_list}
 use Rattle.std.specs.Prelude.{⊤, if◌then◌else◌}
 use Rattle.std.specs.List.{cons_option, enumerate_from, range_with_len}
@@ -22,7 +22,7 @@ use Rattle.trace_lists.proofs.Keys.{placed_key}
 
 -- ---- installs
 
--- each pick is of a piece for the board
+-- Each pick is of a piece for the board.
 abbrev ArePlacedOn : Name → List Pick → Type 0
 ArePlacedOn board [] = ⊤
 ArePlacedOn board (p ∷ ps) = ((designator : Name) × (machine : Name) × (slot : Name) × (p.purpose ≡ Placed board designator machine slot)) × ArePlacedOn board ps
@@ -53,11 +53,9 @@ module _ (slot_of : Name → Option Name) (tape : Name → List Name) (pieces : 
       all-on (before ++ option_to_list (pick_for slot_of tape pieces machine board before d)) ds
       (on-append board before (option_to_list (pick_for slot_of tape pieces machine board before d)) all (one-on before d))
 
--- the test for a board
 abbrev is_on : Name → Placement → Bool
 is_on board p = same p.board board
 
--- one piece more for the board
 more-on : (there : Bool) (k : Key) (p : Placement) (ps : List Placement) (board : Name) (ks : List Key) → same p.board board ≡ there → placed_key p ≡ k
     → map placed_key (filter (is_on board) ps) ≡ (if there then ks else [])
     → map placed_key (filter (is_on board) (p ∷ ps)) ≡ (if there then k ∷ ks else [])
@@ -65,7 +63,6 @@ more-on true k p ps board ks is key rest =
     ap (λ t. map placed_key (if t then p ∷ filter (is_on board) ps else filter (is_on board) ps)) is ∙ ap (λ l. placed_key p ∷ l) rest ∙ ap (λ x. x ∷ ks) key
 more-on false k p ps board ks is key rest = ap (λ t. map placed_key (if t then p ∷ filter (is_on board) ps else filter (is_on board) ps)) is ∙ rest
 
--- the keys of such picks on a board
 keys-on : (H : History) (minute number place : ℕ) (picks : List Pick) (b board : Name) → ArePlacedOn b picks
     → keys_in (is_on board) number minute place (map (take_of H minute) picks)
     ≡ (if same b board then map (λ k. (number, k)) (range_with_len place (length picks)) else [])
@@ -90,7 +87,6 @@ keys-on H minute number place (p ∷ ps) b board ((d, m, s, is), all) =
 
 -- ---- scraps and counts
 
--- the keys of picks that are thrown away
 keys-scrapped : (test : Placement → Bool) (H : History) (minute number : ℕ) (pieces : Name → ℕ) (machine slot : Name) (reels : List Name) (n place : ℕ)
     → keys_in test number minute place (map (take_of H minute) (scrap_picks pieces (Rejected machine slot) reels n)) ≡ []
 keys-scrapped test H minute number pieces machine slot [] n place = refl
@@ -105,7 +101,6 @@ keys-scrapped test H minute number pieces machine slot (r ∷ rs) n place = by (
     by true rest = rest (place + 1)
     by false rest = rest place
 
--- the keys of picks that a count shows missing
 keys-counted : (test : Placement → Bool) (H : History) (minute number : ℕ) (pieces : Name → ℕ) (rows : List CountRow) (place : ℕ)
     → keys_in test number minute place (map (take_of H minute) (count_picks pieces rows)) ≡ []
 keys-counted test H minute number pieces [] place = refl
@@ -121,7 +116,6 @@ keys-counted test H minute number pieces (row ∷ rows) place = by (nat_lt 0 (pi
 
 -- ---- any command
 
--- The keys that a command adds on a board are those of its install there.
 pub keys-installed : (H : History) (minute number count : ℕ) (board : Name) (command : Command) → count ≡ length (takes_by H minute command)
     → keys_in (λ p. same p.board board) number minute 1 (takes_by H minute command) ≡ install_keys board command (record { number = number; pieces = count })
 keys-installed H minute number count board (MaterialsInstalled machine b designators) is =

@@ -11,11 +11,9 @@ use Rattle.desk_types.specs.Placements.{entry_takes, takes_of, placement_of, pla
 use Rattle.trace_lists.specs.Lists.{Key, keys_where}
 use Rattle.trace_lists.specs.Noting.{keys_in}
 
--- the key of a placement
 abbrev pub placed_key : Placement → Key
 placed_key p = (p.number, p.place)
 
--- The keys after an entry are those before it, and then its own.
 pub keys-accepted : (test : Placement → Bool) (H : History) (s : Stamped)
     → keys_where test (accept H s) ≡ keys_where test H ++ keys_in test (entry_of H s).number (entry_of H s).effective 1 (takes_by H (entry_of H s).effective s.command)
 unfolding takes_of
@@ -24,7 +22,6 @@ keys-accepted test H s =
     ∙ ap (map placed_key) (filter-append test (placements_of H) (filter_map placement_of (entry_takes H (entry_of H s))))
     ∙ map-append placed_key (filter test (placements_of H)) (filter test (filter_map placement_of (entry_takes H (entry_of H s))))
 
--- The keys of the list are noted where those of one entry more are put to those before.
 pub keys-noted : (test : Placement → Bool) (H : History) (s : Stamped) (number : ℕ) (takes : List Take) (old new : List Key)
     → new ≡ old ++ keys_in test number (entry_of H s).effective 1 takes → old ≡ keys_where test H → number ≡ length H + 1 → takes ≡ takes_by H (entry_of H s).effective s.command
     → new ≡ keys_where test (accept H s)

@@ -7,29 +7,24 @@ use Rattle.desk_types.specs.declared.command.Stamped.{Stamped}
 use Rattle.desk_types.specs.History.{History, entry_of, accept}
 use Rattle.trace_lists.specs.Lists.{minute_of, minute_in}
 
--- the last of some elements
 get-last : (xs : List ℕ) (x : ℕ) → slice_get (xs ++ x ∷ []) (length xs) ≡ Some x
 get-last [] x = refl
 get-last (y ∷ ys) x = get-last ys x
 
--- the others
 get-other : (xs : List ℕ) (x i : ℕ) → i ≢ length xs → slice_get (xs ++ x ∷ []) i ≡ slice_get xs i
 get-other [] x zero other = absurd (other refl)
 get-other [] x (suc i) other = refl
 get-other (y ∷ ys) x zero other = refl
 get-other (y ∷ ys) x (suc i) other = get-other ys x i (λ is. other (ap suc is))
 
--- the minute of the number that comes next
 minute-last : (ms : List ℕ) (m number : ℕ) → number ≡ length ms + 1 → minute_in (ms ++ m ∷ []) number ≡ Some m
 minute-last ms m zero is = absurd (omega arith)
 minute-last ms m (suc n) is = let at : n ≡ length ms = omega arith in ap (slice_get (ms ++ m ∷ [])) at ∙ get-last ms m
 
--- that of another number
 minute-other : (ms : List ℕ) (m number : ℕ) → number ≢ length ms + 1 → minute_in (ms ++ m ∷ []) number ≡ minute_in ms number
 minute-other ms m zero other = refl
 minute-other ms m (suc n) other = get-other ms m n (λ is. other (omega (arith, is)))
 
--- The minutes after an entry.
 pub minutes-accepted : (H : History) (s : Stamped) (ms : List ℕ) (m : ℕ) → length ms ≡ length H → m ≡ (entry_of H s).effective
     → ((number : ℕ) → minute_in ms number ≡ minute_of H number) → (number : ℕ) → minute_in (ms ++ m ∷ []) number ≡ minute_of (accept H s) number
 minutes-accepted H s ms m count is before number = by (length H + 1 == number) refl
@@ -41,6 +36,5 @@ minutes-accepted H s ms m count is before number = by (length H + 1 == number) r
         let other : number ≢ length ms + 1 = λ same. eqb-false (length H + 1) number at (omega (arith, same, count)) in
         minute-other ms m number other ∙ before number
 
--- how many they are
 pub count-accepted : (H : History) (s : Stamped) (ms : List ℕ) (m : ℕ) → length ms ≡ length H → length (ms ++ m ∷ []) ≡ length (accept H s)
 count-accepted H s ms m count = omega (arith, length-append ms (m ∷ []), count)

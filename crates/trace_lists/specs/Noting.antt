@@ -1,4 +1,4 @@
--- What one entry puts into the lists: words for the code and its proof.
+-- The additions to the indexes from one entry.
 use Rattle.std.specs.Prelude.{ℕ, Bool, List, [], map, if◌then◌else◌}
 use Rattle.std.specs.List.{filter, filter_map, enumerate_from}
 use Rattle.desk_types.specs.declared.command.Command.{Command}
@@ -10,7 +10,7 @@ use Rattle.desk_types.specs.Placements.{placement_of}
 use Rattle.trace_lists.specs.declared.lists.Install.{Install}
 use Rattle.trace_lists.specs.Lists.{Key, keys_of_install}
 
--- the keys of an entry's placements that pass a test, where the first of its takes is in this place
+-- The keys of an entry's placements that pass a test, with its takes numbered from this place.
 abbrev pub keys_in : (Placement → Bool) → ℕ → ℕ → ℕ → List Take → List Key
 keys_in test number minute place takes =
     map (λ (p : Placement). (p.number, p.place)) (
@@ -18,7 +18,7 @@ keys_in test number minute place takes =
     filter_map placement_of (
     map (λ (place, take). record { number = number; place = place; effective = minute; take = take }) (enumerate_from place takes))))
 
--- the keys of the install, where the command is one on the board
+-- The keys of the install, if the command is one on the board.
 abbrev pub install_keys : Name → Command → Install → List Key
 install_keys board (MaterialsInstalled machine b designators) install = if same b board then keys_of_install install else []
 install_keys board command install = []

@@ -1,4 +1,4 @@
-//! Lists by names.
+//! Lists under names.
 
 ghost use Rattle.std.specs.Prelude.{◌≡◌, ◌++◌, ◌∷◌, [], if◌then◌else◌, OnOk};
 ghost use Rattle.desk_types.specs.Id.{Name, same};
@@ -9,7 +9,7 @@ use std::alloc::{AllocError, Global};
 use std::collections::BTreeMap;
 use std::marker::Model;
 
-/// What is kept under one name, the oldest first.
+/// The elements under one name, oldest first.
 #[derive(Drop)]
 pub struct Kept<T> {
     pub items: Vec<T>,
@@ -23,7 +23,7 @@ impl<T> Model for Kept<T> {
     ghost view = { λ a. a.items.items };
 }
 
-/// Sees to memory for so many things more under a name.
+/// Reserves memory for this many more elements under a name.
 pub fn make_room<T: Drop>(
     alloc: Global,
     map: &mut BTreeMap<Id, Kept<T>>,
@@ -42,7 +42,7 @@ pub fn make_room<T: Drop>(
     Ok(())
 }
 
-/// Puts a thing to the others of its name.
+/// Adds an element under its name.
 pub fn keep<T: Drop>(
     alloc: Global,
     map: &mut BTreeMap<Id, Kept<T>>,
@@ -63,7 +63,7 @@ pub fn keep<T: Drop>(
     Ok(())
 }
 
-/// What is kept under the name.
+/// Returns the elements under the name.
 pub fn kept_under<'a, T>(map: &'a BTreeMap<Id, Kept<T>>, name: &Id) -> &'a [T]
     ensures { result.now ≡ kept_at map.now name.now }
 {

@@ -1,6 +1,6 @@
-//! Where the placed pieces of a list are found: of each lot, of each board, and those of overdue reels;
-//! and the effective minute of each entry. They only say where to look: whoever reads a table by them
-//! looks at each row.
+//! Trace indexes of a history: the placed pieces of each lot, the installs on each board, the
+//! overdue pieces, and the effective minute of each entry. They only locate rows; readers check
+//! each row of the table.
 #![tactic(auto)]
 
 mod kept;

@@ -1,4 +1,4 @@
-//! The lists.
+//! The trace indexes.
 
 ghost use Rattle.std.specs.Prelude.{◌≡◌, ◌+◌, [], map, length, OnOk};
 ghost use Rattle.desk_types.specs.Id.{same};
@@ -12,23 +12,23 @@ use desk_types::{Change, Id, Minute};
 use std::alloc::{AllocError, Global};
 use std::collections::BTreeMap;
 
-/// A placed piece: the number of its entry, and its place in the message. Both count from 1.
+/// A placed piece's key: its entry's number and its place in the message, both from 1.
 #[derive(Clone, Copy, Debug, PartialEq, Eq)]
 pub struct PieceKey {
     pub number: u32,
     pub place: u32,
 }
 
-/// An install on a board: the number of its entry, and how many pieces it placed, in places from 1.
+/// An install on a board: its entry's number and how many pieces it placed, in places from 1.
 #[derive(Clone, Copy, Debug, PartialEq, Eq)]
 pub struct Install {
     pub number: u32,
     pub pieces: u32,
 }
 
-/// The placed pieces of each lot, the installs on each board, the placed pieces of reels whose floor
-/// life was used up, and the effective minutes of the entries; each list from the oldest on. A piece
-/// takes 8 bytes by its lot and 8 more where it is overdue, an install 8, and an entry 4.
+/// The placed pieces of each lot, the installs on each board, the overdue pieces, and the effective
+/// minutes of the entries, each oldest first. A piece takes 8 bytes in its lot and 8 more if it is
+/// overdue, an install 8, and an entry 4.
 #[derive(Drop)]
 pub struct TraceLists {
     alloc: Global,
@@ -39,7 +39,7 @@ pub struct TraceLists {
 }
 
 impl TraceLists {
-    /// The lists where nothing is accepted. Takes no memory.
+    /// Returns the indexes of an empty history. Takes no memory.
     pub fn new(alloc: Global) -> TraceLists
         ensures listed { IsListed result [] }
     {
@@ -52,7 +52,8 @@ impl TraceLists {
         }
     }
 
-    /// Takes the memory that noting the change will want. It lists what it listed, also after an `Err`.
+    /// Reserves the memory that `note` needs for the change. The contents stay the same, even after
+    /// an `Err`.
     pub fn reserve(&mut self, change: &Change) -> Result<(), AllocError>
         ensures same { (H : History) → IsListed self.old H → IsListed self.new H }
     {
@@ -64,7 +65,7 @@ impl TraceLists {
         Ok(())
     }
 
-    /// Notes the change, accepted under this number. After an `Err` nothing is known of the lists: drop
+    /// Adds a change accepted under this number. After an `Err` the contents are unknown: drop
     /// them.
     pub fn note(&mut self, number: u32, change: &Change) -> Result<(), AllocError>
         ensures listed { (H : History) → IsListed self.old H → number ≡ length H + 1
@@ -93,7 +94,7 @@ impl TraceLists {
         Ok(())
     }
 
-    /// The placed pieces of the lot.
+    /// Returns the placed pieces of the lot.
     pub fn of_lot(&self, lot: &Id) -> &[PieceKey]
         ensures listed { (H : History) → IsListed self.now H
             → map key_of result.now ≡ keys_where (λ p. same p.lot lot.now) H }
@@ -101,7 +102,7 @@ impl TraceLists {
         kept_under(&self.lots, lot)
     }
 
-    /// The installs on the board.
+    /// Returns the installs on the board.
     pub fn of_board(&self, board: &Id) -> &[Install]
         ensures listed { (H : History) → IsListed self.now H
             → keys_of_installs result.now ≡ keys_where (λ p. same p.board board.now) H }
@@ -109,14 +110,14 @@ impl TraceLists {
         kept_under(&self.boards, board)
     }
 
-    /// The placed pieces of reels whose floor life was used up.
+    /// Returns the overdue pieces.
     pub fn overdue(&self) -> &[PieceKey]
         ensures listed { (H : History) → IsListed self.now H → map key_of result.now ≡ keys_where (λ p. p.overdue) H }
     {
         self.overdue.as_slice()
     }
 
-    /// The effective minute of the entry of this number, where there is one.
+    /// Returns the effective minute of the entry with this number, if there is one.
     pub fn minute(&self, number: u32) -> Option<Minute>
         ensures listed { (H : History) → IsListed self.now H → result ≡ minute_of H number }
     {

@@ -1,9 +1,9 @@
-//! What an accepted change puts into the lists.
+//! The additions to the indexes from an accepted change.
 
-ghost use Rattle.std.specs.Prelude.{◌≡◌, ◌++◌, ◌&&◌, ◌∷◌, [], ℕ, if◌then◌else◌, map, length, OnOk};
+ghost use Rattle.std.specs.Prelude.{◌≡◌, ◌++◌, ◌&&◌, ◌∷◌, [], ℕ, if◌then◌else◌, map, length, All, OnOk};
 ghost use Rattle.desk_types.specs.Id.{Name, same};
 ghost use Rattle.desk_types.specs.Pieces.{is_placed};
-ghost use Rattle.trace_lists.specs.Lists.{kept_at, key_of, keys_of_installs};
+ghost use Rattle.trace_lists.specs.Lists.{HasPieces, kept_at, key_of, keys_of_installs};
 ghost use Rattle.trace_lists.specs.Noting.{keys_in, install_keys};
 
 use crate::kept::{Kept, keep, make_room};
@@ -12,7 +12,7 @@ use desk_types::{Command, Id, Purpose, Take};
 use std::alloc::{AllocError, Global};
 use std::collections::BTreeMap;
 
-/// Sees to memory for the install of a command.
+/// Reserves memory for a command's install.
 pub fn room_for_install(
     alloc: Global,
     boards: &mut BTreeMap<Id, Kept<Install>>,
@@ -26,8 +26,8 @@ pub fn room_for_install(
     Ok(())
 }
 
-/// Sees to memory for the pieces that are placed: for each lot, as if all of them were of it. Pieces
-/// that follow each other are mostly of one lot, and the look-up is made once for those.
+/// Reserves memory for the placed pieces, for each lot as if all were from it. Consecutive pieces
+/// are mostly from one lot and share one lookup.
 pub fn room_for_pieces(
     alloc: Global,
     lots: &mut BTreeMap<Id, Kept<PieceKey>>,
@@ -44,7 +44,6 @@ pub fn room_for_pieces(
     Ok(())
 }
 
-/// Whether a piece was placed.
 fn is_placed(take: &Take) -> bool
     ensures { result ≡ is_placed take.now.purpose }
 {
@@ -54,25 +53,30 @@ fn is_placed(take: &Take) -> bool
     }
 }
 
-/// Puts the install of a command to those on its board.
+/// Adds the install of a command to those on its board, if it placed any piece.
 pub fn note_install(
     alloc: Global,
     boards: &mut BTreeMap<Id, Kept<Install>>,
     command: &Command,
     install: Install,
 ) -> Result<(), AllocError>
-    ensures { (n : Name)
+    ensures keys { (n : Name)
         → OnOk result
         (keys_of_installs (kept_at boards.new n) ≡ keys_of_installs
         (kept_at boards.old n) ++ install_keys n command.now install) }
+    ensures pieces { (n : Name) → All HasPieces (kept_at boards.old n)
+        → OnOk result (All HasPieces (kept_at boards.new n)) }
 {
+    if install.pieces == 0 {
+        return Ok(());
+    }
     if let Command::MaterialsInstalled { board, .. } = command {
         keep(alloc, boards, board, install)?;
     }
     Ok(())
 }
 
-/// Puts the placed pieces to those of their lots, and the overdue ones to the others of their kind.
+/// Adds the placed pieces to their lots, and the overdue ones to the overdue list.
 pub fn note_pieces(
     alloc: Global,
     lots: &mut BTreeMap<Id, Kept<PieceKey>>,
@@ -100,7 +104,6 @@ pub fn note_pieces(
     Ok(())
 }
 
-/// Puts a placed piece to those of its lot, and to the overdue ones where it is one.
 fn note_piece(
     alloc: Global,
     lots: &mut BTreeMap<Id, Kept<PieceKey>>,

@@ -1,4 +1,4 @@
--- What is read of a report that is found.
+-- The records of a report that is found.
 use Rattle.std.proofs.Common.{◌≡◌, ◌∙◌, Bool, true, false, ℕ, Some, None, List, ◌∷◌, drop, sym, ap}
 use Rattle.std.specs.Prelude.{if◌then◌else◌}
 use Rattle.std.specs.Option.{option_map}
@@ -7,7 +7,6 @@ use Rattle.desk_types.specs.declared.placement.Placement.{Placement}
 use Rattle.report_texts.specs.Sets.{Fields}
 use Rattle.trace_reports.specs.Reports.{rows_below}
 
--- what is read of a report that is found are the rows of its pieces
 pub found-rows : (found : Bool) (text : List Placement → List ℕ) (header : Fields) (rows : List Placement → List Fields)
     → ((pieces : List Placement) → records default_config (text pieces) ≡ header ∷ rows pieces) → (ps : List Placement) (paper : List ℕ)
     → option_map text (if found then Some ps else None) ≡ Some paper → rows_below paper ≡ rows ps

@@ -1,11 +1,11 @@
--- The texts of the answers to reports that are not given.
+-- The texts of the answers when there is no report.
 use Rattle.std.specs.Prelude.{ℕ, List}
 use Rattle.cfx_profile.specs.Answer.{unavailable_text}
 use Rattle.report_texts.specs.NotFound.{not_found_text}
 use Rattle.trace_reports.specs.declared.fault.ReportFault.{ReportFault}
 use Rattle.trace_reports.specs.declared.fault.ReportFault.TheVariants.{NotFound, Unavailable}
 
--- the text of the answer to a fault
+-- The text of the answer to a fault.
 abbrev pub fault_text : ReportFault → List ℕ
 fault_text (NotFound kind) = not_found_text kind
 fault_text Unavailable = unavailable_text

@@ -1,4 +1,4 @@
--- The reports of a list.
+-- The reports on a history.
 use Rattle.std.specs.Prelude.{◌≡◌, ◌⊎◌, ℕ, Option, Some, None, List, drop, Result, Ok, Err}
 use Rattle.std.specs.Option.{option_map}
 use Rattle.csv.specs.Reading.{records, default_config}
@@ -13,32 +13,33 @@ use Rattle.report_texts.specs.declared.kind.Kind.{Kind}
 use Rattle.trace_reports.specs.declared.fault.ReportFault.{ReportFault}
 use Rattle.trace_reports.specs.declared.fault.ReportFault.TheVariants.{NotFound, Unavailable}
 
--- the trace of a board that some entry of the list started
+-- The trace of a board that some entry started.
 abbrev pub board_trace : TraceDetail → History → Name → Option (List ℕ)
 board_trace detail H board = option_map (board_text detail) (traced.board_trace H board)
 
--- the trace of a lot of which some entry of the list received a reel
+-- The trace of a lot with a received reel.
 abbrev pub lot_trace : TraceDetail → History → Name → Option (List ℕ)
 lot_trace detail H lot = option_map (lot_text detail) (traced.lot_trace H lot)
 
--- the pieces of the list that were placed past floor life, by number, then place
+-- The pieces placed past floor life, by number, then place.
 abbrev pub overdue_list : History → List ℕ
 overdue_list H = overdue_text (overdue_of H)
 
--- What a call answers: the report where there is one, and else that none of the kind is found. Unavailable may come in the place of either.
+-- The result of a call: the report if there is one, or that its subject is not found. Either may be Unavailable
+-- instead.
 abbrev pub Answers : Kind → Option (List ℕ) → Result (List ℕ) ReportFault → Type 0
 Answers kind (Some text) (Ok told) = told ≡ text
 Answers kind (Some text) (Err fault) = fault ≡ Unavailable
 Answers kind None (Ok told) = ⊥
 Answers kind None (Err fault) = (fault ≡ NotFound kind) ⊎ (fault ≡ Unavailable)
 
--- the same of a report that there always is
+-- The same for a report that always exists.
 abbrev pub AnswersAlways : List ℕ → Result (List ℕ) ReportFault → Type 0
 AnswersAlways text (Ok told) = told ≡ text
 AnswersAlways text (Err fault) = fault ≡ Unavailable
 
--- ---- the rows of traces
+-- ---- the records of traces
 
--- what `csv` reads of the text of a report, below its header
+-- The records that `csv` reads from a report, below its header.
 abbrev pub rows_below : List ℕ → List Fields
 rows_below text = drop 1 (records default_config text)

@@ -1,4 +1,4 @@
-//! Why a report is not given.
+//! Why there is no report.
 
 ghost use Rattle.std.specs.Prelude.{◌≡◌, IfOk};
 ghost use Rattle.trace_reports.specs.Answer.{fault_text};
@@ -9,12 +9,12 @@ use line_schema::Unavailable;
 use report_texts::{Kind, not_found_text};
 use std::alloc::{AllocError, Global};
 
-/// Why a report is not given.
+/// Why there is no report.
 #[derive(Clone, Copy, Debug, PartialEq, Eq)]
 pub enum ReportFault {
-    /// The list knows none of this kind by that name.
+    /// The history has nothing of this kind and name.
     NotFound(Kind),
-    /// Memory was refused, or the database failed. The list is as before, and the call may be made again.
+    /// Memory was refused, or the database failed. The history is unchanged, and the call may be repeated.
     Unavailable,
 }
 
@@ -41,7 +41,7 @@ impl From<Unavailable> for ReportFault {
 }
 
 impl ReportFault {
-    /// The text of the answer to the fault, as `{"Answer":"NotFound","Kind":"Lot"}`.
+    /// Returns the text of the answer to the fault, such as `{"Answer":"NotFound","Kind":"Lot"}`.
     pub fn write_text(&self, alloc: Global) -> Result<Text, AllocError>
         ensures { IfOk result (λ text. text ≡ fault_text self.now) }
     {

@@ -1,4 +1,4 @@
-//! A law of the reports. It is for proofs, and does nothing when it runs.
+//! A law of the reports. It serves proofs and does nothing when it runs.
 
 ghost use Rattle.std.specs.Prelude.{◌≡◌, ◌↔◌, ◌∷◌, [], Contains, Some, List, ℕ};
 ghost use Rattle.desk_types.specs.Id.{Name};
@@ -6,10 +6,8 @@ ghost use Rattle.desk_types.specs.History.{History};
 ghost use Rattle.desk_types.specs.declared.trace_detail.TraceDetail.TheVariants.{One, Two, Three};
 ghost use Rattle.trace_reports.specs.Reports.{board_trace, lot_trace, rows_below};
 
-/// The traces of one list are converse on paper. Of a board and a lot that are found, what `csv` reads of
-/// detail 2 of the board has a row with the lot exactly where that of detail 1 of the lot has the board, and
-/// detail 3 of the one has a reel of a part exactly where detail 3 of the other has it. This holds of every
-/// list.
+/// The printed traces of one history agree in both directions, for a board and a lot that are found. Holds for every
+/// history.
 pub fn reports_are_converse()
     ensures lots { (H : History) (board lot : Name) (on of : List ℕ) → board_trace Two H board ≡ Some on
         → lot_trace One H lot ≡ Some of

@@ -1,7 +1,7 @@
-//! Traces, cards and lists of a line's store, as texts of CSV.
+//! Traces, cards and lists of a line's store, as CSV texts.
 //!
-//! `specs/Reports.antt` says what each report is over the list of accepted commands. No report changes
-//! that list or the tables; those of a desk see to it first that the desk is at hand.
+//! `specs/Reports.antt` defines each report over the history. No report changes the history or its tables. A report
+//! that needs the desk loads it first.
 #![tactic(auto)]
 
 mod fault;

@@ -10,10 +10,11 @@ ghost use Rattle.report_texts.specs.declared.kind.Kind.TheVariants as Kind;
 ghost use Rattle.trace_reports.specs.Reports.{Answers};
 
 use crate::fault::ReportFault;
-use desk_types::{Boards, Desk, Id, Text};
+use desk_types::{Boards, Id, Text};
 use line_schema::LineStore;
 use report_texts::Kind;
 use sqlite::Alter;
+use state_rows::KeepsRows;
 use std::alloc::Global;
 
 fn or_not_found(text: Option<Text>, kind: Kind) -> Result<Text, ReportFault>
@@ -25,9 +26,9 @@ fn or_not_found(text: Option<Text>, kind: Kind) -> Result<Text, ReportFault>
     }
 }
 
-/// The card of a reel: what was received of it, where its pieces went, and its floor life at the desk
-/// minute. It is not found where no such reel was received.
-pub fn reel_card<S: Alter, D: Desk + Drop>(
+/// Returns the card of a reel: its received pieces, where they went, and its floor life at the desk minute. It is not
+/// found if no such reel was received.
+pub fn reel_card<S: Alter, D: KeepsRows + Drop>(
     alloc: Global,
     store: &mut LineStore<S, D>,
     reel: &Id,
@@ -44,9 +45,9 @@ pub fn reel_card<S: Alter, D: Desk + Drop>(
     or_not_found(report_texts::reel_card(alloc, desk, reel)?, Kind::Reel)
 }
 
-/// The live reels of a machine's slots, by slot and then by position. It is not found where no sheet
-/// names the machine.
-pub fn slot_list<S: Alter, D: Desk + Drop>(
+/// Returns the live reels of a machine's slots, by slot and then by position. It is not found if no sheet names the
+/// machine.
+pub fn slot_list<S: Alter, D: KeepsRows + Drop>(
     alloc: Global,
     store: &mut LineStore<S, D>,
     machine: &Id,
@@ -66,9 +67,9 @@ pub fn slot_list<S: Alter, D: Desk + Drop>(
     )
 }
 
-/// The reels to bring for so many boards of a product on a machine. It is not found where the product
-/// has no sheet there.
-pub fn kit_list<S: Alter, D: Desk + Drop>(
+/// Returns the reels to bring for this number of boards of a product on a machine. It is not found if the product has
+/// no sheet there.
+pub fn kit_list<S: Alter, D: KeepsRows + Drop>(
     alloc: Global,
     store: &mut LineStore<S, D>,
     product: &Id,

@@ -6,14 +6,15 @@ ghost use Rattle.report_texts.specs.declared.kind.Kind.TheVariants as Kind;
 ghost use Rattle.trace_reports.specs.Reports.{board_trace, lot_trace, overdue_list, Answers, AnswersAlways};
 
 use crate::fault::ReportFault;
-use desk_types::{Desk, Id, Text, TraceDetail};
+use desk_types::{Id, Text, TraceDetail};
 use line_schema::LineStore;
 use report_texts::{Kind, board_text, lot_text, overdue_text};
 use sqlite::Alter;
+use state_rows::KeepsRows;
 use std::alloc::Global;
 
-/// The trace of a board: what is on it. It is not found where no accepted command started the board.
-pub fn board_trace<S: Alter, D: Desk + Drop>(
+/// Returns the trace of a board: its pieces. It is not found if no accepted command started the board.
+pub fn board_trace<S: Alter, D: KeepsRows + Drop>(
     alloc: Global,
     store: &mut LineStore<S, D>,
     board: &Id,
@@ -29,9 +30,9 @@ pub fn board_trace<S: Alter, D: Desk + Drop>(
     Ok(board_text(alloc, detail, pieces.as_slice())?)
 }
 
-/// The trace of a lot: which boards hold its pieces. It is not found where no accepted command received
-/// a reel of the lot.
-pub fn lot_trace<S: Alter, D: Desk + Drop>(
+/// Returns the trace of a lot: the boards that hold its pieces. It is not found if no accepted command received a reel
+/// of the lot.
+pub fn lot_trace<S: Alter, D: KeepsRows + Drop>(
     alloc: Global,
     store: &mut LineStore<S, D>,
     lot: &Id,
@@ -47,9 +48,9 @@ pub fn lot_trace<S: Alter, D: Desk + Drop>(
     Ok(lot_text(alloc, detail, pieces.as_slice())?)
 }
 
-/// The pieces that were placed off reels whose floor life was used up, by number, then place, with the
-/// effective minutes of their installs.
-pub fn overdue_list<S: Alter, D: Desk + Drop>(
+/// Returns the pieces placed from reels whose floor life was used up, by number, then place, with the effective minutes
+/// of their installs.
+pub fn overdue_list<S: Alter, D: KeepsRows + Drop>(
     alloc: Global,
     store: &mut LineStore<S, D>,
 ) -> Result<Text, ReportFault>

@@ -1,4 +1,4 @@
--- A run that the words ask for.
+-- A run that the arguments ask for.
 use Rattle.std.proofs.Common.{◌≡◌, ◌⊎◌, ℕ, List, Option, None, Some, subst, inl, inr}
 use Rattle.sqlite_disk.specs.declared.Disk as disk
 use Rattle.desk_types.specs.declared.wire.Wire.{Wire}
@@ -19,19 +19,16 @@ use Rattle.desk_commands.specs.Runs.{HasNoDesk, LeavesDesk, LeavesFile, ServesEa
 use Rattle.tracedesk.specs.Program.{Names, NamesDesk, NamesMigrated, RunsImport, RunsReport, RunsServing}
 use Rattle.tracedesk.specs.Ways.{Ways}
 
--- an import was answered on the desk of the file that the words name, by the file at this path
 pub runs_import : (ways : Ways) (words : List (List ℕ)) (Fact : Import → List ℕ → Ledger → History → Type 0) (file : List ℕ) (import : Import) (from path : List ℕ)
     → AsksForImport words file import from → path ≡ from → ways.Runs None (Fact import path) → RunsImport ways words Fact
 runs_import ways words Fact file import from path asks is runs =
     (file, import, from, asks, subst (λ (at : List ℕ). ways.Runs None (Fact import at)) is runs)
 
--- a report was told by the desk of the file that the words name, at this target
 pub runs_report : (ways : Ways) (words : List (List ℕ)) (Shown : Told → Type 0) (file target path : List ℕ) (answer : Told)
     → AsksForReport words file target → path ≡ target → Shown answer → ways.Runs None (AnswersReport report_of path answer) → RunsReport ways words Shown
 runs_report ways words Shown file target path answer asks is shown runs =
     (file, target, asks, answer, shown, subst (λ (at : List ℕ). ways.Runs None (AnswersReport report_of at answer)) is runs)
 
--- connections were served by the desk of the file that the words name, with this exit status
 pub runs_serving : {W : Type 0} (ways : Ways) (words : List (List ℕ)) (serves : ℕ → List Exchange → Type 0) (contents : W → Option (List ℕ)) (output output' : Wire W)
     (file : List ℕ) (port connections greatest status told : ℕ) → AsksForServing words file port connections greatest → status ≡ told
     → (exchanges : List Exchange) × TellsConnections connections (ends_of exchanges) status (contents (inner_of output)) (contents (inner_of output')) (failures_of output) (failures_of output') × serves port exchanges × ways.Runs (Some greatest) (ServesEach exchanges)
@@ -40,13 +37,11 @@ runs_serving ways words serves contents output output' file port connections gre
     let all = subst (λ (n : ℕ). (exchanges : List Exchange) × TellsConnections connections (ends_of exchanges) n (contents (inner_of output)) (contents (inner_of output')) (failures_of output) (failures_of output') × serves port exchanges × ways.Runs (Some greatest) (ServesEach exchanges)) is served in
     (file, port, connections, greatest, asks, all.0, all.1, all.2, all.3)
 
--- a command that had no desk is a run that has none
 pub has_none : (IsRefused IsRefused' : OpenFault → Type 0) (IsLeft IsLeft' : Type 0) (Told : List ℕ → Type 0) → ((fault : OpenFault) → IsRefused fault → IsRefused' fault) → (IsLeft → IsLeft')
     → HasNoDesk IsRefused IsLeft Told → HasNoDesk IsRefused' IsLeft' Told
 has_none IsRefused IsRefused' IsLeft IsLeft' Told refused left (inl (fault, is, told)) = inl (fault, refused fault is, told)
 has_none IsRefused IsRefused' IsLeft IsLeft' Told refused left (inr (is, told)) = inr (left is, told)
 
--- what a command leaves is what the words name
 pub names_desk : {D : Type 0} {g : disk.Ghosts D} (words : List (List ℕ)) (it : Left D g) → LeavesDesk it → NamesDesk words → Names words it
 names_desk words left.Nothing leaves names = tt
 names_desk words (left.Desk d) leaves names = names

@@ -1,4 +1,4 @@
--- The table of a run, of what it has open and of the files that it closed.
+-- The table of a run, by its open files and by the files that it closed.
 use Rattle.std.proofs.Common.{◌≡◌, ◌≢◌, ◌⊎◌, ◌≤◌, ◌+◌, ℕ, true, false, zero, suc, List, Option, None, Some, OnSome, refl, sym, ap, subst, inl, inr, arith}
 use Rattle.std.specs.Io.KnownBytes.{Appends}
 use Rattle.sqlite_disk.specs.declared.Disk as disk
@@ -25,7 +25,7 @@ use Rattle.tracedesk.specs.Program.{Bad, Done, Ends, Failed, ImportUnread, Names
 use Rattle.tracedesk.specs.Ways.{Ways, ways_when_closed, ways_when_open}
 use Rattle.tracedesk.proofs.AskedRuns.{has_none}
 
--- what holds of the one holds of the other
+-- A fact about the first is a fact about the second.
 pub record Follows (ways ways' : Ways) : Type 1 where
   pub none : ways.OpensNone → ways'.OpensNone
   pub runs : (make : Option ℕ) (Fact : Ledger → History → Type 0) → ways.Runs make Fact → ways'.Runs make Fact
@@ -34,7 +34,6 @@ pub record Follows (ways ways' : Ways) : Type 1 where
   pub refuses : (make : Option ℕ) (fault : OpenFault) → ways.Refuses make fault → ways'.Refuses make fault
   pub refuses_to_migrate : (fault : OpenFault) → ways.RefusesToMigrate fault → ways'.RefusesToMigrate fault
 
--- the files tell what was open
 pub follows : {T D : Type 0} {g : disk.Ghosts D} (how : Close) (first : start.Ghosts T) (it : Left D g) (files : Option (Files D)) → ClosesLeft how it files → Follows (ways_when_open first it) (ways_when_closed how first g files)
 follows how first it files closed = record {
   none = λ is. subst (λ (l : Left _ _). ClosesLeft how l files) is closed;
@@ -45,7 +44,6 @@ follows how first it files closed = record {
   refuses_to_migrate = λ fault. refuses_to_migrate first how it files fault closed;
 }
 
--- files were opened only where the words name one
 pub names_file : {D : Type 0} {g : disk.Ghosts D} (how : Close) (words : List (List ℕ)) (it : Left D g) (files : Option (Files D)) → ClosesLeft how it files → Names words it → OnSome files (NamesFile words)
 names_file how words left.Nothing files closed names = subst (λ (o : Option (Files _)). OnSome o (NamesFile words)) (sym closed) tt
 names_file how words (left.Desk d) None closed names = tt
@@ -55,7 +53,6 @@ names_file how words (left.Migrated conn) (Some f) closed names = inr names
 names_file how words (left.Refused r) None closed names = tt
 names_file how words (left.Refused r) (Some f) closed names = names
 
--- a status is one of five
 pub one_of_five : (n : ℕ) → n ≤ 4 → (n ≡ 0) ⊎ (n ≡ 1) ⊎ (n ≡ 2) ⊎ (n ≡ 3) ⊎ (n ≡ 4)
 one_of_five zero most = inl refl
 one_of_five (suc zero) most = inr (inl refl)
@@ -122,7 +119,6 @@ module _ {R W E : Type 0} (ways ways' : Ways) (to : Follows ways ways') (holds :
   failed (inr (inl (in_same, out_same, told, import))) = inr (inl (in_same, out_same, told, unread import))
   failed (inr (inr (in_same, told, serves))) = inr (inr (in_same, told, served 4 serves))
 
-  -- whatever the status is
   pub ends : (status : ℕ) → status ≤ 4 → (status ≡ 0 → Done ways holds may_fail serves reads writes tells words input input' output output' errors errors')
       → (status ≡ 1 → Refused ways holds may_fail serves reads writes tells words input input' output output' errors errors') → (status ≡ 2 → Bad ways holds may_fail serves reads writes tells words input input' output output' errors errors')
       → (status ≡ 3 → NoDesk ways holds may_fail serves reads writes tells words input input' output output' errors errors') → (status ≡ 4 → Failed ways holds may_fail serves reads writes tells words input input' output output' errors errors')
@@ -135,7 +131,7 @@ module _ {R W E : Type 0} (ways ways' : Ways) (to : Follows ways ways') (holds :
     | inr (inr (inr (inr is))) ↦ inr (inr (inr (inr (is, failed (is_failed is)))))
   ]
 
--- ---- what is told
+-- ---- printed texts
 
 one_more : {A B : Type 0} (before after : ℕ) → ((after ≡ before) × A) ⊎ ((after ≡ before + 1) × B) → after ≤ before + 1
 one_more before after (inl all) = let same = all.0 in omega (arith, same)
@@ -161,7 +157,6 @@ module _ {R W E : Type 0} (ways : Ways) (holds : List ℕ → Option (List ℕ))
   failed_few (inr (inl unread)) = one_more (failures_of errors) (failures_of errors') unread.2
   failed_few (inr (inr serves)) = end_few serves.1
 
-  -- at most one write to standard error failed
   pub few : (status : ℕ) → status ≤ 4 → ((status ≡ 0) ⊎ (status ≡ 1) → errors' ≡ errors) → (status ≡ 2 → Bad ways holds may_fail serves reads writes tells words input input' output output' errors errors')
       → (status ≡ 3 → NoDesk ways holds may_fail serves reads writes tells words input input' output output' errors errors') → (status ≡ 4 → Failed ways holds may_fail serves reads writes tells words input input' output output' errors errors')
       → failures_of errors' ≤ failures_of errors + 1

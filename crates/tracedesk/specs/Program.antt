@@ -1,4 +1,4 @@
--- What a run of the program does.
+-- The effect of a run of the program.
 use Rattle.std.specs.Prelude.{◌≡◌, ◌≢◌, ◌<◌, ℕ, ◌⊎◌, ⊤, List, Option, Some, None, true, false}
 use Rattle.std.specs.Io.KnownBytes.{Appends}
 use Rattle.sqlite_disk.specs.declared.Disk as disk
@@ -30,57 +30,60 @@ use Rattle.desk_commands.specs.declared.left.Left.TheVariants as left
 use Rattle.desk_commands.specs.Runs.{HasNoDesk, ServesEach, fresh}
 use Rattle.tracedesk.specs.Ways.{Ways}
 
--- the words ask to answer lines, and that was done: on a new desk in memory, or on the one of a file
+-- The arguments ask to answer lines, and that was done: on a new desk in memory, or on that of a file.
 abbrev pub RunsAsked : Ways → List (List ℕ) → (Ledger → History → Type 0) → Type 0
 RunsAsked ways words Fact =
     ((greatest : ℕ) × AsksForFeed words None greatest × (H : History) × IsConsistent H × Fact (fresh greatest) H)
     ⊎ ((file : List ℕ) × (greatest : ℕ) × AsksForFeed words (Some file) greatest × ways.Runs (Some greatest) Fact)
 
--- the words ask for an import, and this was done of it, on the desk of the file that they name
+-- The arguments ask for an import, and it was answered in this way, on the desk of the file that they name.
 abbrev pub RunsImport : Ways → List (List ℕ) → (Import → List ℕ → Ledger → History → Type 0) → Type 0
 RunsImport ways words Fact =
     (file : List ℕ) × (import : Import) × (from : List ℕ) × AsksForImport words file import from × ways.Runs None (Fact import from)
 
--- the words ask to serve connections at a port, and these were served there on the desk of the file that the words name, with this exit status: what is told of each is on the output
+-- The arguments ask to serve connections at a port. These were served there on the desk of the file that the arguments
+-- name, with this exit status and a line for each on the output.
 abbrev pub RunsServing : {W : Type 0} → Ways → List (List ℕ) → (ℕ → List Exchange → Type 0) → (W → Option (List ℕ)) → Wire W → Wire W → ℕ → Type 0
 RunsServing ways words serves contents output output' status =
     (file : List ℕ) × (port : ℕ) × (connections : ℕ) × (greatest : ℕ) × AsksForServing words file port connections greatest
     × (exchanges : List Exchange) × TellsConnections connections (ends_of exchanges) status (contents (inner_of output)) (contents (inner_of output')) (failures_of output) (failures_of output')
     × serves port exchanges × ways.Runs (Some greatest) (ServesEach exchanges)
 
--- the words ask for a report, and this was answered by the list of the desk of the file that they name
+-- The arguments ask for a report, and it was answered in this way by the history of the desk of the file that they
+-- name.
 abbrev pub RunsReport : Ways → List (List ℕ) → (Told → Type 0) → Type 0
 RunsReport ways words Shown =
     (file : List ℕ) × (target : List ℕ) × AsksForReport words file target
     × (answer : Told) × Shown answer × ways.Runs None (AnswersReport report_of target answer)
 
--- the words ask for an import of a file that may fail to be read, and the list stays
+-- The arguments ask for an import of a file that may fail to be read, and the history is unchanged.
 abbrev pub ImportUnread : Ways → List (List ℕ) → (List ℕ → Type 0) → Type 0
 ImportUnread ways words may_fail = (file : List ℕ) × (import : Import) × (from : List ℕ) × AsksForImport words file import from × may_fail from × ways.Runs None StaysSame
 
--- the words name a file whose desk is opened
+-- The arguments name a file whose desk is opened.
 abbrev pub NamesDesk : List (List ℕ) → Type 0
 NamesDesk words = (file : List ℕ) × (AsksForAudit words file ⊎ ((greatest : ℕ) × AsksForFeed words (Some file) greatest)
     ⊎ ((import : Import) × (from : List ℕ) × AsksForImport words file import from)
     ⊎ ((port : ℕ) × (connections : ℕ) × (greatest : ℕ) × AsksForServing words file port connections greatest)
     ⊎ ((target : List ℕ) × AsksForReport words file target))
 
--- they name one that is migrated
+-- The arguments name a file that is migrated.
 abbrev pub NamesMigrated : List (List ℕ) → Type 0
 NamesMigrated words = (file : List ℕ) × AsksForMigration words file
 
--- they name a file that keeps a desk
+-- The arguments name a desk's file.
 abbrev pub NamesFile : List (List ℕ) → Type 0
 NamesFile words = NamesDesk words ⊎ NamesMigrated words
 
--- what is left open is what the words name
+-- The open file is the one that the arguments name.
 abbrev pub Names : {D : Type 0} {g : disk.Ghosts D} → List (List ℕ) → Left D g → Type 0
 Names words left.Nothing = ⊤
 Names words (left.Desk d) = NamesDesk words
 Names words (left.Migrated conn) = NamesMigrated words
 Names words (left.Refused r) = NamesFile words
 
--- the file that the words name was refused for this fault, where a desk may be made, or none, or by a migration
+-- The file that the arguments name was refused for this fault: by a run that may make a desk, by one that may not, or
+-- by a migration.
 abbrev pub RefusesNamed : Ways → List (List ℕ) → OpenFault → Type 0
 RefusesNamed ways words fault =
     ((file : List ℕ) × (greatest : ℕ) × AsksForFeed words (Some file) greatest × ways.Refuses (Some greatest) fault)
@@ -90,23 +93,26 @@ RefusesNamed ways words fault =
     ⊎ ((file : List ℕ) × AsksForAudit words file × ways.Refuses None fault)
     ⊎ ((file : List ℕ) × AsksForMigration words file × ways.RefusesToMigrate fault)
 
--- ---- how a run ends
+-- ---- the end of a run
 
--- The table of a run, a paragraph for each exit status and a row for each command: its words, and what its wires were before it and after it. What it did to its files, `ways` says: of what it has open, or of the files that it closed. What a file of an import holds is `holds`, and whether reading it may fail `may_fail`; which connections there were on a port, `serves`; what a reader has left to give is `reads`, and what went out to a writer `writes`, as far as these are known.
+-- The table of a run, with a paragraph for each exit status and a row for each command: its arguments, and its wires
+-- before and after. `ways` is the effect on its files, by the open files or by those that it closed. `holds` gives the
+-- contents of an import's file, and `may_fail` whether reading it may fail. `serves` gives the connections on a port.
+-- `reads` is the rest of a reader and `writes` the bytes sent to a writer, as far as they are known.
 module _ {R W E : Type 0} (ways : Ways) (holds : List ℕ → Option (List ℕ)) (may_fail : List ℕ → Type 0) (serves : ℕ → List Exchange → Type 0) (reads : R → Option (List ℕ)) (writes : W → Option (List ℕ)) (tells : E → Option (List ℕ))
     (words : List (List ℕ)) (input input' : Wire R) (output output' : Wire W) (errors errors' : Wire E) where
-  -- this text went out; or only its first bytes did
+  -- This text was written, or only its first bytes were.
   abbrev pub Sent : List ℕ → Type 0
   Sent text = Appends (writes (inner_of output)) (writes (inner_of output')) text
 
   abbrev pub SentFront : List ℕ → Type 0
   SentFront text = SendsFront (writes (inner_of output)) (writes (inner_of output')) text
 
-  -- this line was told on standard error
+  -- This line was printed on standard error.
   abbrev pub ToldLine : List ℕ → Type 0
   ToldLine line = TellsLine tells errors errors' line
 
-  -- status 0, by command: all lines were answered and none of them refused; the audit counted; the file was migrated; the import was answered and not refused; a text went out; all connections were served and none of them was faulty; the report went out
+  -- Status 0: the command did everything that was asked, and nothing was refused.
   abbrev pub Done : Type 0
   Done = ((served : Served) × (served.refused ≡ 0) × RunsAsked ways words (AnswersAll reads writes input output output' served))
       ⊎ ((file : List ℕ) × AsksForAudit words file × (count : ℕ) × Sent (lawful_line count) × ways.Audits count)
@@ -116,23 +122,24 @@ module _ {R W E : Type 0} (ways : Ways) (holds : List ℕ → Option (List ℕ))
       ⊎ RunsServing ways words serves writes output output' 0
       ⊎ RunsReport ways words (λ answer. (code_of answer.status ≡ 200) × Sent (report_output answer))
 
-  -- status 1: some line was refused; the import was; some connection was faulty; there is no such report
+  -- Status 1: some line was refused; the import was; some connection was faulty; there is no such report.
   abbrev pub Refused : Type 0
   Refused = ((served : Served) × (0 < served.refused) × RunsAsked ways words (AnswersAll reads writes input output output' served))
       ⊎ RunsImport ways words (λ import from. AnswersImport writes output output' true import (holds from))
       ⊎ RunsServing ways words serves writes output output' 1
       ⊎ RunsReport ways words (λ answer. (code_of answer.status ≢ 200) × Sent (report_output answer))
 
-  -- status 2: the words ask for nothing that the program does, or an option of an import can't be read
+  -- Status 2: the arguments have no meaning, or an option of an import can't be read.
   abbrev pub Bad : Type 0
   Bad = (AsksForNothing words × (text : List ℕ) × told.Tells tells errors errors' text)
       ⊎ ((option : BadOption) × HasBadOption words option × ToldLine (option_line option))
 
-  -- status 3, nothing was read or sent: the file that the words name was refused, and its fault was told, or Unavailable in its place; or memory was refused, with no file open or with a desk whose list stays
+  -- Status 3: the file that the arguments name was refused, or memory was, and nothing was read or sent.
   abbrev pub NoDesk : Type 0
   NoDesk = ((input' ≡ input) × (output' ≡ output)) × HasNoDesk (RefusesNamed ways words) (ways.OpensNone ⊎ ways.Runs None StaysSame) ToldLine
 
-  -- status 4: a fault of the wires was told, and what went out before it is the beginning of what was to go out; or the file of an import could not be read, which may fail; or no further connection was served
+  -- Status 4: a read or a write failed, or the file of an import could not be read, or no further connection was
+  -- served.
   abbrev pub Failed : Type 0
   Failed = ((fault : ServeFault) × IsShown fault input input' output output' × ToldLine (fault_line fault)
       × ((LeavesNone (reads (inner_of input)) (reads (inner_of input')) fault × RunsAsked ways words (AnswersUpTo reads writes input output output' fault))
@@ -144,11 +151,12 @@ module _ {R W E : Type 0} (ways : Ways) (holds : List ℕ → Option (List ℕ))
       ⊎ ((input' ≡ input) × (output' ≡ output) × ToldLine (fault_line (ReadFault none_served)) × ImportUnread ways words may_fail)
       ⊎ ((input' ≡ input) × TellsEnd tells output output' errors errors' × RunsServing ways words serves writes output output' 4)
 
-  -- what a run did that ended with this status
+  -- The effect of a run that ended with this status.
   abbrev pub Ends : ℕ → Type 0
   Ends status = ((status ≡ 0) × Done) ⊎ ((status ≡ 1) × Refused) ⊎ ((status ≡ 2) × Bad) ⊎ ((status ≡ 3) × NoDesk) ⊎ ((status ≡ 4) × Failed)
 
--- The files could not be closed, and the status is 3: there was no desk; or Unavailable was told behind what was told of the run, and what it did stands.
+-- The files could not be closed, and the status is 3: there was no desk; or Unavailable was printed after the run's own
+-- texts, and its effects remain.
 abbrev pub Unclosed : {R W E : Type 0} → Ways → (List ℕ → Option (List ℕ)) → (List ℕ → Type 0) → (ℕ → List Exchange → Type 0) → (R → Option (List ℕ)) → (W → Option (List ℕ)) → (E → Option (List ℕ))
     → List (List ℕ) → Wire R → Wire R → Wire W → Wire W → Wire E → Wire E → Type 0
 Unclosed {E = E} ways holds may_fail serves reads writes tells words input input' output output' errors errors' =

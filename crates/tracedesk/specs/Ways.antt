@@ -1,4 +1,4 @@
--- What a run did to the desk in its files: said of what it has open, or of the files that it closed.
+-- The effect of a run on the desk in its files, by its open files or by those that it closed.
 use Rattle.std.specs.Prelude.{◌≡◌, ℕ, Option, None}
 use Rattle.sqlite_disk.specs.declared.Disk as disk
 use Rattle.sqlite_disk.specs.declared.Files.{Files}
@@ -12,20 +12,21 @@ use Rattle.desk_commands.specs.Runs as run
 use Rattle.desk_commands.specs.Closed.{Close, AuditsTo, MigratesTo, RefusesTo, RefusesToMigrateTo, RunsTo}
 
 pub record Ways : Type 1 where
-  -- no file was opened
+  -- No file was opened.
   pub OpensNone : Type 0
-  -- the run began with the list of its files, where a desk may be made up to this number, and this holds of that list and of the one after it
+  -- The run began with the history of its files, for which a desk may be made up to this number, and this relates that
+  -- history to the one after it.
   pub Runs : Option ℕ → (Ledger → History → Type 0) → Type 0
-  -- an audit found so many commands
+  -- An audit found this number of commands.
   pub Audits : ℕ → Type 0
-  -- a file of version 1 was made one of version 2
+  -- A file was migrated from version 1 to version 2.
   pub Migrates : Type 0
-  -- the files were refused for this fault, where a desk may be made up to this number
+  -- The files were refused for this fault by a run that may make a desk up to this number.
   pub Refuses : Option ℕ → OpenFault → Type 0
-  -- they were refused for it by a migration
+  -- A migration refused them for this fault.
   pub RefusesToMigrate : OpenFault → Type 0
 
--- of a run that has this open, in files that held this at first
+-- For a run with this open, in files with these initial contents.
 abbrev pub ways_when_open : {T D : Type 0} {g : disk.Ghosts D} → start.Ghosts T → Left D g → Ways
 ways_when_open first it = record {
   OpensNone = it ≡ left.Nothing;
@@ -36,7 +37,7 @@ ways_when_open first it = record {
   RefusesToMigrate = run.RefusesToMigrate first it;
 }
 
--- of a run that closed these files, whole or not
+-- For a run that closed these files, completely or not.
 abbrev pub ways_when_closed : {T D : Type 0} → Close → start.Ghosts T → disk.Ghosts D → Option (Files D) → Ways
 ways_when_closed how first g files = record {
   OpensNone = files ≡ None;

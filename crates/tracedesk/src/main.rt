@@ -1,5 +1,4 @@
-//! The program of the trace desk: what the words of its command line ask for, done on a desk in memory
-//! or in a file.
+//! The program of the trace desk: its arguments ask for a command on a desk in memory or in a file.
 #![tactic(auto)]
 
 mod program;

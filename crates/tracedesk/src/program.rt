@@ -27,11 +27,11 @@ use sqlite_disk::Disk;
 use std::alloc::AllocError;
 use std::io::{Read, Write};
 
-/// A whole run after the program's name: its exit status, and the files that it closed, for clauses to
-/// name. They go where they are dropped.
+/// Runs the program with these arguments. Returns the exit status, and the files that it closed, which clauses name and
+/// the caller drops.
 ///
-/// It is `open_run` and then the close of what that left open. Where the close fails the status is 3 and
-/// Unavailable is told, unless a fault was told with status 3 before; the answers stand.
+/// It is `open_run`, followed by the close of the file that was left open. If the close fails the status is 3 and
+/// Unavailable is printed, unless a fault was printed with status 3 before; the answers remain.
 pub fn whole_run<T: Start, F: Folder, C: Clients, R: Read, W: Write, E: Write>(
     rt: &HostRuntime,
     words: &[String],
@@ -93,7 +93,6 @@ pub fn whole_run<T: Start, F: Folder, C: Clients, R: Read, W: Write, E: Write>(
     }
 }
 
-/// Closes what a command left open: the files that were closed, or that could not be.
 fn close_run<T: Start>(
     left: Left<FileFrom<T>>,
 ) -> Result<Option<Files<FileFrom<T>>>, Option<Files<FileFrom<T>>>>
@@ -120,16 +119,7 @@ fn close_run<T: Start>(
     }
 }
 
-/// A run after the program's name: its exit status, and what it left open.
-///
-/// 0: done. 1: some line or request, or the import, was answered by a refusal, a connection failed, or
-/// there is no such report. 2: the command line is bad, and standard error says why, of an option of an
-/// import as `tracedesk: Bad id`. 3: the desk's file was refused, or memory was, outside of a message:
-/// `tracedesk: ` and the fault, with its number or its table after a space. 4: input or output failed,
-/// told as `tracedesk: Read`, `tracedesk: Write` or `tracedesk: TooManyReads`; Read also where the file
-/// of an import can't be opened or read, a port can't be had or no further connection be accepted.
-///
-/// Standard input is read by `feed` alone, and only `serve` asks for a port.
+/// Runs the program with these arguments. Returns the exit status, and the file that it left open.
 fn open_run<T: Start, F: Folder, C: Clients, R: Read, W: Write, E: Write>(
     rt: &HostRuntime,
     words: &[String],

@@ -20,8 +20,7 @@ use sqlite::Unknown;
 use std::io;
 use std::io::{ErrorKind, Read, Write};
 
-/// A whole run with the words behind the program's name: its exit status. It is `whole_run` on the
-/// files and ports of the system, and nothing else.
+/// Runs the program with its arguments on the files and ports of the system, by `whole_run`. Returns the exit status.
 pub fn program<R: Read, W: Write, E: Write>(
     rt: &HostRuntime,
     words: &[String],
@@ -56,12 +55,12 @@ pub fn program<R: Read, W: Write, E: Write>(
     status
 }
 
-/// The words behind the program's name.
+/// Returns the arguments after the program's name.
 pub fn words(rt: &HostRuntime) -> io::Result<Vec<String>> {
     Ok(words_behind_name(rt.alloc(), std::env::args(rt)?)?)
 }
 
-/// Tells why the words of the command line could not be had.
+/// Prints why the arguments could not be read.
 pub fn wordless<E: Write>(error: &io::Error, errors: &mut Wire<E>) -> u8
     requires error_failures { failures_of errors.old < 2 ^ 63 }
     ensures unavailable { error_kind error.now ≡ ErrorKind.OutOfMemory → result ≡ 3 }

@@ -1,4 +1,4 @@
-//! The files and the ports of the system. What they hold and bring is not known before it is read.
+//! The files and the ports of the system. Their contents are not known before they are read.
 
 use desk_import::{Folder, Unread, read_file};
 use desk_runs::{Clients, NoClient};
@@ -62,8 +62,8 @@ impl Clients for SystemClients<'_> {
         }
     }
 
-    /// What is written goes out at once: an answer is a head and then a body, and the second would
-    /// else wait for the client to tell of the first.
+    /// Sends writes at once. An answer is a head and then a body, and the body would otherwise wait until the client
+    /// acknowledges the head.
     fn accept(&mut self) -> Result<(TcpStream, TcpStream), NoClient> {
         let Some(listener) = &self.listener else {
             return Err(NoClient);

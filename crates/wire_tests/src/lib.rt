@@ -1,5 +1,5 @@
-//! What no clause says of reading: how much a read takes. It stands here and not in `desk_feed`, since a
-//! crate with tests is proved once more with them.
+//! Tests of properties that no contract covers: how much a read and a write move, and that a failure is reported at
+//! once. They are a crate of their own, since a crate with tests is proved twice.
 #![tactic(auto)]
 
 #[cfg(test)]

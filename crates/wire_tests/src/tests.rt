@@ -1,14 +1,17 @@
-//! How much a read takes, under an owner of no list.
+//! The bytes that reads and writes move, and the result of `feed` after a failed read or write.
+
+mod failing;
+mod lengths;
+mod lines;
 
 use desk_answers::{Answer, Owner};
 use desk_feed::feed;
 use desk_types::{Stamped, Wire};
-use std::test::Fail;
+use served::{ServeFault, Served};
+use std::alloc::Global;
+use std::io::{Read, Write};
 
-const PART: &str =
-    "{\"MessageName\":\"TraceDesk.PartDefined\",\"UniqueID\":\"u1\",\"Source\":\"S\",\"TimeStamp\":\"1970-01-01T00:00:00Z\",\"MessageBody\":{\"PartNumber\":\"P\"}}\n";
-
-/// An owner that stands for no list: it answers each command that the desk is full.
+/// An owner that represents no history: it answers each command with DeskFull.
 #[derive(Drop)]
 struct Full;
 
@@ -28,17 +31,23 @@ impl Owner for Full {
     fn is_lawful(&self) {}
 }
 
-/// 1,000 messages are some 140,000 bytes. A read takes a block of 65,536 bytes, and one more read
-/// finds the end.
-#[test]
-fn reads_take_blocks(rt: HostRuntime) -> Result<(), Fail> {
-    let mut text = Vec::new(rt.alloc());
-    for _ in 0..1_000 {
-        text.extend_from_slice(PART.as_bytes())?;
+/// The result of a run of `feed` over a reader and a writer.
+#[derive(Drop)]
+struct Fed<R, W> {
+    input: R,
+    output: W,
+    reads: u64,
+    ended: Result<Served, ServeFault>,
+}
+
+fn run_feed<R: Read + Drop, W: Write + Drop>(alloc: Global, input: R, output: W) -> Fed<R, W> {
+    let (mut input, mut output) = (Wire::new(input), Wire::new(output));
+    let ended = feed(alloc, &mut input, &mut output, &mut Full);
+    let reads = input.reads();
+    Fed {
+        input: input.into_inner(),
+        output: output.into_inner(),
+        reads,
+        ended,
     }
-    let mut input = Wire::new(text.as_slice());
-    let mut output = Wire::new(Vec::new(rt.alloc()));
-    let served = feed(rt.alloc(), &mut input, &mut output, &mut Full)?;
-    assert_eq!(rt; (served.answered, input.reads()), (1_000, 4));
-    Ok(())
 }

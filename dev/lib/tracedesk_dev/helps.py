@@ -55,8 +55,8 @@ def printed(words):
 
 def entries(lines):
     """A list in columns: a name, and behind two spaces what it is."""
-    found = [re.fullmatch(r" {2,6}(\S.*?)(?: {2,}(\S.*))?", line) for line in lines]
-    if None in found:
+    found = [it for line in lines if (it := re.fullmatch(r" {2,6}(\S.*?)(?: {2,}(\S.*))?", line))]
+    if len(found) < len(lines):
         raise Unreadable(f"this is no list in columns: {lines}")
     return [Entry(re.sub("[<>]", "", it[1]), it[2] or "") for it in found]
 
@@ -67,7 +67,10 @@ def statuses(lines):
         return entries(lines)
     found = []
     for part in re.split(r"(?<=[.;]) (?=Of \S+: \d)", " ".join(" ".join(lines).split())):
-        of, counted = re.fullmatch(r"(?:(Of \S+:) )?(\d.*)", part).groups()
+        its = re.fullmatch(r"(?:(Of \S+:) )?(\d.*)", part)
+        if not its:
+            raise Unreadable(f"these are no statuses: {part}")
+        of, counted = its.groups()
         found += [of] if of else []
         found += [Entry(*it.split(" ", 1)) for it in re.split(r"; (?=\d )", counted.rstrip(".;"))]
     return found
@@ -80,7 +83,8 @@ def paragraphs(text):
 def read(words, name):
     """The help of a command, with that of its own commands."""
     summary, *parts = paragraphs(printed(words))
-    got, body = {it: [] for it in Help._fields[2:]}, []
+    got: dict = {it: [] for it in Help._fields[2:]}
+    body = []
     for lines in parts:
         head = lines[0].lower()
         if head in LISTS:
@@ -102,7 +106,8 @@ def read(words, name):
 def with_what_is_told(page):
     """What the paragraphs say of an option, in lines of columns, goes to the option: each has one text."""
     listed = {name: it for it in (*page.arguments, *page.options) for name in it.names}
-    told, body = {}, []
+    told: dict = {}
+    body = []
     for lines in page.body:
         of, left = None, []
         for line in lines:

@@ -101,7 +101,7 @@ def documents(folder):
 
 
 def html(page):
-    title = re.search(r"^# (.*)", page.read_text(encoding="utf-8"), re.M)[1]
+    title = next(line[2:] for line in page.read_text(encoding="utf-8").splitlines() if line.startswith("# "))
     words = ["pandoc", "--from", "gfm", "--to", "html5", "--no-highlight", "--standalone", "--self-contained", f"--resource-path={page.parent}",
              "--metadata", f"pagetitle={title}", "--include-in-header", ROOT / "packaging/style.html", page]
     made = subprocess.run(words, check=True, stdout=subprocess.PIPE, text=True).stdout

@@ -1,18 +1,6 @@
-#!/usr/bin/env python3
-"""Prints the path of the program that the tools use, and proves and builds it first where that is wanting.
-
-usage: dev/lib/tracedesk_dev/program.py             as in  "$(dev/lib/tracedesk_dev/program.py)" feed < examples/first-line.jsonl
-       dev/lib/tracedesk_dev/program.py --build     the repository's own program, whatever PROGRAM says     (make build)
-       dev/lib/tracedesk_dev/program.py --kit       prints nothing; looks whether the kit is here, for tools that only prove
-
-It is the file that PROGRAM in the environment names (so `make day PROGRAM=FILE`); without that,
-crates/tracedesk/out/tracedesk, where no file that it is built of is newer. Else that is proved and built, which wants
-Rattle's kit and takes some 40 minutes on four cores. Meanwhile standard error tells which crate is being proved and
-about how long the rest takes. The tools in Python ask `program.to_use`.
-
-Exit status: 0 done; 1 not proved; 2 there is no such program, or no kit to build one, and standard error says so.
+"""The program that the tools use: the file that PROGRAM in the environment names (so `make day PROGRAM=FILE`); without that,
+crates/tracedesk/out/tracedesk, where no file that it is built of is newer; else that is proved and built. Tools ask `to_use`.
 """
-import argparse
 import os
 import pathlib
 import re
@@ -150,9 +138,9 @@ def build():
     tell(f"{NAME}: proving and building the program, some 40 minutes on four cores; `make demo` shows it at work before that")
     progress, said, began = Progress(), [], time.time_ns()
     # rt runs what it built: once, for its help
-    words, how = ["rt", "run", "--", "--help"], {"stdin": subprocess.DEVNULL, "stdout": subprocess.DEVNULL}
-    with subprocess.Popen(words, cwd=CRATES / CRATE, stderr=subprocess.PIPE, errors="replace", **how) as building:
-        for line in building.stderr:
+    words = ["rt", "run", "--", "--help"]
+    with subprocess.Popen(words, cwd=CRATES / CRATE, stdin=subprocess.DEVNULL, stdout=subprocess.DEVNULL, stderr=subprocess.PIPE, errors="replace") as building:
+        for line in building.stderr or ():
             said.append(line)
             progress.hear(line)
     if building.returncode:
@@ -201,22 +189,3 @@ class Ticks:
         if time.monotonic() >= self.due:
             tell(f"  {text}")
             self.due = time.monotonic() + self.SECONDS
-
-
-def main():
-    reader = argparse.ArgumentParser(description=__doc__, formatter_class=argparse.RawDescriptionHelpFormatter, usage=argparse.SUPPRESS)
-    which = reader.add_mutually_exclusive_group()
-    which.add_argument("--build", action="store_true", help="the repository's own program, whatever PROGRAM says")
-    which.add_argument("--kit", action="store_true", help="look whether the kit is here")
-    asked = reader.parse_args()
-    if asked.kit:
-        want_kit()
-    else:
-        print(own() if asked.build else to_use())
-
-
-if __name__ == "__main__":
-    try:
-        main()
-    except KeyboardInterrupt:
-        sys.exit(130)

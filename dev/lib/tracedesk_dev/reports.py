@@ -104,7 +104,7 @@ def overdue_list(database):
     return csv_text("board,designator,reel,minute", database.execute(query))
 
 
-REPORTS = {
+REPORTS: dict = {
     "/trace/board": lambda base, board, detail: trace(base, "board", board, detail),
     "/trace/lot": lambda base, lot, detail: trace(base, "lot", lot, detail),
     "/reel": lambda base, reel: reel_card(base, reel),

@@ -1,6 +1,6 @@
 """A shift of a surface-mount line as the messages that its machines, its store, its oven and its host send.
 
-Used by dev/day, dev/faults/torture, dev/faults/damage, dev/bench/day and examples/plant. The same words give the same bytes.
+Used by dev/day, dev/faults/run kills, dev/faults/run damage, dev/bench/run day and examples/plant. The same words give the same bytes.
 
 A line has a chip shooter of 40 slots and a second machine of 38, and makes two products with one changeover. The
 day before, the host tells parts and sheets and the store receives reels. From 05:40 on reels are baked and loaded,
@@ -167,7 +167,7 @@ class Shift:
         old.open(self.minute)
         self.facts["expiring"] = old.name
         boards = len(self.serials)
-        needs = collections.Counter()
+        needs: collections.Counter = collections.Counter()
         for product, share in (("CTRL-A", 0.67), ("CTRL-B", 0.33)):
             for machine in self.machines:
                 for _slot, part, names in self.sheets[product, machine]:

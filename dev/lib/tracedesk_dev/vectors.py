@@ -2,23 +2,18 @@
 They were worked out by hand, and no program is run for them."""
 import base64
 import contextlib
-import importlib.machinery
-import importlib.util
 import io
 import json
 import pathlib
 import tempfile
 from typing import NamedTuple
 
-ROOT = pathlib.Path(__file__).resolve().parents[3]
+from tracedesk_dev import trial
 
 
 def tool_rows():
     """dev/rows as a module: it knows how a row's files are made, and how a request and an answer are spelled."""
-    loader = importlib.machinery.SourceFileLoader("tool_rows", str(ROOT / "dev/rows"))
-    module = importlib.util.module_from_spec(importlib.util.spec_from_loader("tool_rows", loader))
-    loader.exec_module(module)
-    return module
+    return trial.loaded("dev/rows")
 
 
 class Vector(NamedTuple):
@@ -171,7 +166,8 @@ def of_fresh_desk(step, is_fresh, rows, bytes_of):
 
 def exchanges(names=()):
     """All exchanges of rows, or of these, with a fresh desk, each once, in the order of their first rows."""
-    rows, found = tool_rows(), {}
+    rows = tool_rows()
+    found: dict = {}
     for folder in sorted(it.parent for it in rows.ROWS.glob("*/row.json")):
         if names and folder.name not in names:
             continue

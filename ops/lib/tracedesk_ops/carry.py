@@ -92,14 +92,14 @@ class Archive:
         ((self.commands, self.minute),) = rows("SELECT count(*), max(effective) FROM accepted")
         self.parts = [part for (part,) in rows("SELECT part FROM part ORDER BY part")]
         self.alternates = dict.fromkeys(rows("SELECT part, alternate FROM alternate ORDER BY part, alternate"))
-        self.sheets = {}
+        self.sheets: dict = {}
         for product, machine, slot, part, designators in rows(
                 "SELECT product, machine, slot, part, designators FROM sheet_row ORDER BY product, machine, place"):
             self.sheets.setdefault((product, machine), []).append((slot, part, designators.split(" ")))
         self.selected = dict(rows("SELECT machine, product FROM selected ORDER BY machine"))
         self.reels = {row[0]: Reel(*row) for row in rows(f"SELECT {COLUMNS} FROM reel WHERE remaining > 0 ORDER BY reel")}
         self.spent = {reel for (reel,) in rows("SELECT reel FROM reel WHERE remaining = 0")}
-        self.tapes = {}
+        self.tapes: dict = {}
         for machine, slot, reel in rows("SELECT machine, slot, reel FROM mount ORDER BY machine, slot, since"):
             self.tapes.setdefault((machine, slot), []).append(self.reels[reel])
         self.in_work = rows("SELECT machine, board FROM board WHERE machine <> '' ORDER BY machine")
@@ -299,8 +299,10 @@ def minute_of(text):
     """The minute of a time in UTC; an offset is taken off."""
     found = re.fullmatch(r"(\d{4}-\d\d-\d\d)[T ](\d\d:\d\d)(?::\d\d(?:\.\d+)?)?(Z|[+-]\d\d:\d\d)?", text)
     try:
+        if not found:
+            raise ValueError(text)
         moment = datetime.datetime.fromisoformat(f"{found[1]}T{found[2]}:00" + (found[3] or "Z").replace("Z", "+00:00"))
-    except (TypeError, ValueError):
+    except ValueError:
         raise argparse.ArgumentTypeError("a time is written as 2026-03-02T06:00:00Z")
     minute = (moment - EPOCH.replace(tzinfo=datetime.timezone.utc)) // datetime.timedelta(minutes=1)
     if minute < 0:

@@ -91,7 +91,7 @@ def read(path):
 
 
 def read_lines(path, rows):
-    lines = {}
+    lines: dict = {}
     try:
         if next(rows, None) != list(HEADER):
             raise CatalogueError(f"{path}, line 1: the header is not {','.join(HEADER)}")
@@ -174,7 +174,8 @@ def survey(path):
 
 
 def survey_text(path, text, rows):
-    lines, faults = {}, []
+    lines: dict = {}
+    faults = []
     try:
         if next(rows, None) != list(HEADER):
             return Survey(text, [], [f"{path}, line 1: the header is not {','.join(HEADER)}"])

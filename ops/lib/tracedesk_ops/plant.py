@@ -53,7 +53,7 @@ def tell(text):
 def write_out(text):
     """Prints what was asked for; where that fails, the end of the tool doesn't try it again."""
     try:
-        sys.stdout.reconfigure(errors="backslashreplace")
+        sys.stdout.reconfigure(errors="backslashreplace")  # type: ignore[attr-defined]
         sys.stdout.write(text)
         sys.stdout.flush()
     except OSError as fault:

@@ -1,4 +1,4 @@
-//! What the calls answer with ample memory, and what a desk is like where memory is refused.
+//! The results of the calls with ample memory, and of refused memory.
 
 use super::desks::run_new;
 use super::rows::{EACH_WORD, messages};
@@ -7,8 +7,7 @@ use desk_types::Rules;
 use look_back::PlainDesk;
 use std::test::Fail;
 
-/// A new desk has no entry. Each message is judged, and appended where it isn't refused. Where memory is
-/// refused, that is told. What the desk is like then, its clauses say.
+/// A new desk has no entry. Each message is judged, and appended unless it is refused. Refused memory is reported.
 #[test]
 fn a_command_is_accepted_or_memory_was_refused(rt: HostRuntime) -> Result<(), Fail> {
     let new = PlainDesk::new(rt.alloc());

@@ -1,5 +1,5 @@
-//! Two desks side by side: the one that searches its list, and the one that keeps the current state;
-//! and a third, which is made again of the rows after each message.
+//! Three desks: one that searches its history, one that keeps the current state, and one that is rebuilt from the rows
+//! after each message.
 
 ghost use Rattle.std.specs.Prelude.{◌≡◌, IfOk, OnOk};
 ghost use Rattle.desk_types.specs.declared.rules.Rules.TheVariants.{Two};
@@ -17,7 +17,6 @@ use std::alloc::{AllocError, Global};
 use std::process::Abort;
 use std::test::Fail;
 
-/// What a desk replies to the messages.
 fn replies<D: Desk>(alloc: Global, desk: &mut D, messages: &[Stamped]) -> Result<Replies, Fail>
     requires { HasRoom D.Stands desk.old 1000 }
 {
@@ -27,7 +26,7 @@ fn replies<D: Desk>(alloc: Global, desk: &mut D, messages: &[Stamped]) -> Result
     Ok(run(alloc, desk, messages)?)
 }
 
-/// A desk after some messages, and what it replied.
+/// A desk after some messages, and its replies.
 #[derive(Drop)]
 pub struct Ran<D: Desk> {
     pub desk: D,
@@ -45,8 +44,8 @@ pub fn run_new<D: Desk + Drop>(
     Ok(Ran { desk, told })
 }
 
-// Each call stands in a function of its own, which says nothing: else the proof of what calls them carries
-// what all of them promise.
+// Each call has a function of its own with no clause. Otherwise the callers' proofs would carry all the clauses of the
+// calls.
 
 fn same_minute<D: Desk, E: Desk>(one: &D, other: &E) -> bool {
     one.minute() == other.minute()
@@ -85,7 +84,6 @@ fn same_free<D: Desk, E: Desk>(one: &D, other: &E, name: &Id) -> Result<bool, Al
     Ok(one == other)
 }
 
-/// Both desks tell the same of each name, whatever it names.
 fn same_views<D: Desk, E: Desk>(rt: &impl Abort, one: &D, other: &E) -> Result<(), Fail> {
     let product = id("PR")?;
     assert!(rt; same_minute(one, other));
@@ -101,7 +99,7 @@ fn same_views<D: Desk, E: Desk>(rt: &impl Abort, one: &D, other: &E) -> Result<(
     Ok(())
 }
 
-/// Both desks reply the same to the messages by these rules, and tell the same after them.
+/// Both desks give the same replies to the messages under these rules, and the same views afterwards.
 fn same_under(
     rt: &impl Abort,
     alloc: Global,
@@ -121,8 +119,8 @@ fn both_desks_tell_the_same(rt: HostRuntime) -> Result<(), Fail> {
     same_under(&rt, rt.alloc(), Rules::Two, messages.as_slice())
 }
 
-/// Sends a message to a desk of rules Two, and where it is accepted puts its edits into the rows of the
-/// list. Answers the number of the next entry.
+/// Sends a message to a desk of rules Two and, if it is accepted, applies its edits to the rows. Returns the number of
+/// the next entry.
 fn send<D: Desk>(
     alloc: Global,
     desk: &mut D,
@@ -151,7 +149,7 @@ fn send<D: Desk>(
     }
 }
 
-/// A desk after some messages, the rows of its list, and the number of its next entry.
+/// A desk after some messages, the rows of its history, and the number of its next entry.
 struct Listed {
     desk: StateDesk,
     rows: RowSet,
@@ -170,7 +168,7 @@ fn list_of(alloc: Global, messages: &[Stamped]) -> Result<Listed, Fail>
     Ok(Listed { desk, rows, number })
 }
 
-/// A desk after some messages, and the desk that is made of its rows.
+/// A desk after some messages, and the desk rebuilt from its rows.
 struct Again {
     desk: StateDesk,
     restored: StateDesk,
@@ -188,8 +186,8 @@ fn made_again(alloc: Global, messages: &[Stamped]) -> Result<Again, Fail>
     Ok(Again { desk, restored })
 }
 
-/// The desk that is made of the rows tells the same as the one that it was made of, and replies to the
-/// messages that are left as the desk of the list did, whose desk tells the same after them.
+/// The rebuilt desk gives the same views as the original, and the same replies to the remaining messages, and the same
+/// views after them.
 fn goes_on(
     rt: &impl Abort,
     alloc: Global,
@@ -210,7 +208,6 @@ fn goes_on(
     same_views(rt, &plain.desk, &*restored)
 }
 
-/// So it is after each message.
 fn each_goes_on(
     rt: &impl Abort,
     alloc: Global,
@@ -234,7 +231,6 @@ fn a_desk_made_of_the_rows_goes_on(rt: HostRuntime) -> Result<(), Fail> {
     Ok(())
 }
 
-/// The messages that define a part, and receive so many reels of it.
 fn reels(alloc: Global, count: u32) -> Result<Vec<Stamped>, Fail> {
     let mut messages = messages(alloc, "1\tPartDefined\tP")?;
     for i in 0..count {
@@ -244,7 +240,7 @@ fn reels(alloc: Global, count: u32) -> Result<Vec<Stamped>, Fail> {
     Ok(messages)
 }
 
-/// How many reels may be loaded by the desk that is made of the rows after some messages.
+/// Returns how many reels the desk rebuilt from the rows would load after some messages.
 fn free_again(alloc: Global, messages: &[Stamped]) -> Result<usize, Fail> {
     let Again {
         desk: _desk,
@@ -253,7 +249,7 @@ fn free_again(alloc: Global, messages: &[Stamped]) -> Result<usize, Fail> {
     Ok(restored.free_reels(&id("P")?)?.as_slice().len())
 }
 
-/// No desk is too large to be made of its rows: one of 10,000 reels, each of which may be loaded.
+/// A desk of 10,000 reels, all free to be loaded, can be rebuilt from its rows.
 #[test]
 fn ten_thousand_reels_are_restored(rt: HostRuntime) -> Result<(), Fail> {
     let messages = reels(rt.alloc(), 10_000)?;

@@ -1,4 +1,4 @@
-//! Rows of messages: a line is a minute, a tab and the stored text of a command.
+//! Messages of worked cases. A line has a minute, a tab and the stored text of a command.
 
 use super::id;
 use desk_types::{Command, Minute, Stamped};
@@ -6,7 +6,7 @@ use std::alloc::Global;
 use std::test::Fail;
 use stored_texts::Kept;
 
-/// Every word, and refusals of each kind of test.
+/// Every message kind, and refusals of each kind of test.
 pub const EACH_WORD: &str = "1\tPartDefined\tP
 1\tPartDefined\tQ
 1\tPartDefined\tP
@@ -102,7 +102,7 @@ pub const MOVED: &str = "0\tPartDefined\tP
 0\tMaterialsUnloaded\tM\t2
 0\tMaterialsLoaded\tM\t2\tK2";
 
-/// The message of a line, under the UniqueID of this number.
+/// Returns the message of a line, under the UniqueID of this number.
 pub fn message(alloc: Global, number: usize, line: &str) -> Result<Stamped, Fail> {
     let (minute, text) = line.split_once('\t').ok_or("no tab")?;
     let minute = minute.parse::<u64>().ok().ok_or("no number")?;

@@ -7,7 +7,6 @@ use desk_types::{Level, Minute, Moisture, Quantity};
 use reels::Reel;
 use std::test::Fail;
 
-/// A reel of this level, with the minutes of its label.
 fn reel_of_level(level: Level, label: u64, at: Minute) -> Result<Reel, Fail>
     ensures { IfOk result (λ reel. reel.last ≡ at) }
 {

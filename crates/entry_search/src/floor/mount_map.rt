@@ -1,4 +1,4 @@
-//! The slot onto which each reel was last put.
+//! The slot where each reel was last mounted.
 
 ghost use Rattle.std.specs.Prelude.{◌≡◌, if◌then◌else◌, Some, OnOk};
 ghost use Rattle.std.specs.Option.{option_or};
@@ -9,7 +9,6 @@ use desk_types::{Command, Id};
 use std::alloc::AllocError;
 use std::collections::BTreeMap;
 
-/// Puts a reel onto a slot.
 fn put(
     mounts: &mut BTreeMap<Id, (Id, Id)>,
     reel: Id,
@@ -23,7 +22,7 @@ fn put(
     Ok(())
 }
 
-/// The slots after a command.
+/// Updates the map for a command.
 pub fn note_mount(mounts: &mut BTreeMap<Id, (Id, Id)>, command: &Command) -> Result<(), AllocError>
     ensures { (r : Name)
         → OnOk result (mount_at mounts.new r ≡ option_or (mount_by r command.now) (mount_at mounts.old r)) }

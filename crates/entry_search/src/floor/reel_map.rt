@@ -15,7 +15,6 @@ use reels::Reel;
 use std::alloc::AllocError;
 use std::collections::BTreeMap;
 
-/// The reel that a command handles.
 fn handled_reel(command: &Command) -> Option<Id>
     ensures { (name : Name) → ForSome (open_by name command.now) (λ out. result ≡ Some name) }
 {
@@ -30,7 +29,6 @@ fn handled_reel(command: &Command) -> Option<Id>
     }
 }
 
-/// The reel of this name.
 pub fn reel_in(reels: &BTreeMap<Id, Reel>, name: &Id) -> Option<Reel>
     ensures { result ≡ reel_at reels.now name.now }
 {
@@ -40,7 +38,7 @@ pub fn reel_in(reels: &BTreeMap<Id, Reel>, name: &Id) -> Option<Reel>
     }
 }
 
-/// The reels after an entry.
+/// Updates the map for an entry.
 pub fn note_reel(reels: &mut BTreeMap<Id, Reel>, entry: &Entry) -> Result<(), AllocError>
     requires { AreReelsBy reels.old entry.now.effective }
     ensures { (H : History) → IsJudged Two (entry.now ∷ H) → AreReels H reels.old

@@ -1,4 +1,4 @@
-//! What is left of each reel.
+//! The pieces left on each reel.
 
 ghost use Rattle.std.specs.Prelude.{◌≡◌, ◌-◌, if◌then◌else◌, unwrap_or, OnOk};
 ghost use Rattle.desk_types.specs.Id.{Name, same};
@@ -10,7 +10,7 @@ use desk_types::{Command, CountRow, Id, Take};
 use std::alloc::AllocError;
 use std::collections::BTreeMap;
 
-/// The pieces left of a reel.
+/// Returns the pieces left on a reel.
 pub fn pieces(stock: &BTreeMap<Id, u64>, reel: &Id) -> u64
     ensures { result ≡ pieces_at stock.now reel.now }
 {
@@ -20,7 +20,6 @@ pub fn pieces(stock: &BTreeMap<Id, u64>, reel: &Id) -> u64
     }
 }
 
-/// Takes pieces off a reel.
 fn lower(stock: &mut BTreeMap<Id, u64>, reel: &Id, n: u64)
     ensures { (r : Name) → pieces_at stock.new r ≡ pieces_at stock.old r - (if same reel.now r then n else 0) }
 {
@@ -29,7 +28,6 @@ fn lower(stock: &mut BTreeMap<Id, u64>, reel: &Id, n: u64)
     }
 }
 
-/// Takes off what takes took.
 fn lower_all(stock: &mut BTreeMap<Id, u64>, takes: &[Take])
     ensures { (r : Name) → pieces_at stock.new r ≡ pieces_at stock.old r - pieces_taken takes.now r }
 {
@@ -38,7 +36,7 @@ fn lower_all(stock: &mut BTreeMap<Id, u64>, takes: &[Take])
     }
 }
 
-/// The reel has so many pieces.
+/// Sets a reel's pieces.
 fn tell(stock: &mut BTreeMap<Id, u64>, reel: Id, n: u64) -> Result<(), AllocError>
     ensures { (r : Name) → OnOk result (pieces_at stock.new r ≡ (if same reel r then n else pieces_at stock.old r)) }
 {
@@ -46,7 +44,7 @@ fn tell(stock: &mut BTreeMap<Id, u64>, reel: Id, n: u64) -> Result<(), AllocErro
     Ok(())
 }
 
-/// The counted reels have so many pieces; the first row of a reel counts.
+/// Sets the pieces of counted reels; a reel's first row counts.
 fn tell_counts(stock: &mut BTreeMap<Id, u64>, rows: &[CountRow]) -> Result<(), AllocError>
     ensures { (r : Name) → OnOk result (pieces_at stock.new r ≡ count_or rows.now r (pieces_at stock.old r)) }
 {
@@ -58,7 +56,7 @@ fn tell_counts(stock: &mut BTreeMap<Id, u64>, rows: &[CountRow]) -> Result<(), A
     Ok(())
 }
 
-/// The stock after a command with its takes.
+/// Updates the stock for a command and its takes.
 pub fn note_stock(
     stock: &mut BTreeMap<Id, u64>,
     command: &Command,

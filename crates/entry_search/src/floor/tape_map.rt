@@ -12,7 +12,7 @@ use std::alloc::{AllocError, Global};
 use std::collections::{BTreeMap, VecDeque};
 use std::marker::Model;
 
-/// The reels of a slot's tape, the first one first.
+/// The reels on a slot's tape, first one first.
 #[derive(Drop)]
 pub struct Tape {
     pub reels: VecDeque<Id>,
@@ -28,7 +28,6 @@ impl Model for Tape {
 }
 
 impl Tape {
-    /// A tape of one reel.
     fn of(alloc: Global, reel: Id) -> Result<Tape, AllocError>
         ensures { IfOk result (λ tape. tape ≡ reel ∷ []) }
     {
@@ -37,7 +36,7 @@ impl Tape {
         Ok(Tape { reels })
     }
 
-    /// The first reel.
+    /// Returns the first reel.
     pub fn front(&self) -> Option<Id>
         ensures { result ≡ first self.now }
     {
@@ -47,7 +46,7 @@ impl Tape {
         }
     }
 
-    /// Whether the reel stands on the tape, spent or not.
+    /// Returns whether the reel is on the tape, spent or not.
     pub fn has(&self, reel: &Id) -> bool
         ensures { result ≡ list_any (same reel.now) self.now }
     {
@@ -59,14 +58,14 @@ impl Tape {
         false
     }
 
-    /// Takes the first reel off.
+    /// Removes the first reel.
     pub fn pop(&mut self)
         ensures { self.new ≡ drop 1 self.old }
     {
         self.reels.pop_front();
     }
 
-    /// Joins a reel to the end, where there is one.
+    /// Joins a reel to the end of a tape that isn't empty.
     fn join(&mut self, reel: Id) -> Result<(), AllocError>
         ensures { OnOk result (self.new ≡ tape_with self.old reel) }
     {
@@ -77,7 +76,6 @@ impl Tape {
     }
 }
 
-/// Starts a slot's tape with one reel.
 fn load(
     alloc: Global,
     tapes: &mut BTreeMap<(Id, Id), Tape>,
@@ -94,7 +92,6 @@ fn load(
     Ok(())
 }
 
-/// Joins a reel to a slot's tape.
 fn splice(
     tapes: &mut BTreeMap<(Id, Id), Tape>,
     machine: Id,
@@ -112,7 +109,6 @@ fn splice(
     Ok(())
 }
 
-/// Ends a slot's tape.
 fn unload(tapes: &mut BTreeMap<(Id, Id), Tape>, machine: Id, slot: Id)
     ensures { (m s : Name)
         → tape_at tapes.new m s ≡ (if same machine m && same slot s then [] else tape_at tapes.old m s) }
@@ -120,7 +116,7 @@ fn unload(tapes: &mut BTreeMap<(Id, Id), Tape>, machine: Id, slot: Id)
     tapes.remove(&(machine, slot));
 }
 
-/// The tapes after a command.
+/// Updates the tapes for a command.
 pub fn note_tape(
     alloc: Global,
     tapes: &mut BTreeMap<(Id, Id), Tape>,

@@ -7,56 +7,17 @@ ghost use Rattle.desk_types.specs.Pair.{by_pair};
 ghost use Rattle.desk_types.specs.History.{History};
 ghost use Rattle.desk_types.specs.Setup.{sheet_of};
 ghost use Rattle.desk_types.specs.View.{has_sheet};
-ghost use Rattle.setup_sheets.specs.Names.{is_among};
-ghost use Rattle.setup_sheets.specs.Alternates.{is_pair_among};
-ghost use Rattle.state_rows.specs.Kept.{tables_in};
-ghost use Rattle.feeder_state.specs.Setup.{IsSetup, sheet_at, selected_at, is_sheeted};
+ghost use Rattle.feeder_state.specs.Setup.{IsSetup, sheet_at, is_sheeted};
 ghost use Rattle.feeder_state.specs.Restored.{AreRowsOf, group_at, sheet_in};
 
 use super::{Setup, put_sheet};
 use crate::groups::{Group, gather};
-use crate::maps::put;
 use desk_types::{Bounded, Id, SheetRow};
-use setup_sheets::{Alternates, Parts, Sheet};
+use setup_sheets::Sheet;
 use state_rows::RowSet;
 use std::alloc::{AllocError, Global};
 use std::collections::{BTreeMap, BTreeSet};
 
-/// The parts of the rows.
-pub fn parts_of(alloc: Global, rows: &RowSet) -> Result<Parts, AllocError>
-    ensures { (p : Name) → IfOk result (λ parts. is_among parts p ≡ (tables_in rows.now).parts p) }
-{
-    let mut parts = Parts::new(alloc);
-    for part in rows.parts() {
-        parts.add(*part)?;
-    }
-    Ok(parts)
-}
-
-/// The alternates of the rows.
-pub fn alternates_of(alloc: Global, rows: &RowSet) -> Result<Alternates, AllocError>
-    ensures { (p q : Name)
-        → IfOk result (λ alternates. is_pair_among alternates p q ≡ (tables_in rows.now).alternates p q) }
-{
-    let mut alternates = Alternates::new(alloc);
-    for pair in rows.alternates() {
-        alternates.add(pair.0, pair.1)?;
-    }
-    Ok(alternates)
-}
-
-/// The selections of the rows.
-pub fn selections_of(alloc: Global, rows: &RowSet) -> Result<BTreeMap<Id, Id>, AllocError>
-    ensures { (m : Name) → IfOk result (λ selections. selected_at selections m ≡ (tables_in rows.now).selected m) }
-{
-    let mut selections = BTreeMap::new(alloc);
-    for (machine, product) in rows.selected() {
-        let _: Option<Id> = put(&mut selections, *machine, *product)?;
-    }
-    Ok(selections)
-}
-
-/// The rows of each sheet, in the order of their places.
 fn sheet_rows(
     alloc: Global,
     rows: &RowSet,
@@ -72,7 +33,7 @@ fn sheet_rows(
     Ok(groups)
 }
 
-/// Puts the sheet of these rows, where they are as many as a sheet may have.
+/// Inserts the sheet of these rows, if they are within the limit of a sheet.
 fn put_group(
     alloc: Global,
     sheets: &mut BTreeMap<(Id, Id), Sheet>,
@@ -103,7 +64,7 @@ pub fn sheets_of(alloc: Global, rows: &RowSet) -> Result<BTreeMap<(Id, Id), Shee
     Ok(sheets)
 }
 
-/// The machines of which the rows have a sheet.
+/// Returns the machines with a sheet in the rows.
 pub fn sheeted_of(alloc: Global, rows: &RowSet) -> Result<BTreeSet<Id>, AllocError>
     ensures { (H : History) → AreRowsOf H rows.now → (m : Name)
         → IfOk result (λ sheeted. is_sheeted sheeted m ≡ has_sheet H m) }
@@ -119,16 +80,7 @@ pub fn sheeted_of(alloc: Global, rows: &RowSet) -> Result<BTreeSet<Id>, AllocErr
 pub fn setup_of(alloc: Global, rows: &RowSet) -> Result<Setup, AllocError>
     ensures { (H : History) → AreRowsOf H rows.now → IfOk result (IsSetup H) }
 {
-    let parts = parts_of(alloc, rows)?;
-    let alternates = alternates_of(alloc, rows)?;
     let sheets = sheets_of(alloc, rows)?;
     let sheeted = sheeted_of(alloc, rows)?;
-    let selections = selections_of(alloc, rows)?;
-    Ok(Setup {
-        parts,
-        alternates,
-        sheets,
-        sheeted,
-        selections,
-    })
+    Ok(Setup { sheets, sheeted })
 }

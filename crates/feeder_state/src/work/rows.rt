@@ -4,9 +4,9 @@ ghost use Rattle.std.specs.Prelude.{◌≡◌, IfOk};
 ghost use Rattle.std.specs.List.{list_any};
 ghost use Rattle.desk_types.specs.Id.{Name, same, by_name};
 ghost use Rattle.desk_types.specs.History.{History};
-ghost use Rattle.desk_types.specs.Work.{in_work_on, is_in_work, product_of, is_placed_on};
+ghost use Rattle.desk_types.specs.Work.{in_work_on, is_placed_on};
 ghost use Rattle.feeder_state.specs.Restored.{AreRowsOf, group_at};
-ghost use Rattle.feeder_state.specs.Work.{IsWork, running_at, is_busy, product_at, is_placed_at};
+ghost use Rattle.feeder_state.specs.Work.{IsWork, running_at, is_placed_at};
 
 use super::{Work, place};
 use crate::groups::{Group, gather};
@@ -15,33 +15,7 @@ use crate::placed::Placed;
 use desk_types::{Designator, Id};
 use state_rows::RowSet;
 use std::alloc::{AllocError, Global};
-use std::collections::{BTreeMap, BTreeSet};
-
-/// The products of the boards of the rows.
-pub fn products_of(alloc: Global, rows: &RowSet) -> Result<BTreeMap<Id, Id>, AllocError>
-    ensures { (H : History) → AreRowsOf H rows.now → (b : Name)
-        → IfOk result (λ products. product_at products b ≡ product_of H b) }
-{
-    let mut products = BTreeMap::new(alloc);
-    for (board, row) in rows.boards() {
-        let _: Option<Id> = put(&mut products, *board, row.product)?;
-    }
-    Ok(products)
-}
-
-/// The boards that the rows have in work.
-pub fn busy_of(alloc: Global, rows: &RowSet) -> Result<BTreeSet<Id>, AllocError>
-    ensures { (H : History) → AreRowsOf H rows.now → (b : Name)
-        → IfOk result (λ busy. is_busy busy b ≡ is_in_work H b) }
-{
-    let mut busy = BTreeSet::new(alloc);
-    for (board, row) in rows.boards() {
-        if row.machine.is_some() {
-            busy.insert(*board)?;
-        }
-    }
-    Ok(busy)
-}
+use std::collections::BTreeMap;
 
 /// The board that the rows have in work on each machine.
 pub fn running_of(alloc: Global, rows: &RowSet) -> Result<BTreeMap<Id, Id>, AllocError>
@@ -57,7 +31,6 @@ pub fn running_of(alloc: Global, rows: &RowSet) -> Result<BTreeMap<Id, Id>, Allo
     Ok(running)
 }
 
-/// The designators that the rows place on each board.
 fn designators_of(
     alloc: Global,
     rows: &RowSet,
@@ -72,7 +45,7 @@ fn designators_of(
     Ok(groups)
 }
 
-/// What is placed on each board, by the rows.
+/// Returns the designators placed on each board, from the rows.
 pub fn placed_of(alloc: Global, rows: &RowSet) -> Result<BTreeMap<Id, Placed>, AllocError>
     ensures { (H : History) → AreRowsOf H rows.now → (b d : Name)
         → IfOk result (λ placed. is_placed_at placed b d ≡ is_placed_on H b d) }
@@ -90,13 +63,6 @@ pub fn work_of(alloc: Global, rows: &RowSet) -> Result<Work, AllocError>
     ensures { (H : History) → AreRowsOf H rows.now → IfOk result (IsWork H) }
 {
     let running = running_of(alloc, rows)?;
-    let busy = busy_of(alloc, rows)?;
-    let products = products_of(alloc, rows)?;
     let placed = placed_of(alloc, rows)?;
-    Ok(Work {
-        running,
-        busy,
-        products,
-        placed,
-    })
+    Ok(Work { running, placed })
 }

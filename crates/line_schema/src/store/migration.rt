@@ -1,4 +1,4 @@
-//! A file of version 1 made one of version 2.
+//! Migration of a file from version 1 to version 2.
 
 ghost use Rattle.std.specs.Prelude.{◌≡◌, ◌≢◌, ℕ, false, IsTrue, IfOk, IfErr, Err};
 ghost use Rattle.sqlite.specs.State.{HasCleanDisk, KeepsCommit, Survives};
@@ -13,17 +13,17 @@ ghost use Rattle.line_schema.specs.Versions.{IsMigrated};
 use crate::fault::OpenFault;
 use crate::opening::{Opened, read_tables};
 use crate::store::LineStore;
-use desk_types::{Desk, Rules};
+use desk_types::Rules;
 use line_tables::migrate_tables;
 use sqlite::{Alter, Connection};
+use state_rows::KeepsRows;
 use std::alloc::Global;
 
-impl<S: Alter, D: Desk + Drop> LineStore<S, D> {
-    /// Makes the tables of version 1 those of version 2, and answers how many commands are accepted.
-    /// Each of these is judged again first, by rules One, and the other tables are compared with the
-    /// list's. No row but that of `version` changes, and a table for what counts find is added. After
-    /// a fault the tables are as before; where it was a commit that failed, a crash may leave version
-    /// 2 all the same. In an open transaction of the caller's it is Unavailable.
+impl<S: Alter, D: KeepsRows + Drop> LineStore<S, D> {
+    /// Migrates the tables from version 1 to version 2, and returns the number of accepted commands. First each command
+    /// is judged again by rules One, and the other tables are compared with the history's. Only the row of `version`
+    /// changes, and a table of found pieces is added. After a fault the tables are unchanged; after a failed commit, a
+    /// crash may still leave version 2. Inside an open transaction of the caller it is Unavailable.
     pub fn migrate(alloc: Global, conn: &mut Connection<S>) -> Result<u32, OpenFault>
         ensures migrated { HasCleanDisk (state S.Store conn.new)
             → IfOk result (λ count. (greatest : ℕ) × (H : History)

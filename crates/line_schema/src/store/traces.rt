@@ -1,5 +1,5 @@
-//! The pieces of a board, of a lot, and of overdue reels, by the tables that a store keeps. The desk and
-//! the lists beside it say where to look, where they are at hand; they need not be, and are let be.
+//! The pieces of a board, of a lot, and of overdue reels, from a store's tables. The desk and its trace indexes locate
+//! them if they are loaded; a trace does not load them.
 
 ghost use Rattle.std.specs.Prelude.{◌≡◌, IfOk};
 ghost use Rattle.desk_types.specs.Id.{Name};
@@ -10,12 +10,13 @@ ghost use Rattle.line_schema.specs.Frames.{ReadsStore};
 
 use crate::store::LineStore;
 use crate::unavailable::Unavailable;
-use desk_types::{Desk, Id, IdList};
+use desk_types::{Id, IdList};
 use line_traces::PlacedRows;
 use sqlite::Alter;
+use state_rows::KeepsRows;
 
-impl<S: Alter, D: Desk + Drop> LineStore<S, D> {
-    /// The pieces on a board by number, then place; none where no accepted command started the board.
+impl<S: Alter, D: KeepsRows + Drop> LineStore<S, D> {
+    /// Returns the pieces on a board by number, then place, or `None` if no accepted command started the board.
     pub fn board_rows(&mut self, board: &Id) -> Result<Option<PlacedRows>, Unavailable>
         ensures trace { ForKept S.Store D.Stands D.kept_rules self.old self.new
             (λ L. IfOk result (λ pieces. pieces ≡ board_trace L.history board.now)) }
@@ -29,8 +30,7 @@ impl<S: Alter, D: Desk + Drop> LineStore<S, D> {
         Ok(line_traces::board_rows(self.alloc, &mut self.conn, lists, desk, board)?)
     }
 
-    /// The pieces of a lot by number, then place; none where no accepted command received a reel of the
-    /// lot.
+    /// Returns the pieces of a lot by number, then place, or `None` if no accepted command received a reel of the lot.
     pub fn lot_rows(&mut self, lot: &Id) -> Result<Option<PlacedRows>, Unavailable>
         ensures trace { ForKept S.Store D.Stands D.kept_rules self.old self.new
             (λ L. IfOk result (λ pieces. pieces ≡ lot_trace L.history lot.now)) }
@@ -41,8 +41,8 @@ impl<S: Alter, D: Desk + Drop> LineStore<S, D> {
         Ok(line_traces::lot_rows(self.alloc, &mut self.conn, lists, desk, lot)?)
     }
 
-    /// The boards that hold a piece of a lot, each once and in byte order; none where no accepted
-    /// command received a reel of the lot.
+    /// Returns the boards that hold a piece of a lot, each once and in byte order, or `None` if no accepted command
+    /// received a reel of the lot.
     pub fn lot_boards(&mut self, lot: &Id) -> Result<Option<IdList>, Unavailable>
         ensures boards { ForKept S.Store D.Stands D.kept_rules self.old self.new
             (λ L. IfOk result (λ boards. boards ≡ lot_board_names L.history lot.now)) }
@@ -56,7 +56,7 @@ impl<S: Alter, D: Desk + Drop> LineStore<S, D> {
         Ok(line_traces::lot_boards(self.alloc, &mut self.conn, lists, desk, lot)?)
     }
 
-    /// The pieces of reels whose floor life was used up, by number, then place.
+    /// Returns the pieces of reels whose floor life was used up, by number, then place.
     pub fn overdue_rows(&mut self) -> Result<PlacedRows, Unavailable>
         ensures rows { ForKept S.Store D.Stands D.kept_rules self.old self.new
             (λ L. IfOk result (λ pieces. pieces ≡ overdue_of L.history)) }

@@ -1,4 +1,4 @@
-//! Rows of commands, and what a store answers to them.
+//! Commands of worked cases, and a store's answers to them.
 
 use desk_answers::{Answer, Owner};
 use desk_types::{Command, Desk, Id, Minute, ReelView, Stamped};
@@ -9,7 +9,7 @@ use std::alloc::{AllocError, Global};
 use std::process::Abort;
 use stored_texts::Kept;
 
-/// The commands of the worked row `first_run`, a stored text a line, and one part more.
+/// The commands of the worked case `first_run`, one stored text a line, and one more part.
 pub const FIRST_RUN: &str = "PartDefined\tP
 SheetDefined\tPR\tM\t1\t1\tP\t5\tR1\tR2\tR3\tR4\tR5
 ProductSelected\tM\tPR
@@ -59,15 +59,15 @@ WorkStarted\tM\tB10
 MaterialsInstalled\tM\tB10\t1\tR1
 WorkCompleted\tM\tB10";
 
-/// What a desk tells of its list: the product of the machine M, and the reel K1.
-type View = (Option<Id>, Option<ReelView>);
+/// A desk's product of the machine M, and its reel K1.
+pub type View = (Option<Id>, Option<ReelView>);
 
-/// A line that tells how many commands it has, and of its desk, where that is at hand. Where it isn't,
-/// the next command that is judged has it made of the tables first.
+/// An owner that shows its number of commands, and its desk if it is loaded. If it isn't, the next judged command loads
+/// it first.
 pub trait Shown: Owner {
     fn shown(&self) -> (u32, Option<View>);
 
-    /// Has the desk made of the tables, where it isn't at hand.
+    /// Loads the desk if it isn't loaded.
     fn make_desk(&mut self)
         requires { Self.Owner.Ready self.old }
         ensures { Self.Owner.Ready self.new };
@@ -88,7 +88,16 @@ fn view(desk: &StateDesk) -> Option<View> {
     Some((product, desk.reel(&Id::read(b"K1")?)))
 }
 
-/// The command of a stored text, in a message of minute 0. None where memory is refused.
+/// Returns the same by a borrow of the desk, which is rebuilt first if it isn't loaded.
+pub fn viewed<S: Alter>(store: &mut LineStore<S, StateDesk>) -> Option<View>
+    requires { ⟦<LineStore<S, StateDesk> as Owner>⟧.Ready store.old }
+{
+    match store.view() {
+        Ok(desk) => view(desk),
+        Err(_) => None,
+    }
+}
+
 fn message_of_text(alloc: Global, number: u32, text: &str) -> Option<Stamped> {
     let uid = format!(in alloc; "u{number}").ok()?;
     Some(Stamped {
@@ -99,8 +108,8 @@ fn message_of_text(alloc: Global, number: u32, text: &str) -> Option<Stamped> {
     })
 }
 
-/// What a row of commands was answered: the texts, a line each, and how many; how many commands were
-/// Unavailable, and how many came while no desk was at hand, and left one.
+/// The answers to some commands: their texts, one a line, and their number; how many were Unavailable, and how many
+/// found no loaded desk and left one.
 #[derive(Drop)]
 pub struct Told {
     pub text: Vec<u8>,
@@ -120,8 +129,7 @@ impl Told {
     }
 }
 
-/// Sends a command. Where it is Unavailable, the list is as it was, and so is the desk, or it isn't at
-/// hand.
+/// Sends a command. If it is Unavailable, the history is unchanged, and the desk is unchanged or not loaded.
 fn send_one<L: Shown>(rt: &impl Abort, line: &mut L, message: &Stamped) -> Answer
     requires { L.Owner.Ready line.old }
     ensures { L.Owner.Ready line.new }
@@ -137,8 +145,8 @@ fn send_one<L: Shown>(rt: &impl Abort, line: &mut L, message: &Stamped) -> Answe
     answer
 }
 
-/// Sends the commands of a row to a line that has the first of them and no other, each once more where it
-/// is Unavailable. Each acts once. What is Unavailable twice ends it.
+/// Sends the commands to a store that has the first of them and no other, and sends a command again if it is
+/// Unavailable. Each acts once. Two Unavailable answers end it.
 pub fn send<L: Shown>(
     rt: &impl Abort,
     alloc: Global,
@@ -179,15 +187,15 @@ pub fn send<L: Shown>(
     Ok(told)
 }
 
-/// What came of a row on the desk of a connection: how many commands there were before, where it could be
-/// opened, the answers, and the connection.
+/// The result of sending commands over a connection: the number of commands before, if it could be opened, the answers,
+/// and the connection.
 pub struct Sent<S: Alter> {
     pub began: Option<u32>,
     pub told: Result<Told, AllocError>,
     pub conn: Connection<S>,
 }
 
-/// Sends a row to the desk behind a connection, which is made where there is none.
+/// Sends commands to the desk behind a connection, which is created if missing.
 pub fn send_over<S: Alter>(
     rt: &impl Abort,
     alloc: Global,
@@ -206,7 +214,6 @@ pub fn send_over<S: Alter>(
     }
 }
 
-/// Sends a row to the desk that there is.
 fn send_on<S: Alter>(rt: &impl Abort, alloc: Global, conn: Connection<S>, row: &str) -> Sent<S> {
     match LineStore::<S, StateDesk>::open(alloc, conn) {
         Ok(mut store) => {
@@ -219,7 +226,7 @@ fn send_on<S: Alter>(rt: &impl Abort, alloc: Global, conn: Connection<S>, row: &
     }
 }
 
-/// Sends nothing, for the one cause that there may be.
+/// Sends nothing, which has only one possible cause.
 fn send_none<S: Alter>(
     rt: &impl Abort,
     alloc: Global,

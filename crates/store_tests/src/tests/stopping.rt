@@ -1,5 +1,5 @@
-//! A disk that stops: a desk's log or its database takes so many calls, and fails those behind them. After
-//! a crash its files are opened again.
+//! A disk that stops: the log or the database accepts a number of calls, and fails all later ones. After a crash its
+//! files are opened again.
 
 ghost use Rattle.std.specs.Prelude.{IsTrue};
 
@@ -11,8 +11,8 @@ use std::alloc::{AllocError, Global};
 use std::process::Abort;
 use std::test::Fail;
 
-/// What came of a row on files: their version and how many commands there were before, where there were
-/// tables, the answers, whether a migration was told, and the files and whether they were closed.
+/// The result of sending commands to files: their version and number of commands before, if they had tables, the
+/// answers, whether a migration was reported, and the files and whether they were closed.
 #[derive(Drop)]
 struct Session<D: Disk> {
     version: Option<i64>,
@@ -23,8 +23,8 @@ struct Session<D: Disk> {
     is_whole: bool,
 }
 
-/// Sends a row to the desk in files, which are migrated first where they are of version 1. With `migrates`
-/// they are made those of version 1 then, and migrated. At last they are closed.
+/// Sends commands to the desk in files, which are migrated first if they are of version 1. With `migrates` they are
+/// then turned into version 1, and migrated. Finally they are closed.
 fn work<D: Disk + Drop>(
     rt: &impl Abort,
     alloc: Global,
@@ -72,9 +72,9 @@ fn work<D: Disk + Drop>(
     }
 }
 
-/// Sends a row to new files, of which the log or the database stops after so many calls, and once more
-/// after a crash, which loses what was not synced. The list then had each command that was answered, or
-/// one more; each has its first answer. A migration that was told stands. Answers whether no call failed.
+/// Sends commands to new files whose log or database stops after this number of calls, and again after a crash, which
+/// loses unsynced data. The history then has each answered command, and at most one more; each has its first answer. A
+/// reported migration remains. Returns whether no call failed.
 fn stop_after(
     rt: &impl Abort,
     alloc: Global,
@@ -120,8 +120,7 @@ fn stop_after(
     Ok(is_whole && told.count == wanted.count && told.unavailable == 0)
 }
 
-/// Stops the log, and then the database, after each number of calls up to one that is not reached: how
-/// often that was.
+/// Stops the log, and then the database, after each number of calls until none fails. Returns how often that was.
 fn stop_at_each(rt: &impl Abort, alloc: Global, row: &str, migrates: bool) -> Result<u64, Fail> {
     let files = Files {
         log: Memory::new(alloc),
@@ -143,8 +142,8 @@ fn stop_at_each(rt: &impl Abort, alloc: Global, row: &str, migrates: bool) -> Re
     Ok(points)
 }
 
-/// Whichever call of a disk is the last one: what was answered is there after the crash, at most the one
-/// command at hand besides, and sent again each acts once. (A test has 60 seconds: so each row has one.)
+/// For each last call of a disk, every answered command is present after the crash, with at most the current one in
+/// addition. Sent again, each acts once. A test has 60 seconds, so each case has its own.
 #[test]
 fn a_disk_that_stops_under_first_run(rt: HostRuntime) -> Result<(), Fail> {
     let points = stop_at_each(&rt, rt.alloc(), FIRST_RUN, false)?;
@@ -166,7 +165,7 @@ fn a_disk_that_stops_under_a_moved_reel(rt: HostRuntime) -> Result<(), Fail> {
     Ok(())
 }
 
-/// It leaves version 1 or version 2, whole.
+/// The migration leaves complete tables of version 1 or of version 2.
 #[test]
 fn a_disk_that_stops_under_a_migration(rt: HostRuntime) -> Result<(), Fail> {
     let points = stop_at_each(&rt, rt.alloc(), FIRST_RUN, true)?;

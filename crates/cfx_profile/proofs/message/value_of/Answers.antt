@@ -5,7 +5,6 @@ use Rattle.serde_json.specs.Read.{read}
 use Rattle.cfx_profile.specs.Message.{value_of}
 use Rattle.cfx_profile.proofs.message.value_of.Goals as goal
 
--- bytes that are no JSON text, where they are text at all, spell no value
 none_of : (bytes : List ℕ) → (IsUtf8 bytes → read bytes ≡ None) → value_of bytes ≡ None
 unfolding value_of
 none_of bytes bad =

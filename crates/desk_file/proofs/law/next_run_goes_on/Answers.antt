@@ -1,9 +1,9 @@
 use Rattle.desk_types.specs.declared.rules.Rules.TheVariants.{Two}
-use Rattle.desk_file.proofs.FirstLists.{held, line_alone, same_list}
+use Rattle.desk_file.proofs.FirstLists.{held, ours_first, same_list}
 use Rattle.desk_file.proofs.law.next_run_goes_on.Goals as goal
 
-pub returns-clause-alone : goal.returns-clause-alone
-returns-clause-alone c = λ image trees greatest H holds tables. line_alone image trees _ holds tables
+pub returns-clause-ours_first : goal.returns-clause-ours_first
+returns-clause-ours_first c = λ image trees greatest H holds tables. ours_first image trees _ holds tables
 
 pub returns-clause-held : goal.returns-clause-held
 returns-clause-held c = λ image trees greatest H holds tables. held image trees _ holds tables

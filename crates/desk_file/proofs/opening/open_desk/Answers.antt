@@ -5,7 +5,7 @@ use Rattle.sqlite_trees.specs.Tree.{Trees}
 use Rattle.sqlite.specs.Files.{over_files}
 use Rattle.line_tables.specs.Rows.{HoldsAt, blank}
 use Rattle.line_schema.specs.Stands.{state_of}
-use Rattle.desk_file.specs.Files.{Begins, HasLineAlone}
+use Rattle.desk_file.specs.Files.{Begins, HasOursFirst}
 use Rattle.desk_file.proofs.FirstLists.{begins_any, reads_none}
 use Rattle.desk_file.specs.Refused.{RefusesRun}
 use Rattle.desk_file.proofs.RefusedFiles.{refuses}
@@ -32,7 +32,7 @@ returns-in-Some-clause-alone g c =
 pub returns-in_default-clause-alone : goal.returns-in_default-clause-alone
 returns-in_default-clause-alone g c =
     IfOk-weaker c.kept_desk.result _ _ (λ store begins clean none.
-    let bare : HasLineAlone (image_at g.T.Start) = λ db found. inr (none db found) in
+    let bare : HasOursFirst (image_at g.T.Start) = λ db found. inr (none db found) in
     let b = begins clean bare in
     absurd (reads_none (image_at g.T.Start) b.0 b.1 b.2 none)) c.kept_desk.ensures.begins
 

@@ -10,7 +10,6 @@ use Rattle.desk_types.proofs.LoopSteps.{drop-next}
 use Rattle.desk_types.specs.Outcome.{after_command, after_commands, reply_to, replies_to}
 use Rattle.desk_types.proofs.desk.run.Goals as goal
 
--- one more reply, and the replies to the others, are still what all give
 told_more : (rules : Rules) (H first : History) (ms : List Stamped) (i : ℕ) (s : Stamped) (rs : List Reply) (r : Reply)
     → drop i ms ≡ s ∷ drop (i + 1) ms → r ≡ reply_to rules H s → rs ++ replies_to rules H (drop i ms) ≡ replies_to rules first ms
     → (rs ++ r ∷ []) ++ replies_to rules (after_command rules H s) (drop (i + 1) ms) ≡ replies_to rules first ms
@@ -20,7 +19,6 @@ told_more rules H first ms i s rs r left is told =
     ∙ ap (λ l. rs ++ replies_to rules H l) (sym left)
     ∙ told
 
--- a command adds one entry at most
 length-after_command : (rules : Rules) (H : History) (s : Stamped) → length (after_command rules H s) ≤ length H + 1
 length-after_command rules H s = by (refusal_of rules H s)
   where

@@ -4,8 +4,8 @@ use Rattle.desk_types.specs.Desk.{HasRoom}
 use Rattle.desk_types.specs.Outcome.{after_commands, replies_to}
 use Rattle.desk_types.proofs.desk.run.Given as goal
 
--- the rules are those at the start, and for each list at the start the desk stands for one now, from which the messages that are left give
--- the rest of what all give
+-- The rules stay the same. For each initial history, the desk represents one that gives the
+-- remaining replies.
 abbrev pub invariant-loop-message : goal.invariant-loop-message
 invariant-loop-message g l =
     let stands = g.D.Desk.Stands in

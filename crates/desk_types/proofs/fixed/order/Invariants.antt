@@ -3,7 +3,7 @@ use Rattle.std.specs.Cmp.Lexicographic.{slice_cmp}
 use Rattle.std.specs.Ordering.{nat_cmp}
 use Rattle.desk_types.proofs.fixed.order.Given as goal
 
--- whole words were passed, and what is left of the arrays is ordered as they are
+-- The words so far are equal, so the remaining bytes decide the order.
 abbrev pub invariant-loop-at : goal.invariant-loop-at
 invariant-loop-at l =
     record {

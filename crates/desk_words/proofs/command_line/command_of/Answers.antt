@@ -15,7 +15,7 @@ last_of : (a b : Kinds) → or_else a b ≡ [] → b ≡ []
 last_of [] b none = none
 last_of (k ∷ ks) b none = cc
 
--- a level with no mistake passes its last checks
+-- A level with no mistake passes its last checks.
 level_end : (s : Shape) (names : Names) (h : Held) (words : List (List ℕ)) (has : Bool) (below : Kinds) → level_fault s names h words has below ≡ []
     → check_fault s (finished s.rules (walk s.rules names h words).held) has ≡ []
 level_end s names h words has below none =
@@ -28,14 +28,12 @@ is_wanted : (rows : List Row) (has : Bool) → check_fault (built commands).top 
 is_wanted rows true none = refl
 is_wanted rows false none = cc
 
--- where a command is wanted, it is there
 level_wants : (names : Names) (h : Held) (words : List (List ℕ)) (has : Bool) (below : Kinds) → level_fault (built commands).top names h words has below ≡ []
     → has ≡ true
 level_wants names h words has below none =
     let top = (built commands).top in
     is_wanted (finished top.rules (walk top.rules names h words).held) has (level_end top names h words has below none)
 
--- the name in the rows that are found
 abbrev name_in : Option (List ℕ × List Row) → List ℕ
 name_in o = unwrap_or (option_map (λ q. q.0) o) []
 
@@ -51,7 +49,6 @@ of_seven f g h i j k l false false false false false true t words p is = inr (in
 of_seven f g h i j k l false false false false false false true words p is = inr (inr (inr (inr (inr (inr (ap name_in (sym is)))))))
 of_seven f g h i j k l false false false false false false false words p is = cc
 
--- it is the name of a command
 abbrev IsCommand : List ℕ → Type 0
 IsCommand name = (name ≡ codes "feed") ⊎ (name ≡ codes "serve") ⊎ (name ≡ codes "import-setup") ⊎ (name ≡ codes "import-counts") ⊎ (name ≡ codes "report") ⊎ (name ≡ codes "audit") ⊎ (name ≡ codes "migrate")
 
@@ -63,12 +60,10 @@ one_of (Some s) p is = of_seven _ _ _ _ _ _ _ _ _ _ _ _ _ _ s.1 p is
 abbrev stop_in : List (List ℕ) → Option (List ℕ × List (List ℕ))
 stop_in words = stop_after (built commands).top.rules (names_of (built commands)) (argument_words commands words)
 
--- words with no mistake name a command
 is_named : (words : List (List ℕ)) → told_of words ≡ [] → is_some (named_by words) ≡ true
 unfolding told_of named_by
 is_named words none = level_wants _ _ _ (is_some (entered (built commands) (stop_in words))) _ none
 
--- and it is one of the seven
 is_one_of : (words : List (List ℕ)) (p : List ℕ × List Row) → named_by words ≡ Some p → IsCommand p.0
 unfolding named_by
 is_one_of words p is = one_of (stop_in words) p is
@@ -81,12 +76,10 @@ both_of : {X : Type 0} (f : X → List ℕ) (g : X → List Row) (o : Option X) 
 both_of f g None n r a b = cc
 both_of f g (Some x) n r a b = cc
 
--- the name and the rows of the command that was met
 rows_named : (m : ArgMatches) (n : List ℕ) (r : List Row) → Some n ≡ subcommand_name_of m → Some r ≡ option_map (λ p. p.1) (subcommand_rows_of m)
     → subcommand_rows_of m ≡ Some (n, r)
 rows_named m n r a b = both_of _ _ (out-ArgMatches m).subcommand n r a b
 
--- a name that was compared in vain is another
 other : {A : Type 0} (wanted name : List ℕ) → name ≡ wanted → bytes_eq name wanted ≡ false → A
 other wanted name is none = absurd (true≢false (sym ((bytes_eq-Decides name wanted).1 is) ∙ none))
 

@@ -15,7 +15,6 @@ is_plain : is_simple commands ≡ true
 unfolding clap_on_literals
 is_plain = refl
 
--- what a parse by the program's commands says of the words
 of_commands : (a : App) (words : List (List ℕ)) (m : ArgMatches) → a ≡ commands → (is_simple_and_free a ≡ true → fault_of a words ≡ [])
     → HasMatchesOf a words m → (told_of words ≡ []) × (subcommand_rows_of m ≡ named_by words)
 unfolding told_of named_by

@@ -2,7 +2,6 @@ use Rattle.std.proofs.Common.{◌≡◌, reverse, length}
 use Rattle.desk_types.specs.Setup.{selected_on}
 use Rattle.entry_search.proofs.setup.selected_on.Given as goal
 
--- the entries that are left say what all say
 abbrev pub invariant-loop-entry : goal.invariant-loop-entry
 invariant-loop-entry l = selected_on (reverse l.rest) l.machine ≡ selected_on (reverse l.entries) l.machine
 

@@ -2,7 +2,6 @@ use Rattle.std.proofs.Common.{◌≡◌, reverse, length}
 use Rattle.desk_types.specs.Setup.{sheet_of}
 use Rattle.entry_search.proofs.setup.sheet_of.Given as goal
 
--- the entries that are left say what all say
 abbrev pub invariant-loop-entry : goal.invariant-loop-entry
 invariant-loop-entry l = sheet_of (reverse l.rest) l.product l.machine ≡ sheet_of (reverse l.entries) l.product l.machine
 

@@ -3,7 +3,7 @@ use Rattle.std.specs.Option.{option_or}
 use Rattle.desk_types.specs.Work.{product_of}
 use Rattle.entry_search.proofs.work.product_of.Given as goal
 
--- what an earlier start says goes before what was found
+-- An earlier start takes precedence over the product found so far.
 abbrev pub invariant-loop-entry : goal.invariant-loop-entry
 invariant-loop-entry l = option_or (product_of (reverse l.rest) l.board) l.found ≡ product_of (reverse l.entries) l.board
 

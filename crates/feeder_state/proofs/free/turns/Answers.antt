@@ -11,7 +11,7 @@ use Rattle.feeder_state.proofs.FreeReels.{free_in, turn-next, free-resting}
 use Rattle.feeder_state.proofs.free.turns.Goals as goal
 
 pub loop-name-init : goal.loop-name-init
-loop-name-init c = ([], search rules, λ H told are. search rules)
+loop-name-init c = ([], search rules, λ H told floor are. search rules)
 
 pub loop-name-preserved : goal.loop-name-preserved
 loop-name-preserved c =
@@ -20,17 +20,17 @@ loop-name-preserved c =
     let keys = c.loop-name.turns.keys in (
       names ++ name ∷ [],
       append_assoc names (name ∷ []) c.next.new.self ∙ ap (λ rest. names ++ rest) (sym c.in-Some.ensures.steps) ∙ c.loop-name.invariant.1,
-      λ H told are.
+      λ H told floor are.
           c.in_ok-insert_if.ensures
           ∙ ap (λ (by_left : Left → Left → Ordering). option_map_or (insert_key (λ a b. ordering_then (by_left a.0 b.0) (by_name a.1 b.1)) keys) c.turn_at.result keys) left-order
           ∙ ap (λ turn. option_map_or (insert_key by_life keys) turn keys) (c.turn_at.ensures H told are)
-          ∙ turn-next H c.args.part.now names name keys (c.loop-name.invariant.2 H told are),
+          ∙ turn-next H c.args.part.now names name keys (c.loop-name.invariant.2 H told floor are),
     )
 
 pub returns : goal.returns
-returns c = λ H told are.
+returns c = λ H told floor are.
     let names = c.loop-name.invariant.0 in
     let part = c.args.part.now in
-    c.loop-name.invariant.2 H told are
+    c.loop-name.invariant.2 H told floor are
     ∙ ap (λ all. map (turn_of H) (free_in H part all)) (sym (append-nil names) ∙ ap (λ rest. names ++ rest) (sym c.in-None.ensures.steps.0) ∙ c.loop-name.invariant.1)
-    ∙ ap (map (turn_of H)) (free-resting H part c.args.floor.now.resting told.judged told.is_floor.resting)
+    ∙ ap (map (turn_of H)) (free-resting H part c.args.floor.now.resting told.are.judged floor.resting)

@@ -3,11 +3,12 @@ use Rattle.desk_types.specs.Id.{Name}
 use Rattle.desk_types.specs.History.{History}
 use Rattle.setup_sheets.specs.Alternates.{AreAlternates}
 use Rattle.entry_search.specs.Turns.{turn_of}
-use Rattle.feeder_state.specs.Told.{IsTold}
+use Rattle.feeder_state.specs.Floor.{IsFloor}
+use Rattle.feeder_state.specs.Rows.{AreRowsAt}
 use Rattle.feeder_state.proofs.FreeReels.{free_in}
 use Rattle.feeder_state.proofs.free.turns.Given as goal
 
--- the names so far, and the turns of the free reels among them
+-- The names so far, and the turns of the free reels among them.
 abbrev pub invariant-loop-name : goal.invariant-loop-name
 invariant-loop-name l = (names : List Name) × (names ++ l.name-iterator ≡ l.floor.resting.keys)
-    × ((H : History) → IsTold H l.floor (Some l.minute) → AreAlternates H l.alternates → l.turns.keys ≡ map (turn_of H) (free_in H l.part names))
+    × ((H : History) → AreRowsAt H (Some l.minute) l.rows → IsFloor H l.floor → AreAlternates H l.alternates → l.turns.keys ≡ map (turn_of H) (free_in H l.part names))

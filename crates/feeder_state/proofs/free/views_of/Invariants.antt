@@ -1,10 +1,9 @@
 use Rattle.std.proofs.Common.{◌≡◌, Some, ◌++◌, filter_map}
 use Rattle.desk_types.specs.History.{History}
 use Rattle.desk_types.specs.View.{reel_view}
-use Rattle.feeder_state.specs.Told.{IsTold}
+use Rattle.feeder_state.specs.Rows.{AreRowsAt}
 use Rattle.feeder_state.proofs.free.views_of.Given as goal
 
--- what is told so far, and what is left to tell
 abbrev pub invariant-loop-turn : goal.invariant-loop-turn
-invariant-loop-turn l = (H : History) → IsTold H l.floor (Some l.minute)
+invariant-loop-turn l = (H : History) → AreRowsAt H (Some l.minute) l.rows
     → l.views.items ++ filter_map (λ turn. reel_view H turn.1) l.turn-iterator ≡ filter_map (λ turn. reel_view H turn.1) l.turns.keys

@@ -1,10 +1,10 @@
 use Rattle.std.proofs.Common.{◌≡◌, false}
 use Rattle.std.specs.Prelude.{◌==◌}
 use Rattle.desk_types.specs.Id.{Name}
-use Rattle.feeder_state.specs.Held.{left_at}
+use Rattle.feeder_state.specs.Rows.{left_at}
 use Rattle.feeder_state.specs.Resting.{is_resting}
 use Rattle.feeder_state.proofs.resting.end_each.Given as goal
 
--- reels with pieces left stay as they were
+-- Reels with pieces left are unchanged.
 abbrev pub invariant-loop-take : goal.invariant-loop-take
-invariant-loop-take l = (r : Name) → (left_at l.reels r == 0) ≡ false → is_resting l.resting r ≡ is_resting l.initial.resting r
+invariant-loop-take l = (r : Name) → (left_at l.rows r == 0) ≡ false → is_resting l.resting r ≡ is_resting l.initial.resting r

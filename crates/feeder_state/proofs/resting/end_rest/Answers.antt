@@ -1,5 +1,5 @@
 use Rattle.std.proofs.Common.{false, sym, ◌∙◌}
-use Rattle.feeder_state.specs.Held.{left_at}
+use Rattle.feeder_state.specs.Rows.{left_at}
 use Rattle.feeder_state.proofs.AtRest.{others-rest}
 use Rattle.feeder_state.proofs.NameSets.{changed}
 use Rattle.feeder_state.proofs.resting.end_rest.Goals as goal
@@ -7,4 +7,4 @@ use Rattle.feeder_state.proofs.resting.end_rest.Goals as goal
 pub returns-then-is_spent : goal.returns-then-is_spent
 returns-then-is_spent c = λ r some.
     let reel = c.args.reel.now in
-    others-rest (left_at c.args.reels.now) reel r _ _ (sym c.is_spent.ensures ∙ c.if-is_spent.true) some (changed reel r _ _ false (c.remove.ensures.updates.0 r))
+    others-rest (left_at c.args.rows.now) reel r _ _ (sym c.is_spent.ensures ∙ c.if-is_spent.true) some (changed reel r _ _ false (c.remove.ensures.updates.0 r))

@@ -1,30 +1,31 @@
-use Rattle.std.proofs.Common.{refl, sym, ap, ◌∙◌}
+use Rattle.std.proofs.Common.{rules, sym, ap, subst, ◌∙◌}
 use Rattle.std.specs.Prelude.{◌&&◌, ◌||◌}
 use Rattle.std.proofs.Math.Bool.{or-false}
-use Rattle.desk_types.specs.Id.{same}
-use Rattle.feeder_state.specs.Held.{held_at}
-use Rattle.feeder_state.specs.Resting.{held_rests, is_resting}
-use Rattle.feeder_state.proofs.AtRest.{rests-held}
+use Rattle.desk_types.specs.Id.{same, by_name}
+use Rattle.state_rows.specs.Kept.{tables_in, unnumbered, Lists}
+use Rattle.feeder_state.specs.Resting.{is_resting}
+use Rattle.feeder_state.proofs.AtRest.{has_resting, rests-rows}
 use Rattle.feeder_state.proofs.FilledMaps.{set-next}
 use Rattle.feeder_state.proofs.NameSets.{put}
-use Rattle.feeder_state.proofs.RestoredWork.{has_such}
 use Rattle.feeder_state.proofs.resting.resting_of.Goals as goal
 
 pub loop-name-preserved-in_ok-insert : goal.loop-name-preserved-in_ok-insert
 loop-name-preserved-in_ok-insert c = λ r.
     let name = c.in-Some.name.now in
     let now = is_resting c.loop-name.resting r in
-    let rest = has_such held_rests r c.next.new.self in
+    let rest = has_resting c.args.rows.now r c.next.new.self in
     set-next now (is_resting c.insert.new.self r) (same name r) rest _ (put name r (is_resting c.insert.new.self r) now (c.in_ok-insert.ensures.updates.0 r)) (
-    ap (λ at_rest. now || ((at_rest && same name r) || rest)) (sym c.if-is_at_rest.true ∙ c.is_at_rest.ensures.held)
-    ∙ ap (λ es. now || has_such held_rests r es) (sym c.in-Some.ensures.steps)
+    ap (λ at_rest. now || ((at_rest && same name r) || rest)) (sym c.if-row_rests.true ∙ c.row_rests.ensures)
+    ∙ ap (λ es. now || has_resting c.args.rows.now r es) (sym c.in-Some.ensures.steps)
     ∙ c.loop-name.invariant r)
 
 pub returns : goal.returns
-returns c = λ H judged are r rest.
-    let reels = c.args.reels.now in
+returns c = λ H rows r rest.
+    let kept = c.args.rows.now in
+    let es = c.into_iter-name-iterator.result in
+    let lists : Lists by_name es (tables_in kept).reels = subst (λ xs. Lists by_name xs (tables_in kept).reels) (search rules) c.reels-name-items.ensures in
     let now = is_resting c.loop-name.resting r in
     sym (or-false now)
-    ∙ ap (λ es. now || has_such held_rests r es) (sym c.in-None.ensures.steps.0)
+    ∙ ap (λ left. now || has_resting kept r left) (sym c.in-None.ensures.steps.0)
     ∙ c.loop-name.invariant r
-    ∙ rests-held H r reels.entries (held_at reels r) judged refl (are r) rest
+    ∙ rests-rows H kept r es (record { judged = rows.judged; same = ap unnumbered rows.tables }) lists.rows rest

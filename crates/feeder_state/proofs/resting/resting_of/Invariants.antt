@@ -1,10 +1,10 @@
 use Rattle.std.proofs.Common.{◌≡◌}
 use Rattle.std.specs.Prelude.{◌||◌}
 use Rattle.desk_types.specs.Id.{Name}
-use Rattle.feeder_state.specs.Resting.{held_rests, is_resting}
-use Rattle.feeder_state.proofs.RestoredWork.{has_such}
+use Rattle.feeder_state.specs.Resting.{is_resting}
+use Rattle.feeder_state.proofs.AtRest.{has_resting}
 use Rattle.feeder_state.proofs.resting.resting_of.Given as goal
 
--- the reels that are in, or are left to be put in
+-- The reels that are in, or are left to be put in.
 abbrev pub invariant-loop-name : goal.invariant-loop-name
-invariant-loop-name l = (r : Name) → (is_resting l.resting r || has_such held_rests r l.name-iterator) ≡ has_such held_rests r l.reels.entries
+invariant-loop-name l = (r : Name) → (is_resting l.resting r || has_resting l.rows r l.name-iterator) ≡ has_resting l.rows r l.initial.name-iterator

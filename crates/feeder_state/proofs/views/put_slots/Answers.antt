@@ -1,4 +1,4 @@
-use Rattle.std.proofs.Common.{rules, map, ◌≡◌, true, is_some, Some, None, All, unwrap_or, append_assoc, append-nil, ◌++◌, [], sym, ap, subst, ◌∙◌}
+use Rattle.std.proofs.Common.{rules, map, ◌≡◌, Some, None, unwrap_or, append_assoc, append-nil, ◌++◌, [], sym, ap, ◌∙◌}
 use Rattle.std.specs.Prelude.{if◌then◌else◌}
 use Rattle.std.specs.List.{flat_map, cons_option, enumerate_from}
 use Rattle.std.specs.Map.{keys_of}
@@ -8,21 +8,20 @@ use Rattle.desk_types.specs.Pieces.{live_on}
 use Rattle.desk_types.specs.View.{slot_mounts, mount_of}
 use Rattle.desk_types.proofs.Keys.{same-true}
 use Rattle.entry_search.specs.Floor.{tape_at}
-use Rattle.feeder_state.specs.Held.{held_at}
 use Rattle.feeder_state.proofs.SlotsOfMachines.{by_pair-total, slots_among, told-loaded}
-use Rattle.feeder_state.proofs.FloorTells.{told-now, all-held}
+use Rattle.feeder_state.proofs.FloorTells.{all-received}
 use Rattle.feeder_state.proofs.views.put_slots.Goals as goal
 
 pub loop-key-preserved : goal.loop-key-preserved
-loop-key-preserved c = λ H told.
+loop-key-preserved c = λ H told is_floor.
     let machine = c.args.machine.now in
     let items = c.loop-key.mounts.items in
     ap (λ here. items ++ flat_map (slot_mounts H machine) (cons_option (if here then Some c.in-Some.key.now.1 else None) (slots_among machine (keys_of c.next.new.self)))) c.if-eq.ensures
     ∙ ap (λ rest. items ++ flat_map (slot_mounts H machine) (slots_among machine (keys_of rest))) (sym c.in-Some.ensures.steps)
-    ∙ c.loop-key.invariant H told
+    ∙ c.loop-key.invariant H told is_floor
 
 pub loop-key-preserved-in-Continue-1 : goal.loop-key-preserved-in-Continue-1
-loop-key-preserved-in-Continue-1 c = λ H told.
+loop-key-preserved-in-Continue-1 c = λ H told is_floor.
     let floor = c.args.floor.now in
     let machine = c.args.machine.now in
     let key = c.in-Some.key.now in
@@ -32,21 +31,20 @@ loop-key-preserved-in-Continue-1 c = λ H told.
     (c.in-Some.key, c.in-Some.tape) c.loop-key.yielded_by c.in-Some.is c.next.ensures.steps by_pair-total floor.tapes (search rules) (search rules) in
     let tape : tape_at floor.tapes key.0 key.1 ≡ c.in-Some.tape.now = ap (λ found. unwrap_or found []) there.1 in
     let live : c.in-Some.tape.now ≡ live_on H machine key.1 =
-    sym tape ∙ told.is_floor.tapes key.0 key.1 ∙ ap (λ m. live_on H m key.1) (same-true key.0 machine (sym c.if-eq.ensures)) in
-    let held = subst (All (λ name. is_some (held_at floor.reels name) ≡ true)) tape (all-held H floor key.0 key.1 told.judged told.is_floor) in
+    sym tape ∙ is_floor.tapes key.0 key.1 ∙ ap (λ m. live_on H m key.1) (same-true key.0 machine (sym c.if-eq.ensures)) in
     ap (λ told_now. told_now ++ flat_map (slot_mounts H machine) rest) (
-    c.in_ok-put_tape.ensures H told.is_floor.reels (told-now H floor c.args.minute told) held
+    c.in_ok-put_tape.ensures H told (all-received H c.in-Some.tape.now machine key.1 told.are.judged live)
     ∙ ap (λ reels. items ++ map (mount_of H key.1) (enumerate_from 1 reels)) live)
     ∙ append_assoc items (slot_mounts H machine key.1) (flat_map (slot_mounts H machine) rest)
     ∙ ap (λ here. items ++ flat_map (slot_mounts H machine) (cons_option (if here then Some key.1 else None) rest)) c.if-eq.ensures
     ∙ ap (λ left. items ++ flat_map (slot_mounts H machine) (slots_among machine (keys_of left))) (sym c.in-Some.ensures.steps)
-    ∙ c.loop-key.invariant H told
+    ∙ c.loop-key.invariant H told is_floor
 
 pub returns : goal.returns
-returns c = λ H told.
+returns c = λ H told is_floor.
     let floor = c.args.floor.now in
     let machine = c.args.machine.now in
     sym (append-nil c.loop-key.mounts.items)
     ∙ ap (λ left. c.loop-key.mounts.items ++ flat_map (slot_mounts H machine) (slots_among machine (keys_of left))) (sym c.in-None.ensures.steps.0)
-    ∙ c.loop-key.invariant H told
-    ∙ ap (λ told_all. c.args.mounts.now.items ++ told_all) (told-loaded H machine floor.tapes (search rules) (told.is_floor.tapes machine))
+    ∙ c.loop-key.invariant H told is_floor
+    ∙ ap (λ told_all. c.args.mounts.now.items ++ told_all) (told-loaded H machine floor.tapes (search rules) (is_floor.tapes machine))

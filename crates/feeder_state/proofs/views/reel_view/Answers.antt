@@ -3,4 +3,4 @@ use Rattle.entry_search.proofs.ReelViews.{no-reel}
 use Rattle.feeder_state.proofs.views.reel_view.Goals as goal
 
 pub returns-in-None : goal.returns-in-None
-returns-in-None c = λ H told. sym (no-reel H c.args.name.now (sym told.is_minute ∙ c.in-None.is))
+returns-in-None c = λ H told. sym (no-reel H c.args.name.now (sym told.minute_is ∙ c.in-None.is))

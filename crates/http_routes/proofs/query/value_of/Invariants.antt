@@ -6,6 +6,6 @@ use Rattle.form_urlencoded.specs.Parse.{pairs_left}
 use Rattle.http_routes.specs.Query.{values_of}
 use Rattle.http_routes.proofs.query.value_of.Given as goal
 
--- the values of the name are the one found, if there is one, and those that are left
+-- The name's values are the one found, if any, and those left.
 abbrev pub invariant-loop-pair : goal.invariant-loop-pair
 invariant-loop-pair l = values_of l.fn.name (raw_pairs l.fn.query) ≡ cons_option (option_map cow_str_bytes l.found) (values_of l.fn.name (pairs_left l.pair-iterator))

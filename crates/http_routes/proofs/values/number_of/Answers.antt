@@ -9,7 +9,7 @@ use Rattle.http_routes.specs.Values.{is_numeral, number_of}
 use Rattle.desk_types.proofs.Numerals.{own}
 use Rattle.http_routes.proofs.values.number_of.Goals as goal
 
--- 1 to 9 digits are read as their number
+-- 1 to 9 digits are read as their number.
 parsed : {E : Type 0} (most : ℕ) (text : List ℕ) (read : Result ℕ E) → most ≤ 9 → ParsesUnsigned 64 10 text read → is_numeral most text ≡ true → read ≡ Ok (digits_value 10 text)
 parsed most text read few reads is =
     let digits : list_all is_ascii_digit text ≡ true = grind (arith, nat_tests) in

@@ -1,7 +1,7 @@
 use Rattle.std.proofs.Common.{rules, false}
 use Rattle.http_stream.proofs.serving.answer_portion.Goals as goal
 
--- the list stays
+-- The history is unchanged.
 
 pub returns-in-BadHead-clause-told : goal.returns-in-BadHead-clause-told
 returns-in-BadHead-clause-told g c = λ G stands trusts. (G.history, stands, (false, search rules, search rules))

@@ -26,7 +26,6 @@ not-from_read text =
     elim (is_designator text) as (λ b. (if b then Some text else None) ≡ None → b ≡ false)
     [ true ↦ λ is. cc | false ↦ λ is. refl ]
 
--- all words of a text as a list of 1 to 5,000
 list_of : (read : Option (List Name)) (text : List ℕ) (found : List Name)
     → found ≡ words_of text → list_all is_designator found ≡ true → SomeIff read (IsListLength (length found)) found → read ≡ designators_of text
 unfolding designators_of

@@ -3,7 +3,7 @@ use Rattle.std.specs.List.{list_all}
 use Rattle.cfx_profile.specs.Forms.{is_designator}
 use Rattle.imports.proofs.fields.designators_of.Given as goal
 
--- the words so far are these designators
+-- The words so far are these designators.
 abbrev pub invariant-loop-word : goal.invariant-loop-word
 invariant-loop-word l = record {
   words : l.found.items ≡ map (λ word. word.now) l.yielded;

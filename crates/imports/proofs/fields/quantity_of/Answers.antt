@@ -9,7 +9,7 @@ use Rattle.imports.specs.File.{is_number}
 use Rattle.desk_types.proofs.Numerals.{own}
 use Rattle.imports.proofs.fields.quantity_of.Goals as goal
 
--- 1 to 8 digits are read as their number
+-- 1 to 8 digits are read as their number.
 parsed : {E : Type 0} (text : List ℕ) (read : Result ℕ E) → ParsesUnsigned 64 10 text read → is_number text ≡ true → read ≡ Ok (digits_value 10 text)
 parsed text read reads is =
     let digits : list_all is_ascii_digit text ≡ true = grind (arith, nat_tests) in

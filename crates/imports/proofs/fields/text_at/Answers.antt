@@ -6,7 +6,7 @@ use Rattle.std.proofs.lemmas.Str.{IsUtf8-from_is_utf8, is_utf8-from_IsUtf8}
 use Rattle.imports.specs.File.{text_of}
 use Rattle.imports.proofs.fields.text_at.Goals as goal
 
--- reading bytes as text gives them where they are text
+-- Reading bytes as UTF-8 gives the same bytes.
 text_of-read : {E : Type 0} (Q : E → Type 0) (bytes : List ℕ) (read : Result (Bor (List ℕ)) E)
     → MatchResult read (λ text. (text.now ≡ bytes) × IsUtf8 bytes) (λ e. ¬ (IsUtf8 bytes) × Q e) → option_map (λ text. text.now) (result_ok read) ≡ text_of bytes
 text_of-read Q bytes (Ok text) is = rw (is_utf8-from_IsUtf8 bytes is.1, is.0) refl

@@ -6,7 +6,7 @@ use Rattle.csv.specs.declared.reader.Trim.TheVariants as trim
 use Rattle.imports.specs.declared.records.TheConstants.{MOST_RECORDS}
 use Rattle.imports.proofs.records.first_records.Given as goal
 
--- the records so far took the bytes to what the reader has left
+-- Reading the records so far left the reader with its remaining bytes.
 abbrev pub invariant-loop-row : goal.invariant-loop-row
 invariant-loop-row l = (length l.records.items < MOST_RECORDS) × (l.row-iterator.rdr.trim ≡ trim.None) × Ready l.row-iterator.rdr × (0 < l.row-iterator.left) × (l.row-iterator.rdr.config ≡ default_config)
     × (left : List ℕ) × (source_of (λ s. Some s.now) l.row-iterator.rdr ≡ Some left)

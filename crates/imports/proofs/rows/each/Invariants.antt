@@ -5,7 +5,7 @@ use Rattle.imports.specs.declared.rows.TheConstants.{FIRST_ROW}
 use Rattle.imports.specs.File.{each}
 use Rattle.imports.proofs.rows.each.Given as goal
 
--- the records so far are these rows, and the next one stands at this line
+-- The records so far are these rows, and this is the next line.
 abbrev pub invariant-loop-record : goal.invariant-loop-record
 invariant-loop-record g l = record {
   said : each g.T.Row.said FIRST_ROW (map fields_of (take l.record-index l.records)) ≡ Ok l.rows.items;

@@ -6,7 +6,7 @@ use Rattle.desk_types.specs.Refusals.{counts_refusal}
 use Rattle.setup_sheets.specs.Names.{HasSeen}
 use Rattle.judging.proofs.counts.picks_of_counts.Given as goal
 
--- the rows so far have no fault and these picks: the refusal is that of the others, and the picks are these and those of the others
+-- The rows so far have no fault and these picks; the others decide the refusal and add the rest.
 abbrev pub invariant-loop-row : goal.invariant-loop-row
 invariant-loop-row g l = (H : History) → g.F.Facts.Stands l.facts H → record {
   seen : HasSeen l.seen (map (λ (row : CountRow). row.reel) (take l.row-index l.rows));

@@ -4,7 +4,7 @@ use Rattle.desk_types.specs.History.{History}
 use Rattle.desk_types.specs.Pieces.{left_of}
 use Rattle.judging.proofs.fronts.front.Given as goal
 
--- the first live one of those that are left is the first of all
+-- The first live reel of the remaining ones is the first of all.
 abbrev pub invariant-loop-index : goal.invariant-loop-index
 invariant-loop-index g l = (H : History) → g.F.Facts.Stands l.facts H
     → find (λ reel. nat_lt 0 (left_of H reel)) (drop l.index (g.F.Facts.reels_on l.facts l.machine l.slot))

@@ -4,7 +4,7 @@ use Rattle.desk_types.specs.Pieces.{left_of}
 use Rattle.judging.specs.Placing.{live_past}
 use Rattle.judging.proofs.placing.later_reel.Given as goal
 
--- the reels that were passed over are spent
+-- The reels passed so far are spent.
 abbrev pub invariant-loop-place : goal.invariant-loop-place
 invariant-loop-place g l = let reels = g.F.Facts.reels_on l.facts l.machine l.slot in (H : History) → g.F.Facts.Stands l.facts H
     → live_past (left_of H) reels l.past ≡ live_past (left_of H) reels l.place

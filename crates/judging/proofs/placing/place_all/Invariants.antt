@@ -9,7 +9,8 @@ use Rattle.setup_sheets.specs.Names.{HasSeen}
 use Rattle.judging.specs.Placing.{IsFeeding}
 use Rattle.judging.proofs.placing.place_all.Given as goal
 
--- the designators so far have no fault and these picks: the refusal and the picks are those of the others after them
+-- The designators so far have no fault and these picks; the others decide the refusal and add the
+-- rest.
 abbrev pub invariant-loop-designator : goal.invariant-loop-designator
 invariant-loop-designator g l = (H : History) → g.F.Facts.Stands l.facts H → record {
   feeds : IsFeeding (live_on H l.machine) (left_of H) (g.F.Facts.reels_on l.facts l.machine) l.picks.items l.feeds;

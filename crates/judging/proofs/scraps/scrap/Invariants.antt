@@ -5,7 +5,8 @@ use Rattle.desk_types.specs.History.{History}
 use Rattle.desk_types.specs.Pieces.{left_of, scrap_picks}
 use Rattle.judging.proofs.scraps.scrap.Given as goal
 
--- the picks so far and those off the reels that are left are all, and what is wanting after those is wanting at the end
+-- The picks so far with those of the remaining reels are all, with the same pieces missing at the
+-- end.
 abbrev pub invariant-loop-index : goal.invariant-loop-index
 invariant-loop-index g l = let reels = g.F.Facts.reels_on l.facts l.machine l.slot in (H : History) → g.F.Facts.Stands l.facts H → record {
   picks : l.picks.items ++ scrap_picks (left_of H) (Rejected l.machine l.slot) (drop l.index reels) l.wanting

@@ -7,7 +7,7 @@ use Rattle.line_replay.proofs.replaying.rebuild.Goals as goal
 pub returns-in-Ok-clause-same : goal.returns-in-Ok-clause-same
 returns-in-Ok-clause-same g c G judged holds clean =
     let list = c.in-Ok.ensures.list in
-    let same = same_list g.D.Desk.Stands c.args.rules c.args.greatest _ _ c.in-Ok.replayed.desk c.in-Ok.replayed.beside c.in-Ok.replayed.count list.0 G (c.rows_tell_lists_apart.ensures c.args.rules) list.1 judged holds clean in (
+    let same = same_list g.D.Desk.Stands c.args.rules c.args.greatest _ _ c.in-Ok.replayed.desk _ c.in-Ok.replayed.count list.0 G (c.rows_tell_lists_apart.ensures c.args.rules) list.1 judged holds clean in (
       subst (λ (H : History). g.D.Desk.Stands c.in-Ok.replayed.desk H) same list.1.stands,
       sym list.1.counted ∙ ap length same,
       subst (IsListed c.in-Ok.replayed.lists) same list.2,

@@ -2,6 +2,7 @@ use Rattle.std.proofs.Common.{arith}
 use Rattle.std.proofs.lemmas.Result.{err_from_is_err_and}
 use Rattle.sqlite.specs.State.{HasCleanDisk}
 use Rattle.sqlite.specs.Held.{state}
+use Rattle.line_replay.specs.Expected.{kept_with}
 use Rattle.line_replay.specs.Replay.{StandsListed}
 use Rattle.line_replay.proofs.Committed.{replayed, too_few, fault_before}
 use Rattle.line_replay.proofs.OneRowMore.{desk-taken}
@@ -29,7 +30,7 @@ returns-then-not-all-clause-fault g c clean =
     let early : After → HasCleanDisk last = λ done. omega (arith, c.are_all.ensures.reads.survives.clean) in
     let earlier : HasCleanDisk last → HasCleanDisk mid = λ done. omega (arith, c.take_rows.ensures.reads.survives.clean) in
     let t = rw c.fresh-desk.ensures.rules at c.in_ok-count.ensures.taken in
-    too_few (StandsListed g.D.Desk.Stands) c.args.rules c.args.greatest old mid last (c.take_rows.new.desk, c.take_rows.new.lists) c.take_rows.new.beside c.in_ok-count.count t.0 (HasCleanDisk last) After early
+    too_few (StandsListed g.D.Desk.Stands) c.args.rules c.args.greatest old mid last (c.take_rows.new.desk, c.take_rows.new.lists) (kept_with (g.D.KeepsRows.kept_rows c.take_rows.new.desk) c.in_ok-count.placed) c.in_ok-count.count t.0 (HasCleanDisk last) After early
     (λ done. c.least_is_one.ensures.reads.kept (earlier (early done))) (λ done. c.take_rows.ensures.reads.kept (early done)) t.1 t.2 c.in_ok-all.all c.in_ok-all.ensures.counted
     c.if-not-all.true clean (c.in_ok-least_is_one.ensures.ok (earlier (early clean))) (c.in_ok-count.ensures.ends (early clean))
 
@@ -43,7 +44,7 @@ returns-clause-list g c =
     let earlier : HasCleanDisk last → HasCleanDisk mid = λ done. omega (arith, c.take_rows.ensures.reads.survives.clean) in
     let t = rw c.fresh-desk.ensures.rules at c.in_ok-count.ensures.taken in (
       t.0,
-      replayed g.D.Desk.Stands c.args.rules c.args.greatest old mid last c.take_rows.new.desk c.take_rows.new.beside c.in_ok-count.count t.0 (HasCleanDisk last) After early
+      replayed g.D.Desk.Stands c.args.rules c.args.greatest old mid last c.take_rows.new.desk (kept_with (g.D.KeepsRows.kept_rows c.take_rows.new.desk) c.in_ok-count.placed) c.in_ok-count.count t.0 (HasCleanDisk last) After early
           (λ done. c.least_is_one.ensures.reads.kept (earlier (early done))) (λ done. c.take_rows.ensures.reads.kept (early done)) t.1 (desk-taken t.2) c.in_ok-all.all c.in_ok-all.ensures.counted
           c.if-not-all.false,
       t.2.stands.1,

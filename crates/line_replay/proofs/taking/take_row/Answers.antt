@@ -4,18 +4,18 @@ use Rattle.sqlite.specs.State.{HasCleanDisk, KeepsCommit}
 use Rattle.sqlite.specs.Held.{state}
 use Rattle.desk_types.specs.declared.edit.RowEdit.{RowEdit}
 use Rattle.line_tables.proofs.Keeps.{keeps_then}
-use Rattle.line_replay.specs.Beside.{Adds}
-use Rattle.line_replay.proofs.RowsBeside.{adds_back}
+use Rattle.line_replay.specs.Expected.{LooksUp}
+use Rattle.line_replay.proofs.ExpectedRows.{looks_back}
 use Rattle.line_replay.proofs.OneRowMore.{row_taken, fault_stuck}
 use Rattle.line_replay.proofs.taking.take_row.Goals as goal
 
-pub returns-in_ok-add-in-Some-clause-ok : goal.returns-in_ok-add-in-Some-clause-ok
-returns-in_ok-add-in-Some-clause-ok g c H stands numbered =
+pub returns-in_ok-look_up-in-Some-clause-ok : goal.returns-in_ok-look_up-in-Some-clause-ok
+returns-in_ok-look_up-in-Some-clause-ok g c H stands numbered =
     let old = state g.S.Store c.args.conn.now in
     let first = state g.S.Store c.row_at.new.conn in
     let mid = state g.S.Store c.accept_first.new.conn in
-    let After = HasCleanDisk (state g.S.Store c.add.new.conn) in
-    let early : After → HasCleanDisk mid = λ clean. omega (arith, c.add.ensures.reads.survives.clean, clean) in
+    let After = HasCleanDisk (state g.S.Store c.look_up.new.conn) in
+    let early : After → HasCleanDisk mid = λ clean. omega (arith, c.look_up.ensures.reads.survives.clean, clean) in
     let earlier : After → HasCleanDisk first = λ clean. omega (arith, c.accept_first.ensures.reads.survives.clean, early clean) in
     let kept : After → KeepsCommit old mid = λ clean. keeps_then old first mid (c.row_at.ensures.reads.kept (earlier clean)) (c.accept_first.ensures.reads.kept (early clean)) in
     let accepts = c.in_ok-edits-in-Some.ensures.ok H stands numbered in record {
@@ -25,7 +25,10 @@ returns-in_ok-add-in-Some-clause-ok g c H stands numbered =
       row = λ clean. row_taken old first c.in_ok-found.found c.in-Some.row H accepts.entry c.args.number (c.row_at.ensures.reads.kept (earlier clean)) c.in-Some.is numbered accepts.goes.same (c.in_ok-found.ensures.found (earlier clean)) (accepts.first (early clean));
       edits = c.in_ok-edits-in-Some.edits;
       lead = accepts.lead;
-      adds = adds_back After old mid c.in_ok-edits-in-Some.edits c.args.beside.now c.add.new.self kept (subst (λ (xs : List RowEdit). Adds After mid xs c.args.beside.now c.add.new.self) c.as_slice.ensures c.in_ok-add-in-Some.ensures.ok);
+      adds = record {
+        rows = accepts.rows;
+        placed = looks_back After old mid c.in_ok-edits-in-Some.edits c.args.placed.now c.look_up.new.placed kept (subst (λ (xs : List RowEdit). LooksUp After mid xs c.args.placed.now c.look_up.new.placed) c.as_slice.ensures c.in_ok-look_up-in-Some.ensures.ok);
+      };
     }
 
 pub returns-in_err-edits-in-Some-clause-err : goal.returns-in_err-edits-in-Some-clause-err

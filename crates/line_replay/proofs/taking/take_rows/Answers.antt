@@ -8,7 +8,8 @@ use Rattle.line_replay.specs.declared.fault.ReplayFault.TheVariants.{NotLawful, 
 use Rattle.line_tables.specs.Calls.{Reads}
 use Rattle.line_tables.specs.Rows.{accepted_in}
 use Rattle.line_replay.specs.Replay.{StandsListed, Goes, IsStuck}
-use Rattle.line_replay.proofs.RowsBeside.{beside_none}
+use Rattle.line_replay.specs.Expected.{kept_with}
+use Rattle.line_replay.proofs.ExpectedRows.{none_expected}
 use Rattle.line_replay.proofs.OneRowMore.{taken_more, fault_taken}
 use Rattle.line_replay.proofs.taking.take_rows.Goals as goal
 
@@ -23,7 +24,7 @@ loop-number-init g c =
           judged = tt;
           counted = refl;
           rows = λ clean schema. tt;
-          others = beside_none (HasCleanDisk old) old.committed c.args.beside.now (c.requires.none old.committed);
+          others = none_expected (HasCleanDisk old) old.committed (g.D.KeepsRows.kept_rows c.args.desk.now) c.requires.none;
         },
       );
       reads = reads_same g.S.Store c.args.conn.now;
@@ -40,10 +41,10 @@ loop-number-preserved g c =
     let taken = was.taken.1 in
     let early : HasCleanDisk new → HasCleanDisk mid = λ clean. omega (arith, c.take_row.ensures.reads.survives.clean) in
     let went = c.in_ok-taken.ensures.ok H taken.stands (omega (arith, taken.counted)) in
-    let again = subst (λ (r : Rules). Goes F r (HasCleanDisk new) mid H c.loop-number.beside (c.take_row.new.desk, c.take_row.new.lists) c.take_row.new.beside c.in_ok-taken.taken) was.rules went in
-    let more = subst (λ (b : Bool). Goes F (g.D.Desk.kept_rules c.args.desk.now) (HasCleanDisk new) mid H c.loop-number.beside (c.take_row.new.desk, c.take_row.new.lists) c.take_row.new.beside b) c.if-not-taken.false again in record {
+    let again = subst (λ (r : Rules). Goes F r (HasCleanDisk new) mid H (kept_with (g.D.KeepsRows.kept_rows c.loop-number.desk) c.loop-number.placed) (c.take_row.new.desk, c.take_row.new.lists) (kept_with (g.D.KeepsRows.kept_rows c.take_row.new.desk) c.take_row.new.placed) c.in_ok-taken.taken) was.rules went in
+    let more = subst (λ (b : Bool). Goes F (g.D.Desk.kept_rules c.args.desk.now) (HasCleanDisk new) mid H (kept_with (g.D.KeepsRows.kept_rows c.loop-number.desk) c.loop-number.placed) (c.take_row.new.desk, c.take_row.new.lists) (kept_with (g.D.KeepsRows.kept_rows c.take_row.new.desk) c.take_row.new.placed) b) c.if-not-taken.false again in record {
       rules = c.in_ok-taken.ensures.rules ∙ was.rules;
-      taken = taken_more F (g.D.Desk.kept_rules c.args.desk.now) old mid (HasCleanDisk mid) (HasCleanDisk new) early was.reads.kept (c.loop-number.desk, c.loop-number.lists) (c.take_row.new.desk, c.take_row.new.lists) c.loop-number.beside c.take_row.new.beside c.loop-number.number H taken more;
+      taken = taken_more F (g.D.Desk.kept_rules c.args.desk.now) old mid (HasCleanDisk mid) (HasCleanDisk new) early was.reads.kept (c.loop-number.desk, c.loop-number.lists) (c.take_row.new.desk, c.take_row.new.lists) (kept_with (g.D.KeepsRows.kept_rows c.loop-number.desk) c.loop-number.placed) (kept_with (g.D.KeepsRows.kept_rows c.take_row.new.desk) c.take_row.new.placed) c.loop-number.number H taken more;
       reads = reads_then g.S.Store c.args.conn.now c.loop-number.conn c.take_row.new.conn was.reads c.take_row.ensures.reads;
     }
 
@@ -61,4 +62,4 @@ returns-in_err-taken-clause-err g c clean =
     let p = err_from_is_err_and c.from_residual.result c.from_residual.ensures.1 in
     let stop = c.in_err-taken.ensures.err H taken.stands.0 (omega (arith, taken.counted)) clean in
     let again = subst (λ (r : Rules). (f ≡ Unavailable) ⊎ ((f ≡ NotLawful (n + 1)) × Reads mid (λ db. IsStuck r H (accepted_in db)))) was.rules stop in
-    rw (p.1, p.2) (fault_taken (StandsListed g.D.Desk.Stands) (g.D.Desk.kept_rules c.args.desk.now) c.args.greatest old mid (HasCleanDisk mid) (c.loop-number.desk, c.loop-number.lists) c.loop-number.beside n H early (was.reads.kept early) taken low f again)
+    rw (p.1, p.2) (fault_taken (StandsListed g.D.Desk.Stands) (g.D.Desk.kept_rules c.args.desk.now) c.args.greatest old mid (HasCleanDisk mid) (c.loop-number.desk, c.loop-number.lists) (kept_with (g.D.KeepsRows.kept_rows c.loop-number.desk) c.loop-number.placed) n H early (was.reads.kept early) taken low f again)

@@ -3,6 +3,7 @@ use Rattle.sqlite.specs.State.{HasCleanDisk}
 use Rattle.sqlite.specs.Held.{state}
 use Rattle.desk_types.specs.History.{History}
 use Rattle.line_tables.specs.Frames.{ReadsOnly}
+use Rattle.line_replay.specs.Expected.{kept_with}
 use Rattle.line_replay.specs.Replay.{StandsListed, IsTaken}
 use Rattle.line_replay.proofs.taking.take_rows.Given as goal
 
@@ -12,6 +13,6 @@ invariant-loop-number g l =
     let old = state g.S.Store l.fn.conn in
     let now = state g.S.Store l.conn in record {
       rules : kept_rules l.desk ≡ kept_rules l.fn.desk;
-      taken : (H : History) × IsTaken (StandsListed g.D.Desk.Stands) (kept_rules l.fn.desk) (HasCleanDisk now) old.committed (l.desk, l.lists) l.beside l.number H;
+      taken : (H : History) × IsTaken (StandsListed g.D.Desk.Stands) (kept_rules l.fn.desk) (HasCleanDisk now) old.committed (l.desk, l.lists) (kept_with (g.D.KeepsRows.kept_rows l.desk) l.placed) l.number H;
       reads : ReadsOnly g.S.Store l.fn.conn l.conn;
     }

@@ -20,7 +20,7 @@ returns-in-Ok-clause-ok g c H stands numbered =
     let same : c.in-Ok.change.stamped ≡ s = stamped_is _ H s c.in-Ok.change is in (
       entry_of H s,
       refl,
-      rw same at (c.in_ok-settle-in-Ok.ensures.stands H stands),
+      rw same at (c.in_ok-settle_edits-in-Ok.ensures.stands H stands),
       said c.texts_tell_commands_apart.ensures _ H c.args.row.now s (search rules) c.ranges_hold.ensures c.in-Ok.change c.args.number _ is numbered c.in_ok-text-in-Ok.ensures (search rules) (search rules),
       record {
         lead = rw same at (c.in_ok-edits-in-Ok.ensures.lead H stands (sym numbered));

@@ -1,8 +1,10 @@
-use Rattle.std.proofs.Common.{Some, None, refl, arith}
+use Rattle.std.proofs.Common.{Some, None, refl, sym, subst, arith}
 use Rattle.std.proofs.lemmas.Result.{err_from_is_err_and}
 use Rattle.sqlite.specs.State.{HasCleanDisk, KeepsCommit}
 use Rattle.sqlite.specs.Held.{state}
 use Rattle.line_tables.proofs.Keeps.{keeps_then}
+use Rattle.state_rows.specs.Kept.{KeptRows}
+use Rattle.line_replay.specs.Expected.{kept_with, AreExpected}
 use Rattle.line_replay.proofs.ReadOfCommitted.{reads_as, reads_back}
 use Rattle.line_schema.proofs.ReadOfCommitted.{audited, list_fault, opened_on, reads_all, table_fault}
 use Rattle.line_schema.proofs.opening.read_tables.Goals as goal
@@ -22,9 +24,10 @@ returns-in-None-clause-ok g c =
     let kept_on : After → KeepsCommit mid seen = λ clean. keeps_then mid last seen (c.replay.ensures.reads.kept (early clean)) (c.are_apart.ensures.reads.kept (late clean)) in
     let r = c.in_ok-desk.field-0 in
     let list = c.in_ok-desk.ensures.list in
-    let first = audited c.args.rules Before After old mid seen r.beside list.0 None early kept kept_on list.1.others (λ clean. rw c.in-None.is at (c.in_ok-other.ensures.verdict clean)) in (
+    let others = subst (λ (rows : KeptRows). AreExpected Before mid.committed (kept_with rows r.placed) list.0) (sym c.rows.ensures.kept) list.1.others in
+    let first = audited c.args.rules Before After old mid seen (kept_with c.rows.result.now r.placed) list.0 None early kept kept_on others (λ clean. rw c.in-None.is at (c.in_ok-other.ensures.verdict clean)) in (
       list.0,
-      opened_on g.D.Desk.Stands g.D.Desk.kept_rules Before After old mid c.args.rules r.desk r.beside r.count _ list.0 early list.1 list.2 c.in_ok-desk.ensures.rules refl refl c.in_ok-greatest.ensures.bound kept
+      opened_on g.D.Desk.Stands g.D.Desk.kept_rules Before After old mid c.args.rules r.desk (kept_with (g.D.KeepsRows.kept_rows r.desk) r.placed) r.count _ list.0 early list.1 list.2 c.in_ok-desk.ensures.rules refl refl c.in_ok-greatest.ensures.bound kept
           (λ clean. c.in_ok-greatest.ensures.ok (earlier (early clean))) first
           (λ clean. reads_back old last _ (keeps_then old mid last (kept clean) (c.replay.ensures.reads.kept (early clean))) (reads_as last _ _ (λ db apart. apart c.if-not-apart.false) (c.in_ok-apart.ensures.apart (late clean)))),
     )
@@ -44,8 +47,9 @@ returns-in-Some-clause-err g c clean =
     let kept_on : After → KeepsCommit mid seen = λ clean. keeps_then mid last seen (c.replay.ensures.reads.kept (early clean)) (c.are_apart.ensures.reads.kept (late clean)) in
     let r = c.in_ok-desk.field-0 in
     let list = c.in_ok-desk.ensures.list in
-    let first = audited c.args.rules Before After old mid seen r.beside list.0 (Some c.in-Some.table) early kept kept_on list.1.others (λ clean. rw c.in-Some.is at (c.in_ok-other.ensures.verdict clean)) in
-    table_fault g.D.Desk.Stands c.args.rules Before old mid r.desk r.beside r.count c.in_ok-greatest.greatest list.0 c.in-Some.table (early clean) list.1 (kept clean)
+    let others = subst (λ (rows : KeptRows). AreExpected Before mid.committed (kept_with rows r.placed) list.0) (sym c.rows.ensures.kept) list.1.others in
+    let first = audited c.args.rules Before After old mid seen (kept_with c.rows.result.now r.placed) list.0 (Some c.in-Some.table) early kept kept_on others (λ clean. rw c.in-Some.is at (c.in_ok-other.ensures.verdict clean)) in
+    table_fault g.D.Desk.Stands c.args.rules Before old mid r.desk (kept_with (g.D.KeepsRows.kept_rows r.desk) r.placed) r.count c.in_ok-greatest.greatest list.0 c.in-Some.table (early clean) list.1 (kept clean)
     (c.in_ok-greatest.ensures.ok (earlier (early clean))) (first clean)
 
 pub returns-in_err-desk-clause-err : goal.returns-in_err-desk-clause-err

@@ -1,10 +1,11 @@
 use Rattle.std.proofs.Common.{◌+◌, take, sym, subst, arith, rules}
 use Rattle.sqlite.specs.Values.{bound}
+use Rattle.line_tables.specs.Edit.{row_edits}
 use Rattle.line_tables.specs.Placing.{ArePlacing}
 use Rattle.line_tables.proofs.Placing.{placing_more}
 use Rattle.line_tables.proofs.pieces.values_of_all.Goals as goal
 
 pub loop-edit-preserved : goal.loop-edit-preserved
 loop-edit-preserved c =
-    subst (ArePlacing (take (c.loop-edit.edit-index + 1) c.args.edits.now)) (sym c.in_ok-add_values.ensures.ok)
-    (placing_more c.args.edits.now c.loop-edit.edit-index c.edit-item.result c.in-EditRow-PutPlacement.row (bound c.loop-edit.values.items) (search arith) (search rules) (search rules) c.loop-edit.invariant)
+    subst (ArePlacing (row_edits (take (c.loop-edit.edit-index + 1) c.args.edits.now))) (sym c.in_ok-add_values.ensures.ok)
+    (placing_more c.args.edits.now c.loop-edit.edit-index c.edit-item.result c.in-PutPlacement.row (bound c.loop-edit.values.items) (search arith) (search rules) (search rules) c.loop-edit.invariant)

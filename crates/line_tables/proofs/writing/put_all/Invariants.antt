@@ -1,7 +1,8 @@
-use Rattle.std.proofs.Common.{◌<◌, IsTrue, length}
+use Rattle.std.proofs.Common.{IsTrue, length}
 use Rattle.sqlite.specs.State.{HasCleanDisk}
 use Rattle.sqlite.specs.Held.{state}
 use Rattle.sqlite.specs.Effect.{IsDatabase}
+use Rattle.line_tables.specs.Edit.{row_edits, command_edits}
 use Rattle.line_tables.specs.Rows.{Tables, Holds, AreNew}
 use Rattle.line_tables.specs.Frames.{InTransaction}
 use Rattle.line_tables.specs.Calls.{KeepsOthers}
@@ -12,9 +13,9 @@ abbrev pub invariant-loop-rest : goal.invariant-loop-rest
 invariant-loop-rest g l =
     let old = state g.S.Store l.fn.tx.conn.now in
     let now = state g.S.Store l.tx.conn.now in record {
-      left : HasCleanDisk now → Remain l.edits l.rest old.now now.now;
-      was_open : HasCleanDisk now → length l.rest < length l.edits → IsTrue old.is_open;
-      sound : HasCleanDisk now → length l.rest < length l.edits → (tables : Tables) → Holds old.now tables → AreNew l.edits tables → IsDatabase now.now;
+      left : HasCleanDisk now → Remain (command_edits l.row l.edits) (row_edits l.rest) old.now now.now;
+      was_open : HasCleanDisk now → IsTrue old.is_open;
+      sound : HasCleanDisk now → (tables : Tables) → Holds old.now tables → AreNew (command_edits l.row l.edits) tables → IsDatabase now.now;
       others : HasCleanDisk now → KeepsOthers old.now now.now;
       within : InTransaction g.S.Store l.fn.tx l.tx;
     }

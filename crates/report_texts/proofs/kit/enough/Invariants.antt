@@ -7,7 +7,7 @@ use Rattle.setup_sheets.specs.Names.{is_among, HasSeen}
 use Rattle.report_texts.specs.Kit.{enough}
 use Rattle.report_texts.proofs.kit.enough.Given as goal
 
--- the chosen reels, and those that are enough for what is missing, are those that are enough
+-- The chosen reels, with enough of the rest, are the result.
 abbrev pub invariant-loop-reel : goal.invariant-loop-reel
 invariant-loop-reel l = (names : List Name) → HasSeen l.given names
     → l.chosen.items ++ enough l.missing (filter (λ (r : ReelView). not (is_among names r.reel)) (drop l.reel-index l.reels))

@@ -5,7 +5,7 @@ use Rattle.setup_sheets.specs.Names.{HasSeen}
 use Rattle.report_texts.specs.Kit.{kit_rows}
 use Rattle.report_texts.proofs.kit.kit_rows.Given as goal
 
--- the rows so far, and those of the other rows of the sheet with what is given by now, are those of the kit
+-- The rows so far, with those of the remaining sheet rows, are the kit.
 abbrev pub invariant-loop-row : goal.invariant-loop-row
 invariant-loop-row g l = (H : History) → g.D.Desk.Stands l.desk H
     → (names : List Name) × HasSeen l.given names × (l.kit.items ++ kit_rows H l.boards names (drop l.row-index l.sheet) ≡ kit_rows H l.boards [] l.sheet)

@@ -5,7 +5,7 @@ use Rattle.setup_sheets.specs.Names.{HasSeen}
 use Rattle.report_texts.specs.Kit.{pieces_of_reels, reel_row}
 use Rattle.report_texts.proofs.kit.put_rows.Given as goal
 
--- the reels so far are given and have their rows, and their pieces are no longer missing
+-- The reels so far are given and have rows, and their pieces are no longer missing.
 abbrev pub invariant-loop-reel : goal.invariant-loop-reel
 invariant-loop-reel l = record {
   given : (names : List Name) → HasSeen l.fn.given names → HasSeen l.given (names ++ map (λ (r : ReelView). r.reel) (take l.reel-index l.reels));

@@ -4,7 +4,7 @@ use Rattle.report_texts.specs.Csv.{record_text, csv_text, HasWritten}
 use Rattle.report_texts.specs.Sets.{bytes_of}
 use Rattle.report_texts.proofs.traces.text_of_set.Given as goal
 
--- what was written, and then the rows that are left
+-- The written rows, then the remaining ones.
 abbrev pub invariant-loop-row : goal.invariant-loop-row
 invariant-loop-row l = (done : List ℕ) × HasWritten l.writer done
     × (done ++ flat_map record_text (map (λ r. bytes_of r.items) l.row-iterator) ≡ csv_text (bytes_of l.header) (map (λ r. bytes_of r.items) l.rows.keys))

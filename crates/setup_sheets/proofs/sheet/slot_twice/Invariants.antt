@@ -3,7 +3,7 @@ use Rattle.desk_types.specs.Refusals.{name_twice, slots_of_rows}
 use Rattle.setup_sheets.specs.Names.{HasSeen}
 use Rattle.setup_sheets.proofs.sheet.slot_twice.Given as goal
 
--- the slots of the rows so far have been seen, and none of them twice
+-- The slots so far have been seen, without repeats.
 abbrev pub invariant-loop-row : goal.invariant-loop-row
 invariant-loop-row l = record {
   seen : HasSeen l.seen (slots_of_rows (take l.row-index l.rows));

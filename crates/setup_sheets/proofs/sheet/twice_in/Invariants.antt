@@ -4,7 +4,7 @@ use Rattle.desk_types.specs.Refusals.{name_twice}
 use Rattle.setup_sheets.specs.Names.{HasSeen}
 use Rattle.setup_sheets.proofs.sheet.twice_in.Given as goal
 
--- the designators so far have been seen, and none of them twice
+-- The designators so far have been seen, without repeats.
 abbrev pub invariant-loop-designator : goal.invariant-loop-designator
 invariant-loop-designator l = (before : List Name) → HasSeen l.fn.seen before → record {
   seen : HasSeen l.seen (before ++ take l.designator-index l.designators);

@@ -8,7 +8,6 @@ use Rattle.desk_types.proofs.LoopSteps.{drop-next}
 use Rattle.setup_sheets.specs.Verification.{first_fault, front_fault}
 use Rattle.setup_sheets.proofs.verification.first_faulty.Goals as goal
 
--- the first slot is the faulty one
 first_fault-first : (alternates : List (Name × Name)) (minute : ℕ) (row : SheetRow) (front : Front) (rows : List SheetRow) (fronts : List Front) (refusal : Refusal)
     → front_fault alternates minute row front.reel ≡ Some refusal → first_fault alternates minute (row ∷ rows) (front ∷ fronts) ≡ Some (row.slot, refusal)
 first_fault-first alternates minute row front rows fronts refusal is = rw is

@@ -5,4 +5,4 @@ use Rattle.state_rows.specs.EditsOf.{count_edits}
 use Rattle.state_rows.proofs.counted.count.Given as goal
 
 abbrev pub invariant-loop-row : goal.invariant-loop-row
-invariant-loop-row g l = (H : History) → g.D.Desk.Stands l.desk H → l.edits.items ≡ flat_map (count_edits H) (take l.row-index l.rows)
+invariant-loop-row g l = (H : History) → g.D.Views.Stands l.desk H → l.edits.items ≡ flat_map (count_edits H) (take l.row-index l.rows)

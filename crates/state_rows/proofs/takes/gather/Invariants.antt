@@ -7,5 +7,5 @@ use Rattle.state_rows.specs.EditsOf.{pick_of, picked_rows}
 use Rattle.state_rows.proofs.takes.gather.Given as goal
 
 abbrev pub invariant-loop-take : goal.invariant-loop-take
-invariant-loop-take g l = (H : History) → g.D.Desk.Stands l.desk H
+invariant-loop-take g l = (H : History) → g.D.Views.Stands l.desk H
     → (r : Name) → get by_name l.rows r ≡ picked_rows (reel_row H) (map pick_of (take l.take-index l.takes)) r

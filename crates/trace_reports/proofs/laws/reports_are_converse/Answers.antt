@@ -12,14 +12,13 @@ use Rattle.trace_reports.specs.Reports.{board_trace, lot_trace, rows_below}
 use Rattle.trace_reports.proofs.ReportedPieces.{found-rows}
 use Rattle.trace_reports.proofs.laws.reports_are_converse.Goals as goal
 
--- the rows that are read of the trace of a board, where its texts are read back
+-- The records read from a board's trace, if its texts can be read back.
 on-board : ((detail : TraceDetail) (pieces : List Placement) → records default_config (board_text detail pieces) ≡ project (board_columns detail) board_header ∷ board_rows detail pieces)
     → (detail : TraceDetail) (H : History) (board : Name) (paper : List ℕ) → board_trace detail H board ≡ Some paper
     → rows_below paper ≡ board_rows detail (pieces_on board (placements_of H))
 on-board back detail H board paper found =
     found-rows (traced.is_board H board) (board_text detail) (project (board_columns detail) board_header) (board_rows detail) (back detail) (traced.pieces_on H board) paper found
 
--- and of the trace of a lot
 of-lot : ((detail : TraceDetail) (pieces : List Placement) → records default_config (lot_text detail pieces) ≡ project (lot_columns detail) lot_header ∷ lot_rows detail pieces)
     → (detail : TraceDetail) (H : History) (lot : Name) (paper : List ℕ) → lot_trace detail H lot ≡ Some paper
     → rows_below paper ≡ lot_rows detail (pieces_of_lot lot (placements_of H))

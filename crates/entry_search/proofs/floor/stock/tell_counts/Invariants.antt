@@ -3,7 +3,7 @@ use Rattle.desk_types.specs.Id.{Name}
 use Rattle.entry_search.specs.Floor.{pieces_at, count_or}
 use Rattle.entry_search.proofs.floor.stock.tell_counts.Given as goal
 
--- the rows that are left, over what is told so far, say what all rows say over what was there
+-- The remaining rows applied to the current stock give the result of all rows.
 abbrev pub invariant-loop-row : goal.invariant-loop-row
 invariant-loop-row l = (r : Name) → count_or l.rest r (pieces_at l.stock r) ≡ count_or l.rows r (pieces_at l.initial.stock r)
 

@@ -1,31 +1,9 @@
-use Rattle.std.proofs.Common.{refl, sym, subst}
-use Rattle.desk_types.specs.Number.{IsMinute}
-use Rattle.desk_types.specs.History.{entry_of}
-use Rattle.feeder_state.specs.Noted.{IsNoted}
-use Rattle.feeder_state.proofs.AcceptedChanges.{accepted-judged, accepted-noted, accepted-minute}
+use Rattle.std.proofs.Common.{ap, ◌∙◌}
+use Rattle.desk_types.specs.Tables.{tables_of}
+use Rattle.desk_types.specs.Edits.{with_edits}
+use Rattle.state_rows.specs.Kept.{unnumbered}
 use Rattle.feeder_state.proofs.desk.StateDesk.accept.Goals as goal
 
-pub note-requires : goal.note-requires
-note-requires c =
-    let room = c.requires.room in
-    let H = room.0 in
-    let change = c.args.change in
-    let s = change.stamped in
-    let noted = accepted-noted c.args.self.now.rules H s change room.1.judged c.ranges_hold.ensures (subst IsMinute c.get.ensures.value c.get.ensures.range) (c.requires.judged H room.1) in
-    (H, entry_of H s, subst (IsNoted H (entry_of H s) s.command change.minute) (sym c.as_slice.ensures) noted, room.1.floor, room.2)
-
-pub returns-clause-stands : goal.returns-clause-stands
-returns-clause-stands c = λ H state.
-    let rules = c.args.self.now.rules in
-    let change = c.args.change in
-    let s = change.stamped in
-    let is = c.requires.judged H state in
-    let judged = accepted-judged rules H s change state.judged c.ranges_hold.ensures (subst IsMinute c.get.ensures.value c.get.ensures.range) is in
-    let noted = accepted-noted rules H s change state.judged c.ranges_hold.ensures (subst IsMinute c.get.ensures.value c.get.ensures.range) is in
-    record {
-      judged = judged;
-      minute = accepted-minute rules H s change is;
-      setup = c.in_ok-note-3.ensures H (entry_of H s) refl state.setup;
-      floor = c.in_ok-note.ensures H (entry_of H s) (subst (IsNoted H (entry_of H s) s.command change.minute) (sym c.as_slice.ensures) noted) state.floor;
-      work = c.in_ok-note-2.ensures H (entry_of H s) noted.judged refl (c.selected_at_start-selected.ensures H state) state.work;
-    }
+pub apply-requires-clause-lead : goal.apply-requires-clause-lead
+apply-requires-clause-lead c = λ H state.
+    ap (λ edits. unnumbered (with_edits edits (tables_of H))) c.as_slice.ensures ∙ c.in_ok-edits.ensures.same H state

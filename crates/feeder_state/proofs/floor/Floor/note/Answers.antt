@@ -13,23 +13,16 @@ pub note_takes-requires-clause-takes : goal.note_takes-requires-clause-takes
 note_takes-requires-clause-takes c = sym c.may_take.ensures ∙ c.if-may_take.true
 
 pub note_takes-requires-clause-known : goal.note_takes-requires-clause-known
-note_takes-requires-clause-known c = let known = c.requires in (known.0, known.1, c.args.at, known.2, known.3, known.4)
+note_takes-requires-clause-known c = c.requires
 
 pub returns-then-may_take : goal.returns-then-may_take
-returns-then-may_take c = λ H e noted floor. c.note_takes.ensures H e c.args.at noted floor
-
-pub note_reels-requires-clause-other : goal.note_reels-requires-clause-other
-note_reels-requires-clause-other c = sym c.may_take.ensures ∙ c.if-may_take.false
-
-pub note_reels-requires-clause-known : goal.note_reels-requires-clause-known
-note_reels-requires-clause-known c = let known = c.requires in (known.0, known.1, c.args.takes.now, known.2, known.3.reels)
+returns-then-may_take c = λ H e at noted rows floor. c.note_takes.ensures H e at noted rows floor
 
 pub returns : goal.returns
-returns c = λ H e noted floor.
+returns c = λ H e at noted rows floor.
     let command = c.args.command.now in
     let other = ap may_take noted.command_is ∙ sym c.may_take.ensures ∙ c.if-may_take.false in
     record {
-      reels = c.in_ok-note_reels.ensures H e c.args.takes.now noted floor.tapes floor.reels;
       tapes = λ m s.
           c.in_ok-note_tape.ensures m s
           ∙ ap (tape_after m s command) (floor.tapes m s)

@@ -3,6 +3,7 @@ use Rattle.sqlite.specs.State.{HasCleanDisk}
 use Rattle.sqlite.specs.Held.{state}
 use Rattle.desk_types.specs.declared.rules.Rules.TheVariants.{Two}
 use Rattle.desk_types.specs.Number.{IsMinute}
+use Rattle.line_tables.specs.Edit.{command_edits}
 use Rattle.line_tables.proofs.Keeps.{keeps_same}
 use Rattle.line_schema.proofs.StandsAfter.{judged_for, stood_for, stands_on, left_on, survives_on, failed_on, survives_still, err_still}
 use Rattle.line_schema.proofs.Others.{let_be_edited}
@@ -26,7 +27,7 @@ returns-in_err-append-clause-survives g c L stands own =
     let by = stood_for g.D.Desk.Stands g.D.Desk.kept_rules old.desk c.in-Some.desk L.history c.in-Some.is stands.desk in
     let after = c.in_ok-text.ensures.edits L.greatest L.history by is (ap (λ n. n + 1) stands.count) in
     let new = c.in_ok-text.ensures.new L.greatest L.history by (ap (λ n. n + 1) stands.count) in
-    survives_on (state g.S.Store old.conn) _ _ _ after new (λ clean. stands.tables clean own) (state g.S.Store c.append.new.conn) (rw c.as_slice.ensures.value at c.append.ensures.crash)
+    survives_on (state g.S.Store old.conn) _ _ _ after new (λ clean. stands.tables clean own) (state g.S.Store c.append.new.conn) (rw c.as_slice.ensures at c.append.ensures.crash)
 
 pub returns-clause-survives : goal.returns-clause-survives
 returns-clause-survives g c L stands own =
@@ -36,7 +37,7 @@ returns-clause-survives g c L stands own =
     let by = stood_for g.D.Desk.Stands g.D.Desk.kept_rules old.desk c.in-Some.desk L.history c.in-Some.is stands.desk in
     let after = c.in_ok-text.ensures.edits L.greatest L.history by is (ap (λ n. n + 1) stands.count) in
     let new = c.in_ok-text.ensures.new L.greatest L.history by (ap (λ n. n + 1) stands.count) in
-    survives_on (state g.S.Store old.conn) _ _ _ after new (λ clean. stands.tables clean own) (state g.S.Store c.append.new.conn) (rw c.as_slice.ensures.value at c.append.ensures.crash)
+    survives_on (state g.S.Store old.conn) _ _ _ after new (λ clean. stands.tables clean own) (state g.S.Store c.append.new.conn) (rw c.as_slice.ensures at c.append.ensures.crash)
 
 pub returns-clause-alone : goal.returns-clause-alone
 returns-clause-alone g c L stands clean own =
@@ -47,7 +48,7 @@ returns-clause-alone g c L stands clean own =
     let after = c.in_ok-text.ensures.edits L.greatest L.history by is (ap (λ n. n + 1) stands.count) in
     let new = c.in_ok-text.ensures.new L.greatest L.history by (ap (λ n. n + 1) stands.count) in
     let early : HasCleanDisk (state g.S.Store old.conn) = omega (arith, c.append.ensures.crash.clean, clean) in
-    λ trees left. left_on (state g.S.Store old.conn) _ _ _ after new (λ now. stands.tables now own) early trees (rw c.as_slice.ensures.value at (c.in_ok-append.ensures.alone clean trees left))
+    λ trees left. left_on (state g.S.Store old.conn) _ _ _ after new (λ now. stands.tables now own) early trees (rw c.as_slice.ensures at (c.in_ok-append.ensures.alone clean trees left))
 
 pub returns-clause-ok : goal.returns-clause-ok
 returns-clause-ok g c L stands first =
@@ -58,8 +59,8 @@ returns-clause-ok g c L stands first =
     let after = c.in_ok-text.ensures.edits L.greatest L.history by is (ap (λ n. n + 1) stands.count) in
     let new = c.in_ok-text.ensures.new L.greatest L.history by (ap (λ n. n + 1) stands.count) in
     let minute : IsMinute change.minute = search rules in
-    stands_on g.S.Store g.D.Desk.Stands g.D.Desk.kept_rules old _ L change c.in_ok-text.field-0.edits.items stands c.requires.room is c.ranges_hold.ensures minute refl refl (search rules) (c.settle_both-desk.ensures.desk Two L.history (search rules)) (c.settle_both-desk.ensures.lists L.history (search rules) (search rules) (ap (λ n. n + 1) stands.count)) c.settle_both-desk.ensures.beside after new
-    c.append.ensures.crash (λ clean. rw c.as_slice.ensures.value at (c.in_ok-append.ensures.done clean)) (λ clean. (c.in_ok-append.ensures.stays_open clean).0) first
+    stands_on g.S.Store g.D.Desk.Stands g.D.Desk.kept_rules old _ L change (command_edits c.in_ok-text.field-0.row c.in_ok-text.field-0.edits) stands c.requires.room is c.ranges_hold.ensures minute refl refl (search rules) (c.settle_both-desk.ensures.desk Two L.history (search rules)) (c.settle_both-desk.ensures.lists L.history (search rules) (search rules) (ap (λ n. n + 1) stands.count)) c.settle_both-desk.ensures.beside after new
+    c.append.ensures.crash (λ clean. rw c.as_slice.ensures at (c.in_ok-append.ensures.done clean)) (λ clean. (c.in_ok-append.ensures.stays_open clean).0) first
 
 pub returns-in_err-append-clause-others : goal.returns-in_err-append-clause-others
 returns-in_err-append-clause-others g c = let_be_edited _ _ _ c.append.result c.append.ensures.crash c.append.ensures.others c.append.ensures.stays_open c.append.ensures.neither

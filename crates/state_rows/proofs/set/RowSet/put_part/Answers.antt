@@ -3,4 +3,4 @@ use Rattle.state_rows.proofs.RowLists.{part-put}
 use Rattle.state_rows.proofs.set.RowSet.put_part.Goals as goal
 
 pub returns : goal.returns
-returns c = part-put (the_view c.self.inside) c.args.self.now c.self.view_is c.insert.new.self.keys c.args.part c.in_ok-insert.ensures.updates.0
+returns c = part-put (the_view c.self.inside) c.args.self.now c.self.view_is c.add.new.self c.args.part c.in_ok-add.ensures.has

@@ -30,7 +30,8 @@ returns c = record {
             let installed =
             ap (keys_in (λ p. same p.board board) n e.effective 1) took ∙ keys-installed H e.effective n c.in-Ok.pieces board s.command (count ∙ ap length took) in
             keys-noted (λ p. same p.board board) H s n takes _ _
-            (c.in_ok-note_install.ensures board ∙ ap (λ ks. keys_of_installs (kept_at c.args.self.now.boards board) ++ ks) (sym installed)) (is.boards board) number took;
+            (c.in_ok-note_install.ensures.keys board ∙ ap (λ ks. keys_of_installs (kept_at c.args.self.now.boards board) ++ ks) (sym installed)) (is.boards board) number took;
+        installs = λ board. c.in_ok-note_install.ensures.pieces board (is.installs board);
         overdue = keys-noted (λ p. p.overdue) H s n takes _ _ (c.in_ok-note_pieces.ensures.overdue e.effective) is.overdue number took;
         minutes = λ k. ap (λ ms. minute_in ms k) pushed ∙ minutes-accepted H s minutes c.get.result is.count minute is.minutes k;
         count = ap length pushed ∙ count-accepted H s minutes c.get.result is.count;

@@ -1,0 +1,36 @@
+//! The laws of alike desks. They are for proofs, and do nothing when they run.
+
+ghost use Rattle.std.specs.Prelude.{◌≡◌, List, All};
+ghost use Rattle.desk_types.specs.declared.command.Stamped.{Stamped};
+ghost use Rattle.desk_types.specs.declared.rules.Rules.{Rules};
+ghost use Rattle.desk_types.specs.Command.{IsStamped};
+ghost use Rattle.desk_types.specs.History.{History};
+ghost use Rattle.desk_types.specs.Judged.{IsJudged};
+ghost use Rattle.desk_types.specs.Outcome.{replies_to, after_commands};
+ghost use Rattle.alike.specs.Alike.{IsIdle, AreAlike};
+ghost use Rattle.alike.specs.Past.{NamesNothingPast};
+
+/// Alike desks answer alike: commands that come one after the other get the same replies from both,
+/// however many they are, as long as none names a board that the old desk started, or a reel that was
+/// spent there. Once no board is in work again, the desks are still alike. This holds of judged
+/// histories, by either rules.
+///
+/// The values of the commands are in their ranges, as those of every command that a program holds.
+/// Repeats of a UniqueID and the greatest number are the owner's matter, so replies do not depend on them
+/// here.
+pub fn alike_desks_answer_alike()
+    ensures replies { (rules : Rules) (H H' : History) (commands : List Stamped) → IsJudged rules H → IsJudged rules H'
+        → AreAlike H H' → All IsStamped commands
+        → All (λ (s : Stamped). NamesNothingPast H s.command) commands
+        → replies_to rules H commands ≡ replies_to rules H' commands }
+    ensures alike { (rules : Rules) (H H' : History) (commands : List Stamped) → IsJudged rules H → IsJudged rules H'
+        → AreAlike H H' → All IsStamped commands
+        → All (λ (s : Stamped). NamesNothingPast H s.command) commands → IsIdle (after_commands rules H commands)
+        → AreAlike (after_commands rules H commands) (after_commands rules H' commands) }
+{}
+
+/// A third desk that is alike to the second is alike to the first. So it is for every desk of a chain in
+/// which each is begun as the one before it ended. This holds of every history.
+pub fn alike_desks_chain()
+    ensures { (F G H : History) → AreAlike F G → AreAlike G H → AreAlike F H }
+{}

@@ -1,0 +1,7 @@
+//! For proofs alone: nothing of it runs. When a desk that is begun anew answers as the desk that it
+//! follows, as laws.
+#![tactic(auto)]
+
+mod law;
+
+pub use law::{alike_desks_answer_alike, alike_desks_chain};

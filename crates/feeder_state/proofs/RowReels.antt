@@ -1,0 +1,273 @@
+-- Reels made from their rows.
+use Rattle.std.proofs.Common.{◌≡◌, ℕ, ◌+◌, ◌-◌, ◌≤◌, nat_lt, Bool, true, false, Option, Some, None, ◌∷◌, [], refl, sym, ap, subst, ◌∙◌, unwrap_or, arith, is_some}
+use Rattle.std.specs.Prelude.{◌&&◌, if◌then◌else◌}
+use Rattle.std.specs.Option.{option_map, option_map_or, option_or}
+use Rattle.std.specs.Cmp.Lexicographic.{nat_list_eq_equiv}
+use Rattle.std.proofs.lemmas.Map.Views.{list_any-from_Contains}
+use Rattle.desk_types.specs.declared.command.Command.{Command}
+use Rattle.desk_types.specs.declared.command.Command.TheVariants.{ReelReceived}
+use Rattle.desk_types.specs.declared.command.Receipt.{Receipt}
+use Rattle.desk_types.specs.declared.level.Level.{Level}
+use Rattle.desk_types.specs.declared.level.Level.TheVariants.{Six}
+use Rattle.desk_types.specs.declared.limits.TheConstants.{GREATEST_LABEL}
+use Rattle.desk_types.specs.declared.rules.Rules.TheVariants.{Two}
+use Rattle.desk_types.specs.Command.{IsCommand}
+use Rattle.desk_types.specs.Level.{IsLabel}
+use Rattle.desk_types.specs.Id.{Name, same}
+use Rattle.desk_types.specs.History.{History, now_of}
+use Rattle.desk_types.specs.Setup.{receipt_of, receipt_by}
+use Rattle.desk_types.specs.Pieces.{left_of, found_of, live_on, is_mounted}
+use Rattle.desk_types.specs.FloorLife.{out_since, exposure_of}
+use Rattle.desk_types.specs.View.{view_of, used_of}
+use Rattle.desk_types.specs.Judged.{IsJudged}
+use Rattle.desk_laws.specs.Place.{place_of}
+use Rattle.desk_laws.proofs.Balance.{balance, unreceived-empty}
+use Rattle.desk_laws.proofs.Exposures.{exposure-within}
+use Rattle.desk_laws.proofs.Lookups.{mounted-live}
+use Rattle.desk_laws.proofs.Judgements.{by-desk_minute}
+use Rattle.desk_laws.proofs.Mounted.{mounted-is}
+use Rattle.desk_laws.proofs.Openings.{starts-by}
+use Rattle.desk_types.specs.declared.row.ReelRow.{ReelRow}
+use Rattle.desk_types.specs.declared.row.MountRow.{MountRow}
+use Rattle.reels.specs.declared.reel.Reel.{Reel}
+use Rattle.entry_search.specs.Life.{IsReelOf}
+use Rattle.desk_types.specs.Tables.{Tables, columns_of, reel_row, last_put, mount_row}
+use Rattle.state_rows.proofs.Exposed.{since-by}
+use Rattle.state_rows.proofs.MountedRows.{live-mount}
+use Rattle.state_rows.specs.Kept.{KeptRows, tables_in, without_number}
+use Rattle.state_rows.proofs.ReelRows.{used-then, found-kept}
+use Rattle.feeder_state.specs.declared.held.Held.{Held}
+use Rattle.feeder_state.specs.Held.{IsHeld, IsHeldOf, with_mount}
+use Rattle.feeder_state.specs.Rows.{AreRows, left_at}
+use Rattle.feeder_state.proofs.RowFits.{IsFitting}
+
+-- ---- the values of a row
+
+-- The reel was received, and the row has its columns.
+record IsRowOf (H : History) (name : Name) (row : ReelRow) : Type 0 where
+  receipt : Receipt
+  received : receipt_of H name ≡ Some receipt
+  row_is : columns_of (view_of H name receipt) ≡ row
+
+row-of : (H : History) (name : Name) (row : ReelRow) → reel_row H name ≡ Some row → IsRowOf H name row
+row-of H name row is = by (receipt_of H name) refl is
+  where
+    by : (said : Option Receipt) → receipt_of H name ≡ said → option_map columns_of (option_map (view_of H name) said) ≡ Some row → IsRowOf H name row
+    by None says is = cc
+    by (Some receipt) says is = record { receipt = receipt; received = says; row_is = ap (λ o. unwrap_or o row) is }
+
+-- ---- ranges
+
+label-below : (level : Level) (label : ℕ) → IsLabel level label → label ≤ GREATEST_LABEL
+label-below Six label range = range.1
+label-below _ label range = omega (arith, range)
+
+label-range : (H : History) (name : Name) (receipt : Receipt) → IsJudged Two H → receipt_of H name ≡ Some receipt → receipt.moisture.label ≤ GREATEST_LABEL
+label-range [] name receipt judged is = cc
+label-range (e ∷ H) name receipt (next, judged) is = by (receipt_by name e.effective e.stamped.command) refl is (label-range H name receipt judged)
+  where
+    given : (b : Bool) (x : Receipt) → x.moisture.label ≤ GREATEST_LABEL → (if b then Some x else None) ≡ Some receipt → receipt.moisture.label ≤ GREATEST_LABEL
+    given true x few one = let label = ap (λ o. option_map_or (λ (r : Receipt). r.moisture.label) o 0) one in omega (arith, few, label)
+    given false x few one = cc
+
+    named : (command : Command) → IsCommand command → receipt_by name e.effective command ≡ Some receipt → receipt.moisture.label ≤ GREATEST_LABEL
+    named (ReelReceived r part lot moisture quantity) range one = given (same r name) _ (label-below moisture.level moisture.label range.3) one
+    named _ range one = cc
+
+    by : (said : Option Receipt) → receipt_by name e.effective e.stamped.command ≡ said → option_or said (receipt_of H name) ≡ Some receipt
+        → (receipt_of H name ≡ Some receipt → receipt.moisture.label ≤ GREATEST_LABEL) → receipt.moisture.label ≤ GREATEST_LABEL
+    by None says is before = before is
+    by (Some x) says is before = named e.stamped.command next.in_range.stamped.command (says ∙ is)
+
+pub row-fits : (H : History) (name : Name) (row : ReelRow) (minute : ℕ) → IsJudged Two H → reel_row H name ≡ Some row → now_of H ≡ minute → IsFitting row minute
+row-fits H name row minute judged is now =
+    let of = row-of H name row is in
+    subst (λ r. IsFitting r minute) of.row_is (record {
+      label = label-range H name of.receipt judged of.received;
+      balance = balance H name judged;
+      opened = λ since out.
+          let few = exposure-within H name since in
+          let early = since-by H name since (now_of H) (by-desk_minute H) out in
+          let used = ap (λ o. exposure_of H name (unwrap_or o (now_of H))) out in
+          (omega (arith, few, used), omega (arith, early, now));
+      sealed = λ in_bag.
+          let few = exposure-within H name (now_of H) in
+          let used = ap (λ o. exposure_of H name (unwrap_or o (now_of H))) in_bag in
+          omega (arith, few, used, now);
+    })
+
+pub found-fits : (H : History) (name : Name) (row : ReelRow) → reel_row H name ≡ Some row → found_of H name ≤ row.received
+found-fits H name row is =
+    let of = row-of H name row is in
+    let quantity = option_map_or (λ (r : Receipt). r.quantity) (receipt_of H name) 0 in
+    let sum : row.received ≡ quantity + found_of H name = ap (λ (r : ReelRow). r.received) (sym of.row_is) in
+    omega (arith, sum)
+
+-- ---- the reel
+
+-- The reel has the values of the row, this number of found pieces, and the minute as its last.
+pub record IsMadeOf (row : ReelRow) (found : ℕ) (on_slot : Bool) (minute : ℕ) (held : Held) : Type 0 where
+  pub part : held.reel.part ≡ row.part
+  pub lot : held.reel.lot ≡ row.lot
+  pub level : held.reel.level ≡ row.level
+  pub label : held.reel.label ≡ row.label
+  pub received : held.reel.received ≡ row.received
+  pub finds : held.reel.found ≡ found
+  pub placed : held.reel.placed ≡ row.placed
+  pub scrapped : held.reel.scrapped ≡ row.scrapped
+  pub remaining : held.reel.remaining ≡ row.remaining
+  pub used : held.reel.used ≡ row.used
+  pub open_since : held.reel.open_since ≡ row.open_since
+  pub baked : held.reel.baked ≡ row.baked
+  pub last : held.reel.last ≡ minute
+  pub mounted : held.on_slot ≡ on_slot
+
+-- A reel made from its row at the desk minute is that of the history.
+pub row-held : (H : History) (name : Name) (row : ReelRow) (minute : ℕ) (held : Held) → IsJudged Two H → reel_row H name ≡ Some row → now_of H ≡ minute
+    → IsMadeOf row (found_of H name) (is_mounted H name) minute held → IsHeld H name held
+row-held H name row minute held judged is now made_of =
+    let of = row-of H name row is in
+    let made = subst (λ r. IsMadeOf r (found_of H name) (is_mounted H name) minute held) (sym of.row_is) made_of in
+    record {
+      stands = record {
+        receipt = record {
+          receipt = of.receipt;
+          is = of.received;
+          part = made.part;
+          lot = made.lot;
+          level = made.level;
+          label = made.label;
+          received = made.received ∙ ap (λ o. option_map_or (λ (r : Receipt). r.quantity) o 0 + found_of H name) of.received ∙ ap (λ n. of.receipt.quantity + n) (sym made.finds);
+        };
+        baked = made.baked;
+        open_since = made.open_since;
+        starts = let begun = starts-by H name (now_of H) (by-desk_minute H) in omega (arith, begun, now, made.last);
+        used = made.used
+            ∙ ap (λ m. exposure_of H name (unwrap_or (out_since H name) m)) (now ∙ sym made.last)
+            ∙ ap (λ o. exposure_of H name (unwrap_or o held.reel.last)) (sym made.open_since);
+        exposure = λ at later.
+            ap (λ used. used + option_map_or (λ since. at - since) held.reel.open_since 0) made.used
+            ∙ ap (λ o. used_of H name + option_map_or (λ since. at - since) o 0) made.open_since
+            ∙ sym (used-then H name at (out_since H name) judged refl (omega (arith, later, now, made.last)));
+      };
+      by_now = omega (arith, now, made.last);
+      remaining = made.remaining;
+      placed = made.placed;
+      scrapped = made.scrapped;
+      found = made.finds;
+      mounted = ap (λ b. b && nat_lt 0 held.reel.remaining) made.mounted
+          ∙ ap (λ n. is_mounted H name && nat_lt 0 n) made.remaining
+          ∙ ap (λ b. b && nat_lt 0 (left_of H name)) (mounted-is H name judged)
+          ∙ twice (is_some (place_of H name)) (nat_lt 0 (left_of H name))
+          ∙ sym (mounted-is H name judged);
+    }
+  where
+    twice : (a b : Bool) → ((a && b) && b) ≡ (a && b)
+    twice true true = refl
+    twice true false = refl
+    twice false b = refl
+
+-- ---- all reels
+
+pub row-none : (H : History) (name : Name) → reel_row H name ≡ None → receipt_of H name ≡ None
+row-none H name none = by (receipt_of H name) none
+  where
+    by : (said : Option Receipt) → option_map columns_of (option_map (view_of H name) said) ≡ None → said ≡ None
+    by None none = refl
+    by (Some receipt) none = cc
+
+pub mounted-row : (H : History) (name : Name) → IsJudged Two H → is_some (mount_row H name) ≡ is_mounted H name
+mounted-row H name judged = by (is_mounted H name) refl
+  where
+    by : (b : Bool) → is_mounted H name ≡ b → is_some (mount_row H name) ≡ is_mounted H name
+    by true mounted =
+        let live = mounted-live H name mounted in
+        ap is_some (live-mount H live.0 live.1 name judged (list_any-from_Contains nat_list_eq_equiv name (live_on H live.0 live.1) live.2)).is ∙ sym mounted
+    by false off = ap (λ b. is_some (if b then last_put H name else None)) off ∙ sym off
+
+-- ---- kept rows
+
+module _ (H : History) (rows : KeptRows) (are : AreRows H rows) (name : Name) where
+  pub reels-row : (tables_in rows).reels name ≡ reel_row H name
+  reels-row = ap (λ (t : Tables). t.reels name) are.same
+
+  pub found-row : unwrap_or ((tables_in rows).found name) 0 ≡ found_of H name
+  found-row = ap (λ (t : Tables). unwrap_or (t.found name) 0) are.same ∙ found-kept H name
+
+  pub mounts-row : is_some ((tables_in rows).mounts name) ≡ is_mounted H name
+  mounts-row =
+      numbered ((tables_in rows).mounts name) ∙ ap (λ (t : Tables). is_some (t.mounts name)) are.same ∙ sym (numbered (mount_row H name)) ∙ mounted-row H name are.judged
+    where
+      numbered : (row : Option MountRow) → is_some row ≡ is_some (option_map without_number row)
+      numbered None = refl
+      numbered (Some row) = refl
+
+  pub row-left : left_at rows name ≡ left_of H name
+  row-left = ap (λ o. option_map_or (λ (r : ReelRow). r.remaining) o 0) reels-row ∙ by (receipt_of H name) refl
+    where
+      by : (said : Option Receipt) → receipt_of H name ≡ said → option_map_or (λ (r : ReelRow). r.remaining) (option_map columns_of (option_map (view_of H name) said)) 0 ≡ left_of H name
+      by None none = sym (unreceived-empty H name are.judged none)
+      by (Some receipt) says = refl
+
+pub held-reel : (H : History) (name : Name) (said : Option Reel) → IsHeldOf H name (with_mount H name said) → IsReelOf H name said
+held-reel H name None is_held = is_held
+held-reel H name (Some reel) is_held = (is_held.stands, is_held.by_now)
+
+-- One reel represents its name in both of two histories with these rows.
+pub both-held : (G H : History) (rows : KeptRows) (name : Name) (minute : ℕ) → AreRows G rows → AreRows H rows → now_of G ≡ minute → now_of H ≡ minute
+    → (held : Option Held) × IsHeldOf G name held × IsHeldOf H name held
+both-held G H rows name minute of_G of_H now_G now_H = by ((tables_in rows).reels name) (reels-row G rows of_G name) (reels-row H rows of_H name)
+  where
+    found : ℕ
+    found = unwrap_or ((tables_in rows).found name) 0
+
+    made : (row : ReelRow) → IsFitting row minute → found ≤ row.received → Held
+    made row fits few = record {
+      reel = record {
+        part = row.part;
+        lot = row.lot;
+        level = row.level;
+        label = row.label;
+        received = row.received;
+        found = found;
+        placed = row.placed;
+        scrapped = row.scrapped;
+        remaining = row.remaining;
+        used = row.used;
+        open_since = row.open_since;
+        baked = row.baked;
+        last = minute;
+        label_range = fits.label;
+        balance = fits.balance;
+        found_range = few;
+        open_minutes = fits.opened;
+        sealed_minutes = fits.sealed;
+      };
+      on_slot = is_some ((tables_in rows).mounts name);
+    }
+
+    of_row : (L : History) (row : ReelRow) (fits : IsFitting row minute) (few : found ≤ row.received) → AreRows L rows → reel_row L name ≡ Some row → now_of L ≡ minute
+        → IsHeld L name (made row fits few)
+    of_row L row fits few are is now = row-held L name row minute (made row fits few) are.judged is now (record {
+      part = refl;
+      lot = refl;
+      level = refl;
+      label = refl;
+      received = refl;
+      finds = found-row L rows are name;
+      placed = refl;
+      scrapped = refl;
+      remaining = refl;
+      used = refl;
+      open_since = refl;
+      baked = refl;
+      last = refl;
+      mounted = mounts-row L rows are name;
+    })
+
+    by : (said : Option ReelRow) → said ≡ reel_row G name → said ≡ reel_row H name → (held : Option Held) × IsHeldOf G name held × IsHeldOf H name held
+    by None in_G in_H = (None, row-none G name (sym in_G), row-none H name (sym in_H))
+    by (Some row) in_G in_H =
+        let fits = row-fits G name row minute of_G.judged (sym in_G) now_G in
+        let few = subst (λ n. n ≤ row.received) (sym (found-row G rows of_G name)) (found-fits G name row (sym in_G)) in
+        (Some (made row fits few), of_row G row fits few of_G (sym in_G) now_G, of_row H row fits few of_H (sym in_H) now_H)

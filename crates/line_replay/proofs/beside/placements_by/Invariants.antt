@@ -1,6 +1,0 @@
-use Rattle.std.proofs.Common.{◌≡◌, take}
-use Rattle.line_replay.specs.Beside.{placements_by}
-use Rattle.line_replay.proofs.beside.placements_by.Given as goal
-
-abbrev pub invariant-loop-edit : goal.invariant-loop-edit
-invariant-loop-edit l = l.rows.items ≡ placements_by (take l.edit-index l.edits)

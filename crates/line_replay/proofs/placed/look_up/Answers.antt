@@ -1,0 +1,15 @@
+use Rattle.std.proofs.Common.{◌∙◌, ◌+◌, List, length, ap, subst}
+use Rattle.sqlite.specs.Effect.{Database}
+use Rattle.sqlite.specs.Held.{state}
+use Rattle.desk_types.specs.declared.row.PlacementRow.{PlacementRow}
+use Rattle.line_replay.specs.Expected.{HoldsAsRead, ArePlacedToo}
+use Rattle.line_replay.proofs.placed.look_up.Goals as goal
+
+pub returns-clause-ok : goal.returns-clause-ok
+returns-clause-ok g c =
+    let same = c.as_slice-rows.ensures.value ∙ c.in_ok-placements.ensures in record {
+      count = c.in_ok-count.ensures.ok ∙ ap (λ n. c.args.placed.now.count + n) (ap length same);
+      told = λ clean.
+          subst (λ (rows : List PlacementRow). HoldsAsRead (state g.S.Store c.args.conn.now) (λ (db : Database). ArePlacedToo db c.args.placed.now.all c.in_ok-all.all rows))
+          same (c.in_ok-all.ensures.told clean);
+    }

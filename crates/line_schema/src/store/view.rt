@@ -1,0 +1,31 @@
+//! A shared borrow of the desk.
+
+ghost use Rattle.std.specs.Prelude.{◌≡◌, IfOk};
+ghost use Rattle.std.specs.Borrow.{sem};
+ghost use Rattle.std.specs.Io.BufRead.{Rests};
+ghost use Rattle.desk_types.specs.declared.rules.Rules.TheVariants.{Two};
+ghost use Rattle.line_schema.specs.contracts.store.LineStore.{the_row};
+ghost use Rattle.line_schema.specs.Frames.{MakesDesk};
+ghost use Rattle.line_schema.specs.Stands.{Kept, Stands};
+
+use crate::store::LineStore;
+use crate::unavailable::Unavailable;
+use sqlite::Alter;
+use state_rows::KeepsRows;
+
+impl<S: Alter, D: KeepsRows + Drop> LineStore<S, D> {
+    /// Borrows the desk, and rebuilds it from the tables first if it isn't loaded.
+    pub fn view(&mut self) -> Result<&D, Unavailable>
+        requires stands { (L : Kept) × Stands S.Store D.Stands D.kept_rules self.old L }
+        ensures* after_borrow { sem 𝓛 (Rests (the_row S.row D.row S.Store) self.entry (λ new.
+            MakesDesk S.Store D.Stands D.kept_rules self.old new
+            × ((L : Kept) → Stands S.Store D.Stands D.kept_rules new L
+            → IfOk result (λ desk. D.Stands desk.now L.history × (D.kept_rules desk.now ≡ Two))))) }
+    {
+        self.ready()?;
+        match &self.desk {
+            Some(desk) => Ok(desk),
+            None => Err(Unavailable),
+        }
+    }
+}

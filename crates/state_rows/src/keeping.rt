@@ -1,0 +1,43 @@
+//! A desk whose state is rows of the state tables.
+
+use crate::set::RowSet;
+use desk_types::{Change, Desk, RowEdit};
+use std::alloc::AllocError;
+
+/// A desk that keeps the rows of its state tables. It adds no rows of `placement`.
+///
+/// Whoever owns a desk and a database makes the edits of a command once, commits them, and then
+/// passes them to `settle_edits`. After `Desk::settle`, which gets no number, rows of `mount` may have
+/// other numbers than in the database.
+pub trait KeepsRows: Desk {
+    ghost use Rattle.std.specs.Prelude.{◌≡◌, OnOk};
+    ghost use Rattle.desk_types.specs.History.{History, accept};
+    ghost use Rattle.desk_types.specs.Desk.{HasRoom, IsChange};
+    ghost use Rattle.desk_types.specs.Tables.{tables_of};
+    ghost use Rattle.desk_types.specs.Edits.{with_edits};
+    ghost use Rattle.state_rows.specs.Kept.{KeptRows, tables_in, but_placements, unnumbered};
+
+    /// The rows that the desk keeps.
+    ghost kept_rows: { Self → KeptRows };
+
+    /// Returns the rows that the desk keeps. Takes no memory.
+    fn rows(&self) -> &RowSet
+        ensures kept { result.now ≡ kept_rows self.now }
+        ensures same { (H : History) → Self.Stands self.now H
+            → unnumbered (tables_in result.now) ≡ unnumbered (tables_of H) };
+
+    /// Accepts a judged change by its edits, as `rows_of` makes them under any number. After an `Err`
+    /// nothing is known of the desk: drop it.
+    fn settle_edits(&mut self, change: Change, edits: &[RowEdit]) -> Result<(), AllocError>
+        requires room { HasRoom Self.Stands self.old 1 }
+        requires judged { (H : History) → Self.Stands self.old H
+            → IsChange (Self.kept_rules self.old) H change.stamped change }
+        requires lead { (H : History) → Self.Stands self.old H
+            → unnumbered (with_edits edits.now (tables_of H)) ≡ unnumbered (tables_of (accept H change.stamped)) }
+        ensures stands { (H : History) → Self.Stands self.old H
+            → OnOk result (Self.Stands self.new (accept H change.stamped)) }
+        ensures rules { OnOk result (Self.kept_rules self.new ≡ Self.kept_rules self.old) }
+        ensures rows { OnOk result (tables_in (kept_rows self.new)
+            ≡ but_placements (with_edits edits.now (tables_in (kept_rows self.old)))
+            (tables_in (kept_rows self.old))) };
+}

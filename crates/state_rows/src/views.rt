@@ -1,0 +1,75 @@
+//! The views that the edits of a command need.
+
+use desk_types::{Desk, Id, Mounts, ReelView, SheetRows};
+use std::alloc::AllocError;
+
+/// Views of the accepted commands, enough to make the edits of the next one.
+///
+/// A `Desk` has them, through `DeskViews`. A desk that makes edits in its own `settle` implements this
+/// trait for itself, because `settle` may not call what needs a `Desk`.
+pub trait Views {
+    ghost use Rattle.std.specs.Prelude.{◌≡◌, IfOk};
+    ghost use Rattle.desk_types.specs.declared.rules.Rules.{Rules};
+    ghost use Rattle.desk_types.specs.History.{History};
+    ghost use Rattle.desk_types.specs.Judged.{IsJudged};
+    ghost use Rattle.desk_types.specs.Setup.{selected_on, sheet_of};
+    ghost use Rattle.desk_types.specs.View.{reel_view, mounts_on};
+
+    /// The histories for which the views are true.
+    ghost Stands: { Self → History → Type 0 };
+
+    /// The rules that judge these histories.
+    ghost kept_rules: { Self → Rules };
+
+    /// A law, without code: each history for which the views are true is judged by the rules.
+    fn is_judged(&self)
+        ensures { (H : History) → Stands self.now H → IsJudged (kept_rules self.now) H };
+
+    /// Returns the product that is selected on the machine.
+    fn selected(&self, machine: &Id) -> Option<Id>
+        ensures { (H : History) → Stands self.now H → result ≡ selected_on H machine.now };
+
+    /// Returns the last sheet of the product on the machine.
+    fn sheet_of(&self, product: &Id, machine: &Id) -> Result<Option<SheetRows>, AllocError>
+        ensures { (H : History) → Stands self.now H → IfOk result (λ rows. rows ≡ sheet_of H product.now machine.now) };
+
+    /// Returns the reel at the desk minute, or none if no such reel was received. Takes no memory.
+    fn reel(&self, reel: &Id) -> Option<ReelView>
+        ensures { (H : History) → Stands self.now H → result ≡ reel_view H reel.now };
+
+    /// Returns the live reels of the machine's slots, or none if no sheet names the machine.
+    fn slots_of(&self, machine: &Id) -> Result<Option<Mounts>, AllocError>
+        ensures { (H : History) → Stands self.now H → IfOk result (λ mounts. mounts ≡ mounts_on H machine.now) };
+}
+
+/// The views of a desk.
+#[derive(Drop)]
+pub struct DeskViews<'a, D> {
+    pub desk: &'a D,
+}
+
+impl<'a, D: Desk> Views for DeskViews<'a, D> {
+    ghost Stands = { λ views H. D.Stands views.desk.now H };
+
+    ghost kept_rules = { λ views. D.kept_rules views.desk.now };
+
+    fn is_judged(&self) {
+        self.desk.is_judged();
+    }
+
+    fn selected(&self, machine: &Id) -> Option<Id> {
+        self.desk.selected(machine)
+    }
+
+    fn sheet_of(&self, product: &Id, machine: &Id) -> Result<Option<SheetRows>, AllocError> {
+        self.desk.sheet_of(product, machine)
+    }
+
+    fn reel(&self, reel: &Id) -> Option<ReelView> {
+        self.desk.reel(reel)
+    }
+
+    fn slots_of(&self, machine: &Id) -> Result<Option<Mounts>, AllocError> {
+        self.desk.slots_of(machine)
+    }
+}

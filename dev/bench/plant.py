@@ -1,0 +1,275 @@
+"""Loads made-up archives into a PostgreSQL of its own folder and asks for a lot and a board: how long, how large?
+
+usage: dev/bench/run plant [--program FILE] [--folder FOLDER] [--archives N] [--minutes N] [--boards BOARDS] [--parts N]
+       dev/bench/run plant --recall [--program FILE] [--folder FOLDER] [--archives N] [--boards BOARDS]
+
+examples:
+  dev/bench/run plant                              40 archives of a million pieces: 20 GB of disk at most, and an hour
+  dev/bench/run plant --archives 4 --boards 300    a minute
+  dev/bench/run plant --recall                     52 archives of 830,000 pieces by ops/recall: 7 GB of disk, and ten minutes
+
+One shift of dev/lib/tracedesk_dev/shift.py is fed to the program: that is the first archive, of ten lines in turn. The others are its
+bytes with other names of boards, machines, reels and lots of the same length; the audit of the second has to be lawful.
+A lot has ten reels in five archives. Each archive is loaded by ops/plant-load, by a catalogue of its own, and then
+removed. PostgreSQL has fsync on and 512 MB of shared buffers. Cold is after a new start of it, with its files out of
+the system's cache. At the end empty parts are added, up to --parts, and it is asked once more.
+
+With --recall the archives stay, as those of one line in one catalogue, and ops/recall asks them for the lot and for a
+board, with checksums and without. PostgreSQL isn't needed then. Cold is with the archives out of the system's cache;
+warm is the median of five calls behind that.
+
+--folder   where all of it lies; it is new, and is removed at the end
+--minutes  nothing more is loaded after so many; what is there is asked
+--boards   of the shift; 5,180 place a million pieces, and 4,144, of --recall, 829,000
+"""
+import contextlib
+import json
+import os
+import pathlib
+import resource
+import shutil
+import sqlite3
+import statistics
+import subprocess
+import sys
+import tempfile
+import time
+
+from tracedesk_dev import postgres, program, shift
+from tracedesk_dev.program import ROOT
+from tracedesk_ops import catalogue, plant
+
+LINES, TURNS = 10, 5
+MEMORY = "/dev/shm"
+LOT = "LOT-RECALL"
+BASE = "ZQZQ"  # no part of another name, and longer than two numbers of a row: so its bytes in a file are those of the names that begin with it
+LETTERS = "ABCDEFGHIJKLMNOPQRSTUVWXYZ"
+
+
+def whole(file):
+    """A desk that stands whole, without a log."""
+    with contextlib.closing(sqlite3.connect(file, isolation_level=None)) as database:
+        database.execute("PRAGMA wal_checkpoint(TRUNCATE)")
+    plant.without_log(file)
+
+
+def first_archive(asked, file):
+    """Feeds the shift to a desk, in memory where there is a folder for that: no sync is waited for."""
+    lines = [it.text for it in shift.Shift(1, asked.boards, BASE).lines]
+    with tempfile.TemporaryDirectory(dir=MEMORY if os.path.isdir(MEMORY) else None) as room:
+        desk = pathlib.Path(room, "desk")
+        done = subprocess.run([asked.program, "feed", "--db", desk], input=b"\n".join(lines) + b"\n", stdout=subprocess.PIPE)
+        if done.returncode not in (0, 1):
+            sys.exit(f"{plant.NAME}: feed ended with status {done.returncode}")
+        whole(desk)
+        shutil.move(desk, file)
+
+
+def another(first, number, file):
+    """Writes the bytes of the first archive with names of its own; a name that lies on two pages is changed by a statement."""
+    two = f"{LETTERS[number // 10]}{number % 10}"
+    changes = (f"{BASE}-", f"{two}ZQ-"), ("LOT-", f"Z{two}-")
+    for old, new in changes:
+        first = first.replace(old.encode(), new.encode())
+    file.write_bytes(first)
+    with contextlib.closing(sqlite3.connect(file, isolation_level=None)) as database:
+        database.execute("PRAGMA journal_mode = DELETE")
+        for table, column in (("accepted", "command"), ("accepted", "detail"), ("sheet_row", "designators")):  # no other text goes beyond a page
+            for old, new in changes:
+                database.execute(f"UPDATE {table} SET {column} = replace({column}, ?1, ?2) WHERE instr({column}, ?1)", [old, new])
+
+
+def of_its_own(file, number):
+    """Makes the last command of an archive one of no other, by which it is told apart."""
+    with contextlib.closing(sqlite3.connect(file, isolation_level=None)) as database:
+        database.execute("PRAGMA journal_mode = DELETE")
+        database.execute("UPDATE accepted SET uid = ?1, detail = replace(detail, uid, ?1) WHERE number = (SELECT max(number) FROM accepted)", [f"last-{number}"])
+
+
+def of_the_lot(file):
+    """Makes two reels of an archive, those of which most was placed, reels of the lot."""
+    with contextlib.closing(sqlite3.connect(file, isolation_level=None)) as database:
+        database.execute("PRAGMA journal_mode = DELETE")
+        database.execute("UPDATE reel SET lot = ? WHERE reel IN (SELECT reel FROM reel ORDER BY placed DESC, reel LIMIT 2)", [LOT])
+
+
+def line_of(file, desk, before=""):
+    with catalogue.opened(file) as database:
+        ((commands, first, last),) = database.execute("SELECT count(*), min(effective), max(effective) FROM accepted")
+        ((pieces,),) = database.execute("SELECT count(*) FROM placement")
+    return catalogue.Archive(file.name, catalogue.sha256_of(file), desk, first, last, commands, pieces, before)
+
+
+def made(asked, room, folder_of):
+    """Makes each archive in its folder: its number and its file. Every fifth part of them has two reels of the lot."""
+    base = room / "first"
+    first_archive(asked, base)
+    first = base.read_bytes()
+    for number in range(asked.archives):
+        file = folder_of(number) / f"archive-{number}"
+        another(first, number, file)
+        of_its_own(file, number)
+        if number == 1:
+            audited = shutil.copy(file, room / "audited")
+            subprocess.run([asked.program, "audit", "--db", audited], check=True, stdout=subprocess.DEVNULL)
+            os.unlink(audited)
+        if number % max(1, asked.archives // 5) == 0 and number // max(1, asked.archives // 5) < 5:
+            of_the_lot(file)
+        yield number, file
+
+
+def taken(server):
+    """Seconds by the clock, and of the processor: of ended children of this tool and of ended sessions of the server, where there is one."""
+    own = resource.getrusage(resource.RUSAGE_CHILDREN)
+    return time.monotonic(), own.ru_utime + own.ru_stime + (server.processor_seconds() if server else 0)
+
+
+def since(server, before):
+    return tuple(round(now - then, 3) for now, then in zip(taken(server), before))
+
+
+def loaded(asked, server, room):
+    """Loads each archive by itself; the seconds of each, how many pieces there are, and the bytes of an archive."""
+    seconds, pieces, size, ticks = [], 0, 0, program.Ticks()
+    end = time.monotonic() + 60 * asked.minutes
+
+    def folder_of(number):
+        at = room / f"archive-{number}"
+        at.mkdir()
+        return at
+
+    for number, file in made(asked, room, folder_of):
+        if time.monotonic() > end:
+            break
+        its, at, size = line_of(file, f"L{number % LINES + 1}"), file.parent, file.stat().st_size
+        catalogue.add(at / catalogue.FILE_NAME, its)
+        began = taken(server)
+        subprocess.run([ROOT / "ops/plant-load", at / catalogue.FILE_NAME], check=True, stdout=subprocess.DEVNULL)
+        seconds.append(since(server, began))
+        pieces += its.pieces
+        shutil.rmtree(at)
+        ticks.tell(f"{number + 1} archives, {seconds[-1][0]:.1f} s")
+    return seconds, pieces, size
+
+
+# --- By ops/recall
+
+
+def recall_bench(asked, room):
+    """The archives of one line in one catalogue, and what ops/recall takes for the lot and for a board of the middle one."""
+    at, pieces, before, ticks = room / "archive", 0, "", program.Ticks()
+    at.mkdir()
+    for number, file in made(asked, room, lambda _: at):
+        its = line_of(file, "L1", before)
+        catalogue.add(at / catalogue.FILE_NAME, its)
+        pieces, before = pieces + its.pieces, file.name
+        if number == asked.archives // 2:
+            with catalogue.opened(file) as database:
+                ((board,),) = database.execute("SELECT board FROM placement ORDER BY number DESC LIMIT 1")
+        ticks.tell(f"{number + 1} archives")
+    (room / "first").unlink()
+    size = sum(it.stat().st_size for it in at.iterdir())
+    print(json.dumps({"pieces": pieces, "archives": asked.archives, "bytes of them": size, "program": asked.program}, indent=1), flush=True)
+    for name, words in (("lot", ["lot", LOT]), ("board", ["board", board])):
+        for how, more in (("with checksums", []), ("unchecked", ["--unchecked"])):
+            out_of_cache(at)
+            call = [ROOT / "ops/recall", *words, "--line", "L1", "-", at / catalogue.FILE_NAME, "--show", "pieces", "--program", asked.program, *more]
+            cold, rows = recalled(call)
+            told = {"rows": rows, "cold": cold, "warm": medians(recalled(call)[0] for _ in range(TURNS)), "load of the machine": os.getloadavg()[0]}
+            print(json.dumps({f"{name}, {how}, by the clock and of the processor": told}, indent=1), flush=True)
+
+
+def recalled(call):
+    began = taken(None)
+    done = subprocess.run([*map(str, call)], stdout=subprocess.PIPE, stderr=subprocess.DEVNULL, check=True)
+    return since(None, began), done.stdout.count(b"\n") - 1
+
+
+# --- By PostgreSQL
+
+
+def out_of_cache(folder):
+    for at, _, names in os.walk(folder):
+        for name in names:
+            with open(os.path.join(at, name), "rb") as file:
+                os.fsync(file.fileno())
+                os.posix_fadvise(file.fileno(), 0, 0, os.POSIX_FADV_DONTNEED)
+
+
+def timed(server, query, **values):
+    """The seconds of one call of psql by the clock and of the processor, its start among them, and how many rows it printed."""
+    words = [word for key, value in values.items() for word in ("-v", f"{key}={value}")]
+    began = taken(server)
+    rows = postgres.asked("--csv", "-t", *words, "-f", postgres.SQL / f"{query}.sql").count("\n")
+    return since(server, began), rows
+
+
+def medians(pairs):
+    return tuple(map(statistics.median, zip(*pairs)))
+
+
+def asked_for(server, board):
+    """The lot and the board, cold and warm: the seconds by the clock and of the processor, and their medians of the warm turns."""
+    told = {}
+    for name, query, values in (("lot, its pieces", "pieces", {"lot": LOT}), ("lot, its boards", "recall", {"lot": LOT}), ("board, its pieces", "pieces", {"board": board})):
+        server.stop()
+        out_of_cache(server.data)
+        server.start()
+        cold, rows = timed(server, query, **values)
+        told[name] = {"rows": rows, "cold": cold, "warm": medians(timed(server, query, **values)[0] for _ in range(TURNS))}
+    return told
+
+
+def more_parts(upto):
+    """Adds empty parts, until there are so many."""
+    postgres.asked("-c", f"""DO $$ BEGIN FOR it IN (SELECT count(*) FROM pg_inherits WHERE inhparent = 'plant.placement'::regclass) + 1 .. {upto} LOOP
+        EXECUTE format('CREATE TABLE plant.placement_%s PARTITION OF plant.placement FOR VALUES IN (%s)', 100000 + it, 100000 + it); END LOOP; END $$""")
+
+
+def postgres_bench(asked):
+    with tempfile.TemporaryDirectory(prefix="plant-", dir=asked.folder) as room, tempfile.TemporaryDirectory(prefix="plant-", dir=asked.folder) as folder:
+        with postgres.Server(pathlib.Path(folder), fsync="on", shared_buffers="512MB") as server:
+            postgres.asked("-f", postgres.SQL / "schema.sql")
+            seconds, pieces, size = loaded(asked, server, pathlib.Path(room))
+            sizes = postgres.asked("-At", "-F", " ", "-c", "SELECT sum(pg_table_size(i)), sum(pg_indexes_size(i)) FROM (SELECT inhrelid AS i FROM pg_inherits "
+                                   "WHERE inhparent = 'plant.placement'::regclass) t; SELECT pg_database_size('postgres')").split()
+            board = postgres.asked("-At", "-c", f"SELECT board FROM plant.start WHERE file = {len(seconds) // 2 + 1} ORDER BY number DESC LIMIT 1").strip()
+            told = {"pieces": pieces, "archives": len(seconds), "bytes of an archive": size, "a load, by the clock and of the processor": medians(seconds),
+                    "all loads": tuple(map(sum, zip(*seconds))), "bytes of placements, their indexes, the database": [*map(int, sizes)]}
+            print(json.dumps(told, indent=1), flush=True)
+            print(json.dumps(asked_for(server, board), indent=1), flush=True)
+            more_parts(asked.parts)
+            print(json.dumps({f"with {asked.parts} parts": asked_for(server, board)}, indent=1), flush=True)
+
+
+def words(reader):
+    program.offer(reader)
+    reader.add_argument("--folder", type=pathlib.Path)
+    reader.add_argument("--recall", action="store_true")
+    reader.add_argument("--archives", type=int)
+    reader.add_argument("--minutes", type=float, default=600)
+    reader.add_argument("--boards", type=int)
+    reader.add_argument("--parts", type=int, default=400)
+
+
+def main(asked, reader):
+    asked.program = program.to_use(asked.program)
+    asked.archives = asked.archives or (52 if asked.recall else 40)
+    asked.boards = asked.boards or (4_144 if asked.recall else 5_180)
+    if asked.folder and asked.folder.exists():
+        reader.error(f"{asked.folder} is there already: name a new folder")
+    if not asked.recall and not postgres.is_here():
+        program.stop("there is no PostgreSQL here: apt-get install postgresql")
+    if asked.folder:
+        asked.folder.mkdir()
+    try:
+        if asked.recall:
+            with tempfile.TemporaryDirectory(prefix="plant-", dir=asked.folder) as room:
+                recall_bench(asked, pathlib.Path(room))
+        else:
+            postgres_bench(asked)
+    except (postgres.Fault, subprocess.CalledProcessError) as fault:
+        sys.exit(f"{plant.NAME}: {fault}")
+    finally:
+        if asked.folder:
+            asked.folder.rmdir()

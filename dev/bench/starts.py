@@ -1,0 +1,195 @@
+"""Measures how long `serve` takes to start, and its memory, by the pieces in the desk's file; writes figures' section.
+
+usage: dev/bench/run starts [--program FILE] [--commit COMMIT] [--pieces N,N,..] [--turns N] [--into PAGE] [FOLDER]
+
+examples:
+  dev/bench/run starts --into docs/figures.md && make pictures          all of it, on an idle machine: half an hour
+  dev/bench/run starts --pieces 10000,100000 --turns 1                  a first look; the section is printed
+  dev/bench/run starts --commit 9f39f1f --program ./tracedesk /srv      another program than that of this checkout, on this disk
+
+One file grows in FOLDER, or in the folder for temporary files, and is measured at each size: a line of four machines
+with 40 slots each. Each board passes all four and gets 100 pieces on each, and reels of 2,000 pieces are spliced. A
+start is the time from the run of the program to its first answer over HTTP, by the clock and of the processor. Resident
+is the memory that it has then, and most the most that it had until then (VmRSS and VmHWM of /proc). The medians of the
+turns are told. Where PAGE is named, its section of this name gives way to the new one, and the picture of
+docs/long-life.md is drawn from there.
+"""
+import collections
+import contextlib
+import datetime
+import hashlib
+import json
+import os
+import pathlib
+import platform
+import random
+import statistics
+import subprocess
+import sys
+import tempfile
+import time
+import uuid
+from typing import NamedTuple
+
+from tracedesk_dev import program, trial
+
+HEADING = "## A file's start and memory by its pieces"
+SIZES = "10000,100000,400000,1000000,4000000"
+MACHINES, SLOTS, REEL = 4, 40, 2_000
+START = datetime.datetime(2026, 1, 5, 6)
+
+
+class Line:
+    """The messages of a line that goes on for ever, each with the pieces that it places."""
+
+    def __init__(self):
+        self.random, self.minute, self.reels = random.Random(1), 0, 0
+        self.left = {}  # pieces on a slot
+
+    def say(self, word, **body):
+        stamp = (START + datetime.timedelta(minutes=self.minute)).isoformat() + "Z"
+        uid = str(uuid.UUID(int=self.random.getrandbits(128), version=4))
+        envelope = {"MessageName": "TraceDesk." + word, "UniqueID": uid, "Source": "LINE1", "TimeStamp": stamp, "MessageBody": body}
+        return json.dumps(envelope, separators=(",", ":")).encode() + b"\n", len(body.get("Designators", ()))
+
+    def sheet(self, machine):
+        """The slots of a machine with their designators: three on the first half, two on the others."""
+        names = iter(f"{'CRUL'[machine]}{number}" for number in range(1, 1_000))
+        return {str(slot): [next(names) for _ in range(3 if slot <= SLOTS // 2 else 2)] for slot in range(1, SLOTS + 1)}
+
+    def messages(self):
+        sheets = {f"LINE1-M{number + 1}": self.sheet(number) for number in range(MACHINES)}
+        for machine, sheet in sheets.items():
+            for slot in sheet:
+                yield self.say("PartDefined", PartNumber=f"{machine}-P{slot}")
+            rows = [{"Slot": slot, "PartNumber": f"{machine}-P{slot}", "Designators": them} for slot, them in sheet.items()]
+            yield self.say("SheetDefined", Product="CTRL-A100", Machine=machine, Rows=rows)
+            yield self.say("ProductSelected", Machine=machine, Product="CTRL-A100")
+        while True:
+            self.minute += 1
+            for machine, sheet in sheets.items():
+                yield from self.board(f"SN-{self.minute:07}", machine, sheet)
+
+    def board(self, board, machine, sheet):
+        for slot, them in sheet.items():
+            if self.left.get((machine, slot), 0) < 2 * len(them):
+                yield from self.reel(machine, slot)
+            self.left[machine, slot] -= len(them)
+        yield self.say("WorkStarted", Machine=machine, Board=board)
+        yield self.say("MaterialsInstalled", Machine=machine, Board=board, Designators=[it for them in sheet.values() for it in them])
+        yield self.say("WorkCompleted", Machine=machine, Board=board)
+
+    def reel(self, machine, slot):
+        """One more reel, at level 3 on every tenth slot."""
+        self.reels += 1
+        name, word = f"R{self.reels:06}", "MaterialsSpliced" if (machine, slot) in self.left else "MaterialsLoaded"
+        yield self.say("ReelReceived", Reel=name, PartNumber=f"{machine}-P{slot}", Lot=f"LOT-{self.reels // 3:05}",
+                       Level="1" if int(slot) % 10 else "3", Quantity=REEL)
+        yield self.say(word, Machine=machine, Slot=slot, Reel=name)
+        self.left[machine, slot] = self.left.get((machine, slot), 0) + REEL
+
+
+class Figure(NamedTuple):
+    """What was measured of a file: pieces, commands, bytes, seconds by the clock and of the processor, bytes of memory."""
+    pieces: int
+    commands: int
+    size: int
+    start: float
+    processor: float
+    resident: int
+    most: int
+
+
+def grown(asked, file, messages, told, pieces):
+    """Feeds messages until so many pieces are placed."""
+    running = subprocess.Popen([asked.program, "feed", "--db", file], stdin=subprocess.PIPE, stdout=subprocess.DEVNULL)
+    ticks = program.Ticks()
+    with contextlib.suppress(BrokenPipeError):  # its status says why
+        while told["pieces"] < pieces:
+            text, some = next(messages)
+            running.stdin.write(text)
+            told["pieces"] += some
+            told["commands"] += 1
+            ticks.tell(f"{told['pieces']:,} of {pieces:,} pieces")
+        running.stdin.close()
+    if running.wait():
+        sys.exit(f"dev/bench/run starts: feed ended with status {running.returncode}")
+
+
+def started(asked, file):
+    """Seconds of a start, by the clock and of the processor; its resident memory at the end and the most until then, in bytes."""
+    began = time.perf_counter()
+    with trial.served(asked.program, file) as (process, connection):
+        connection.request("GET", "/overdue")
+        connection.getresponse().read()
+        seconds = time.perf_counter() - began
+        ticks = sum(map(int, pathlib.Path(f"/proc/{process.pid}/stat").read_text().rpartition(")")[2].split()[11:13]))  # user and system
+        return seconds, ticks / os.sysconf("SC_CLK_TCK"), trial.memory_of(process, "VmRSS"), trial.memory_of(process, "VmHWM")
+
+
+def figures(asked):
+    with tempfile.TemporaryDirectory(dir=asked.folder) as room:
+        file, messages, told = pathlib.Path(room, "desk"), Line().messages(), collections.Counter()
+        for pieces in asked.pieces:
+            grown(asked, file, messages, told, pieces)
+            turns = [started(asked, file) for _ in range(asked.turns)]
+            yield Figure(told["pieces"], told["commands"], file.stat().st_size, *map(statistics.median, zip(*turns)))
+
+
+def sourced(asked):
+    """Which program was measured."""
+    version = subprocess.run([asked.program, "--version"], stdout=subprocess.PIPE, text=True, check=True).stdout.strip()
+    digest = hashlib.sha256(pathlib.Path(asked.program).read_bytes()).hexdigest()[:12]
+    commit = asked.commit or subprocess.run(["git", "-C", trial.ROOT, "log", "-1", "--format=%h"], stdout=subprocess.PIPE, text=True).stdout.strip()
+    return f"`{version}` of the commit {commit} (its file's SHA-256 begins with {digest})"
+
+
+def section(asked, load, rows):
+    loads = load, os.getloadavg()[0]
+    turns = "single runs" if asked.turns == 1 else f"medians of {asked.turns} starts"
+    at = f"{datetime.date.today()}, on {platform.system()} {platform.machine()}, {os.cpu_count()} cores, load {loads[0]:.1f} at the begin and {loads[1]:.1f} at the end"
+    busy = " The machine was busy with other work, so the seconds by the clock say little." if max(loads) > os.cpu_count() else ""
+    text = f"""{HEADING}
+
+`dev/bench/run starts` measured the program {sourced(asked)}: {at}; {turns}.{busy} One file grows: a line of four machines, of which each places 100 pieces on each board. A start is the time from the run of `serve` to its first answer; beside it stands how long the processor worked for it. Resident is its memory then, and most the most until then. The picture on [long-life.md](long-life.md) is drawn from this table by `make pictures`.
+
+| pieces | commands | file, MB | start, s | of the processor, s | resident, MB | most, MB |
+|---:|---:|---:|---:|---:|---:|---:|
+"""
+    return text + "".join(f"| {it.pieces:,} | {it.commands:,} | {it.size / 1e6:.1f} | {it.start:.2f} | {it.processor:.2f} | {it.resident / 1e6:.1f} | {it.most / 1e6:.1f} |\n" for it in rows)
+
+
+def put_into(page, text):
+    """Puts the section in the place of the one of its heading."""
+    whole = page.read_text(encoding="utf-8")
+    before, _, rest = whole.partition(HEADING + "\n")
+    _, mark, after = rest.partition("\n## ")
+    beside = page.with_name(page.name + ".new")
+    beside.write_text(f"{before}{text}{mark}{after}", encoding="utf-8")
+    os.replace(beside, page)
+
+
+def words(reader):
+    program.offer(reader)
+    reader.add_argument("--commit", metavar="COMMIT", help="the commit of the program's sources, where it isn't that of this checkout")
+    reader.add_argument("--pieces", type=lambda text: sorted(int(it) for it in text.split(",")), default=SIZES, metavar="N,N,..", help=f"the sizes ({SIZES})")
+    reader.add_argument("--turns", type=int, default=3, metavar="N", help="starts of each size (3)")
+    reader.add_argument("--into", type=pathlib.Path, metavar="PAGE", help="the page whose section gives way to the new one")
+    reader.add_argument("folder", nargs="?", metavar="FOLDER", help="where the file grows")
+
+
+def main(asked, reader):
+    if asked.turns < 1 or asked.pieces[0] < 1:
+        reader.error("there is at least one turn, and a piece")
+    if asked.into and HEADING + "\n" not in asked.into.read_text(encoding="utf-8"):
+        reader.error(f"{asked.into} has no section {HEADING!r}")
+    asked.program = program.to_use(asked.program)
+    load, rows = os.getloadavg()[0], []
+    for it in figures(asked):
+        rows.append(it)
+        program.tell(f"{it.pieces:,} pieces: {it.start:.2f} s, {it.processor:.2f} s of the processor, {it.resident / 1e6:.0f} MB")
+    text = section(asked, load, rows)
+    if asked.into:
+        put_into(asked.into, text)
+    else:
+        sys.stdout.write(text)

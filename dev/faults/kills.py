@@ -1,0 +1,478 @@
+"""Kills the program, and fails its disk, while it takes commands, and looks whether what it acknowledged is there.
+
+usage: dev/faults/run kills [--program FILE] [--kills N] [--seconds N] [--seed N] [--folder FOLDER] [PART..]
+       dev/faults/run kills --planted      the same on dev/faults/early-answers, which has to be found out by `feed`, `serve` and `order`
+
+examples:
+  dev/faults/run kills --kills 20 feed
+
+The parts, all of them where none is named:
+  feed    `feed --db` gets a shift of a line (dev/lib/tracedesk_dev/shift.py) as fast as it takes it, and is killed by SIGKILL at a
+          random moment; one kill in ten hits `audit` in its place. It is killed --kills times (200), and begins a new
+          shift on a new file whenever one is done.
+  serve   the same with `serve`, over one connection, where the program has it.
+  order   strace's order of calls: the bytes of each Accepted answer go out after the sync of its commit has returned.
+          (A kill alone can't show it, since the system keeps what was written and not yet synced.)
+  disk    a limit on the size of files, with and without its signal; a full file system, where this user may mount one.
+
+`dev/faults/run calls` kills the program at each change of its disk, and fails each single call.
+
+After each kill or failure: `audit` says lawful (or no desk was made yet and nothing was acknowledged); the accepted
+commands are those that were acknowledged, in their order and with these very answers, and at most the one that was
+sent besides; the last lines, sent again, get their first answers; the next run goes on with the same file. When a
+shift is done, each table is that of a run that nothing disturbed. A run or an answer that takes longer than PATIENCE
+seconds (120, by the environment) counts as a hang: give more on a machine that is busy with other things. Wanted are
+strace.
+"""
+import collections
+import contextlib
+import http.client
+import json
+import os
+import pathlib
+import random
+import re
+import resource
+import select
+import shutil
+import signal
+import socket
+import sqlite3
+import subprocess
+import tempfile
+import threading
+import time
+
+from tracedesk_dev import program, shift
+from tracedesk_dev.program import ROOT
+from tracedesk_dev.trial import Difference as Found
+from tracedesk_dev.trial import free_port, has_serve, remove, rows_in
+
+PATIENCE = float(os.environ.get("PATIENCE", "120"))  # seconds for a run of audit, or for an answer
+LOGS = ("", "-wal", "-journal")  # the desk's file, and what it is whole with
+
+
+class Desk:
+    """A desk's file, the lines of its shift, and the answers that were given so far."""
+
+    def __init__(self, program, folder, seed, boards):
+        self.program, self.file = program, str(pathlib.Path(folder, "desk"))
+        self.said = shift.Shift(seed, boards, f"L{seed}").lines
+        self.answers, self.audits, self.seconds = [], 0, 0.0
+        numbers = [number for number, said in enumerate(self.said) if said.wanted == "Accepted"]
+        self.uids = [json.loads(self.said[number].text)["UniqueID"] for number in numbers]
+        self.clean = None
+        remove(self.file)
+
+    def done(self):
+        return len(self.answers) == len(self.said)
+
+    def acknowledged(self):
+        return sum(said.wanted == "Accepted" for said, _answer in zip(self.said, self.answers))
+
+    def take(self, first, answers):
+        """Takes in the answers to the lines from this one on, of which the first may be known already."""
+        for number, answer in enumerate(answers, first):
+            if number < len(self.answers):
+                known = self.answers[number]
+                if known.startswith(b'{"Answer":"Accepted"') and answer != known:
+                    raise Found(f"line {number + 1} was answered {known!r}, and sent again {answer!r}")
+                continue
+            if answer != self.said[number].answer:
+                raise Found(f"line {number + 1}: wanted {self.said[number].answer[:300]!r}, got {answer[:300]!r}")
+            self.answers.append(answer)
+
+    def audit(self):
+        begun = time.monotonic()
+        done = run([self.program, "audit", "--db", self.file])
+        self.seconds = time.monotonic() - begun
+        self.audits += 1
+        return done
+
+    def look(self):
+        """Says how many commands there are more than were acknowledged: 0 or 1."""
+        done, acknowledged = self.audit(), self.acknowledged()
+        if acknowledged == 0 and done.stderr == b"tracedesk: NotADesk\n":
+            remove(self.file)
+            return 0
+        if done.returncode or not re.fullmatch(rb"lawful \d+\n", done.stdout):
+            raise Found(f"audit: status {done.returncode}, {done.stdout!r} {done.stderr!r}")
+        count = int(done.stdout.split()[1])
+        if not acknowledged <= count <= acknowledged + 1:
+            raise Found(f"{acknowledged} commands were acknowledged, and audit finds {count}")
+        rows = read(self.file, lambda it: it.execute("SELECT uid, detail FROM accepted ORDER BY number").fetchall())
+        if [uid for uid, _detail in rows] != self.uids[:count]:
+            raise Found("the accepted commands are not those that were sent, in their order")
+        accepted = [answer for said, answer in zip(self.said, self.answers) if said.wanted == "Accepted"]
+        if [detail.encode() for _uid, detail in rows[:acknowledged]] != accepted:
+            raise Found("an accepted command has not the answer that was given")
+        return count - acknowledged
+
+    def end(self):
+        """Compares the tables with those of a run that nothing disturbed."""
+        clean = self.file + ".clean"
+        remove(clean)
+        given = b"".join(said.text + b"\n" for said in self.said)
+        done = run([self.program, "feed", "--db", clean], given)
+        if done.stdout.splitlines() != self.answers:
+            raise Found("a run that nothing disturbed gives other answers")
+        if read(clean, rows_in) != read(self.file, rows_in):
+            raise Found("a run that nothing disturbed leaves other rows")
+        remove(clean)
+        remove(self.file)
+
+
+def run(words, given=b""):
+    try:
+        return subprocess.run(words, input=given, capture_output=True, timeout=PATIENCE)
+    except subprocess.TimeoutExpired:
+        raise Found(f"{' '.join(words[1:3])} had not ended after {PATIENCE} seconds")
+
+
+def read(file, look):
+    """What `look` finds in a copy of a file that no run has open."""
+    with tempfile.TemporaryDirectory() as room, contextlib.closing(sqlite3.connect(shutil.copy(file, room))) as database:
+        return look(database)
+
+
+def kill(process):
+    """Kills a process that was started with a session of its own, and what it started."""
+    with contextlib.suppress(ProcessLookupError):
+        os.killpg(process.pid, signal.SIGKILL)
+    process.wait()
+
+
+# ---- kills -------------------------------------------------------------------------------------------------------
+def feed_for(desk, first, seconds):
+    """Lets `feed` take the lines from this one on for a while, then kills it, and gives the whole answers."""
+    with tempfile.TemporaryFile() as given, tempfile.TemporaryFile() as taken, tempfile.TemporaryFile() as told:
+        given.writelines(said.text + b"\n" for said in desk.said[first:])
+        given.seek(0)
+        words = [desk.program, "feed", "--db", desk.file]
+        process = subprocess.Popen(words, stdin=given, stdout=taken, stderr=told, start_new_session=True)
+        with contextlib.suppress(subprocess.TimeoutExpired):
+            process.wait(seconds)
+        ended = process.poll()
+        kill(process)
+        taken.seek(0)
+        told.seek(0)
+        if ended not in (None, 0, 1):
+            raise Found(f"feed ended by itself: status {ended}, {told.read()!r}")
+        return taken.read().split(b"\n")[:-1]
+
+
+def serve_for(desk, first, seconds):
+    """Posts the lines from this one on to `serve` for a while, then kills it, and gives the whole answers."""
+    port, answers = free_port(), []
+    words = [desk.program, "serve", "--db", desk.file, "--port", str(port), "--connections", "1000000"]
+    process = subprocess.Popen(words, stdout=subprocess.DEVNULL, stderr=subprocess.DEVNULL, start_new_session=True)
+    timer = threading.Timer(seconds, kill, [process])
+    timer.start()
+    try:
+        connection = None
+        for said in desk.said[first:]:
+            while connection is None and process.poll() is None:
+                with contextlib.suppress(OSError):
+                    socket.create_connection(("127.0.0.1", port)).close()
+                    connection = http.client.HTTPConnection("127.0.0.1", port, timeout=PATIENCE)
+                time.sleep(0.002)
+            connection.request("POST", "/messages", said.text)
+            answers.append(connection.getresponse().read())
+    except (OSError, http.client.HTTPException, AttributeError):
+        pass  # the kill
+    finally:
+        timer.cancel()
+        kill(process)
+    return answers
+
+
+def kill_audit(desk, seconds):
+    process = subprocess.Popen([desk.program, "audit", "--db", desk.file], stdout=subprocess.DEVNULL, stderr=subprocess.DEVNULL, start_new_session=True)
+    with contextlib.suppress(subprocess.TimeoutExpired):
+        process.wait(seconds)
+    kill(process)
+
+
+def killed(asked, folder, take_for):
+    """Kills so many times, or for so long; says what was seen."""
+    chance, begun, seen, seed = random.Random(asked.seed), time.monotonic(), collections.Counter(), asked.seed
+    desk, ticks = Desk(asked.program, folder, seed, asked.boards), program.Ticks()
+    while seen["kills"] < asked.kills and time.monotonic() - begun < asked.seconds:
+        ticks.tell(f"{seen['kills']} of {asked.kills} kills")
+        span = 0.2 + 2 * desk.seconds
+        seen["kills"] += 1
+        if desk.answers and chance.random() < 0.1:
+            kill_audit(desk, chance.uniform(0, 1.2 * desk.seconds))
+            seen["of audit"] += 1
+        else:
+            first, before = max(0, len(desk.answers) - 3), len(desk.answers)
+            desk.take(first, take_for(desk, first, chance.uniform(0, span)))
+            seen["before an answer" if len(desk.answers) == before else "while commands were taken"] += 1
+        seen["left one command more"] += desk.look()
+        if desk.done():
+            seen["commands"] += desk.acknowledged()
+            seen["shifts"] += 1
+            desk.end()
+            seed += 1
+            desk = Desk(asked.program, folder, seed, asked.boards)
+    seen["commands"] += desk.acknowledged()
+    remove(desk.file)
+    where = ", ".join(f"{seen[name]} {name}" for name in ("while commands were taken", "before an answer", "of audit"))
+    return (f"{seen['kills']} kills in {time.monotonic() - begun:.0f} s ({where}); each audit said lawful; {seen['commands']} commands acknowledged, none missing; "
+            f"{seen['left one command more']} times the one that was sent besides was there; {seen['shifts']} shifts done, with the tables of an undisturbed run")
+
+
+# ---- the order of calls ------------------------------------------------------------------------------------------
+CALLS = "write,writev,pwrite64,pwritev,sendto,sendmsg,fdatasync,fsync"
+CALL = re.compile(r"^(?:(\d+) +)?(?:<\.\.\. (\w+) resumed>|(\w+)\((\d+)<([^>]*)>)(.*)$")
+
+
+def ordered(log, file):
+    """Goes through strace's calls: how many Accepted answers went out, each after the sync of its commit."""
+    open_writes, written, answered, calls = set(), False, set(), {}
+    for line in log:
+        match = CALL.match(line.rstrip("\n"))
+        if not match:
+            continue
+        process, resumed, call, _handle, path, rest = match.groups()
+        if resumed:
+            call, path = calls.pop((process, resumed), (resumed, ""))
+        elif rest.endswith("<unfinished ...>"):
+            calls[process, call] = call, path
+        ours = path in [file + more for more in LOGS]
+        if ours and call in ("pwrite64", "pwritev", "write", "writev") and not resumed:
+            open_writes.add(path)
+            written = True
+        elif ours and call in ("fdatasync", "fsync") and rest.endswith("= 0"):
+            open_writes.discard(path)
+        elif not ours and not resumed and '\\"Answer\\":\\"Accepted\\"' in rest:
+            for number in re.findall(r'\\"Number\\":(\d+)', rest):
+                if number not in answered and (open_writes or not written):
+                    raise Found(f"the answer of command {number} goes out before its commit is synced")
+                answered.add(number)
+            written = False
+    return len(answered)
+
+
+def traced(words, log, given=None, more=(), **how):
+    """A process under strace."""
+    trace = ["strace", "-f", "-qq", "-y", "-s", "400", "-e", f"trace={CALLS}", *more, "-o", log]
+    return subprocess.Popen([*trace, *words], stdin=given, start_new_session=True, **how)
+
+
+def order(asked, folder):
+    desk = Desk(asked.program, folder, asked.seed, 24)
+    log, told = str(pathlib.Path(folder, "calls")), []
+    with tempfile.TemporaryFile() as given, tempfile.TemporaryFile() as taken:
+        given.writelines(said.text + b"\n" for said in desk.said)
+        given.seek(0)
+        process = traced([desk.program, "feed", "--db", desk.file], log, given, stdout=taken)
+        process.wait(PATIENCE)
+        taken.seek(0)
+        desk.take(0, taken.read().splitlines())
+    with open(log, errors="replace") as lines:
+        told.append(f"feed: {ordered(lines, desk.file)} Accepted answers, each after the sync of its commit")
+    desk.look()
+    if has_serve(asked.program):
+        told.append(order_of_serve(asked, folder, log))
+    return "; ".join(told)
+
+
+def order_of_serve(asked, folder, log):
+    desk, port = Desk(asked.program, folder, asked.seed, 24), free_port()
+    process = traced([desk.program, "serve", "--db", desk.file, "--port", str(port), "--connections", "2"], log, stdout=subprocess.DEVNULL)
+    try:
+        for _ in range(1000):
+            with contextlib.suppress(OSError):
+                socket.create_connection(("127.0.0.1", port)).close()
+                break
+            time.sleep(0.01)
+        connection, answers = http.client.HTTPConnection("127.0.0.1", port, timeout=PATIENCE), []
+        for said in desk.said:
+            connection.request("POST", "/messages", said.text)
+            answers.append(connection.getresponse().read())
+        connection.close()
+        process.wait(PATIENCE)
+    finally:
+        kill(process)
+    desk.take(0, answers)
+    with open(log, errors="replace") as lines:
+        return f"serve: {ordered(lines, desk.file)} Accepted answers, each after the sync of its commit"
+
+
+# ---- disks that stop ---------------------------------------------------------------------------------------------
+def answer_of(process):
+    """One line of a pipe, or none where the program has ended."""
+    line, end = b"", time.monotonic() + PATIENCE
+    while not line.endswith(b"\n"):
+        if not select.select([process.stdout], [], [], max(0, end - time.monotonic()))[0]:
+            raise Found(f"no answer after {PATIENCE} seconds")
+        byte = os.read(process.stdout.fileno(), 65_536)
+        if not byte:
+            return None
+        line += byte
+    return line[:-1]
+
+
+def talk(desk, start):
+    """Sends the lines one by one to what `start` starts, one that is Unavailable three times; gives the end's status, and what was told."""
+    with tempfile.TemporaryFile() as told:
+        process = start([desk.program, "feed", "--db", desk.file], stdin=subprocess.PIPE, stdout=subprocess.PIPE, stderr=told, bufsize=0)
+        refused = 0
+        try:
+            while not desk.done() and refused < 3:
+                process.stdin.write(desk.said[len(desk.answers)].text + b"\n")
+                answer = answer_of(process)
+                if answer is None:
+                    break
+                refused = refused + 1 if answer == b'{"Answer":"Unavailable"}' else 0
+                if not refused:
+                    desk.take(len(desk.answers), [answer])
+            process.stdin.close()
+        except BrokenPipeError:
+            pass
+        try:
+            process.wait(PATIENCE)
+        except subprocess.TimeoutExpired:
+            raise Found("the program did not end with its input")
+        finally:
+            kill(process)
+        told.seek(0)
+        return process.returncode, told.read().decode(errors="replace").strip()
+
+
+def plain(words, **how):
+    return subprocess.Popen(words, start_new_session=True, **how)
+
+
+def limited(size, ignored):
+    """A start under a limit on the size of files, whose signal is ignored or not."""
+    def limit():
+        signal.signal(signal.SIGXFSZ, signal.SIG_IGN if ignored else signal.SIG_DFL)
+        resource.setrlimit(resource.RLIMIT_FSIZE, (size, size))
+
+    return lambda words, **how: subprocess.Popen(words, start_new_session=True, preexec_fn=limit, restore_signals=False, **how)
+
+
+def failed(desk, how, start, seen):
+    """One run that fails, what is found after it, and the next run, which doesn't fail."""
+    status, told = talk(desk, start)
+    if status not in (0, 1, 3, 4, -signal.SIGXFSZ) or told and not re.fullmatch(r"(tracedesk: \w+\s*)+", told):
+        raise Found(f"{how}: status {status}, {told!r}")
+    seen[f"status {status}{' ' + told if told else ''}"] += 1
+    seen["left one command more"] += desk.look()
+    status, told = talk(desk, plain)
+    if not desk.done():
+        raise Found(f"{how}: the next run stopped after {len(desk.answers)} lines: status {status}, {told!r}")
+    desk.look()
+    desk.end()
+
+
+def small_disk(folder, size):
+    """A folder on a file system of this size, or none where this user may not mount."""
+    room = pathlib.Path(folder, "small")
+    room.mkdir()
+    done = subprocess.run(["mount", "-t", "tmpfs", "-o", f"size={size}", "tmpfs", room], capture_output=True)
+    return room if done.returncode == 0 else None
+
+
+def within(asked, turns, begun):
+    """So many turns, and none once the time is up."""
+    ticks = program.Ticks()
+    for turn in range(turns):
+        if time.monotonic() - begun > asked.seconds:
+            return
+        ticks.tell(f"{turn} of {turns} runs that fail in one way")
+        yield turn
+
+
+def disk(asked, folder):
+    chance, begun, told = random.Random(asked.seed), time.monotonic(), []
+    whole = Desk(asked.program, folder, asked.seed, 12)
+    talk(whole, plain)
+    size = os.path.getsize(whole.file)
+    for ignored in (True, False):
+        seen = collections.Counter()
+        for _turn in within(asked, asked.turns, begun):
+            limit = chance.randint(0, size)
+            failed(Desk(asked.program, folder, asked.seed, 12), f"limit {limit}", limited(limit, ignored), seen)
+            seen["runs"] += 1
+        told.append(f"limit on files, {'without' if ignored else 'with'} its signal: {shown(seen)}")
+    told.append(full(asked, folder, size, chance, begun))
+    return "\n         ".join(told)
+
+
+def shown(seen):
+    return f"{seen.pop('runs', 0)} runs; " + ", ".join(f"{count} {name}" for name, count in sorted(seen.items()))
+
+
+def full(asked, folder, size, chance, begun):
+    """A file system that is full, and has room later."""
+    seen = collections.Counter()
+    for _turn in within(asked, asked.turns, begun):
+        room = small_disk(folder, chance.randint(65_536, 2 * size))
+        if room is None:
+            os.rmdir(pathlib.Path(folder, "small"))
+            return "a full file system: not run, since this user may not mount one"
+        try:
+            desk = Desk(asked.program, room, asked.seed, 12)
+            status, told = talk(desk, plain)
+            seen[f"status {status}{' ' + told if told else ''}"] += 1
+            subprocess.run(["mount", "-o", "remount,size=256m", room], check=True)
+            desk.look()
+            talk(desk, plain)
+            desk.look()
+            desk.end()
+            seen["runs"] += 1
+        finally:
+            subprocess.run(["umount", "-l", room], check=True)
+            os.rmdir(room)
+    return f"a full file system, with room later: {shown(seen)}"
+
+
+# ---- all of it ---------------------------------------------------------------------------------------------------
+PARTS = {"feed": lambda asked, folder: killed(asked, folder, feed_for), "serve": lambda asked, folder: killed(asked, folder, serve_for),
+         "order": order, "disk": disk}
+
+
+def parts(asked):
+    """Runs the parts; a line for each. Says how many failed."""
+    wrong = 0
+    for name in asked.parts or PARTS:
+        if name == "serve" and not has_serve(asked.program):
+            print("serve:   not run, since the program has no `serve`", flush=True)
+            continue
+        with tempfile.TemporaryDirectory(prefix="kills-", dir=asked.folder) as folder:
+            try:
+                print(f"{name + ':':8} {PARTS[name](asked, folder)}", flush=True)
+            except Found as found:
+                wrong += 1
+                print(f"{name + ':':8} FOUND {found}", flush=True)
+    return wrong
+
+
+def words(reader):
+    program.offer(reader)
+    reader.add_argument("--kills", type=int, default=200)
+    reader.add_argument("--seconds", type=float, default=900, help="how long a part goes on at most")
+    reader.add_argument("--turns", type=int, default=10, help="runs for each way in which a disk fails")
+    reader.add_argument("--boards", type=int, default=120)
+    reader.add_argument("--seed", type=int, default=1)
+    reader.add_argument("--folder", help="where the desks are made, so on the disk in question")
+    reader.add_argument("--planted", action="store_true")
+    reader.add_argument("parts", nargs="*", metavar="PART")
+
+
+def main(asked, reader):
+    if set(asked.parts) - set(PARTS):
+        reader.error(f"the parts are {', '.join(PARTS)}")
+    if "order" in (asked.parts or PARTS):
+        program.want("strace", "strace")
+    asked.program = program.to_use(asked.program)
+    if not asked.planted:
+        return 1 if parts(asked) else 0
+    os.environ["PROGRAM"], asked.program = asked.program, str(ROOT / "dev/faults/early-answers")
+    asked.parts = ["feed", "serve", "order"] if has_serve(asked.program) else ["feed", "order"]
+    wrong = parts(asked)
+    print("the planted program was found out" if wrong == len(asked.parts) else "the planted program was NOT found out")
+    return 0 if wrong == len(asked.parts) else 1
