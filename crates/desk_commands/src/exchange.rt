@@ -19,12 +19,11 @@ ghost use Rattle.desk_commands.specs.Runs.{HasNoDesk, LeavesDesk, Refuses, RunsO
 
 use crate::left::Left;
 use crate::refusal::tell_refusal;
-use desk_file::open_desk;
+use desk_file::{in_memory, open_desk};
 use desk_import::{Folder, Import};
 use desk_runs::{feed_lines, import_rows, unavailable};
 use desk_types::Wire;
 use feeder_state::StateDesk;
-use line_schema::in_memory;
 use sqlite::{FileFrom, Start};
 use std::alloc::Global;
 use std::io::{Read, Write};

@@ -25,7 +25,7 @@ use Rattle.line_tables.proofs.Ours.{is_blank_of, is_ours_of}
 use Rattle.line_rows.specs.Rows.{rows_of, ledger_tables}
 use Rattle.line_schema.specs.Opening.{IsNamed, IsNamedBy}
 use Rattle.line_schema.specs.Versions.{IsMigrated}
-use Rattle.small_pages.specs.Found.{FindsAs}
+use Rattle.desk_file.specs.Found.{FindsAs}
 use Rattle.desk_file.specs.Files.{IsFoundIn, IsOfOne, HasOursFirst, FindsNoTable, Begins}
 
 named_by : (rules : Rules) (indexed : Layout) → list_any has_name (schema_of rules indexed).tables ≡ true

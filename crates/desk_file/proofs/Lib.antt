@@ -1,3 +1,5 @@
 pub mod ClosedFiles
 pub mod FirstLists
+pub mod Making
 pub mod RefusedFiles
+pub mod Truth

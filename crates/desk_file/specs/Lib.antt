@@ -1,2 +1,4 @@
 pub mod Files
+pub mod Found
+pub mod Memory
 pub mod Refused

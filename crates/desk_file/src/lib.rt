@@ -1,10 +1,16 @@
-//! A desk in a file.
+//! A desk in a file, or in memory.
 #![tactic(auto)]
 
 mod law;
+mod memory;
+mod memory_file;
 mod opening;
+mod pages;
+mod path;
 mod refusal;
 
 pub use law::next_run_goes_on;
+pub use memory::in_memory;
+pub use memory_file::MemoryFile;
 pub use opening::{DeskFile, FileDesk, close_desk, close_file, migrate_desk, open_desk};
 pub use refusal::Refusal;

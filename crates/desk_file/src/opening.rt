@@ -5,7 +5,7 @@ ghost use Rattle.std.specs.Fs.{IsFile, file_type, metadata_len};
 ghost use Rattle.sqlite_wal.specs.Files.{image_at};
 ghost use Rattle.sqlite.specs.State.{HasCleanDisk};
 ghost use Rattle.sqlite.specs.Files.{file_state, over_files, IsOpened};
-ghost use Rattle.small_pages.specs.Found.{FindsAs};
+ghost use Rattle.desk_file.specs.Found.{FindsAs};
 ghost use Rattle.desk_types.specs.declared.limits.TheConstants.{MOST_ENTRIES};
 ghost use Rattle.desk_types.specs.declared.rules.Rules.TheVariants.{Two};
 ghost use Rattle.desk_types.specs.History.{History};
@@ -16,6 +16,7 @@ ghost use Rattle.line_schema.specs.Stands.{Kept, Stands, conn_of, state_of};
 ghost use Rattle.desk_file.specs.Files.{Begins, Closes, Copies, FindsNoTable, HasOursFirst, KeepsTables, Leaves, MigratedFrom};
 ghost use Rattle.desk_file.specs.Refused.{IsFaultFor, IsFaultIn, IsRefused, LeavesMade, RefusesMigration, RefusesRun};
 
+use crate::path::open_path;
 use crate::refusal::Refusal;
 use line_schema::{LineStore, OpenFault};
 use sqlite::{Connection, FileFrom, FileStore, Files, Start};
@@ -214,7 +215,7 @@ fn connect<T: Start>(
     ensures mode { IfOk result (λ conn. conn.in_transaction ≡ false) }
     ensures err { IfErr result (λ r. r ≡ record { fault = Fault.Unavailable; file = None }) }
 {
-    match small_pages::open(rt, path, start) {
+    match open_path(rt, path, start) {
         Ok(conn) => Ok(conn),
         Err(_) => Err(no_connection()),
     }

@@ -3,7 +3,6 @@
 
 mod beside;
 mod fault;
-mod memory;
 mod opening;
 mod owner;
 mod settling;
@@ -15,6 +14,5 @@ pub use desk_answers::Answer;
 pub use fault::OpenFault;
 pub use line_audit::StateTable;
 pub use line_traces::PlacedRows;
-pub use memory::in_memory;
 pub use store::LineStore;
 pub use unavailable::Unavailable;

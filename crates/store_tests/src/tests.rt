@@ -3,9 +3,10 @@
 mod sending;
 mod stopping;
 
+use desk_file::in_memory;
 use desk_types::Id;
 use feeder_state::StateDesk;
-use line_schema::{LineStore, in_memory};
+use line_schema::LineStore;
 use sending::{BOARDS, FIRST_RUN, Sent, send, send_over, viewed};
 use sqlite::{Alter, Connection};
 use std::alloc::{AllocError, Global};

@@ -1,5 +1,5 @@
 use Rattle.std.proofs.Common.{refl}
-use Rattle.memory_store.proofs.Truth.{stays_clean}
+use Rattle.desk_file.proofs.Truth.{stays_clean}
 use Rattle.desk_commands.specs.Runs.{fresh}
 use Rattle.desk_commands.proofs.RunsOnFiles.{ends_so, never_refused}
 use Rattle.desk_commands.proofs.exchange.feed_in_memory.Goals as goal

@@ -7,9 +7,9 @@ use Rattle.sqlite_trees.proofs.Doubt.{clean_of as sure}
 use Rattle.sqlite.specs.Files.{AreFoundIn, HoldsDatabase, IsEmpty, file_state, image_of}
 use Rattle.sqlite.specs.State.{HasCleanDisk}
 use Rattle.sqlite.proofs.FileLemmas.{same_image}
-use Rattle.small_pages.specs.Found.{IsNew}
-use Rattle.small_pages.proofs.Making.{new_holds_none}
-use Rattle.small_pages.proofs.opening.open_files.Goals as goal
+use Rattle.desk_file.specs.Found.{IsNew}
+use Rattle.desk_file.proofs.Making.{new_holds_none}
+use Rattle.desk_file.proofs.pages.open_files.Goals as goal
 
 pub over-requires : goal.over-requires
 over-requires g c = λ none. (c.in-Some.ensures.made (sure _ none)).fresh

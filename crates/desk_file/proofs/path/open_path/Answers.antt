@@ -3,8 +3,8 @@ use Rattle.std.proofs.lemmas.Result.{IfOk-weaker}
 use Rattle.sqlite_disk.specs.Events.{Event, replay}
 use Rattle.sqlite_wal.specs.Recovery.{Image}
 use Rattle.sqlite.specs.Files.{file_state}
-use Rattle.small_pages.specs.Found.{FindsAs}
-use Rattle.small_pages.proofs.path.open.Goals as goal
+use Rattle.desk_file.specs.Found.{FindsAs}
+use Rattle.desk_file.proofs.path.open_path.Goals as goal
 
 abbrev image : List ℕ → List ℕ → Image
 image log db = record { log = log; db = db }

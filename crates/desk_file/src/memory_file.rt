@@ -17,7 +17,7 @@ pub struct MemoryFile {
 }
 
 impl MemoryFile {
-    ghost use Rattle.memory_store.specs.File.{bytes_in};
+    ghost use Rattle.desk_file.specs.Memory.{bytes_in};
 
     /// An empty file. Takes no memory.
     pub fn new(alloc: Global) -> MemoryFile

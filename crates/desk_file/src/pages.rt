@@ -7,7 +7,7 @@ ghost use Rattle.sqlite_store.specs.Unopened.{state_of, files_of, wanted_by};
 ghost use Rattle.sqlite_wal.specs.PageSize.{bytes_of};
 ghost use Rattle.sqlite.specs.Files.{file_state, image_of, IsOpened};
 ghost use Rattle.sqlite.specs.State.{HasCleanDisk};
-ghost use Rattle.small_pages.specs.Found.{FindsAs, IsMadeOf};
+ghost use Rattle.desk_file.specs.Found.{FindsAs, IsMadeOf};
 
 use desk_types::PAGE_SIZE;
 use sqlite::{Connection, Error, ErrorCode, FileStore, Files, Options};

@@ -4,15 +4,15 @@ ghost use Rattle.std.specs.Prelude.{◌≡◌, false, IfOk};
 ghost use Rattle.sqlite_wal.specs.Files.{image_at};
 ghost use Rattle.sqlite.specs.Files.{file_state, IsOpened};
 ghost use Rattle.sqlite.specs.State.{HasCleanDisk};
-ghost use Rattle.small_pages.specs.Found.{FindsAs};
+ghost use Rattle.desk_file.specs.Found.{FindsAs};
 
-use crate::opening::open_files;
+use crate::pages::open_files;
 use sqlite::{Connection, Error, ErrorCode, FileFrom, FileStore, Options, Start};
 use std::hash::{BuildHasher, RandomState};
 
 /// Opens the database in the file at a path, or makes it. `T` is the contents of the file and its log. The system's
 /// clock is not read, so a statement that reads the time is refused.
-pub fn open<T: Start>(
+pub fn open_path<T: Start>(
     rt: &HostRuntime,
     path: &str,
     start: T,

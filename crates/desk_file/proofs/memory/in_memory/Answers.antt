@@ -2,7 +2,7 @@ use Rattle.std.proofs.Common.{Bool, [], subst}
 use Rattle.sqlite.specs.Files.{over_files}
 use Rattle.line_tables.proofs.Ours.{is_blank_of}
 use Rattle.line_schema.specs.Stands.{Stands}
-use Rattle.line_schema.proofs.memory.in_memory.Goals as goal
+use Rattle.desk_file.proofs.memory.in_memory.Goals as goal
 
 pub returns-in-Ok : goal.returns-in-Ok
 returns-in-Ok g c = record {

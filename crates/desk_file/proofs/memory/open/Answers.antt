@@ -1,8 +1,8 @@
 use Rattle.std.proofs.Common.{ap, ◌∙◌}
 use Rattle.sqlite.specs.Effect.{Database}
 use Rattle.sqlite.specs.Files.{file_state}
-use Rattle.memory_store.proofs.Truth.{stays_clean, finds_none}
-use Rattle.memory_store.proofs.opening.open.Goals as goal
+use Rattle.desk_file.proofs.Truth.{stays_clean, finds_none}
+use Rattle.desk_file.proofs.memory.open.Goals as goal
 
 pub returns-in-Ok : goal.returns-in-Ok
 returns-in-Ok c =

@@ -4,7 +4,7 @@ use Rattle.sqlite_store.specs.Listed.{catalog_rows}
 use Rattle.sqlite_store.specs.Listing.{listed_from}
 use Rattle.sqlite_trees.proofs.Doubt.{no_doubt}
 use Rattle.sqlite.proofs.OpenLemmas.{pool_files}
-use Rattle.small_pages.proofs.opening.new_store.Goals as goal
+use Rattle.desk_file.proofs.pages.new_store.Goals as goal
 
 pub returns-in-Ok : goal.returns-in-Ok
 returns-in-Ok g c = record {

@@ -11,8 +11,8 @@ use Rattle.sqlite.specs.Effect.{Database, IsDatabase}
 use Rattle.sqlite.specs.Files.{AreFoundIn, file_state}
 use Rattle.sqlite.specs.Held.{Held}
 use Rattle.sqlite.specs.State.{HasCleanDisk}
-use Rattle.memory_store.specs.declared.file.MemoryFile.{MemoryFile}
-use Rattle.memory_store.specs.contracts.file.MemoryFileDisk.TheImpl.{ghosts as disk}
+use Rattle.desk_file.specs.declared.memory_file.MemoryFile.{MemoryFile}
+use Rattle.desk_file.specs.contracts.memory_file.MemoryFileDisk.TheImpl.{ghosts as disk}
 
 pub stays_clean : (conn : Held (FileStore MemoryFile disk)) → HasCleanDisk (file_state conn)
 unfolding pool_state

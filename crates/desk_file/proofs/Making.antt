@@ -5,7 +5,7 @@ use Rattle.sqlite_pool.specs.Stored.{reserved}
 use Rattle.sqlite_pool.proofs.ProbeLemmas.{not_blank}
 use Rattle.sqlite_trees.specs.Tree.{Trees}
 use Rattle.sqlite.specs.Files.{HoldsDatabase}
-use Rattle.small_pages.specs.Found.{IsNew}
+use Rattle.desk_file.specs.Found.{IsNew}
 
 pub new_holds_none : (image : Image) (trees : Trees) → IsNew image → ¬ HoldsDatabase image trees
 new_holds_none image trees new held =

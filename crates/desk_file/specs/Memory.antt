@@ -1,6 +1,6 @@
 -- The contents of a file in memory.
 use Rattle.std.specs.Prelude.{ℕ, List}
-use Rattle.memory_store.specs.declared.file.MemoryFile.{MemoryFile}
+use Rattle.desk_file.specs.declared.memory_file.MemoryFile.{MemoryFile}
 
 -- Its bytes.
 abbrev pub bytes_in : MemoryFile → List ℕ
