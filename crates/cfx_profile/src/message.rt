@@ -11,11 +11,12 @@ use crate::fault::MessageFault;
 use crate::forms::{id_at, text_at};
 use crate::member::Member;
 use crate::minute::read_minute;
-use crate::word::Word;
+use crate::word::word_of;
 use desk_types::{Id, Listing, Minute, Stamped, Text};
 use serde_json::Value;
 use serde_json::error::Category;
 use std::alloc::Global;
+use stored_texts::Word;
 
 /// The content of a message.
 #[derive(Debug, PartialEq, Eq, Drop)]
@@ -41,7 +42,7 @@ pub fn read_message(alloc: Global, bytes: &[u8]) -> Result<Said, MessageFault>
         return Err(MessageFault::NotObject);
     }
     let name = envelope_text(&value, Member::MessageName)?;
-    match Word::read(name) {
+    match word_of(name) {
         None => Ok(Said::Ignored(Listing::new(name.as_bytes().to_vec(alloc)?))),
         Some(word) => Ok(Said::Asked(stamped_in(alloc, word, &value)?)),
     }

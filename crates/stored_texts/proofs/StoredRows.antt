@@ -1,9 +1,12 @@
 -- Worked cases of the texts of commands.
-use Rattle.std.proofs.Common.{◌≡◌, [], ◌∷◌, codes, refl}
+use Rattle.std.proofs.Common.{◌≡◌, [], ◌∷◌, codes, length, refl}
 use Rattle.std.specs.Fmt.{digits}
-use Rattle.stored_texts.specs.StoredText.{stored_text, word_text}
+use Rattle.stored_texts.specs.StoredText.{stored_text, word_text, words}
 use Rattle.desk_types.specs.declared.command.Command.TheVariants.{SheetDefined, ReelReceived, MaterialsLoaded, CountsTaken}
 use Rattle.desk_types.specs.declared.level.Level.TheVariants.{Three}
+
+pub seventeen_words : length words ≡ 17
+seventeen_words = refl
 
 pub a_load : stored_text (MaterialsLoaded (codes "M") (codes "1") (codes "K1")) ≡ codes "MaterialsLoaded\tM\t1\tK1"
 unfolding stored_text word_text

@@ -1,13 +1,10 @@
 -- The kinds of commands in stored texts.
 use Rattle.std.proofs.Common.{◌≡◌, Bool, true, false, Option, Some, None, IfSome, IfNone, List, [], ◌∷◌, cond, find, refl, sym, ap, subst, ◌∙◌}
 use Rattle.desk_types.specs.Id.{same}
-use Rattle.stored_texts.specs.StoredText.{Field, word_text}
+use Rattle.stored_texts.specs.StoredText.{Field, word_text, words}
 use Rattle.stored_texts.specs.declared.word.Word.{Word}
 use Rattle.stored_texts.specs.declared.word.Word.TheVariants.{PartDefined, AlternateAllowed, SheetDefined, ProductSelected, ReelReceived, ReelOpened, ReelSealed, ReelBaked, MaterialsLoaded, MaterialsSpliced, MaterialsUnloaded, WorkStarted, WorkCompleted, MaterialsInstalled, MaterialsScrapped, CountsTaken, ClockSet}
 use Rattle.desk_types.proofs.Keys.{same-true}
-
-abbrev pub words : List Word
-words = PartDefined ∷ AlternateAllowed ∷ SheetDefined ∷ ProductSelected ∷ ReelReceived ∷ ReelOpened ∷ ReelSealed ∷ ReelBaked ∷ MaterialsLoaded ∷ MaterialsSpliced ∷ MaterialsUnloaded ∷ WorkStarted ∷ WorkCompleted ∷ MaterialsInstalled ∷ MaterialsScrapped ∷ CountsTaken ∷ ClockSet ∷ []
 
 -- The kind with this text.
 abbrev pub word_in : Field → Option Word
@@ -36,7 +33,7 @@ word_in-word_text ClockSet = refl
 pub word_text-apart : (a b : Word) → word_text a ≡ word_text b → a ≡ b
 word_text-apart a b e = let found : Some a ≡ Some b = sym (word_in-word_text a) ∙ ap word_in e ∙ word_in-word_text b in cc
 
-found_passes : {X : Type 0} (test : X → Bool) (xs : List X) → IfSome (find test xs) (λ x. test x ≡ true)
+pub found_passes : {X : Type 0} (test : X → Bool) (xs : List X) → IfSome (find test xs) (λ x. test x ≡ true)
 found_passes test [] = tt
 found_passes {X} test (x ∷ xs) =
     elim (test x) as (λ b. test x ≡ b → IfSome (cond b (Some x) (find test xs)) (λ y. test y ≡ true)) [ true ↦ λ is. is | false ↦ λ _. found_passes test xs ] refl
@@ -49,3 +46,9 @@ word_in-read text (Some word) e =
 pub word_in-refused : (text : Field) (r : Option Word) → r ≡ word_in text → IfNone r ((word : Word) → ¬ (text ≡ word_text word))
 word_in-refused text (Some word) e = tt
 word_in-refused text None e = λ word is. let found : None ≡ Some word = e ∙ ap word_in is ∙ word_in-word_text word in cc
+
+-- What `Word::read` returns.
+pub word_in-is : (text : Field) (r : Option Word) → IfSome r (λ word. text ≡ word_text word) → IfNone r ((word : Word) → ¬ (text ≡ word_text word)) → r ≡ word_in text
+word_in-is text (Some word) is _ = sym (ap word_in is ∙ word_in-word_text word)
+word_in-is text None _ none =
+    elim (word_in text) as (λ found. word_in text ≡ found → None ≡ found) [ None ↦ λ _. refl | Some word ↦ λ e. absurd (none word (word_in-read text (Some word) (sym e))) ] refl

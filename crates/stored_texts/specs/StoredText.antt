@@ -33,6 +33,11 @@ word_text word.MaterialsScrapped = codes "MaterialsScrapped"
 word_text word.CountsTaken = codes "CountsTaken"
 word_text word.ClockSet = codes "ClockSet"
 
+-- The kinds of commands.
+abbrev pub words : List Word
+words = word.PartDefined ∷ word.AlternateAllowed ∷ word.SheetDefined ∷ word.ProductSelected ∷ word.ReelReceived ∷ word.ReelOpened ∷ word.ReelSealed ∷ word.ReelBaked ∷ word.MaterialsLoaded ∷
+    word.MaterialsSpliced ∷ word.MaterialsUnloaded ∷ word.WorkStarted ∷ word.WorkCompleted ∷ word.MaterialsInstalled ∷ word.MaterialsScrapped ∷ word.CountsTaken ∷ word.ClockSet ∷ []
+
 -- A list's length, followed by the fields of its elements.
 abbrev pub list_fields : {X : Type 0} → (X → List Field) → List X → List Field
 list_fields fields xs = decimal (length xs) ∷ flat_map fields xs

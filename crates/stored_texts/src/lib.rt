@@ -21,6 +21,7 @@ mod word;
 mod writing;
 
 pub use kept::Kept;
+pub use word::Word;
 
 /// A law: different commands have different texts. It is for proofs and does nothing at run time.
 pub fn texts_tell_commands_apart()
