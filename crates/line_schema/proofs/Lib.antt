@@ -4,4 +4,5 @@ pub mod Others
 pub mod ReadOfCommitted
 pub mod StandsAfter
 pub mod TracesOfLists
+pub mod UnansweredCommands
 pub mod Versions

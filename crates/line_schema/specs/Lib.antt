@@ -4,3 +4,4 @@ pub mod Traces
 pub mod Frames
 pub mod Versions
 pub mod Samples
+pub mod Unanswered

@@ -185,6 +185,7 @@ impl<S: Alter, D: KeepsRows + Drop> LineStore<S, D> {
     pub fn ready(&mut self) -> Result<(), Unavailable>
         requires stands { (L : Kept) × Stands S.Store D.Stands D.kept_rules self.old L }
         ensures ok { OnOk result (IsTrue (has_desk self.new)) }
+        ensures at_hand { OnErr result (has_desk self.old ≡ false) }
         ensures makes_desk { MakesDesk S.Store D.Stands D.kept_rules self.old self.new }
         ensures others { LetsOthersBe (state_of S.Store self.old) (state_of S.Store self.new) }
     {

@@ -1,3 +1,4 @@
 pub mod CrashedFiles
+pub mod FailingDisks
 pub mod ProgramRuns
 pub mod RunsInTurn

@@ -1,5 +1,5 @@
 -- The program's contracts give a run in the sense of these definitions.
-use Rattle.std.proofs.Common.{◌≡◌, ◌∙◌, ℕ, List, [], ◌∷◌, true, Option, Some, None, Result, Ok, Err, refl, subst}
+use Rattle.std.proofs.Common.{◌≡◌, ◌∙◌, ℕ, List, [], ◌∷◌, true, Option, Some, None, Result, Ok, Err, refl, ap, subst}
 use Rattle.sqlite_disk.specs.declared.Disk as disk
 use Rattle.sqlite_disk.specs.declared.Files.{Files}
 use Rattle.sqlite_disk.specs.declared.start.Start as start
@@ -14,14 +14,15 @@ use Rattle.desk_runs.specs.Clients.{Ended, Exchange}
 use Rattle.desk_runs.specs.Connections.{ConnectedSo}
 use Rattle.served.specs.declared.serving.ServeFault.TheVariants.{Read, Write, TooManyReads}
 use Rattle.gateway_http.specs.Reports.{report_of}
-use Rattle.headline.specs.Calls.{AnswersByTheList, Call, Serves}
+use Rattle.gateway_http.specs.Stores.{store_of}
+use Rattle.gateway_http.specs.declared.store.ReportedStore.{ReportedStore}
+use Rattle.headline.specs.Calls.{AnswersByTheList, Call, Calls, Serves}
 use Rattle.desk_commands.specs.declared.left.Left.TheVariants.{Desk}
 use Rattle.desk_commands.specs.Runs.{RunsOn, ServesEach}
 use Rattle.desk_commands.specs.Closed.{RunsTo, whole}
 use Rattle.many_runs.specs.Runs.{by_two, IsRun}
 use Rattle.many_runs.specs.Closed.{ClosesTo, ReadsClean, connections_of, run_of}
-use Rattle.many_runs.specs.Crashed.{CrashesTo}
-use Rattle.many_runs.specs.Runs.Ending.{crashed}
+use Rattle.many_runs.specs.Crashed.{CrashesTo, killed_run_of}
 use Rattle.sqlite_wal.specs.Files.{image_at}
 use Rattle.sqlite_trees.specs.Tree.{Trees}
 use Rattle.sqlite.specs.Effect.{Database}
@@ -91,7 +92,7 @@ serves_each (e ∷ es) G H (H₁, one, rest) = (H₁, serves report_of G e.sent 
 -- A run whose open desk was dropped.
 module _ {T D : Type 0} {g : disk.Ghosts D} (first : start.Ghosts T) (make : Option ℕ) (desk : LineStore (FileStore D g) StateDesk) (files : Files D) (image : Image) where
   pub is_crashed_run : (Fact : Ledger → History → Type 0) (calls : List Call) → ((G : Ledger) (H : History) → Fact G H → AnswersByTheList report_of G calls H)
-      → RunsOn first make (Desk desk) Fact → CrashesTo desk files image → IsRun report_of (record { first = image_at first; make = make; calls = calls; ending = crashed; last = image })
+      → RunsOn first make (Desk desk) Fact → CrashesTo desk files image → IsRun report_of (killed_run_of first make calls image)
   is_crashed_run Fact calls tells runs (leaves, was_clean, on, clean, left) alone =
       let (greatest, H, begins, lawful, H', stands, fact) = runs was_clean alone in (
         greatest,
@@ -115,6 +116,12 @@ module _ {T D : Type 0} {g : disk.Ghosts D} (first : start.Ghosts T) (make : Opt
       let (greatest, H, begins, lawful, H₁, stands, same) = runs was_clean alone in
       let (H', after, answers) = goes_on report_of StandsForList (λ d. HasCleanDisk (state_of over_files d)) calls opened last made (by_two greatest H₁) (refl, stands) clean in
       (greatest, H, begins, lawful, H', after.1, subst (λ (it : History). AnswersByTheList report_of (by_two greatest it) calls H') same answers)
+
+-- Calls on a store with its reports are calls on the store.
+pub reported_calls : {D : Type 0} {g : disk.Ghosts D} (calls : List Call) (opened last : ReportedStore (FileStore D g) StateDesk)
+    → Calls report_of (λ r. StandsForList (store_of r)) (λ r. HasCleanDisk (state_of over_files (store_of r))) opened calls last → MakesCalls (store_of opened) calls (store_of last)
+reported_calls [] opened last same = ap store_of same
+reported_calls (call ∷ calls) opened last (mid, one, rest) = (store_of mid, one, reported_calls calls mid last rest)
 
 abbrev pub FindsTables : Type 0
 FindsTables = (image : Image) (trees : Trees) (greatest : ℕ) (H : History) → ∥ HoldsDatabase image trees ∥₁ → HoldsAt (ledger_tables greatest H) trees

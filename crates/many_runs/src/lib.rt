@@ -4,6 +4,8 @@
 //! `specs/Runs.antt` defines a run, and how runs combine.
 #![tactic(auto)]
 
+mod failing;
+
 ghost use Rattle.std.specs.Prelude.{ℕ, List, [], ◌∷◌, Option, Some};
 ghost use Rattle.sqlite_wal.specs.Recovery.{Image};
 ghost use Rattle.http_answers.specs.Requests.{Reports};
@@ -20,13 +22,15 @@ ghost use Rattle.headline.specs.Calls.{Feeds, ImportEnded, Imports};
 ghost use Rattle.headline.specs.Calls.Call.{asked, fed, imported};
 ghost use Rattle.many_runs.specs.Closed.{ClosesTo, ReadsClean, connections_of, run_of};
 ghost use Rattle.many_runs.specs.Runs.{AreRuns, IsRun, KeepsList, Run, as_one};
-ghost use Rattle.many_runs.specs.Runs.Ending.{crashed};
-ghost use Rattle.many_runs.specs.Crashed.{Crashes, CrashesTo, MakesCalls};
-ghost use Rattle.headline.specs.Calls.{AnswersByTheList, Call};
-ghost use Rattle.sqlite_wal.specs.Files.{image_at};
+ghost use Rattle.many_runs.specs.Crashed.{Crashes, CrashesTo, MakesCalls, killed_run_of};
+ghost use Rattle.gateway_http.specs.Stores.{store_of};
+ghost use Rattle.headline.specs.Calls.{AnswersByTheList, Call, Calls};
 
+use desk_answers::Owner;
 use desk_file::{FileDesk, next_run_goes_on};
+pub use failing::{WatchedStore, failing_disks_leave_the_list};
 use feeder_state::StateDesk;
+use gateway_http::ReportedStore;
 use line_schema::LineStore;
 use sqlite::{FileFrom, FileStore, Files, Start};
 use sqlite_disk::Disk;
@@ -120,16 +124,37 @@ pub fn killed_runs_are_runs<T: Start>(
     ensures { (make : Option ℕ) (calls : List Call) (image : Image)
         → RunsOn T.Start make (Desk opened.now) StaysSame → MakesCalls opened.now calls last.now
         → CrashesTo last.now files.now image
-        → IsRun report_of
-        (record { first = image_at T.Start; make = make; calls = calls; ending = crashed; last = image }) }
+        → IsRun report_of (killed_run_of T.Start make calls image) }
+{}
+
+/// A law: calls on the store with its reports, as the program makes them, are calls on the store.
+/// `headline` shows each of them.
+pub fn reported_calls_are_calls<F: Disk + Drop>(
+    opened: &ReportedStore<FileStore<F>, StateDesk>,
+    last: &ReportedStore<FileStore<F>, StateDesk>,
+)
+    ensures { (calls : List Call)
+        → Calls report_of ⟦<ReportedStore<FileStore<F>, StateDesk> as Owner>⟧.Stands
+        ⟦<ReportedStore<FileStore<F>, StateDesk> as Owner>⟧.Trusts opened.now calls last.now
+        → MakesCalls (store_of opened.now) calls (store_of last.now) }
 {}
 
 /// A law: a run that was killed while its desk was open is a run, with the calls that the command's contract
-/// gives of that desk.
+/// gives of that desk. A kill within a feed, an import or a connection leaves the desk as one that failed to
+/// read or write there, so `ended` may be a fault.
 pub fn crashed_runs_are_runs<T: Start>(desk: &FileDesk<T, StateDesk>, files: &Files<FileFrom<T>>)
     ensures crashed { (make : Option ℕ) (calls : List Call) (image : Image)
         → RunsOn T.Start make (Desk desk.now) (λ G H. AnswersByTheList report_of G calls H)
+        → CrashesTo desk.now files.now image → IsRun report_of (killed_run_of T.Start make calls image) }
+    ensures feeds { (make : Option ℕ) (input out out' : Option (List ℕ)) (ended : Ended) (image : Image)
+        → RunsOn T.Start make (Desk desk.now) (λ G H. Feeds G input out out' ended H)
         → CrashesTo desk.now files.now image
-        → IsRun report_of
-        (record { first = image_at T.Start; make = make; calls = calls; ending = crashed; last = image }) }
+        → IsRun report_of (killed_run_of T.Start make (fed input out out' ended ∷ []) image) }
+    ensures serves { (make : Option ℕ) (exchanges : List Exchange) (image : Image)
+        → RunsOn T.Start make (Desk desk.now) (ServesEach exchanges) → CrashesTo desk.now files.now image
+        → IsRun report_of (killed_run_of T.Start make (connections_of exchanges) image) }
+    ensures imports { (make : Option ℕ) (import : Import) (bytes out out' : Option (List ℕ)) (ended : ImportEnded)
+        (image : Image) → RunsOn T.Start make (Desk desk.now) (λ G H. Imports G import bytes out out' ended H)
+        → CrashesTo desk.now files.now image
+        → IsRun report_of (killed_run_of T.Start make (imported import bytes out out' ended ∷ []) image) }
 {}

@@ -1,7 +1,8 @@
 -- Where the placed pieces of a list are found.
-use Rattle.std.specs.Prelude.{◌≡◌, ℕ, zero, suc, ◌<◌, ◌==◌, Bool, Option, None, List, [], map, length, unwrap_or, slice_get, All}
+use Rattle.std.specs.Prelude.{◌≡◌, ℕ, zero, suc, ◌+◌, ◌<◌, ◌≤◌, ◌==◌, Bool, Option, None, List, [], map, length, unwrap_or, slice_get, All}
 use Rattle.std.specs.List.{filter, find, flat_map, range_with_len}
 use Rattle.std.specs.Option.{option_map}
+use Rattle.std.specs.Vec.{vec_capacity, vec_len}
 use Rattle.std.specs.BTreeMap as tree
 use Rattle.std.specs.BTreeMap.{BTreeMap}
 use Rattle.desk_types.specs.declared.command.Entry.{Entry}
@@ -64,3 +65,8 @@ pub record IsListed (lists : TraceLists) (H : History) : Type 0 where
   pub minutes : (number : ℕ) → minute_in lists.minutes.items number ≡ minute_of H number
   pub count : length lists.minutes.items ≡ length H
   pub in_range : All IsMinute lists.minutes.items
+
+-- There is room for one more minute and for this many more overdue pieces, without more memory.
+pub record HasRoomFor (pieces : ℕ) (lists : TraceLists) : Type 0 where
+  pub minutes : vec_len lists.minutes + 1 ≤ vec_capacity lists.minutes
+  pub overdue : vec_len lists.overdue + pieces ≤ vec_capacity lists.overdue

@@ -4,7 +4,7 @@ ghost use Rattle.std.specs.Prelude.{◌≡◌, ◌+◌, [], map, length, OnOk};
 ghost use Rattle.desk_types.specs.Id.{same};
 ghost use Rattle.desk_types.specs.History.{History, accept};
 ghost use Rattle.desk_types.specs.Outcome.{change_of};
-ghost use Rattle.trace_lists.specs.Lists.{IsListed, key_of, keys_of_installs, keys_where, minute_of};
+ghost use Rattle.trace_lists.specs.Lists.{HasRoomFor, IsListed, key_of, keys_of_installs, keys_where, minute_of};
 
 use crate::kept::{Kept, kept_under};
 use crate::noting::{note_install, note_pieces, room_for_install, room_for_pieces};
@@ -53,9 +53,10 @@ impl TraceLists {
     }
 
     /// Reserves the memory that `note` needs for the change. The contents stay the same, even after
-    /// an `Err`.
+    /// an `Err`. Clauses see the room for minutes and overdue pieces, but not that under names.
     pub fn reserve(&mut self, change: &Change) -> Result<(), AllocError>
         ensures same { (H : History) → IsListed self.old H → IsListed self.new H }
+        ensures room { OnOk result (HasRoomFor (length change.now.takes) self.new) }
     {
         let takes = change.takes();
         self.minutes.reserve(1)?;

@@ -1,13 +1,20 @@
-//! A law of open stores. It is for proofs and does nothing at run time.
+//! Laws of a crash between two calls. They are for proofs and do nothing at run time.
 
-ghost use Rattle.std.specs.Prelude.{IsTrue};
+ghost use Rattle.std.specs.Prelude.{◌≡◌, ℕ, IsTrue, List};
 ghost use Rattle.sqlite_trees.specs.Tree.{Trees};
 ghost use Rattle.sqlite.specs.State.{HasCleanDisk};
+ghost use Rattle.desk_types.specs.declared.command.Stamped.{Stamped};
+ghost use Rattle.desk_types.specs.declared.rules.Rules.TheVariants.{Two};
+ghost use Rattle.desk_types.specs.History.{History, accept};
+ghost use Rattle.desk_answers.specs.Commands.{command_after};
 ghost use Rattle.line_tables.specs.Rows.{HoldsAt};
 ghost use Rattle.line_rows.specs.Rows.{ledger_tables};
 ghost use Rattle.line_schema.specs.Stands.{Kept, Stands, state_of};
+ghost use Rattle.line_schema.specs.Unanswered.{GoUnanswered, HoldsWithAtMostOne, Tries};
 
 use crate::store::LineStore;
+use desk_answers::Answer;
+use desk_types::Stamped;
 use sqlite::Alter;
 use state_rows::KeepsRows;
 
@@ -21,5 +28,31 @@ impl<S: Alter, D: KeepsRows + Drop> LineStore<S, D> {
             → HoldsAt (ledger_tables L.greatest L.history) trees }
     {
         let _obeyed = self.conn.schema();
+    }
+
+    /// A law: after commands in a row that were answered Unavailable, even if the disk failed and the connection is
+    /// shut, the history is unchanged. A crash leaves its tables, or its tables with one of these commands. Sent once
+    /// more, an accepted command changes nothing.
+    pub fn unanswered_commands_leave_the_list(&self, last: &LineStore<S, D>)
+        ensures stands { (L : Kept) (sent : List Stamped) → Stands S.Store D.Stands D.kept_rules self.now L
+            → IsTrue L.own → GoUnanswered S.Store D.Stands D.kept_rules self.now sent last.now
+            → HasCleanDisk (state_of S.Store last.now) → Stands S.Store D.Stands D.kept_rules last.now L }
+        ensures crash { (L : Kept) (sent : List Stamped) → Stands S.Store D.Stands D.kept_rules self.now L
+            → IsTrue L.own → IsTrue (state_of S.Store self.now).is_open
+            → GoUnanswered S.Store D.Stands D.kept_rules self.now sent last.now
+            → HasCleanDisk (state_of S.Store last.now) → (trees : Trees) → (state_of S.Store last.now).may_leave trees
+            → HoldsWithAtMostOne L sent trees }
+        ensures again { (greatest : ℕ) (H : History) (s : Stamped)
+            → command_after Two greatest (accept H s) s ≡ accept H s }
+    {
+        self.crash_leaves_the_list();
+    }
+
+    /// A law: a call of `command` is a step of `unanswered_commands_leave_the_list`.
+    pub fn tried(&mut self, stamped: &Stamped) -> Answer
+        requires stands { (L : Kept) × Stands S.Store D.Stands D.kept_rules self.old L }
+        ensures tries { Tries S.Store D.Stands D.kept_rules self.old stamped.now result self.new }
+    {
+        self.command(stamped)
     }
 }

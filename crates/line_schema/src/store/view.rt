@@ -1,12 +1,12 @@
 //! A shared borrow of the desk.
 
-ghost use Rattle.std.specs.Prelude.{◌≡◌, IfOk};
+ghost use Rattle.std.specs.Prelude.{◌≡◌, false, IfOk, OnErr};
 ghost use Rattle.std.specs.Borrow.{sem};
 ghost use Rattle.std.specs.Io.BufRead.{Rests};
 ghost use Rattle.desk_types.specs.declared.rules.Rules.TheVariants.{Two};
 ghost use Rattle.line_schema.specs.contracts.store.LineStore.{the_row};
-ghost use Rattle.line_schema.specs.Frames.{MakesDesk};
-ghost use Rattle.line_schema.specs.Stands.{Kept, Stands};
+ghost use Rattle.line_schema.specs.Frames.{LetsOthersBe, MakesDesk};
+ghost use Rattle.line_schema.specs.Stands.{Kept, Stands, has_desk, state_of};
 
 use crate::store::LineStore;
 use crate::unavailable::Unavailable;
@@ -19,8 +19,10 @@ impl<S: Alter, D: KeepsRows + Drop> LineStore<S, D> {
         requires stands { (L : Kept) × Stands S.Store D.Stands D.kept_rules self.old L }
         ensures* after_borrow { sem 𝓛 (Rests (the_row S.row D.row S.Store) self.entry (λ new.
             MakesDesk S.Store D.Stands D.kept_rules self.old new
+            × LetsOthersBe (state_of S.Store self.old) (state_of S.Store new)
             × ((L : Kept) → Stands S.Store D.Stands D.kept_rules new L
             → IfOk result (λ desk. D.Stands desk.now L.history × (D.kept_rules desk.now ≡ Two))))) }
+        ensures at_hand { OnErr result (has_desk self.old ≡ false) }
     {
         self.ready()?;
         match &self.desk {

@@ -1,0 +1,50 @@
+-- The tables that a crash may leave after commands that were answered Unavailable.
+use Rattle.std.proofs.Common.{◌≡◌, ◌⊎◌, inl, inr, IsTrue, List, [], ◌∷◌, Bool, true, false, Option, Some, is_some, MatchBool, ◌||◌, if◌then◌else◌, refl, sym, ap, subst}
+use Rattle.std.specs.List.{Contains}
+use Rattle.std.proofs.lemmas.List.Elements.{Contains-append_left, Contains-append_right, Contains-push}
+use Rattle.sqlite_trees.specs.declared.store.Store.{Ghosts}
+use Rattle.sqlite_trees.specs.Tree.{Trees}
+use Rattle.sqlite.specs.State.{HasCleanDisk}
+use Rattle.desk_types.proofs.Keys.{same-refl}
+use Rattle.desk_types.specs.declared.command.Stamped.{Stamped}
+use Rattle.desk_types.specs.declared.rules.Rules.{Rules}
+use Rattle.desk_types.specs.declared.rules.Rules.TheVariants.{Two}
+use Rattle.desk_types.specs.History.{History, accept, entry_of}
+use Rattle.desk_types.specs.Outcome.{after_command}
+use Rattle.desk_answers.specs.declared.answer.Answer.TheVariants.{Unavailable}
+use Rattle.desk_answers.specs.Commands.{answer_under, command_after, earlier_answer, is_full}
+use Rattle.line_tables.specs.Rows.{HoldsAt}
+use Rattle.line_rows.specs.Rows.{ledger_tables}
+use Rattle.line_schema.specs.declared.store.LineStore.{LineStore}
+use Rattle.line_schema.specs.Stands.{IsAcceptable, Kept, Stands, state_of}
+use Rattle.line_schema.specs.Unanswered.{GoUnanswered, HoldsOneMore, HoldsWithAtMostOne, Tries}
+
+pub again : (greatest : _) (H : History) (s : Stamped) → command_after Two greatest (accept H s) s ≡ accept H s
+again greatest H s =
+    ap (λ (b : Bool). if is_some (if b then Some (answer_under H (entry_of H s) s) else earlier_answer H s) || is_full greatest (accept H s) then accept H s else after_command Two (accept H s) s) (same-refl s.uid)
+
+left : (b : Bool) (P Q : Type 0) → MatchBool b P (P ⊎ Q) → P ⊎ Q
+left true P Q h = inl h
+left false P Q h = h
+
+module _ {S D : Type 0} (g : Ghosts S) (F : D → History → Type 0) (K : D → Rules) where
+  pub clean_before : (sent : List Stamped) (old new : LineStore S D) → GoUnanswered g F K old sent new → HasCleanDisk (state_of g new) → HasCleanDisk (state_of g old)
+  clean_before [] old new same clean = subst (λ (it : LineStore S D). HasCleanDisk (state_of g it)) same clean
+  clean_before (s ∷ sent) old new (mid, one, more) clean = one.clean (clean_before sent mid new more clean)
+
+  pub still_stands : (sent : List Stamped) (old new : LineStore S D) (L : Kept) → Stands g F K old L → IsTrue L.own → GoUnanswered g F K old sent new → HasCleanDisk (state_of g new) → Stands g F K new L
+  still_stands [] old new L stands own same clean = subst (λ (it : LineStore S D). Stands g F K it L) (sym same) stands
+  still_stands (s ∷ sent) old new L stands own (mid, one, more) clean = still_stands sent mid new L (one.stands L stands (clean_before sent mid new more clean) own) own more clean
+
+  pub leaves : (sent : List Stamped) (old new : LineStore S D) (L : Kept) → Stands g F K old L → IsTrue L.own → GoUnanswered g F K old sent new → HasCleanDisk (state_of g new)
+      → (trees : Trees) → (state_of g new).may_leave trees → (state_of g old).may_leave trees ⊎ HoldsOneMore L sent trees
+  leaves [] old new L stands own same clean trees may = inl (subst (λ (it : LineStore S D). (state_of g it).may_leave trees) same may)
+  leaves (s ∷ sent) old new L stands own (mid, one, more) clean trees may =
+      let early = clean_before sent mid new more clean in
+      elim (leaves sent mid new L (one.stands L stands early own) own more clean trees may) [
+        | inl was ↦ elim (left (is_some (earlier_answer L.history s)) _ _ (one.crash L stands early own trees was)) [
+          | inl before ↦ inl before
+          | inr made ↦ inr (s, Contains-append_left (s ∷ []) sent s (Contains-push [] s), made.0, made.1)
+        ]
+        | inr later ↦ inr (later.0, Contains-append_right (s ∷ []) sent later.0 later.1, later.2, later.3)
+      ]
