@@ -24,6 +24,7 @@ pub fn is_live(held: &Held) -> bool
     held.on_slot && held.reel.remaining > 0
 }
 
+#[inline(always)]
 fn view_of(held: &Held, minute: Minute, name: &Id) -> ReelView
     ensures { (H : History) → IsHeld H name.now held.now → now_of H ≡ minute → reel_view H name.now ≡ Some result }
 {
@@ -49,6 +50,7 @@ fn view_of(held: &Held, minute: Minute, name: &Id) -> ReelView
 }
 
 /// Returns the reel at this desk minute, if it was received.
+#[inline(always)]
 pub fn reel_view_at(rows: &RowSet, minute: Minute, name: &Id) -> Option<ReelView>
     ensures { (H : History) → AreRowsAt H (Some minute) rows.now → result ≡ reel_view H name.now }
 {
@@ -59,6 +61,7 @@ pub fn reel_view_at(rows: &RowSet, minute: Minute, name: &Id) -> Option<ReelView
 }
 
 /// Returns the reel at the desk minute, if it was received. Takes no memory.
+#[inline(always)]
 pub fn reel_view(rows: &RowSet, minute: Option<Minute>, name: &Id) -> Option<ReelView>
     ensures { (H : History) → AreRowsAt H minute rows.now → result ≡ reel_view H name.now }
 {
