@@ -14,7 +14,7 @@ use desk_types::{GREATEST_LABEL, Id, Minute, ReelRow};
 use reels::Reel;
 use state_rows::RowSet;
 
-/// A received reel at the desk minute, and whether it is live on a slot.
+/// A received reel at the desk minute, and whether it is live on a slot: a spent reel has no row of `mount`.
 #[derive(Clone, Copy, Debug, PartialEq, Eq)]
 pub struct Held {
     pub reel: Reel,
@@ -22,7 +22,6 @@ pub struct Held {
 }
 
 /// Whether each received piece was placed or scrapped, or remains.
-#[inline(always)]
 fn balances(row: &ReelRow) -> bool
     ensures { result ≡ balances row.now }
 {
@@ -32,7 +31,6 @@ fn balances(row: &ReelRow) -> bool
 }
 
 /// Whether the reel was out no longer than since the first minute.
-#[inline(always)]
 fn times_fit(row: &ReelRow, minute: Minute) -> bool
     ensures { result ≡ times_fit minute row.now }
 {
@@ -43,7 +41,6 @@ fn times_fit(row: &ReelRow, minute: Minute) -> bool
 }
 
 /// Returns whether a reel can be made from the row, as from each row of a history.
-#[inline(always)]
 fn is_reel(row: &ReelRow, found: u64, minute: Minute) -> bool
     ensures { result ≡ is_reel found minute row.now }
 {
@@ -52,7 +49,6 @@ fn is_reel(row: &ReelRow, found: u64, minute: Minute) -> bool
 
 /// Returns the reel of a row at the desk minute, which replaces the minute of its last command. Returns `None` if the
 /// row belongs to no history.
-#[inline(always)]
 fn reel_of(row: &ReelRow, found: u64, minute: Minute) -> Option<Reel>
     ensures { (H : History) (name : Name) → IsJudged Two H → reel_row H name ≡ Some row.now → now_of H ≡ minute
         → found ≡ found_of H name → IsHeldOf H name (with_mount H name result) }
@@ -78,7 +74,6 @@ fn reel_of(row: &ReelRow, found: u64, minute: Minute) -> Option<Reel>
 }
 
 /// Returns the reel of this name at the desk minute, if it was received.
-#[inline(always)]
 pub fn reel_now(rows: &RowSet, minute: Minute, name: &Id) -> Option<Reel>
     ensures { (H : History) → AreRowsAt H (Some minute) rows.now
         → IsHeldOf H name.now (with_mount H name.now result) }
@@ -88,7 +83,6 @@ pub fn reel_now(rows: &RowSet, minute: Minute, name: &Id) -> Option<Reel>
 }
 
 /// The same, with whether it is on a slot.
-#[inline(always)]
 pub fn find(rows: &RowSet, minute: Minute, name: &Id) -> Option<Held>
     ensures { (H : History) → AreRowsAt H (Some minute) rows.now → IsHeldOf H name.now result }
 {
