@@ -15,7 +15,6 @@ use desk_types::{Id, Minute, Moisture, MountRow, Quantity, ReelRow, ReelView, Ro
 use std::alloc::{AllocError, Global};
 
 /// What of a reel's view does not change with the minute.
-#[inline(always)]
 pub fn columns(view: &ReelView) -> ReelRow
     ensures { result ≡ columns_of view.now }
 {
@@ -36,7 +35,6 @@ pub fn columns(view: &ReelView) -> ReelRow
 }
 
 /// The row of a received reel.
-#[inline(always)]
 pub fn row<D: Views>(desk: &D, reel: &Id) -> Option<ReelRow>
     ensures { (H : History) → D.Stands desk.now H → result ≡ reel_row H reel.now }
 {
