@@ -1,6 +1,8 @@
 -- A change that is accepted.
-use Rattle.std.proofs.Common.{◌≡◌, nat_lt, is_some, Some, None, [], ◌∷◌, refl, sym, ap, ◌∙◌, arith}
-use Rattle.std.specs.Prelude.{max}
+use Rattle.std.proofs.Common.{◌≡◌, ℕ, nat_lt, Bool, true, false, is_some, Some, None, List, [], ◌∷◌, refl, sym, ap, ◌∙◌, arith}
+use Rattle.std.specs.Prelude.{max, if◌then◌else◌}
+use Rattle.std.specs.Option.{option_map_or}
+use Rattle.std.proofs.lemmas.Bool.{or_parts}
 use Rattle.desk_types.specs.declared.change.Change.{Change}
 use Rattle.desk_types.specs.declared.command.Stamped.{Stamped}
 use Rattle.desk_types.specs.declared.rules.Rules.{Rules}
@@ -10,22 +12,28 @@ use Rattle.desk_types.specs.History.{History, now_of, desk_minute, effective_min
 use Rattle.desk_types.specs.Judged.{IsJudged}
 use Rattle.desk_types.specs.Outcome.{takes_by}
 use Rattle.desk_types.specs.Desk.{IsChange}
-use Rattle.std.specs.List.{filter}
+use Rattle.std.specs.List.{filter, list_any}
 use Rattle.desk_types.specs.declared.rules.Rules.TheVariants.{Two}
-use Rattle.desk_types.specs.Id.{Name}
+use Rattle.desk_types.specs.Id.{Name, same}
+use Rattle.desk_types.specs.declared.row.ReelRow.{ReelRow}
+use Rattle.desk_types.specs.declared.edit.RowEdit.{RowEdit}
+use Rattle.desk_types.specs.declared.edit.RowEdit.TheVariants.{TakeSheetRow, TakeMount, PutPart, PutAlternate, PutSheetRow, PutSelected, PutReel, PutMount, PutBoard, PutPlacement, PutFound}
+use Rattle.desk_types.specs.Edits.{with_edit, with_edits}
+use Rattle.desk_laws.proofs.Tapes.{not-zero}
 use Rattle.desk_types.specs.Pieces.{left_of, live_on, is_mounted}
 use Rattle.desk_laws.proofs.PicksOfOneSlot.{live-pieces}
 use Rattle.desk_types.specs.Setup.{is_part, is_alternate, selected_on}
 use Rattle.desk_types.specs.Tables.{Tables, board_row}
-use Rattle.state_rows.specs.Kept.{tables_in}
+use Rattle.state_rows.specs.Kept.{KeptRows, tables_in, but_placements}
 use Rattle.entry_search.specs.Floor.{tape_at}
 use Rattle.desk_types.proofs.BothRules.{judged-by-two}
 use Rattle.feeder_state.specs.Noted.{IsNoted}
 use Rattle.feeder_state.specs.State.{IsState}
 use Rattle.feeder_state.specs.Rows.{AreRows, AreRowsAt, left_at}
+use Rattle.feeder_state.specs.Spending.{empties, NoneIsSpent}
 use Rattle.feeder_state.specs.declared.desk.StateDesk.{StateDesk}
 use Rattle.feeder_state.proofs.RowReels.{mounts-row, row-left}
-use Rattle.feeder_state.proofs.TapeSteps.{all-kept}
+use Rattle.feeder_state.proofs.TapeSteps.{all-kept, zero-is}
 
 change-minute : (rules : Rules) (H : History) (s : Stamped) (change : Change) → IsChange rules H s change → change.minute ≡ effective_minute H s.minute
 change-minute rules H s change is = ap (λ (x : Change). x.minute) is.value
@@ -93,5 +101,40 @@ state-mounted H desk reel state = mounts-row H desk.rows (state-rows H desk stat
 
 pub state-board : (H : History) (desk : StateDesk) (board : Name) → IsState H desk → (tables_in desk.rows).boards board ≡ board_row H board
 state-board H desk board state = ap (λ (t : Tables). t.boards board) state.rows
+
+-- ---- reels that edits leave without pieces
+
+abbrev left_in : Tables → Name → ℕ
+left_in t r = option_map_or (λ (row : ReelRow). row.remaining) (t.reels r) 0
+
+one-left : (e : RowEdit) (t : Tables) (r : Name) → empties e ≡ false → nat_lt 0 (left_in t r) ≡ true → nat_lt 0 (left_in (with_edit e t) r) ≡ true
+one-left (PutReel row) t r full some = by (same row.reel r)
+  where
+    by : (b : Bool) → nat_lt 0 (option_map_or (λ (x : ReelRow). x.remaining) (if b then Some row else t.reels r) 0) ≡ true
+    by true = not-zero row.remaining full
+    by false = some
+one-left (TakeSheetRow p m k) t r full some = some
+one-left (TakeMount reel) t r full some = some
+one-left (PutPart p) t r full some = some
+one-left (PutAlternate p q) t r full some = some
+one-left (PutSheetRow p m k row) t r full some = some
+one-left (PutSelected m p) t r full some = some
+one-left (PutMount row) t r full some = some
+one-left (PutBoard row) t r full some = some
+one-left (PutPlacement row) t r full some = some
+one-left (PutFound reel n) t r full some = some
+
+edits-left : (edits : List RowEdit) (t : Tables) (r : Name) → list_any empties edits ≡ false → nat_lt 0 (left_in t r) ≡ true → nat_lt 0 (left_in (with_edits edits t) r) ≡ true
+edits-left [] t r none some = some
+edits-left (e ∷ es) t r none some =
+    let both = or_parts (empties e) (list_any empties es) none in
+    edits-left es (with_edit e t) r both.1 (one-left e t r both.0 some)
+
+pub accepted-spends : (H : History) (desk : StateDesk) (after : KeptRows) (edits : List RowEdit) (spends : Bool) → IsState H desk → spends ≡ list_any empties edits
+    → tables_in after ≡ but_placements (with_edits edits (tables_in desk.rows)) (tables_in desk.rows) → NoneIsSpent spends H after
+accepted-spends H desk after edits spends state is made none r some =
+    zero-is (left_at after r) true (
+    ap (λ (t : Tables). nat_lt 0 (left_in t r)) made
+    ∙ edits-left edits (tables_in desk.rows) r (sym is ∙ none) (ap (nat_lt 0) (state-left H desk r state) ∙ some))
 
 pub ruleset of_state = (state-two, state-live, state-told, state-selected)

@@ -100,9 +100,6 @@ module _ {K X : Type 0} (cmp : K → K → Ordering) (o : IsTotalOrder cmp) wher
         by (Some v) is put = filled-put e left now new v filled is put
         by None is put = subst (IsFilled cmp table value left) (λ j q. sym (put q ∙ stays (is_at (cmp e.0) q) (now q)) j) (filled-skip e left now filled is)
 
-    pub filled-last : (now : K → Option V) → IsFilled cmp table value [] now → (k : K) → now k ≡ option_and_then value (table k)
-    filled-last now filled k = filled.done k refl
-
 -- ---- sets
 
 pub set-next : (now new here rest all : Bool) → new ≡ (here || now) → (now || (here || rest)) ≡ all → (new || rest) ≡ all

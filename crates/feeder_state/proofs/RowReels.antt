@@ -1,6 +1,6 @@
 -- Reels made from their rows.
-use Rattle.std.proofs.Common.{◌≡◌, ℕ, ◌+◌, ◌-◌, ◌≤◌, nat_lt, Bool, true, false, Option, Some, None, ◌∷◌, [], refl, sym, ap, subst, ◌∙◌, unwrap_or, arith, is_some}
-use Rattle.std.specs.Prelude.{◌&&◌, if◌then◌else◌}
+use Rattle.std.proofs.Common.{◌≡◌, ℕ, ◌+◌, ◌-◌, ◌≤◌, Bool, true, false, Option, Some, None, ◌∷◌, [], refl, sym, ap, subst, ◌∙◌, unwrap_or, arith, is_some}
+use Rattle.std.specs.Prelude.{if◌then◌else◌}
 use Rattle.std.specs.Option.{option_map, option_map_or, option_or}
 use Rattle.std.specs.Cmp.Lexicographic.{nat_list_eq_equiv}
 use Rattle.std.proofs.lemmas.Map.Views.{list_any-from_Contains}
@@ -20,12 +20,10 @@ use Rattle.desk_types.specs.Pieces.{left_of, found_of, live_on, is_mounted}
 use Rattle.desk_types.specs.FloorLife.{out_since, exposure_of}
 use Rattle.desk_types.specs.View.{view_of, used_of}
 use Rattle.desk_types.specs.Judged.{IsJudged}
-use Rattle.desk_laws.specs.Place.{place_of}
 use Rattle.desk_laws.proofs.Balance.{balance, unreceived-empty}
 use Rattle.desk_laws.proofs.Exposures.{exposure-within}
 use Rattle.desk_laws.proofs.Lookups.{mounted-live}
 use Rattle.desk_laws.proofs.Judgements.{by-desk_minute}
-use Rattle.desk_laws.proofs.Mounted.{mounted-is}
 use Rattle.desk_laws.proofs.Openings.{starts-by}
 use Rattle.desk_types.specs.declared.row.ReelRow.{ReelRow}
 use Rattle.desk_types.specs.declared.row.MountRow.{MountRow}
@@ -155,17 +153,8 @@ row-held H name row minute held judged is now made_of =
       placed = made.placed;
       scrapped = made.scrapped;
       found = made.finds;
-      mounted = ap (λ b. b && nat_lt 0 held.reel.remaining) made.mounted
-          ∙ ap (λ n. is_mounted H name && nat_lt 0 n) made.remaining
-          ∙ ap (λ b. b && nat_lt 0 (left_of H name)) (mounted-is H name judged)
-          ∙ twice (is_some (place_of H name)) (nat_lt 0 (left_of H name))
-          ∙ sym (mounted-is H name judged);
+      mounted = made.mounted;
     }
-  where
-    twice : (a b : Bool) → ((a && b) && b) ≡ (a && b)
-    twice true true = refl
-    twice true false = refl
-    twice false b = refl
 
 -- ---- all reels
 

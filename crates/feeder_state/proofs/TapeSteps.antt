@@ -94,7 +94,7 @@ taking-stays machine slot (MaterialsScrapped m s quantity) reels is = refl
 taking-stays machine slot (CountsTaken counts) reels is = refl
 taking-stays machine slot _ reels is = cc
 
-zero-is : (n : ℕ) (b : Bool) → nat_lt 0 n ≡ b → (n == 0) ≡ not b
+pub zero-is : (n : ℕ) (b : Bool) → nat_lt 0 n ≡ b → (n == 0) ≡ not b
 zero-is n true is = by (n == 0) refl
   where
     by : (c : Bool) → (n == 0) ≡ c → (n == 0) ≡ false
@@ -135,6 +135,21 @@ lives-taken H e command at takes left machine slot noted may is =
         ap not (spent r)
         ∙ ap (λ b. not (any r && b)) (zero-is (left_of (e ∷ H) r) (nat_lt 0 (left_of (e ∷ H) r)) refl)
         ∙ by r (nat_lt 0 (left_of (e ∷ H) r)) refl live
+
+none-spent : (left : Name → ℕ) (machine slot reel : Name) (takes : List Take) → (left reel == 0) ≡ false → list_any (is_spent_by left machine slot reel) takes ≡ false
+none-spent left machine slot reel [] some = refl
+none-spent left machine slot reel (t ∷ ts) some =
+    ap (λ b. ((comes_off t.purpose machine slot && same t.reel reel) && b) || list_any (is_spent_by left machine slot reel) ts) some
+    ∙ ap (λ b. b || list_any (is_spent_by left machine slot reel) ts) (and-false (comes_off t.purpose machine slot && same t.reel reel))
+    ∙ none-spent left machine slot reel ts some
+
+pub lives-stay : (H : History) (e : Entry) (command : Command) (at : ℕ) (takes : List Take) (left : Name → ℕ) (machine slot : Name) → IsNoted H e command at takes
+    → may_take command ≡ true → ((r : Name) → left r ≡ left_of (e ∷ H) r) → ((r : Name) → nat_lt 0 (left_of H r) ≡ true → (left r == 0) ≡ false)
+    → live_on H machine slot ≡ live_on (e ∷ H) machine slot
+lives-stay H e command at takes left machine slot noted may is some =
+    sym (all-kept (λ r. not (list_any (is_spent_by left machine slot r) takes)) (live_on H machine slot)
+    (λ r live. ap not (none-spent left machine slot r takes (some r (live-pieces H machine slot r live)))))
+    ∙ lives-taken H e command at takes left machine slot noted may is
 
 -- ---- other entries
 

@@ -1,5 +1,5 @@
 -- Reels as rows have them, each with whether it is on a slot.
-use Rattle.std.specs.Prelude.{◌≡◌, ℕ, ◌-◌, ◌≤◌, nat_lt, nat_le, ◌==◌, Bool, ◌&&◌, Option, Some, None}
+use Rattle.std.specs.Prelude.{◌≡◌, ℕ, ◌-◌, ◌≤◌, nat_le, ◌==◌, Bool, ◌&&◌, Option, Some, None}
 use Rattle.std.specs.Option.{option_map}
 use Rattle.desk_types.specs.declared.limits.TheConstants.{GREATEST_LABEL}
 use Rattle.desk_types.specs.Id.{Name}
@@ -10,10 +10,6 @@ use Rattle.reels.specs.declared.reel.Reel.{Reel}
 use Rattle.reels.specs.Reel.{StandsFor}
 use Rattle.desk_types.specs.declared.row.ReelRow.{ReelRow}
 use Rattle.feeder_state.specs.declared.held.Held.{Held}
-
--- Whether the reel is on a slot and has pieces left.
-abbrev pub is_live : Held → Bool
-is_live held = held.on_slot && nat_lt 0 held.reel.remaining
 
 -- Whether each received piece was placed or scrapped, or remains.
 abbrev pub balances : ReelRow → Bool
@@ -39,7 +35,7 @@ pub record IsHeld (H : History) (name : Name) (held : Held) : Type 0 where
   pub placed : held.reel.placed ≡ placed_of H name
   pub scrapped : held.reel.scrapped ≡ scrapped_of H name
   pub found : held.reel.found ≡ found_of H name
-  pub mounted : is_live held ≡ is_mounted H name
+  pub mounted : held.on_slot ≡ is_mounted H name
 
 -- The reel of this name, if it was received.
 abbrev pub IsHeldOf : History → Name → Option Held → Type 0

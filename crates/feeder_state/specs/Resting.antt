@@ -10,7 +10,6 @@ use Rattle.desk_types.specs.Pieces.{left_of, is_mounted}
 use Rattle.desk_types.specs.declared.row.ReelRow.{ReelRow}
 use Rattle.state_rows.specs.Kept.{KeptRows, tables_in}
 use Rattle.feeder_state.specs.declared.held.Held.{Held}
-use Rattle.feeder_state.specs.Held.{is_live}
 
 -- Whether the reel has pieces left and is on no slot.
 abbrev pub rests : History → Name → Bool
@@ -18,7 +17,7 @@ rests H reel = nat_lt 0 (left_of H reel) && not (is_mounted H reel)
 
 -- The same of a reel that is held.
 abbrev pub held_rests : Held → Bool
-held_rests held = nat_lt 0 held.reel.remaining && not (is_live held)
+held_rests held = nat_lt 0 held.reel.remaining && not held.on_slot
 
 -- The same of a reel's row.
 abbrev pub row_rests : KeptRows → Name → ReelRow → Bool

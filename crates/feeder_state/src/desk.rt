@@ -16,6 +16,7 @@ use crate::floor::{Floor, floor_of};
 use crate::free::free_reels;
 use crate::held::reel_now;
 use crate::setup::{Setup, setup_of};
+use crate::tapes::spends;
 use crate::views::{reel_view, slots_of};
 use crate::work::{Work, work_of};
 use desk_types::{
@@ -131,8 +132,13 @@ impl StateDesk {
         let command = &change.stamped.command;
         self.minute = Some(change.minute);
         self.rows.apply_but_placements(edits)?;
-        self.floor
-            .note(self.alloc, &self.rows, command, change.takes.as_slice())?;
+        self.floor.note(
+            self.alloc,
+            &self.rows,
+            command,
+            change.takes.as_slice(),
+            spends(edits),
+        )?;
         self.work.note(self.alloc, command)?;
         self.setup.note(self.alloc, change.stamped.command)?;
         Ok(())

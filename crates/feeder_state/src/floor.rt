@@ -8,6 +8,7 @@ ghost use Rattle.desk_types.specs.History.{History};
 ghost use Rattle.feeder_state.specs.Floor.{IsFloor};
 ghost use Rattle.feeder_state.specs.Rows.{AreRows};
 ghost use Rattle.feeder_state.specs.Noted.{IsNoted, may_take};
+ghost use Rattle.feeder_state.specs.Spending.{NoneIsSpent};
 
 pub use self::rows::floor_of;
 use crate::resting::{end_rests, note_resting};
@@ -37,21 +38,23 @@ impl Floor {
         }
     }
 
-    /// Notes an accepted command with the pieces that it takes. The rows are those after it. After an `Err` the floor's
-    /// state is unknown.
+    /// Notes an accepted command with the pieces that it takes. The rows are those after it, and `spends` is false only
+    /// if it spent no reel: most commands spend none, and then no take is looked at. After an `Err` the floor's state is
+    /// unknown.
     pub fn note(
         &mut self,
         alloc: Global,
         rows: &RowSet,
         command: &Command,
         takes: &[Take],
+        spends: bool,
     ) -> Result<(), AllocError>
         requires { (H : History) × (e : Entry) × (at : ℕ) × IsNoted H e command.now at takes.now × IsFloor H self.old }
         ensures { (H : History) (e : Entry) (at : ℕ) → IsNoted H e command.now at takes.now → AreRows (e ∷ H) rows.now
-            → IsFloor H self.old → OnOk result (IsFloor (e ∷ H) self.new) }
+            → NoneIsSpent spends H rows.now → IsFloor H self.old → OnOk result (IsFloor (e ∷ H) self.new) }
     {
         if may_take(command) {
-            self.note_takes(rows, command, takes);
+            self.note_takes(rows, command, takes, spends);
             return Ok(());
         }
         note_resting(&mut self.resting, &self.tapes, command)?;
@@ -60,13 +63,16 @@ impl Floor {
     }
 
     /// Takes the reels that a command spent off their slots and out of those at rest.
-    fn note_takes(&mut self, rows: &RowSet, command: &Command, takes: &[Take])
+    fn note_takes(&mut self, rows: &RowSet, command: &Command, takes: &[Take], spends: bool)
         requires takes { may_take command.now ≡ true }
         requires known { (H : History) × (e : Entry) × (at : ℕ) × IsNoted H e command.now at takes.now
             × IsFloor H self.old }
         ensures { (H : History) (e : Entry) (at : ℕ) → IsNoted H e command.now at takes.now → AreRows (e ∷ H) rows.now
-            → IsFloor H self.old → IsFloor (e ∷ H) self.new }
+            → NoneIsSpent spends H rows.now → IsFloor H self.old → IsFloor (e ∷ H) self.new }
     {
+        if !spends {
+            return;
+        }
         drop_all_spent(rows, &mut self.tapes, takes);
         end_rests(rows, &mut self.resting, command, takes);
     }

@@ -16,7 +16,7 @@ ghost use Rattle.feeder_state.specs.Floor.{IsFloor};
 use crate::floor::Floor;
 use crate::held::{Held, find};
 use crate::resting::is_at_rest;
-use crate::views::{is_live, reel_view_at};
+use crate::views::reel_view_at;
 use desk_types::{Id, Left, Listing, Minute, ReelView, ReelViews};
 use entry_search::free::is_usable;
 use entry_search::sets::{insert_if, push_if};
@@ -32,7 +32,7 @@ fn is_free(alternates: &Alternates, part: &Id, held: &Held, left: Left) -> bool
         → left ≡ life_left H name → result ≡ is_free H part.now name }
 {
     allowed(alternates, part, &held.reel.part)
-        && !is_live(held)
+        && !held.on_slot
         && held.reel.remaining > 0
         && is_usable(left)
 }

@@ -14,7 +14,7 @@ use desk_types::{GREATEST_LABEL, Id, Minute, ReelRow};
 use reels::Reel;
 use state_rows::RowSet;
 
-/// A received reel at the desk minute, and whether it is live on a slot.
+/// A received reel at the desk minute, and whether it is live on a slot: a spent reel has no row of `mount`.
 #[derive(Clone, Copy, Debug, PartialEq, Eq)]
 pub struct Held {
     pub reel: Reel,

@@ -7,7 +7,6 @@ mod floor_facts;
 mod free;
 mod groups;
 mod held;
-mod maps;
 mod placed;
 mod resting;
 mod same_state;

@@ -12,7 +12,6 @@ ghost use Rattle.feeder_state.specs.Resting.{rests, held_rests, row_rests, is_re
 
 use crate::held::Held;
 use crate::tapes::is_spent;
-use crate::views::is_live;
 use desk_types::{Command, Id, ReelRow, Take};
 use entry_search::floor::Tape;
 use state_rows::RowSet;
@@ -25,7 +24,7 @@ pub fn is_at_rest(held: &Held) -> bool
     ensures held { result ≡ held_rests held.now }
     ensures listed { (H : History) (name : Name) → IsHeld H name held.now → result ≡ rests H name }
 {
-    held.reel.remaining > 0 && !is_live(held)
+    held.reel.remaining > 0 && !held.on_slot
 }
 
 fn put_tape(resting: &mut BTreeSet<Id>, tape: &Tape) -> Result<(), AllocError>

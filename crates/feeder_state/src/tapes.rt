@@ -5,11 +5,11 @@ ghost use Rattle.std.specs.List.{list_any, filter, IsDistinct};
 ghost use Rattle.desk_types.specs.Id.{Name, same};
 ghost use Rattle.entry_search.specs.Floor.{tape_at};
 ghost use Rattle.feeder_state.specs.Rows.{left_at};
-ghost use Rattle.feeder_state.specs.Spending.{is_spent_by};
+ghost use Rattle.feeder_state.specs.Spending.{is_spent_by, empties};
 
 use desk_types::{Id, Purpose, Take};
 use entry_search::floor::Tape;
-use state_rows::RowSet;
+use state_rows::{RowEdit, RowSet};
 use std::collections::{BTreeMap, VecDeque};
 
 /// Removes a reel from the reels of a slot, where it occurs at most once. It is usually the first.
@@ -60,6 +60,22 @@ fn drop_spent(rows: &RowSet, tapes: &mut BTreeMap<(Id, Id), Tape>, take: &Take)
         Purpose::Rejected { machine, slot } => drop_reel(tapes, machine, slot, &take.reel),
         Purpose::Counted => {}
     }
+}
+
+fn empties(edit: &RowEdit) -> bool
+    ensures { result ≡ empties edit.now }
+{
+    match edit {
+        RowEdit::PutReel(row) => row.remaining == 0,
+        _ => false,
+    }
+}
+
+/// Whether an edit leaves a reel without pieces.
+pub fn spends(edits: &[RowEdit]) -> bool
+    ensures { result ≡ list_any empties edits.now }
+{
+    edits.iter().any(|edit| empties(edit))
 }
 
 /// Takes the reels that takes spent off their slots.

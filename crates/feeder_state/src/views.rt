@@ -6,7 +6,7 @@ ghost use Rattle.desk_types.specs.History.{History, now_of};
 ghost use Rattle.desk_types.specs.View.{has_sheet as is_on_sheet, reel_view, mount_of, slot_mounts, loaded_slots, mounts_on};
 ghost use Rattle.feeder_state.specs.Floor.{IsFloor};
 ghost use Rattle.desk_types.specs.Setup.{receipt_of};
-ghost use Rattle.feeder_state.specs.Held.{is_live, IsHeld};
+ghost use Rattle.feeder_state.specs.Held.{IsHeld};
 ghost use Rattle.feeder_state.specs.Rows.{AreRowsAt};
 
 use crate::floor::Floor;
@@ -16,13 +16,6 @@ use entry_search::floor::Tape;
 use entry_search::views::life_left;
 use state_rows::RowSet;
 use std::alloc::{AllocError, Global};
-
-/// Whether the reel is on a slot and has pieces left.
-pub fn is_live(held: &Held) -> bool
-    ensures { result ≡ is_live held.now }
-{
-    held.on_slot && held.reel.remaining > 0
-}
 
 fn view_of(held: &Held, minute: Minute, name: &Id) -> ReelView
     ensures { (H : History) → IsHeld H name.now held.now → now_of H ≡ minute → reel_view H name.now ≡ Some result }
@@ -40,7 +33,7 @@ fn view_of(held: &Held, minute: Minute, name: &Id) -> ReelView
         scrapped: reel.scrapped,
         remaining: reel.remaining,
         left: life_left(reel, reel.not_before(minute)),
-        mounted: is_live(held),
+        mounted: held.on_slot,
         is_open: reel.open_since.is_some(),
         used: reel.used,
         open_since: reel.open_since,

@@ -11,7 +11,7 @@ use Rattle.desk_types.specs.declared.take.Purpose.{Purpose}
 use Rattle.desk_types.specs.Id.{Name}
 use Rattle.desk_types.specs.History.{History}
 use Rattle.desk_types.specs.Tape.{tape_of}
-use Rattle.desk_types.specs.Pieces.{left_of, live_on, pieces_picked, pieces_off, scrap_picks, first, front_of}
+use Rattle.desk_types.specs.Pieces.{left_of, live_on, pieces_picked, pieces_off, scrap_picks}
 use Rattle.desk_types.proofs.LoopSteps.{drop-next}
 
 -- ---- one place further
@@ -27,15 +27,6 @@ no-gap {X} xs i n is inside none = by (slice_get_cases xs i).1
     by (inr (past, gone)) = omega (arith, is, inside, past)
 
 module _ {X : Type 0} (test : X → Bool) (xs : List X) (i : ℕ) where
-  pub find-past : (x : X) → slice_get xs i ≡ Some x → test x ≡ false → find test (drop (i + 1) xs) ≡ find test (drop i xs)
-  find-past x is fails = sym (ap (find test) (drop-at xs i x is) ∙ ap (λ b. cond b (Some x) (find test (drop (i + 1) xs))) fails)
-
-  pub find-here : (x : X) → slice_get xs i ≡ Some x → test x ≡ true → find test (drop i xs) ≡ Some x
-  find-here x is passes = ap (find test) (drop-at xs i x is) ∙ ap (λ b. cond b (Some x) (find test (drop (i + 1) xs))) passes
-
-  pub find-end : length xs ≤ i → find test (drop i xs) ≡ None
-  find-end past = ap (find test) (drop_all i xs past)
-
   pub filter-past : (x : X) → slice_get xs i ≡ Some x → test x ≡ false → filter test (drop (i + 1) xs) ≡ filter test (drop i xs)
   filter-past x is fails = sym (ap (filter test) (drop-at xs i x is) ∙ ap (λ b. cond b (x ∷ filter test (drop (i + 1) xs)) (filter test (drop (i + 1) xs))) fails)
 
@@ -56,14 +47,6 @@ module _ {X : Type 0} (test : X → Bool) (xs : List X) (i : ℕ) where
 
 pub spent : (pieces told : ℕ) → told ≡ pieces → told ≤ 0 → nat_lt 0 pieces ≡ false
 spent pieces told is none = let zero : pieces ≡ 0 = omega (arith, is, none) in ap (nat_lt 0) zero
-
-first-filter : (p : Name → Bool) (xs : List Name) → first (filter p xs) ≡ find p xs
-first-filter p [] = refl
-first-filter p (x ∷ xs) = by (p x) (first-filter p xs)
-  where
-    by : (b : Bool) → first (filter p xs) ≡ find p xs → first (cond b (x ∷ filter p xs) (filter p xs)) ≡ cond b (Some x) (find p xs)
-    by true rest = refl
-    by false rest = rest
 
 find-kept : (keep test : Name → Bool) (xs : List Name) → ((x : Name) → test x ≡ true → keep x ≡ true) → find test (filter keep xs) ≡ find test xs
 find-kept keep test [] only = refl
@@ -125,17 +108,6 @@ find-tape H machine slot picks =
     (λ r left. let less = ltb-true (pieces_picked picks r) (left_of H r) left in lt-ltb 0 (left_of H r) (omega (arith, less)))
 
 module _ (H : History) (machine slot : Name) (reels : List Name) (live : filter (λ reel. nat_lt 0 (left_of H reel)) reels ≡ live_on H machine slot) where
-  first-front : find (λ reel. nat_lt 0 (left_of H reel)) reels ≡ front_of H machine slot
-  first-front = sym (first-filter (λ reel. nat_lt 0 (left_of H reel)) reels) ∙ ap first live
-
-  pub front-here : (i : ℕ) (reel : Name) → slice_get reels i ≡ Some reel → nat_lt 0 (left_of H reel) ≡ true
-      → find (λ r. nat_lt 0 (left_of H r)) (drop i reels) ≡ find (λ r. nat_lt 0 (left_of H r)) reels → Some reel ≡ front_of H machine slot
-  front-here i reel is some past = sym (find-here (λ r. nat_lt 0 (left_of H r)) reels i reel is some) ∙ past ∙ first-front
-
-  pub front-none : (i : ℕ) → length reels ≤ i
-      → find (λ r. nat_lt 0 (left_of H r)) (drop i reels) ≡ find (λ r. nat_lt 0 (left_of H r)) reels → None ≡ front_of H machine slot
-  front-none i end past = sym (find-end (λ r. nat_lt 0 (left_of H r)) reels i end) ∙ past ∙ first-front
-
   pub scrap-live : (purpose : Purpose) (n : ℕ) → scrap_picks (left_of H) purpose reels n ≡ scrap_picks (left_of H) purpose (tape_of H machine slot) n
   unfolding live_on
   scrap-live purpose n =

@@ -7,6 +7,7 @@ ghost use Rattle.desk_types.specs.Pieces.{front_of};
 ghost use Rattle.desk_types.specs.Front.{front_reel, fronts_of};
 
 use crate::facts::Facts;
+use crate::placing::next_reel;
 use crate::setup::sheet_on;
 use desk_types::{Front, FrontReel, Fronts, Id, Listing, Minute};
 use entry_search::fronts::life;
@@ -17,14 +18,8 @@ pub fn front<F: Facts>(facts: &F, machine: &Id, slot: &Id) -> Option<Id>
     ensures { (H : History) → F.Stands facts.now H → result ≡ front_of H machine.now slot.now }
 {
     facts.tells_live();
-    for index in 0..facts.reel_count(machine, slot) {
-        if let Some(reel) = facts.reel_at(machine, slot, index) {
-            if facts.left_of(&reel) > 0 {
-                return Some(reel);
-            }
-        }
-    }
-    None
+    let feed = next_reel(facts, machine, slot, 0)?;
+    Some(feed.reel)
 }
 
 fn front_at<F: Facts>(facts: &F, minute: Minute, machine: &Id, slot: &Id) -> Option<FrontReel>

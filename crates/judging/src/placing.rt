@@ -25,10 +25,10 @@ use std::collections::{BTreeMap, BTreeSet};
 /// A slot's current reel during a message, the pieces left on it, and how many of the slot's reels
 /// come up to and including it.
 #[derive(Clone, Copy, Debug, PartialEq, Eq)]
-struct Feed {
-    reel: Id,
-    pieces: u64,
-    passed: usize,
+pub struct Feed {
+    pub reel: Id,
+    pub pieces: u64,
+    pub passed: usize,
 }
 
 /// A piece from the current reel or, without one, the number of the slot's reels already passed.
@@ -82,7 +82,7 @@ fn later_reel<F: Facts>(facts: &F, machine: &Id, slot: &Id, past: usize) -> Opti
 
 /// Returns the first reel with pieces left after the first `past` reels. That is mostly the next
 /// one, so the reels are counted only if it is spent.
-fn next_reel<F: Facts>(facts: &F, machine: &Id, slot: &Id, past: usize) -> Option<Feed>
+pub fn next_reel<F: Facts>(facts: &F, machine: &Id, slot: &Id, past: usize) -> Option<Feed>
     ensures live { (H : History) → F.Stands facts.now H
         → live_past (left_of H) (F.reels_on facts.now machine.now slot.now) past
         ≡ option_map_or
@@ -201,18 +201,17 @@ fn place<F: Facts>(
         (λ placing. IsPlacing
         (bench_of (F.reels_on facts.now) H machine.now board.now) before designator.now placing feeds.new seen.new) }
 {
-    let name = Id::from(*designator);
     let Some(slot) = slot_for(facts, sheet, machine, designator) else {
-        return Ok(Err(Refusal::DesignatorNotOnSheet(name)));
+        return Ok(Err(Refusal::DesignatorNotOnSheet(Id::from(*designator))));
     };
     if !seen.insert(*designator)? {
-        return Ok(Err(Refusal::DesignatorTwice(name)));
+        return Ok(Err(Refusal::DesignatorTwice(Id::from(*designator))));
     }
     if has_placed(facts, placed, board, designator) {
-        return Ok(Err(Refusal::AlreadyPlaced(name)));
+        return Ok(Err(Refusal::AlreadyPlaced(Id::from(*designator))));
     }
     let Some(reel) = take_piece(facts, feeds, machine, &slot)? else {
-        return Ok(Err(Refusal::ReelShort(name)));
+        return Ok(Err(Refusal::ReelShort(Id::from(*designator))));
     };
     Ok(Ok(Feeder { slot, reel }))
 }

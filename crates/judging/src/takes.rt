@@ -10,7 +10,7 @@ ghost use Rattle.entry_search.specs.Floor.{IsKnownReel};
 ghost use Rattle.judging.specs.Facts.{IsBy};
 
 use crate::facts::Facts;
-use desk_types::{Id, IdList, Listing, Minute, Pick, Purpose, Take, Takes};
+use desk_types::{Id, IdList, Listing, Minute, Pick, Take, Takes};
 use entry_search::totals::is_placed;
 use reels::Reel;
 use std::alloc::{AllocError, Global};
@@ -25,14 +25,13 @@ fn put_take(
     ensures { (H : History) → StandsFor H pick.now.reel reel.now
         → OnOk result (takes.new.items ≡ takes.old.items ++ take_of H minute pick.now ∷ []) }
 {
-    let purpose: Purpose = pick.purpose;
-    let overdue = is_placed(&purpose) && reel.is_expired(minute);
+    let overdue = is_placed(&pick.purpose) && reel.is_expired(minute);
     takes.push(Take {
         reel: pick.reel,
         part: reel.part,
         lot: reel.lot,
         quantity: pick.quantity,
-        purpose,
+        purpose: pick.purpose,
         overdue,
     })?;
     Ok(())

@@ -7,7 +7,7 @@ use Rattle.std.specs.List.Sorted.{IsStrictlySortedBy}
 use Rattle.std.proofs.lemmas.List.Elements.{All-tail}
 use Rattle.std.specs.Map.{keys_of, lookup}
 use Rattle.desk_types.specs.Id.{Name, same, by_name}
-use Rattle.desk_types.proofs.Keys.{same-true, same-refl}
+use Rattle.desk_types.proofs.Keys.{same-true}
 use Rattle.desk_types.specs.declared.row.MountRow.{MountRow}
 use Rattle.state_rows.specs.Kept.{by_since, row_at, since_is, AreTheSame, ListsMounts}
 use Rattle.state_rows.proofs.RowLists.{is_at-by_since}
@@ -68,9 +68,6 @@ put-over reel r w between before is = ap (cond (same reel r) w) is ∙ by (same 
     by : (b : Bool) → cond b w (cond b None before) ≡ cond b w before
     by true = refl
     by false = refl
-
-pub none-left : (reel : Name) (taken before : Name → Option MountRow) → ((r : Name) → taken r ≡ cond (same reel r) None (before r)) → taken reel ≡ None
-none-left reel taken before is = is reel ∙ ap (λ b. cond b None (before reel)) (same-refl reel)
 
 -- ---- the rows by number
 

@@ -11,7 +11,7 @@ use Rattle.std.proofs.lemmas.List.{map-append, length-take-le, append-nil, take-
 use Rattle.desk_types.specs.declared.take.Pick.{Pick}
 use Rattle.desk_types.specs.declared.take.Take.{Take}
 use Rattle.desk_types.specs.Id.{Name, same, by_name}
-use Rattle.desk_types.specs.History.{History, now_of, effective_minute, entry_of, accept}
+use Rattle.desk_types.specs.History.{History, effective_minute, entry_of, accept}
 use Rattle.desk_types.specs.declared.change.Change.{Change}
 use Rattle.desk_types.specs.declared.command.Stamped.{Stamped}
 use Rattle.desk_types.specs.Command.{IsStamped}
@@ -234,9 +234,6 @@ module _ (rules : Rules) (H : History) (s : Stamped) (change : Change) (is : IsC
 
   takes-are : change.takes ≡ takes_by H (effective_minute H s.minute) s.command
   takes-are = ap (λ (c : Change). c.takes) is.value
-
-  pub now-fits : now_of H ≤ change.minute
-  now-fits = let at = minute-is in omega (arith, at)
 
   module _ (judged : IsJudged rules H) (range : IsStamped s) (in_range : IsMinute change.minute) where
     next-judged : IsJudged Two (accept H s)

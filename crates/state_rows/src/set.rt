@@ -188,6 +188,10 @@ impl RowSet {
     fn put_reel(&mut self, row: &ReelRow, _since: Option<Minute>) -> Result<(), AllocError>
         ensures { OnOk result (tables_in self.new ≡ with_edit (PutReel row.now) (tables_in self.old)) }
     {
+        if let Some(old) = self.reels.get_mut(&row.reel) {
+            *old = *row;
+            return Ok(());
+        }
         self.reels.insert(row.reel, *row)?;
         Ok(())
     }

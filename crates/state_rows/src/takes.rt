@@ -108,16 +108,20 @@ fn put_all(edits: &mut Vec<RowEdit>, rows: &BTreeMap<Id, ReelRow>) -> Result<(),
     Ok(())
 }
 
-fn placed_row(number: u64, place: u64, take: &Take) -> Option<PlacementRow>
-    ensures { result ≡ placed_row number place take.now }
+/// Puts the row of a placed piece.
+fn place(edits: &mut Vec<RowEdit>, number: u64, place: u64, take: &Take) -> Result<(), AllocError>
+    ensures { OnOk result
+        (edits.new.items ≡ edits.old.items ++
+        option_to_list (option_map (λ (r : PlacementRow). PutPlacement r) (placed_row number place take.now))) }
 {
-    match &take.purpose {
-        Purpose::Placed {
-            board,
-            designator,
-            machine,
-            slot,
-        } => Some(PlacementRow {
+    if let Purpose::Placed {
+        board,
+        designator,
+        machine,
+        slot,
+    } = &take.purpose
+    {
+        edits.push(RowEdit::PutPlacement(PlacementRow {
             number,
             place,
             board: *board,
@@ -126,22 +130,9 @@ fn placed_row(number: u64, place: u64, take: &Take) -> Option<PlacementRow>
             slot: *slot,
             reel: take.reel,
             overdue: take.overdue,
-        }),
-        _ => None,
+        }))?;
     }
-}
-
-fn place_if(edits: &mut Vec<RowEdit>, row: Option<PlacementRow>) -> Result<(), AllocError>
-    ensures { OnOk result
-        (edits.new.items ≡ edits.old.items ++ option_to_list (option_map (λ (r : PlacementRow). PutPlacement r) row)) }
-{
-    match row {
-        Some(row) => {
-            edits.push(RowEdit::PutPlacement(row))?;
-            Ok(())
-        }
-        None => Ok(()),
-    }
+    Ok(())
 }
 
 /// The rows of the placed pieces, in places from 1.
@@ -149,7 +140,7 @@ fn place_all(edits: &mut Vec<RowEdit>, number: u64, takes: &[Take]) -> Result<()
     ensures { OnOk result (edits.new.items ≡ edits.old.items ++ place_rows number 1 takes.now) }
 {
     for index in 0..takes.len() {
-        place_if(edits, placed_row(number, index as u64 + 1, &takes[index]))?;
+        place(edits, number, index as u64 + 1, &takes[index])?;
     }
     Ok(())
 }

@@ -10,7 +10,6 @@ ghost use Rattle.feeder_state.specs.Work.{IsWork, running_at, is_placed_at};
 
 use super::{Work, place};
 use crate::groups::{Group, gather};
-use crate::maps::put;
 use crate::placed::Placed;
 use desk_types::{Designator, Id};
 use state_rows::RowSet;
@@ -25,7 +24,7 @@ pub fn running_of(alloc: Global, rows: &RowSet) -> Result<BTreeMap<Id, Id>, Allo
     let mut running = BTreeMap::new(alloc);
     for (board, row) in rows.boards() {
         if let Some(machine) = row.machine {
-            let _: Option<Id> = put(&mut running, machine, *board)?;
+            running.insert(machine, *board)?;
         }
     }
     Ok(running)

@@ -33,4 +33,4 @@ returns-in_default-2 g c = λ H before stands feeding seen.
     let front = sym (c.in_ok-reel.ensures.front H before.picks stands feeding) ∙ c.in_default-2.is in
     let pick = pick-none bench before d c.in-Some.slot slot front in
     refused-short d c.in-Some.slot _ _ _ _ slot new (sym (c.has_placed.ensures H stands) ∙ c.if-has_placed.false) pick
-    ∙ ap (λ n. Some (ReelShort n)) (sym c.from-name.ensures)
+    ∙ ap (λ n. Some (ReelShort n)) (sym c.from-in_default-2.ensures)

@@ -4,7 +4,7 @@ use Rattle.desk_types.specs.History.{entry_of}
 use Rattle.state_rows.specs.Kept.{unnumbered}
 use Rattle.state_rows.proofs.EditLists.{edits-unnumbered}
 use Rattle.feeder_state.specs.Noted.{IsNoted}
-use Rattle.feeder_state.proofs.AcceptedChanges.{accepted-judged, accepted-noted, accepted-minute}
+use Rattle.feeder_state.proofs.AcceptedChanges.{accepted-judged, accepted-noted, accepted-minute, accepted-spends}
 use Rattle.feeder_state.proofs.desk.StateDesk.apply.Goals as goal
 
 pub note-requires : goal.note-requires
@@ -31,6 +31,7 @@ returns-clause-stands c = λ H state.
       minute = accepted-minute rules H s change is;
       rows = rows;
       setup = c.in_ok-note-3.ensures H (entry_of H s) refl state.setup;
-      floor = c.in_ok-note.ensures H (entry_of H s) change.minute (subst (IsNoted H (entry_of H s) s.command change.minute) (sym c.as_slice.ensures) noted) (record { judged = noted.judged; same = rows }) state.floor;
+      floor = c.in_ok-note.ensures H (entry_of H s) change.minute (subst (IsNoted H (entry_of H s) s.command change.minute) (sym c.as_slice.ensures) noted) (record { judged = noted.judged; same = rows })
+          (accepted-spends H c.args.self.now _ c.args.edits.now _ state c.spends.ensures c.in_ok-apply_but_placements.ensures) state.floor;
       work = c.in_ok-note-2.ensures H (entry_of H s) refl state.work;
     }

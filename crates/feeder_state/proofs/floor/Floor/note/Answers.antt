@@ -16,10 +16,10 @@ pub note_takes-requires-clause-known : goal.note_takes-requires-clause-known
 note_takes-requires-clause-known c = c.requires
 
 pub returns-then-may_take : goal.returns-then-may_take
-returns-then-may_take c = λ H e at noted rows floor. c.note_takes.ensures H e at noted rows floor
+returns-then-may_take c = λ H e at noted rows stay floor. c.note_takes.ensures H e at noted rows stay floor
 
 pub returns : goal.returns
-returns c = λ H e at noted rows floor.
+returns c = λ H e at noted rows stay floor.
     let command = c.args.command.now in
     let other = ap may_take noted.command_is ∙ sym c.may_take.ensures ∙ c.if-may_take.false in
     record {

@@ -1,4 +1,4 @@
-use Rattle.std.proofs.Common.{not, ◌∷◌, sym, ap, subst, ◌∙◌}
+use Rattle.std.proofs.Common.{rules, not, ◌∷◌, sym, ap, subst, ◌∙◌}
 use Rattle.std.specs.List.{filter, list_any, IsDistinct}
 use Rattle.desk_types.specs.Id.{same}
 use Rattle.desk_laws.proofs.Tapes.{live-distinct}
@@ -7,14 +7,23 @@ use Rattle.feeder_state.specs.Rows.{left_at}
 use Rattle.feeder_state.specs.Spending.{is_spent_by}
 use Rattle.feeder_state.proofs.AtRest.{rests-left, rests-taken}
 use Rattle.feeder_state.proofs.RowReels.{row-left}
-use Rattle.feeder_state.proofs.TapeSteps.{lives-taken}
+use Rattle.feeder_state.proofs.TapeSteps.{lives-taken, lives-stay}
 use Rattle.feeder_state.proofs.floor.Floor.note_takes.Goals as goal
 
 pub drop_all_spent-requires : goal.drop_all_spent-requires
 drop_all_spent-requires c = λ m s. let known = c.requires.known in subst (IsDistinct same) (sym (known.4.tapes m s)) (live-distinct known.0 m s known.3.judged.1)
 
+pub returns-then-not-spends : goal.returns-then-not-spends
+returns-then-not-spends c = λ H e at noted rows stay floor. record {
+  tapes = λ m s.
+      floor.tapes m s
+      ∙ lives-stay H e c.args.command.now at c.args.takes.now (left_at c.args.rows.now) m s noted c.requires.takes (λ r. row-left (e ∷ H) c.args.rows.now rows r)
+      (stay (search rules));
+  resting = λ r rest. floor.resting r (rests-taken H e r noted.judged (ap may_take noted.command_is ∙ c.requires.takes) rest);
+}
+
 pub returns : goal.returns
-returns c = λ H e at noted rows floor.
+returns c = λ H e at noted rows stay floor.
     let left = left_at c.args.rows.now in
     let takes = c.args.takes.now in
     record {

@@ -4,6 +4,7 @@ use Rattle.std.specs.Map.{lookup}
 use Rattle.std.specs.Option.{option_map_or}
 use Rattle.std.proofs.lemmas.Cmp.{nat_list_cmp_total}
 use Rattle.desk_types.specs.Id.{same, by_name}
+use Rattle.desk_types.proofs.Keys.{name-written}
 use Rattle.desk_types.specs.Work.{in_work_on}
 use Rattle.state_rows.specs.Kept.{tables_in, Lists}
 use Rattle.desk_types.specs.Tables.{Tables}
@@ -23,16 +24,16 @@ loop-board-init c =
           (ap (lookup (is_at (by_name m))) c.new-running.ensures.empty),
     )
 
-pub loop-board-preserved-in-Some-machine : goal.loop-board-preserved-in-Some-machine
-loop-board-preserved-in-Some-machine c =
+pub loop-board-preserved-in_ok-insert : goal.loop-board-preserved-in_ok-insert
+loop-board-preserved-in_ok-insert c =
     let board = c.in-Some.board.now in
     let old = running_at c.loop-board.running in
     let each = subst (AreOf (tables_in c.args.rows.now).boards) c.in-Some.ensures.steps c.loop-board.invariant.0 in (
       each.1,
       λ H rows m.
-          running-next H m board c.in-Some.row.now c.next.new.self (old m) (running_at c.put.new.map m) rows.judged (sym (ap (λ (t : Tables). t.boards board) rows.tables) ∙ each.0)
+          running-next H m board c.in-Some.row.now c.next.new.self (old m) (running_at c.insert.new.self m) rows.judged (sym (ap (λ (t : Tables). t.boards board) rows.tables) ∙ each.0)
           (subst (λ es. IsRunning es (in_work_on H m) (old m)) c.in-Some.ensures.steps (c.loop-board.invariant.1 H rows m))
-          (c.in_ok-put.ensures m ∙ ap (λ o. option_map_or (λ x. cond (same x m) (Some board) (old m)) o (old m)) (sym c.in-Some-machine.is)),
+          (name-written _ _ c.in-Some-machine.machine _ (λ o. o) c.in_ok-insert.ensures.updates.0 m ∙ ap (λ o. option_map_or (λ x. cond (same x m) (Some board) (old m)) o (old m)) (sym c.in-Some-machine.is)),
     )
 
 pub loop-board-preserved : goal.loop-board-preserved

@@ -1,6 +1,15 @@
+use Rattle.std.proofs.Common.{Some, cond, ap, ◌∙◌, rules}
+use Rattle.std.specs.BTreeMap.{get, is_at}
+use Rattle.desk_types.specs.Id.{by_name}
 use Rattle.state_rows.specs.contracts.set.RowSet.{the_view}
 use Rattle.state_rows.proofs.RowLists.{reel-put}
 use Rattle.state_rows.proofs.set.RowSet.put_reel.Goals as goal
 
+pub returns-in-Some : goal.returns-in-Some
+returns-in-Some c = reel-put (the_view c.self.inside) c.args.self.now c.self.view_is _ c.args.row.now (((c.get_mut.follows.holds c.args.row.now).3 (search rules)).0)
+
 pub returns : goal.returns
-returns c = reel-put (the_view c.self.inside) c.args.self.now c.self.view_is c.insert.new.self.entries c.args.row.now c.in_ok-insert.ensures.updates.0
+returns c =
+    let row = c.args.row.now in
+    reel-put (the_view c.self.inside) c.args.self.now c.self.view_is c.insert.new.self.entries row
+    (λ q. c.in_ok-insert.ensures.updates.0 q ∙ ap (λ m. cond (is_at (by_name row.reel) q) (Some row) (get by_name m q)) c.get_mut.follows.holds-at-none)
