@@ -26,7 +26,7 @@ use Rattle.line_tables.specs.StateRows.{has_piece, rows_in, placement_columns}
 use Rattle.line_audit.specs.Alone.{Listed, IsNamed, AreAlone, IsNew as IsNewPiece}
 use Rattle.line_audit.specs.Audit.{Pieces, AreByPiece, ArePlaced, piece_of}
 use Rattle.line_rows.specs.Judging.{Lead}
-use Rattle.line_replay.specs.Expected.{Expected, placement_by, placements_by, AreExpected, HoldsAsRead, ArePlacedToo, LooksUp, Adds}
+use Rattle.line_replay.specs.Expected.{Expected, placement_by, placements_by, AreKept, AreExpected, HoldsAsRead, ArePlacedToo, LooksUp, Adds}
 use Rattle.line_replay.proofs.ReadOfCommitted.{reads_back}
 
 -- ---- the rows of the other tables
@@ -178,7 +178,7 @@ pub none_placed : (number place : ℕ) → placement_row [] number place ≡ Non
 unfolding takes_of
 none_placed number place = refl
 
-no_rows : (t : Tables) → unnumbered t ≡ unnumbered (state_of []) → but_placements t (state_of []) ≡ state_of []
+pub no_rows : (t : Tables) → unnumbered t ≡ unnumbered (state_of []) → but_placements t (state_of []) ≡ state_of []
 no_rows t is =
     let none = state_of [] in
     ap (λ (f : Name → Option MountRow). record t { mounts = f; placements = none.placements }) (λ j r. by (t.mounts r) (ap (λ (u : Tables). u.mounts r) is) j)
@@ -207,14 +207,18 @@ placements-next xs i x rows o inside is so_far by =
     one None = refl
     one (Some row) = refl
 
+pub kept_more : (edits : List RowEdit) (before after : KeptRows) (G H : History) → tables_in after ≡ but_placements (with_edits edits (tables_in before)) (tables_in before) → with_edits edits (state_of G) ≡ state_of H → AreKept before G
+    → AreKept after H
+kept_more edits before after G H made lead was =
+    let none = state_of [] in
+    ap (λ (t : Tables). but_placements t none) made ∙ sym (but-edits edits (tables_in before) none none) ∙ ap (λ (t : Tables). but_placements (with_edits edits t) none) was ∙ but-edits edits (state_of G) none none
+    ∙ ap (λ (t : Tables). but_placements t none) lead
+
 pub expected_more : (Before After : Type 0) (old mid : State) (edits : List RowEdit) (b0 b1 : Expected) (H : History) (e : Entry) → (After → Before) → (After → KeepsCommit old mid) → AreExpected Before old.committed b0 H
     → Lead edits H e → Adds After mid edits b0 b1 → AreExpected After old.committed b1 (e ∷ H)
 expected_more Before After old mid edits b0 b1 H e early kept was lead adds =
-    let none = state_of [] in record {
-      rows =
-          ap (λ (t : Tables). but_placements t none) adds.rows ∙ sym (but-edits edits (tables_in b0.rows) none none)
-          ∙ ap (λ (t : Tables). but_placements (with_edits edits t) none) was.rows ∙ but-edits edits (state_of H) none none
-          ∙ ap (λ (t : Tables). but_placements t none) lead.lead;
+    record {
+      rows = kept_more edits b0.rows b1.rows H (e ∷ H) adds.rows lead.lead was.rows;
       pieces = placed_onto edits was.pieces;
       listed = subst (λ (t : Tables). Listed (placed_onto edits was.pieces) (pieces_in t)) lead.lead (listed_onto edits (state_of H) was.pieces lead.new was.listed);
       named = (onto_all _ edits was.pieces).1 (was.named, named_pieces (placements_by edits));

@@ -33,9 +33,13 @@ placement_by edit = None
 abbrev pub placements_by : List RowEdit → List PlacementRow
 placements_by edits = filter_map placement_by edits
 
+-- The rows are those of the history's state tables, with the numbers of its commands. A desk keeps no placements.
+abbrev pub AreKept : KeptRows → History → Type 0
+AreKept rows H = but_placements (tables_in rows) (state_of []) ≡ but_placements (state_of H) (state_of [])
+
 -- The rows are those of the history's state tables, except that placements are only counted. On a clean disk `placed` says whether each placement is in the database, if that has our schema.
 pub record AreExpected (Clean : Type 0) (db : Database) (expected : Expected) (H : History) : Type 0 where
-  pub rows : but_placements (tables_in expected.rows) (state_of []) ≡ but_placements (state_of H) (state_of [])
+  pub rows : AreKept expected.rows H
   pub pieces : Pieces
   pub listed : Listed pieces (λ key. placement_row H key.0 key.1)
   pub named : AreByPiece pieces

@@ -9,7 +9,7 @@ ghost use Rattle.desk_types.specs.Judged.{IsJudged};
 ghost use Rattle.line_tables.specs.Rows.{Holds};
 ghost use Rattle.line_tables.specs.Frames.{ReadsOnly};
 ghost use Rattle.line_rows.specs.Rows.{ledger_tables};
-ghost use Rattle.line_replay.specs.Expected.{kept_with};
+ghost use Rattle.line_replay.specs.Expected.{kept_with, AreKept};
 ghost use Rattle.line_replay.specs.Replay.{IsReplayed, IsFaultOf};
 ghost use Rattle.trace_lists.specs.Lists.{IsListed};
 
@@ -80,7 +80,8 @@ pub fn rebuild<S: Alter, D: KeepsRows + Drop>(
     ensures same { (G : History) → IsJudged rules G
         → (IsTrue (state S.Store conn.old).is_open
         → Holds (state S.Store conn.old).committed (ledger_tables greatest G)) → HasCleanDisk (state S.Store conn.new)
-        → IfSome result (λ r. D.Stands r.desk G × (r.count ≡ length G) × IsListed r.lists G) }
+        → IfSome result (λ r. D.Stands r.desk G × (r.count ≡ length G) × IsListed r.lists G
+        × AreKept (D.kept_rows r.desk) G) }
     ensures rules { IfSome result (λ r. D.kept_rules r.desk ≡ rules) }
     ensures reads { ReadsOnly S.Store conn.old conn.new }
 {

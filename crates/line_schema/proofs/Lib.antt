@@ -1,3 +1,4 @@
+pub mod DeskRows
 pub mod ListsAfter
 pub mod Lookup
 pub mod Others

@@ -69,6 +69,10 @@ pub answered_as : (H : History) (s : Stamped) (change : Change) (r : Result Answ
 answered_as H s change (Ok a) is told = told ∙ ap (λ (c : Change). judged_answer H c.stamped (Accepted c.detail)) is.value ∙ sym (ap (λ o. judged_answer H s (option_map_or Refused o (Accepted (change_of H s).detail))) is.accepted)
 answered_as H s change (Err e) is told = tt
 
+pub accepted_to : (P : History → Type 0) (r : Result Answer Fault) (H : History) (s : Stamped) (change : Change) → IsChange Two H s change → OnOk r (P (accept H change.stamped)) → OnOk r (P (after_command Two H s))
+accepted_to P (Ok a) H s change is ok = subst P (accepted_list Two H s change is) ok
+accepted_to P (Err e) H s change is ok = ok
+
 -- ---- a connection after a call
 
 module _ {old new : State} (P : Trees → Type 0) (survives : Survives old new P) where
@@ -225,8 +229,7 @@ module _ {S D : Type 0} (g : Ghosts S) (F : D → History → Type 0) (K : D →
 
   pub accepted_as : (r : Result Answer Fault) (new : LineStore S D) (L : Kept) (s : Stamped) (change : Change) → IsChange Two L.history s change → OnOk r (Stands g F K new (with_command L change.stamped))
       → OnOk r (Stands g F K new (record L { history = after_command Two L.history s }))
-  accepted_as (Ok a) new L s change is ok = subst (λ H. Stands g F K new (record L { history = H })) (accepted_list Two L.history s change is) ok
-  accepted_as (Err e) new L s change is ok = ok
+  accepted_as r new L s change is ok = accepted_to (λ H. Stands g F K new (record L { history = H })) r L.history s change is ok
 
 -- For any crash: no fault is forgotten, and only a fault shuts the connection.
 pub survives_still : (s : State) → Survives s s (λ _. ⊤)

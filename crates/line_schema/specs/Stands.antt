@@ -16,8 +16,10 @@ use Rattle.desk_answers.specs.declared.answer.Answer.{Answer}
 use Rattle.desk_answers.specs.declared.answer.Answer.TheVariants.{Accepted, Unavailable}
 use Rattle.desk_answers.specs.Commands.{earlier_answer}
 use Rattle.desk_answers.specs.Ledger.{Ledger, ledger_after}
+use Rattle.state_rows.specs.Kept.{KeptRows}
 use Rattle.line_tables.specs.Rows.{Holds, HoldsAt}
 use Rattle.line_rows.specs.Rows.{ledger_tables}
+use Rattle.line_replay.specs.Expected.{AreKept}
 use Rattle.line_schema.specs.declared.store.LineStore.{LineStore}
 use Rattle.line_schema.specs.declared.unavailable.Unavailable.{Unavailable as Fault}
 use Rattle.trace_lists.specs.Lists.{IsListed}
@@ -74,6 +76,11 @@ ForKept g StandsFor kept_rules old new Fact = (L : Kept) → Stands g StandsFor 
 -- Whether the store has a loaded desk, or must rebuild it from its tables.
 abbrev pub has_desk : {S D : Type 0} → LineStore S D → Bool
 has_desk store = is_some store.desk
+
+-- The rows of a loaded desk are those of the history's state tables, with the numbers of its commands: the very rows
+-- that the file has. A desk keeps no placements.
+abbrev pub HasRows : {S D : Type 0} → (D → KeptRows) → LineStore S D → History → Type 0
+HasRows kept_rows store H = IfSome store.desk (λ d. AreKept (kept_rows d) H)
 
 -- The history with the command accepted.
 abbrev pub with_command : Kept → Stamped → Kept

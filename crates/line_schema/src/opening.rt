@@ -8,6 +8,7 @@ ghost use Rattle.desk_types.specs.History.{History};
 ghost use Rattle.line_tables.specs.Calls.{Reads};
 ghost use Rattle.line_tables.specs.Rows.{version_of};
 ghost use Rattle.line_tables.specs.Frames.{ReadsOnly};
+ghost use Rattle.line_replay.specs.Expected.{AreKept};
 ghost use Rattle.line_schema.specs.declared.fault.OpenFault.TheVariants as Fault;
 ghost use Rattle.line_schema.specs.Opening.{IsVersion, IsFaultBy, IsNamedBy, IsOfVersion, IsToldBy, IsOpened, IsGreatest};
 
@@ -37,7 +38,8 @@ pub fn read_tables<S: Alter, D: KeepsRows + Drop>(
     rules: Rules,
 ) -> Result<Opened<D>, OpenFault>
     ensures ok { IfOk result (λ r. (H : History)
-        × IsOpened D.Stands D.kept_rules (HasCleanDisk (state S.Store conn.new)) (state S.Store conn.old) rules r H) }
+        × IsOpened D.Stands D.kept_rules (HasCleanDisk (state S.Store conn.new)) (state S.Store conn.old) rules r H
+        × AreKept (D.kept_rows r.desk) H) }
     ensures named { IfOk result (λ _. IsNamedBy rules (state S.Store conn.old)) }
     ensures told { IfErr result (IsToldBy rules (state S.Store conn.old)) }
     ensures never { IfErr result (λ f. f ≢ Fault.NotBlank) }

@@ -6,7 +6,7 @@ ghost use Rattle.desk_types.specs.History.{History, accept};
 ghost use Rattle.desk_types.specs.Desk.{HasRoom, IsChange};
 ghost use Rattle.desk_types.specs.Edits.{with_edits};
 ghost use Rattle.desk_types.specs.Tables.{tables_of};
-ghost use Rattle.state_rows.specs.Kept.{unnumbered};
+ghost use Rattle.state_rows.specs.Kept.{tables_in, but_placements, unnumbered};
 ghost use Rattle.trace_lists.specs.Lists.{IsListed};
 
 use desk_types::{Change, RowEdit};
@@ -32,6 +32,8 @@ pub fn settle_both<D: KeepsRows + Drop>(
     ensures lists { (H : History) → IfSome desk (λ d. D.Stands d H) → IfSome lists (λ l. IsListed l H)
         → number ≡ length H + 1 → IfSome result.1 (λ l. IsListed l (accept H change.stamped)) }
     ensures beside { is_some result.1 ≡ is_some result.0 }
+    ensures rows { IfSome desk (λ old. IfSome result.0 (λ new. tables_in (D.kept_rows new)
+        ≡ but_placements (with_edits edits.now (tables_in (D.kept_rows old))) (tables_in (D.kept_rows old)))) }
 {
     let Some(mut desk) = desk else {
         return (None, None);

@@ -9,7 +9,7 @@ ghost use Rattle.desk_types.specs.declared.answer.Reply.TheVariants as Reply;
 ghost use Rattle.desk_types.specs.declared.limits.TheConstants.{MOST_ENTRIES};
 ghost use Rattle.desk_types.specs.declared.rules.Rules.TheVariants.{Two};
 ghost use Rattle.desk_types.specs.Desk.{IsChange};
-ghost use Rattle.desk_types.specs.History.{History};
+ghost use Rattle.desk_types.specs.History.{History, accept};
 ghost use Rattle.desk_types.specs.Outcome.{reply_to, after_command};
 ghost use Rattle.desk_answers.specs.Commands.{earlier_answer, judged_answer, command_answer, command_after};
 ghost use Rattle.desk_answers.specs.Ledger.{IsAnswer};
@@ -21,8 +21,9 @@ ghost use Rattle.line_tables.specs.Rows.{Holds, HoldsAt, blank};
 ghost use Rattle.line_rows.specs.Rows.{ledger_tables};
 ghost use Rattle.line_schema.specs.declared.fault.OpenFault.TheVariants as Fault;
 ghost use Rattle.line_schema.specs.Opening.{IsFaultOf, IsNamed, IsToldOf};
-ghost use Rattle.line_schema.specs.Stands.{Kept, ForKept, Stands, ShowsTables, state_of, conn_of, has_desk, with_command, ledger, kept_after, answer_in, NewlyLeaves, Leaves};
+ghost use Rattle.line_schema.specs.Stands.{Kept, ForKept, Stands, ShowsTables, state_of, conn_of, has_desk, HasRows, with_command, ledger, kept_after, answer_in, NewlyLeaves, Leaves};
 ghost use Rattle.line_schema.specs.Frames.{MakesDesk, LeavesUnmade, LetsOthersBe};
+ghost use Rattle.line_schema.specs.Traces.{desk_of};
 
 mod crash;
 mod migration;
@@ -73,7 +74,7 @@ impl<S: Alter, D: KeepsRows + Drop> LineStore<S, D> {
         ensures alone { IfOk result (λ store. HasCleanDisk (state_of S.Store store)
             → IsTrue (is_blank (state S.Store conn).now.schema) → (trees : Trees)
             → (state_of S.Store store).may_leave trees → HoldsAt (blank greatest) trees) }
-        ensures ready { IfOk result (λ store. IsTrue (has_desk store)) }
+        ensures ready { IfOk result (λ store. IsTrue (has_desk store) × HasRows D.kept_rows store []) }
         ensures stays_open { IfOk result (λ store. HasCleanDisk (state_of S.Store store)
             → IsTrue (state_of S.Store store).is_open) }
         ensures leaves { IfOk result
@@ -93,11 +94,13 @@ impl<S: Alter, D: KeepsRows + Drop> LineStore<S, D> {
         if has_our_name(&conn) {
             return Err((OpenFault::NotBlank, conn));
         }
+        let desk = D::fresh(alloc, Rules::Two);
+        let _empty = desk.rows();
         match make(&mut conn, greatest) {
             Ok(()) => Ok(LineStore {
                 alloc,
                 conn,
-                desk: Some(D::fresh(alloc, Rules::Two)),
+                desk: Some(desk),
                 lists: Some(TraceLists::new(alloc)),
                 count: 0,
                 greatest,
@@ -115,7 +118,8 @@ impl<S: Alter, D: KeepsRows + Drop> LineStore<S, D> {
         ensures stands { IfOk result (λ store. (L : Kept) × (L.own ≡ is_ours (state S.Store conn).committed.schema)
             × Stands S.Store D.Stands D.kept_rules store L
             × (HasCleanDisk (state_of S.Store store)
-            → Reads (state S.Store conn) (λ db. Holds db (ledger_tables L.greatest L.history)))) }
+            → Reads (state S.Store conn) (λ db. Holds db (ledger_tables L.greatest L.history)))
+            × HasRows D.kept_rows store L.history) }
         ensures named { IfOk result (λ _. IsNamed (state S.Store conn)) }
         ensures ready { IfOk result (λ store. IsTrue (has_desk store)) }
         ensures fault { IfErr result (λ e. HasCleanDisk (state S.Store e.1) → IsFaultOf (state S.Store conn) e.0) }
@@ -187,6 +191,8 @@ impl<S: Alter, D: KeepsRows + Drop> LineStore<S, D> {
         ensures ok { OnOk result (IsTrue (has_desk self.new)) }
         ensures at_hand { OnErr result (has_desk self.old ≡ false) }
         ensures makes_desk { MakesDesk S.Store D.Stands D.kept_rules self.old self.new }
+        ensures rows { ForKept S.Store D.Stands D.kept_rules self.old self.new
+            (λ L. HasRows D.kept_rows self.old L.history → HasRows D.kept_rows self.new L.history) }
         ensures others { LetsOthersBe (state_of S.Store self.old) (state_of S.Store self.new) }
     {
         if self.desk.is_some() {
@@ -201,6 +207,8 @@ impl<S: Alter, D: KeepsRows + Drop> LineStore<S, D> {
         ensures kept { (L : Kept) × Stands S.Store D.Stands D.kept_rules self.new L }
         ensures stands { ForKept S.Store D.Stands D.kept_rules self.old self.new
             (Stands S.Store D.Stands D.kept_rules self.new) }
+        ensures rows { ForKept S.Store D.Stands D.kept_rules self.old self.new
+            (λ L. HasRows D.kept_rows self.old L.history → HasRows D.kept_rows self.new L.history) }
         ensures survives { Survives (state_of S.Store self.old) (state_of S.Store self.new) (λ _. ⊥) }
         ensures others { LetsOthersBe (state_of S.Store self.old) (state_of S.Store self.new) }
     {
@@ -233,6 +241,9 @@ impl<S: Alter, D: KeepsRows + Drop> LineStore<S, D> {
             (λ L. Stands S.Store D.Stands D.kept_rules self.new (kept_after L stamped.now result)) }
         ensures tables { (L : Kept) → Stands S.Store D.Stands D.kept_rules self.old L
             → ShowsTables S.Store self.new (kept_after L stamped.now result) }
+        ensures rows { ForKept S.Store D.Stands D.kept_rules self.old self.new
+            (λ L. HasRows D.kept_rows self.old L.history
+            → HasRows D.kept_rows self.new (kept_after L stamped.now result).history) }
         ensures crash { ForKept S.Store D.Stands D.kept_rules self.old self.new
             (λ L. (trees : Trees) → (state_of S.Store self.new).may_leave trees
             → Leaves L stamped.now result ((state_of S.Store self.old).may_leave trees) trees) }
@@ -257,6 +268,11 @@ impl<S: Alter, D: KeepsRows + Drop> LineStore<S, D> {
             (record L { history = command_after Two L.greatest L.history stamped.now }))) }
         ensures err { ForKept S.Store D.Stands D.kept_rules self.old self.new
             (λ L. OnErr result (Stands S.Store D.Stands D.kept_rules self.new L)) }
+        ensures rows { ForKept S.Store D.Stands D.kept_rules self.old self.new
+            (λ L. HasRows D.kept_rows self.old L.history
+            → OnOk result (HasRows D.kept_rows self.new (command_after Two L.greatest L.history stamped.now))) }
+        ensures rows_stay { ForKept S.Store D.Stands D.kept_rules self.old self.new
+            (λ L. HasRows D.kept_rows self.old L.history → OnErr result (HasRows D.kept_rows self.new L.history)) }
         ensures crash { ForKept S.Store D.Stands D.kept_rules self.old self.new
             (λ L. (trees : Trees) → (state_of S.Store self.new).may_leave trees
             → Leaves L stamped.now (answer_in result) ((state_of S.Store self.old).may_leave trees) trees) }
@@ -277,6 +293,7 @@ impl<S: Alter, D: KeepsRows + Drop> LineStore<S, D> {
         requires stands { (L : Kept) × Stands S.Store D.Stands D.kept_rules self.old L }
         ensures answer { ForKept S.Store D.Stands D.kept_rules self.old self.new
             (λ L. IfOk result (λ answer. answer ≡ earlier_answer L.history stamped.now)) }
+        ensures desk { desk_of self.new ≡ desk_of self.old }
         ensures stands { (L : Kept) → Stands S.Store D.Stands D.kept_rules self.old L
             → Stands S.Store D.Stands D.kept_rules self.new L }
         ensures survives { Survives (state_of S.Store self.old) (state_of S.Store self.new) (λ _. ⊥) }
@@ -303,6 +320,11 @@ impl<S: Alter, D: KeepsRows + Drop> LineStore<S, D> {
             (record L { history = after_command Two L.history stamped.now }))) }
         ensures err { ForKept S.Store D.Stands D.kept_rules self.old self.new
             (λ L. OnErr result (Stands S.Store D.Stands D.kept_rules self.new L)) }
+        ensures rows { ForKept S.Store D.Stands D.kept_rules self.old self.new
+            (λ L. HasRows D.kept_rows self.old L.history
+            → OnOk result (HasRows D.kept_rows self.new (after_command Two L.history stamped.now))) }
+        ensures rows_stay { ForKept S.Store D.Stands D.kept_rules self.old self.new
+            (λ L. HasRows D.kept_rows self.old L.history → OnErr result (HasRows D.kept_rows self.new L.history)) }
         ensures crash { ForKept S.Store D.Stands D.kept_rules self.old self.new
             (λ L. (trees : Trees) → (state_of S.Store self.new).may_leave trees
             → NewlyLeaves L stamped.now (answer_in result) ((state_of S.Store self.old).may_leave trees) trees) }
@@ -328,6 +350,11 @@ impl<S: Alter, D: KeepsRows + Drop> LineStore<S, D> {
             (record L { history = after_command Two L.history stamped.now })) }
         ensures err { (L : Kept) → Stands S.Store D.Stands D.kept_rules self.old L
             → OnErr result (Stands S.Store D.Stands D.kept_rules self.new L) }
+        ensures rows { (L : Kept) → Stands S.Store D.Stands D.kept_rules self.old L
+            → HasRows D.kept_rows self.old L.history
+            → OnOk result (HasRows D.kept_rows self.new (after_command Two L.history stamped.now)) }
+        ensures rows_stay { (H : History) → HasRows D.kept_rows self.old H
+            → OnErr result (HasRows D.kept_rows self.new H) }
         ensures crash { ForKept S.Store D.Stands D.kept_rules self.old self.new
             (λ L. (trees : Trees) → (state_of S.Store self.new).may_leave trees
             → NewlyLeaves L stamped.now (answer_in result) ((state_of S.Store self.old).may_leave trees) trees) }
@@ -362,6 +389,11 @@ impl<S: Alter, D: KeepsRows + Drop> LineStore<S, D> {
             → OnOk result (Stands S.Store D.Stands D.kept_rules self.new (with_command L change.stamped)) }
         ensures err { (L : Kept) → Stands S.Store D.Stands D.kept_rules self.old L
             → OnErr result (Stands S.Store D.Stands D.kept_rules self.new L) }
+        ensures rows { (L : Kept) → Stands S.Store D.Stands D.kept_rules self.old L
+            → HasRows D.kept_rows self.old L.history
+            → OnOk result (HasRows D.kept_rows self.new (accept L.history change.stamped)) }
+        ensures rows_stay { (H : History) → HasRows D.kept_rows self.old H
+            → OnErr result (HasRows D.kept_rows self.new H) }
         ensures survives { (L : Kept) → Stands S.Store D.Stands D.kept_rules self.old L → IsTrue L.own
             → Survives (state_of S.Store self.old) (state_of S.Store self.new)
             (HoldsAt (ledger_tables L.greatest (with_command L change.stamped).history)) }

@@ -1,6 +1,7 @@
 use Rattle.std.proofs.Common.{◌∙◌, sym, ap, subst, length}
 use Rattle.desk_types.specs.History.{History}
 use Rattle.line_replay.proofs.Committed.{same_list}
+use Rattle.line_replay.specs.Expected.{AreKept}
 use Rattle.trace_lists.specs.Lists.{IsListed}
 use Rattle.line_replay.proofs.replaying.rebuild.Goals as goal
 
@@ -11,4 +12,5 @@ returns-in-Ok-clause-same g c G judged holds clean =
       subst (λ (H : History). g.D.Desk.Stands c.in-Ok.replayed.desk H) same list.1.stands,
       sym list.1.counted ∙ ap length same,
       subst (IsListed c.in-Ok.replayed.lists) same list.2,
+      subst (AreKept (g.D.KeepsRows.kept_rows c.in-Ok.replayed.desk)) same list.1.others.rows,
     )

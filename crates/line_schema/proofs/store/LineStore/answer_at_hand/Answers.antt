@@ -1,8 +1,9 @@
 use Rattle.std.proofs.Common.{true≢false, sym, rules, arith, ◌<◌}
 use Rattle.desk_types.specs.declared.rules.Rules.TheVariants.{Two}
 use Rattle.desk_types.specs.Desk.{IsChange}
+use Rattle.line_schema.specs.Stands.{HasRows}
 use Rattle.line_schema.proofs.ListsAfter.{accepted_leaves}
-use Rattle.line_schema.proofs.StandsAfter.{disowned, stands_either, accepted_as, answered_as, first_as}
+use Rattle.line_schema.proofs.StandsAfter.{disowned, stands_either, accepted_as, accepted_to, answered_as, first_as}
 use Rattle.line_schema.proofs.store.LineStore.answer_at_hand.Goals as goal
 
 pub returns-in-Ok-clause-kept : goal.returns-in-Ok-clause-kept
@@ -28,3 +29,8 @@ returns-in-Ok-clause-crash g c L stands clean own trees left =
     let room : c.args.self.now.count < c.args.self.now.greatest = search rules in
     let may = (c.commit_change.ensures.survives L stands own).crash clean trees left in
     accepted_leaves L c.args.stamped.now c.in-Ok.change c.commit_change.result _ _ trees is (omega (arith, stands.count, stands.greatest, room)) (c.commit_change.ensures.answer L stands) (c.commit_change.ensures.alone L stands clean own) may left
+
+pub returns-in-Ok-clause-rows : goal.returns-in-Ok-clause-rows
+returns-in-Ok-clause-rows g c L stands was =
+    let is : IsChange Two L.history c.args.stamped.now c.in-Ok.change = search rules in
+    accepted_to (HasRows g.D.KeepsRows.kept_rows c.commit_change.new.self) c.commit_change.result L.history c.args.stamped.now c.in-Ok.change is (c.commit_change.ensures.rows L stands was)

@@ -15,3 +15,13 @@ returns-clause-crash g c L stands clean own trees left =
 
 pub returns-clause-others : goal.returns-clause-others
 returns-clause-others g c = let_be_then _ _ _ (λ clean. omega (arith, c.answer_at_hand.ensures.survives.clean, clean)) c.ready.ensures.others c.answer_at_hand.ensures.others
+
+pub returns-clause-rows : goal.returns-clause-rows
+returns-clause-rows g c L stands clean own was =
+    let early : HasCleanDisk (state g.S.Store c.ready.new.self.conn) = omega (arith, c.answer_at_hand.ensures.survives.clean, clean) in
+    c.answer_at_hand.ensures.rows L (c.ready.ensures.makes_desk.stands L stands early own) (c.ready.ensures.rows L stands early own was)
+
+pub returns-clause-rows_stay : goal.returns-clause-rows_stay
+returns-clause-rows_stay g c L stands clean own was =
+    let early : HasCleanDisk (state g.S.Store c.ready.new.self.conn) = omega (arith, c.answer_at_hand.ensures.survives.clean, clean) in
+    c.answer_at_hand.ensures.rows_stay L.history (c.ready.ensures.rows L stands early own was)

@@ -5,7 +5,7 @@ use Rattle.desk_answers.specs.declared.answer.Answer.{Answer}
 use Rattle.desk_answers.specs.declared.answer.Answer.TheVariants.{Accepted, Refused, IdReused, DeskFull, Unavailable}
 use Rattle.desk_answers.specs.Commands.{command_answer}
 use Rattle.desk_answers.specs.Ledger.{IsAnswer}
-use Rattle.line_schema.specs.Stands.{Kept, Stands, ledger, kept_after}
+use Rattle.line_schema.specs.Stands.{Kept, Stands, HasRows, ledger, kept_after}
 use Rattle.line_schema.proofs.ListsAfter.{kept_so}
 use Rattle.line_schema.proofs.StandsAfter.{tables_there}
 use Rattle.line_schema.proofs.store.LineStore.command.Goals as goal
@@ -67,3 +67,11 @@ returns-in-Ok-clause-others g c = c.answer.ensures.others
 
 pub returns-in-Err-clause-others : goal.returns-in-Err-clause-others
 returns-in-Err-clause-others g c = c.answer.ensures.others
+
+pub returns-in-Ok-clause-rows : goal.returns-in-Ok-clause-rows
+returns-in-Ok-clause-rows g c L stands clean own was =
+    subst (λ (M : Kept). HasRows g.D.KeepsRows.kept_rows c.answer.new.self M.history)
+    (sym (kept_so L c.args.stamped.now c.in-Ok.answer (c.in-Ok.ensures.answer L stands clean own))) (c.in-Ok.ensures.rows L stands clean own was)
+
+pub returns-in-Err-clause-rows : goal.returns-in-Err-clause-rows
+returns-in-Err-clause-rows g c = c.in-Err.ensures.rows_stay

@@ -1,11 +1,13 @@
-use Rattle.std.proofs.Common.{◌+◌, ap, refl, rules, arith}
+use Rattle.std.proofs.Common.{◌≡◌, ◌+◌, ap, refl, rules, arith}
 use Rattle.sqlite.specs.State.{HasCleanDisk}
 use Rattle.sqlite.specs.Held.{state}
 use Rattle.desk_types.specs.declared.rules.Rules.TheVariants.{Two}
+use Rattle.desk_types.specs.History.{accept}
 use Rattle.desk_types.specs.Number.{IsMinute}
 use Rattle.line_tables.specs.Edit.{command_edits}
 use Rattle.line_tables.proofs.Keeps.{keeps_same}
 use Rattle.line_schema.proofs.StandsAfter.{judged_for, stood_for, stands_on, left_on, survives_on, failed_on, survives_still, err_still}
+use Rattle.line_schema.proofs.DeskRows.{lead_of, rows_settled}
 use Rattle.line_schema.proofs.Others.{let_be_edited}
 use Rattle.line_schema.proofs.store.LineStore.commit_change.Goals as goal
 
@@ -70,3 +72,23 @@ returns-clause-others g c = let_be_edited _ _ _ c.append.result c.append.ensures
 
 pub returns-in_err-text-clause-err : goal.returns-in_err-text-clause-err
 returns-in_err-text-clause-err g c L stands = err_still _ stands
+
+pub returns-clause-rows : goal.returns-clause-rows
+returns-clause-rows g c L stands was =
+    let old = c.args.self.now in
+    let change = c.args.change in
+    let is = judged_for g.D.Desk.Stands g.D.Desk.kept_rules old.desk L.history change c.requires.judged stands.desk in
+    let by = stood_for g.D.Desk.Stands g.D.Desk.kept_rules old.desk c.in-Some.desk L.history c.in-Some.is stands.desk in
+    let after = c.in_ok-text.ensures.edits L.greatest L.history by is (ap (λ n. n + 1) stands.count) in
+    let edits = c.in_ok-text.field-0.edits in
+    let taken : c.take.result ≡ old.desk = search rules in
+    rows_settled g.D.KeepsRows.kept_rows edits old.desk _ c.in-Some.desk L.history (accept L.history change.stamped) c.in-Some.is (rw taken at (rw c.as_slice-2.ensures at c.settle_both-desk.ensures.rows)) (lead_of L.greatest L.history (accept L.history change.stamped) c.in_ok-text.field-0.row edits after) was
+
+pub returns-in_err-text-clause-rows_stay : goal.returns-in_err-text-clause-rows_stay
+returns-in_err-text-clause-rows_stay g c H was = err_still _ was
+
+pub returns-in_err-reserve-clause-rows_stay : goal.returns-in_err-reserve-clause-rows_stay
+returns-in_err-reserve-clause-rows_stay g c H was = err_still _ was
+
+pub returns-in_err-append-clause-rows_stay : goal.returns-in_err-append-clause-rows_stay
+returns-in_err-append-clause-rows_stay g c H was = err_still _ was

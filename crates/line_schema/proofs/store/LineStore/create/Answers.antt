@@ -1,7 +1,10 @@
-use Rattle.std.proofs.Common.{[], inl, refl, rules, arith}
+use Rattle.std.proofs.Common.{[], inl, refl, subst, rules, arith}
 use Rattle.desk_types.specs.declared.rules.Rules.TheVariants.{Two}
 use Rattle.desk_laws.proofs.JudgedLists.{consistent}
 use Rattle.line_tables.proofs.Ours.{blank_is}
+use Rattle.state_rows.specs.Kept.{KeptRows, tables_in}
+use Rattle.line_replay.specs.Expected.{AreKept}
+use Rattle.line_replay.proofs.ExpectedRows.{no_rows}
 use Rattle.line_schema.proofs.StandsAfter.{none_yet}
 use Rattle.line_schema.proofs.store.LineStore.create.Goals as goal
 
@@ -13,7 +16,7 @@ returns-in-Ok-clause-stands g c = record {
   within = omega arith;
   judged = tt;
   consistent = consistent Two [] tt;
-  desk = (c.fresh.ensures.stands, c.fresh.ensures.rules);
+  desk = (c.fresh-desk.ensures.stands, c.fresh-desk.ensures.rules);
   lists = c.new.ensures.listed;
   beside = refl;
   mode = search rules;
@@ -24,3 +27,9 @@ returns-in-Ok-clause-stands g c = record {
 
 pub returns-in-Ok-clause-alone : goal.returns-in-Ok-clause-alone
 returns-in-Ok-clause-alone g c clean own trees left = ((c.in-Ok.ensures.alone clean trees left).holds (blank_is _ own)).0
+
+pub returns-in-Ok-clause-ready : goal.returns-in-Ok-clause-ready
+returns-in-Ok-clause-ready g c = (
+  refl,
+  subst (λ (rows : KeptRows). AreKept rows []) c.rows-empty.ensures.kept (no_rows (tables_in c.rows-empty.result.now) (c.rows-empty.ensures.same [] c.fresh-desk.ensures.stands)),
+)

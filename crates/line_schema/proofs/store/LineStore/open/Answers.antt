@@ -40,4 +40,5 @@ returns-in-Ok-clause-stands g c =
         tables = λ clean own is_open. subst (λ (db : Database). Holds db (ledger_tables L.greatest L.history)) (sym ((c.read_tables.ensures.reads.kept clean).committed is_open)) ((holds clean).are (let ours = ours_is old.committed.schema own in record { rules = Two; layout = ours.0; same = ours.1 }));
       },
       holds,
+      all.2,
     )

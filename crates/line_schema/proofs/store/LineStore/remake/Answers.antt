@@ -36,3 +36,10 @@ returns-in-None-clause-kept g c =
 
 pub returns-in-None-clause-stands : goal.returns-in-None-clause-stands
 returns-in-None-clause-stands g c L stands clean own = let reads = c.rebuild.ensures.reads in read_on g.S.Store g.D.Desk.Stands g.D.Desk.kept_rules c.args.self.now _ refl refl refl refl reads.mode reads.survives reads.kept L stands
+
+pub returns-in-Some-clause-rows : goal.returns-in-Some-clause-rows
+returns-in-Some-clause-rows g c L s clean own was =
+    let old = state g.S.Store c.args.self.now.conn in
+    let early : HasCleanDisk (state g.S.Store c.rebuild.new.conn) → HasCleanDisk old = λ now. omega (arith, c.rebuild.ensures.reads.survives.clean, now) in
+    let held = subst (λ n. IsTrue old.is_open → Holds old.committed (ledger_tables n L.history)) (sym s.greatest) (s.tables (early clean) own) in
+    (c.in-Some.ensures.same L.history s.judged held clean).3
