@@ -1,13 +1,15 @@
 //! The laws of alike desks. They are for proofs, and do nothing when they run.
 
-ghost use Rattle.std.specs.Prelude.{◌≡◌, List, All};
+ghost use Rattle.std.specs.Prelude.{◌≡◌, ◌+◌, List, All};
 ghost use Rattle.desk_types.specs.declared.command.Stamped.{Stamped};
 ghost use Rattle.desk_types.specs.declared.rules.Rules.{Rules};
 ghost use Rattle.desk_types.specs.Command.{IsStamped};
+ghost use Rattle.desk_types.specs.Id.{Name};
 ghost use Rattle.desk_types.specs.History.{History};
 ghost use Rattle.desk_types.specs.Judged.{IsJudged};
 ghost use Rattle.desk_types.specs.Outcome.{replies_to, after_commands};
 ghost use Rattle.alike.specs.Alike.{IsIdle, AreAlike};
+ghost use Rattle.alike.specs.Chain.{DeskFile, IsChain, received_over, placed_over, scrapped_over, left_over};
 ghost use Rattle.alike.specs.Past.{NamesNothingPast};
 
 /// Alike desks answer alike: commands that come one after the other get the same replies from both,
@@ -33,4 +35,14 @@ pub fn alike_desks_answer_alike()
 /// which each is begun as the one before it ended. This holds of every history.
 pub fn alike_desks_chain()
     ensures { (F G H : History) → AreAlike F G → AreAlike G H → AreAlike F H }
+{}
+
+/// Over a chain of files a reel's received pieces are placed, scrapped or left in the newest file. The
+/// received pieces are those with which it came to the line, and those that counts found in any file.
+///
+/// A new desk doesn't know a spent reel. If a later file receives its name again, those pieces are new to
+/// the line too.
+pub fn chain_pieces_balance()
+    ensures { (files : List DeskFile) (reel : Name) → IsChain files
+        → received_over files reel ≡ placed_over files reel + scrapped_over files reel + left_over files reel }
 {}

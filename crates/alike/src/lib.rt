@@ -4,4 +4,4 @@
 
 mod law;
 
-pub use law::{alike_desks_answer_alike, alike_desks_chain};
+pub use law::{alike_desks_answer_alike, alike_desks_chain, chain_pieces_balance};
