@@ -71,6 +71,10 @@ abbrev pub receipt_over : List DeskFile → Name → Option Receipt
 receipt_over [] reel = None
 receipt_over (file ∷ older) reel = if is_some (receipt_of file.begun reel) then receipt_over older reel else receipt_of file.whole reel
 
+-- What a placed piece has of its reel's receipt: the part and the lot.
+abbrev pub origin : Receipt → Name × Name
+origin r = (r.part, r.lot)
+
 -- The lot with which the reel came to the line.
 abbrev pub lot_over : List DeskFile → Name → Name
 lot_over files reel = option_map_or (λ (r : Receipt). r.lot) (receipt_over files reel) []
