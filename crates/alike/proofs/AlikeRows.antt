@@ -25,7 +25,7 @@ use Rattle.alike.specs.Alike.{IsSameReel, AreAlike}
 -- ---- the two desks
 
 -- H with these commands, each accepted.
-abbrev with : History → List Stamped → History
+abbrev pub with : History → List Stamped → History
 with H [] = H
 with H (s ∷ ss) = with (accept H s) ss
 
@@ -45,7 +45,7 @@ old_end =
 abbrev old_before : History
 old_before = with [] old_begin
 
-abbrev old : History
+abbrev pub old : History
 old = with (accept old_before (at 100 (MaterialsLoaded M S1 K1))) old_end
 
 -- The new desk: the reel has the 47 pieces that are left, and is loaded at minute 90, so that at minute 200 it was open for 110 minutes.
@@ -55,7 +55,7 @@ new_begin = base ++ at 90 (received_at FiveA K1 47) ∷ []
 abbrev new_before : History
 new_before = with [] new_begin
 
-abbrev new : History
+abbrev pub new : History
 new = with (accept new_before (at 90 (MaterialsLoaded M S1 K1))) (at 200 ClockSet ∷ [])
 
 -- Both desks accept all of this.

@@ -4,6 +4,7 @@ pub mod AgreeingNext
 pub mod AlikeRows
 pub mod ChainLots
 pub mod ChainPieces
+pub mod ChainRows
 pub mod Chains
 pub mod FloorNext
 pub mod FromAlike
