@@ -1,4 +1,4 @@
--- A chain of two small files, computed by the definitions, and what goes wrong if a desk doesn't receive what was left.
+-- A chain of two small files, computed by the definitions, and two files that are no chain.
 use Rattle.std.proofs.Common.{◌≡◌, ◌+◌, Bool, true, false, Some, None, List, [], ◌∷◌, refl, sym, ap, ◌∙◌, subst}
 use Rattle.std.specs.Prelude.{◌==◌, is_some, if◌then◌else◌}
 use Rattle.std.specs.Option.{option_or}

@@ -66,12 +66,12 @@ left_over (file ∷ older) reel = left_of file.whole reel
 
 -- ---- lots and boards
 
--- The receipt with which the reel came to the line: that of the newest file to which it wasn't carried over.
+-- The receipt with which the reel came to the line: that of the newest file in which it is new.
 abbrev pub receipt_over : List DeskFile → Name → Option Receipt
 receipt_over [] reel = None
 receipt_over (file ∷ older) reel = if is_some (receipt_of file.begun reel) then receipt_over older reel else receipt_of file.whole reel
 
--- What a placed piece has of its reel's receipt: the part and the lot.
+-- The part and the lot of a receipt, which a placement keeps.
 abbrev pub origin : Receipt → Name × Name
 origin r = (r.part, r.lot)
 
