@@ -18,8 +18,7 @@ use Rattle.desk_types.specs.Command.{IsCommand}
 use Rattle.desk_types.specs.Id.{Name, same}
 use Rattle.desk_types.specs.History.{History}
 use Rattle.desk_types.specs.Setup.{receipt_by, receipt_of}
-use Rattle.desk_types.specs.Pieces.{left_of}
-use Rattle.desk_types.specs.Placements.{placements_of, set_of, lots_of, boards_of}
+use Rattle.desk_types.specs.Placements.{placements_of, lots_of, boards_of}
 use Rattle.desk_types.specs.Judged.{IsJudged}
 use Rattle.desk_types.proofs.BothRules.{judged-by-two}
 use Rattle.desk_types.proofs.Keys.{same-sym, same-true, list_any-same}
