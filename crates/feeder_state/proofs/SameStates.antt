@@ -1,5 +1,5 @@
 -- Histories of one state agree on everything that replies depend on.
-use Rattle.std.proofs.Common.{◌≡◌, ℕ, All, Bool, false, Option, Some, None, List, refl, sym, ap, ◌∙◌, arith}
+use Rattle.std.proofs.Common.{◌≡◌, All, Bool, false, Option, Some, None, List, refl, sym, ap, ◌∙◌, arith}
 use Rattle.std.specs.Prelude.{◌-◌, ◌&&◌, is_some, not, unwrap_or}
 use Rattle.std.specs.Option.{option_and_then, option_map, option_map_or}
 use Rattle.desk_types.specs.declared.command.Stamped.{Stamped}
@@ -113,8 +113,8 @@ state-agree G H desk of_G of_H = record {
     of_reel : (reel : Name) → IsSameHeld G H reel
     of_reel reel =
         let held =
-            both-held G H desk.rows reel (unwrap_or desk.minute 0) (state-rows G desk of_G) (state-rows H desk of_H) (ap (λ o. unwrap_or o 0) (sym of_G.minute))
-            (ap (λ o. unwrap_or o 0) (sym of_H.minute)) in
+        both-held G H desk.rows reel (unwrap_or desk.minute 0) (state-rows G desk of_G) (state-rows H desk of_H) (ap (λ o. unwrap_or o 0) (sym of_G.minute))
+        (ap (λ o. unwrap_or o 0) (sym of_H.minute)) in
         same-held G H reel held.0 (ap (λ o. unwrap_or o 0) minute) two_G two_H held.1 held.2
 
 pub state-replies : (G H : History) (desk : StateDesk) (messages : List Stamped) → All IsStamped messages → IsState G desk → IsState H desk
