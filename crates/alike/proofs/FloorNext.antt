@@ -158,7 +158,7 @@ life-marked H reel = by (receipt_of H reel)
 
 -- ---- bakes
 
--- Whether a reel with this mark waits for its bake after a command, by what the command says of a bake and whether it waited before.
+-- Whether a reel with this mark waits for its bake after a command, by the command's word on a bake and whether it waited before.
 abbrev pub waiting : Option Bool → Option (Name × (Name × LevelWithLabel)) → Bool → Bool
 waiting None m before = before
 waiting (Some baked) m before = option_map_or (λ (m : Name × (Name × LevelWithLabel)). is_six m.1.1.level) m false && not baked

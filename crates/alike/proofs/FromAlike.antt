@@ -129,7 +129,7 @@ out-untouched (e ∷ H) reel (none, rest) = ap (λ o. since_after o e.effective 
 abbrev minutes_by : Option Receipt → ℕ → Option ℕ
 minutes_by o exposure = option_map (λ limit. limit - exposure) (option_and_then (λ (r : Receipt). limit_of r.moisture.level r.moisture.label) o)
 
-same-absent : (G H : History) (reel : Name) → IsJudged Two G → IsJudged Two H → receipt_of G reel ≡ None → receipt_of H reel ≡ None → IsSame G H reel
+pub same-absent : (G H : History) (reel : Name) → IsJudged Two G → IsJudged Two H → receipt_of G reel ≡ None → receipt_of H reel ≡ None → IsSame G H reel
 same-absent G H reel of_G of_H in_G in_H = record {
   marks = ap (option_map mark) (in_G ∙ sym in_H);
   unbaked =

@@ -2,6 +2,9 @@ pub mod AfterCommands
 pub mod Agreeing
 pub mod AgreeingNext
 pub mod AlikeRows
+pub mod ChainLots
+pub mod ChainPieces
+pub mod ChainRows
 pub mod Chains
 pub mod FloorNext
 pub mod FromAlike

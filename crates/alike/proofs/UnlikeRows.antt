@@ -1,5 +1,5 @@
--- Ways in which a desk can be carried over wrongly: for each an old desk and a new one that are not alike. Two are cases of a name that
--- only the new desk knows. Each but the case of the lot has a command that the two desks answer differently.
+-- Faults of a roll-over: for each an old desk and a new one that are not alike. In two of them the new desk knows a name that the old one
+-- doesn't. Each but the case of the lot has a command that the two desks answer differently.
 use Rattle.std.proofs.Common.{◌≡◌, ℕ, Bool, true, false, Option, Some, None, List, [], ◌∷◌, ◌++◌, refl, ap, arith}
 use Rattle.std.specs.Prelude.{◌==◌, is_some}
 use Rattle.std.specs.Option.{option_map_or, option_and_then}
@@ -26,7 +26,7 @@ use Rattle.alike.specs.Alike.{AreAlike}
 abbrev after : List Stamped → History
 after commands = after_commands Two [] commands
 
--- What the two desks of a case answer.
+-- The answers of a desk that got these commands.
 abbrev answers : List Stamped → List Stamped → List Reply
 answers commands later = replies_to Two (after commands) later
 

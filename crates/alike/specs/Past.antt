@@ -1,4 +1,4 @@
--- What is past on a desk: boards that were started, and reels that are spent. A desk that is begun anew does not have them.
+-- Boards that were started, and reels that are spent: a desk that is begun anew does not have them.
 use Rattle.std.specs.Prelude.{◌≡◌, Bool, false, is_some, ◌&&◌, ◌==◌, List, [], ◌∷◌, map, All}
 use Rattle.std.specs.List.{list_any}
 use Rattle.desk_types.specs.declared.command.Command.{Command}

@@ -4,4 +4,7 @@
 
 mod law;
 
-pub use law::{alike_desks_answer_alike, alike_desks_chain};
+pub use law::{
+    alike_desks_answer_alike, alike_desks_chain, chain_keeps_receipts, chain_pieces_balance,
+    chain_recalls_agree,
+};

@@ -1,6 +1,4 @@
 pub mod AcceptedChanges
-pub mod AlikeLists
-pub mod AlikeNext
 pub mod AtRest
 pub mod FilledMaps
 pub mod FirstFloor
@@ -15,6 +13,7 @@ pub mod RestoredSheets
 pub mod RestoredWork
 pub mod RowFits
 pub mod RowReels
+pub mod SameStates
 pub mod SlotsOfMachines
 pub mod SortedNames
 pub mod TapeSteps

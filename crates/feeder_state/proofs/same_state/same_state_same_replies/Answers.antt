@@ -1,4 +1,4 @@
-use Rattle.feeder_state.proofs.AlikeNext.{state-replies}
+use Rattle.feeder_state.proofs.SameStates.{state-replies}
 use Rattle.feeder_state.proofs.same_state.same_state_same_replies.Goals as goal
 
 pub returns : goal.returns
