@@ -1,7 +1,7 @@
 -- Facts of rows, by key.
 use Rattle.std.proofs.Common.{◌≡◌, Bool, true, false, is_some, Option, Some, None, refl, sym, ◌∙◌}
 use Rattle.std.proofs.Math.Bool.{beq}
-use Rattle.std.specs.Prelude.{not}
+use Rattle.std.specs.Prelude.{not, ◌&&◌, IfNone}
 use Rattle.desk_types.specs.Id.{Name}
 use Rattle.state_rows.specs.Kept.{KeptRows, tables_in}
 use Rattle.alike_check.specs.Tables.{machine_at}
@@ -37,3 +37,12 @@ pub either-some : {X : Type 0} (a b : Option X) → (is_some a ≡ true → a �
 either-some (Some x) b old new = old refl
 either-some None (Some x) old new = new refl
 either-some None None old new = refl
+
+pub known : (a b : Bool) → (a && not b) ≡ false → a ≡ true → b ≡ true
+known true true is has = refl
+known true false is has = cc
+known false b is has = cc
+
+pub none-then : {X : Type 0} (r : Option X) {P Q : Type 0} → (P → Q) → IfNone r P → IfNone r Q
+none-then None f p = f p
+none-then (Some x) f p = tt

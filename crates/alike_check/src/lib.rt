@@ -1,4 +1,10 @@
 //! Decides whether a new desk is alike to the old desk that it follows.
 #![tactic(auto)]
 
+mod difference;
+mod sheets;
 mod tables;
+mod tapes;
+mod views;
+
+pub use difference::Difference;

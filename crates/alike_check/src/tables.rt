@@ -1,6 +1,6 @@
 //! Differences between the tables of two desks.
 
-ghost use Rattle.std.specs.Prelude.{◌≡◌, ◌≢◌, true, false, is_some, IfNone, IfSome};
+ghost use Rattle.std.specs.Prelude.{◌≡◌, ◌≢◌, true, false, not, ◌&&◌, is_some, IfNone, IfSome};
 ghost use Rattle.desk_types.specs.Id.{Name};
 ghost use Rattle.state_rows.specs.Kept.{tables_in};
 ghost use Rattle.alike_check.specs.Tables.{machine_at};
@@ -121,6 +121,13 @@ fn has_board(rows: &RowSet, board: &Id) -> bool
     rows.board(board).is_some()
 }
 
+fn is_new_board(old: &RowSet, new: &RowSet, board: &Id) -> bool
+    ensures { result
+        ≡ (is_some ((tables_in new.now).boards board.now) && not (is_some ((tables_in old.now).boards board.now))) }
+{
+    has_board(new, board) && !has_board(old, board)
+}
+
 /// Returns the first board that only the new desk has.
 pub fn first_new_board(old: &RowSet, new: &RowSet) -> Option<Id>
     ensures known { (board : Name)
@@ -131,7 +138,7 @@ pub fn first_new_board(old: &RowSet, new: &RowSet) -> Option<Id>
         × (is_some ((tables_in old.now).boards board) ≡ false)) }
 {
     for (board, _) in new.boards() {
-        if !has_board(old, board) && has_board(new, board) {
+        if is_new_board(old, new, board) {
             return Some(*board);
         }
     }

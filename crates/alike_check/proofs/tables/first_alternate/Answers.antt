@@ -1,7 +1,8 @@
-use Rattle.state_rows.specs.Kept.{tables_in}
-use Rattle.std.proofs.lemmas.Option.{MatchOption-at_none}
-use Rattle.alike_check.proofs.SameRows.{either}
+use Rattle.alike_check.proofs.SameRows.{either, none-then}
 use Rattle.alike_check.proofs.tables.first_alternate.Goals as goal
 
 pub returns : goal.returns
-returns c = ?
+returns c = record {
+  same = λ p q. none-then c.alternate_in-2.result (λ of_new. either _ _ (c.in_default.ensures.same p q) of_new) (c.alternate_in-2.ensures.same p q);
+  differs = c.alternate_in-2.ensures.differs;
+}

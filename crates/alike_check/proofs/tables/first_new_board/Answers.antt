@@ -5,15 +5,15 @@ use Rattle.desk_types.specs.declared.row.BoardRow.{BoardRow}
 use Rattle.desk_types.specs.Id.{Name, by_name}
 use Rattle.state_rows.specs.Kept.{tables_in, Lists}
 use Rattle.alike_check.proofs.Covered.{covered-rows}
-use Rattle.alike_check.proofs.SameRows.{IsKnown}
+use Rattle.alike_check.proofs.SameRows.{IsKnown, known}
 use Rattle.alike_check.proofs.tables.first_new_board.Goals as goal
 
 pub loop-board-preserved : goal.loop-board-preserved
 loop-board-preserved c = λ rest.
     let old = c.args.old.now in
     let new = c.args.new.now in
-    let known : IsKnown old new c.in-Some.board.now = λ _. sym c.has_board.ensures ∙ c.if-has_board.true in
-    c.loop-board.invariant (subst (AllByRecursion (λ (e : Name × BoardRow). IsKnown old new e.0)) (sym c.in-Some.ensures.steps) (known, rest))
+    let is : IsKnown old new c.in-Some.board.now = known _ _ (sym c.is_new_board.ensures ∙ c.if-is_new_board.false) in
+    c.loop-board.invariant (subst (AllByRecursion (λ (e : Name × BoardRow). IsKnown old new e.0)) (sym c.in-Some.ensures.steps) (is, rest))
 
 pub returns : goal.returns
 returns c =

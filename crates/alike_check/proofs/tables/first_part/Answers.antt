@@ -1,7 +1,8 @@
-use Rattle.state_rows.specs.Kept.{tables_in}
-use Rattle.std.proofs.lemmas.Option.{MatchOption-at_none}
-use Rattle.alike_check.proofs.SameRows.{either}
+use Rattle.alike_check.proofs.SameRows.{either, none-then}
 use Rattle.alike_check.proofs.tables.first_part.Goals as goal
 
 pub returns : goal.returns
-returns c = ?
+returns c = record {
+  same = λ part. none-then c.part_in-2.result (λ of_new. either _ _ (c.in_default.ensures.same part) of_new) (c.part_in-2.ensures.same part);
+  differs = c.part_in-2.ensures.differs;
+}

@@ -1,7 +1,8 @@
-use Rattle.state_rows.specs.Kept.{tables_in}
-use Rattle.std.proofs.lemmas.Option.{MatchOption-at_none}
-use Rattle.alike_check.proofs.SameRows.{either-some}
+use Rattle.alike_check.proofs.SameRows.{either-some, none-then}
 use Rattle.alike_check.proofs.tables.first_selection.Goals as goal
 
 pub returns : goal.returns
-returns c = ?
+returns c = record {
+  same = λ machine. none-then c.selection_in-2.result (λ of_new. either-some _ _ (c.in_default.ensures.same machine) of_new) (c.selection_in-2.ensures.same machine);
+  differs = c.selection_in-2.ensures.differs;
+}
