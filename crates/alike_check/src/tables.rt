@@ -2,9 +2,15 @@
 
 ghost use Rattle.std.specs.Prelude.{◌≡◌, ◌≢◌, true, false, not, ◌&&◌, is_some, IfNone, IfSome};
 ghost use Rattle.desk_types.specs.Id.{Name};
-ghost use Rattle.state_rows.specs.Kept.{tables_in};
-ghost use Rattle.alike_check.specs.Tables.{machine_at};
+ghost use Rattle.state_rows.specs.Kept.{tables_in, unnumbered};
+ghost use Rattle.desk_types.specs.declared.rules.Rules.TheVariants.{Two};
+ghost use Rattle.desk_types.specs.History.{History};
+ghost use Rattle.desk_types.specs.Judged.{IsJudged};
+ghost use Rattle.desk_types.specs.Tables.{tables_of};
+ghost use Rattle.alike.specs.Alike.{AreAlike};
+ghost use Rattle.alike_check.specs.Tables.{machine_at, IsSetupAlike, IsWorkAlike};
 
+use crate::difference::Difference;
 use desk_types::Id;
 use state_rows::RowSet;
 
@@ -24,7 +30,7 @@ fn part_in(parts: &RowSet, old: &RowSet, new: &RowSet) -> Option<Id>
 }
 
 /// Returns the first part that only one of the desks has.
-pub fn first_part(old: &RowSet, new: &RowSet) -> Option<Id>
+fn first_part(old: &RowSet, new: &RowSet) -> Option<Id>
     ensures same { (part : Name) → IfNone result ((tables_in old.now).parts part ≡ (tables_in new.now).parts part) }
     ensures differs { IfSome result (λ part. (tables_in old.now).parts part ≢ (tables_in new.now).parts part) }
 {
@@ -52,7 +58,7 @@ fn alternate_in(alternates: &RowSet, old: &RowSet, new: &RowSet) -> Option<(Id, 
 }
 
 /// Returns the first part and alternate that only one of the desks has.
-pub fn first_alternate(old: &RowSet, new: &RowSet) -> Option<(Id, Id)>
+fn first_alternate(old: &RowSet, new: &RowSet) -> Option<(Id, Id)>
     ensures same { (p q : Name)
         → IfNone result ((tables_in old.now).alternates p q ≡ (tables_in new.now).alternates p q) }
     ensures differs { IfSome result
@@ -81,7 +87,7 @@ fn selection_in(selected: &RowSet, old: &RowSet, new: &RowSet) -> Option<Id>
 }
 
 /// Returns the first machine where the desks have another product selected.
-pub fn first_selection(old: &RowSet, new: &RowSet) -> Option<Id>
+fn first_selection(old: &RowSet, new: &RowSet) -> Option<Id>
     ensures same { (machine : Name)
         → IfNone result ((tables_in old.now).selected machine ≡ (tables_in new.now).selected machine) }
     ensures differs { IfSome result
@@ -103,7 +109,7 @@ fn is_in_work(rows: &RowSet, board: &Id) -> bool
 }
 
 /// Returns the first board in work.
-pub fn first_in_work(rows: &RowSet) -> Option<Id>
+fn first_in_work(rows: &RowSet) -> Option<Id>
     ensures none { (board : Name) → IfNone result (is_some (machine_at rows.now board) ≡ false) }
     ensures some { IfSome result (λ board. is_some (machine_at rows.now board) ≡ true) }
 {
@@ -129,7 +135,7 @@ fn is_new_board(old: &RowSet, new: &RowSet, board: &Id) -> bool
 }
 
 /// Returns the first board that only the new desk has.
-pub fn first_new_board(old: &RowSet, new: &RowSet) -> Option<Id>
+fn first_new_board(old: &RowSet, new: &RowSet) -> Option<Id>
     ensures known { (board : Name)
         → IfNone result (is_some ((tables_in new.now).boards board) ≡ true
         → is_some ((tables_in old.now).boards board) ≡ true) }
@@ -143,4 +149,63 @@ pub fn first_new_board(old: &RowSet, new: &RowSet) -> Option<Id>
         }
     }
     None
+}
+
+/// Returns the first difference of the setup, except for sheets.
+fn setup_difference(old: &RowSet, new: &RowSet) -> Option<Difference>
+    ensures same { (H H' : History) → unnumbered (tables_in old.now) ≡ unnumbered (tables_of H)
+        → unnumbered (tables_in new.now) ≡ unnumbered (tables_of H') → IfNone result (IsSetupAlike H H') }
+    ensures differs { (H H' : History) → unnumbered (tables_in old.now) ≡ unnumbered (tables_of H)
+        → unnumbered (tables_in new.now) ≡ unnumbered (tables_of H')
+        → IfSome result (λ _. AreAlike H H' → ⊥) }
+{
+    if let Some(part) = first_part(old, new) {
+        return Some(Difference::Part { part });
+    }
+    if let Some((part, alternate)) = first_alternate(old, new) {
+        return Some(Difference::Alternate { part, alternate });
+    }
+    if let Some(machine) = first_selection(old, new) {
+        return Some(Difference::Selection { machine });
+    }
+    None
+}
+
+/// Returns the first board in work, or that only the new desk has started.
+fn work_difference(old: &RowSet, new: &RowSet) -> Option<Difference>
+    ensures same { (H H' : History) → IsJudged Two H → IsJudged Two H'
+        → unnumbered (tables_in old.now) ≡ unnumbered (tables_of H)
+        → unnumbered (tables_in new.now) ≡ unnumbered (tables_of H') → IfNone result (IsWorkAlike H H') }
+    ensures differs { (H H' : History) → IsJudged Two H → IsJudged Two H'
+        → unnumbered (tables_in old.now) ≡ unnumbered (tables_of H)
+        → unnumbered (tables_in new.now) ≡ unnumbered (tables_of H')
+        → IfSome result (λ _. AreAlike H H' → ⊥) }
+{
+    if let Some(board) = first_in_work(old) {
+        return Some(Difference::OldWork { board });
+    }
+    if let Some(board) = first_in_work(new) {
+        return Some(Difference::NewWork { board });
+    }
+    if let Some(board) = first_new_board(old, new) {
+        return Some(Difference::Board { board });
+    }
+    None
+}
+
+/// Returns the first difference of the setup, except for sheets, or of the work.
+pub fn tables_difference(old: &RowSet, new: &RowSet) -> Option<Difference>
+    ensures same { (H H' : History) → IsJudged Two H → IsJudged Two H'
+        → unnumbered (tables_in old.now) ≡ unnumbered (tables_of H)
+        → unnumbered (tables_in new.now) ≡ unnumbered (tables_of H')
+        → IfNone result (IsSetupAlike H H' × IsWorkAlike H H') }
+    ensures differs { (H H' : History) → IsJudged Two H → IsJudged Two H'
+        → unnumbered (tables_in old.now) ≡ unnumbered (tables_of H)
+        → unnumbered (tables_in new.now) ≡ unnumbered (tables_of H')
+        → IfSome result (λ _. AreAlike H H' → ⊥) }
+{
+    if let Some(found) = setup_difference(old, new) {
+        return Some(found);
+    }
+    work_difference(old, new)
 }

@@ -1,6 +1,6 @@
 //! Differences between the views of a reel.
 
-ghost use Rattle.std.specs.Prelude.{◌≡◌, ⊥, IfNone, IfSome};
+ghost use Rattle.std.specs.Prelude.{◌≡◌, Some, IfNone, IfSome};
 ghost use Rattle.alike_check.specs.Views.{IsSameView, IsCarried};
 
 use crate::difference::Difference;

@@ -18,7 +18,7 @@ loop-part-preserved c = λ rest.
     let p = c.in-Some.field-0.now.0 in
     let q = c.in-Some.field-0.now.1 in
     let same : SameAlternate old new (p, q) =
-        sym (c.has-of_old.ensures ∙ c.alternate_set.ensures p q) ∙ beq-same _ _ c.if-of_old.false ∙ c.has.ensures ∙ c.alternate_set-in-loop-part.ensures p q in
+        sym (c.has-of_old.ensures ∙ c.alternate_set.ensures p q) ∙ beq-same _ _ c.if-of_old-has.false ∙ c.has.ensures ∙ c.alternate_set-in-loop-part.ensures p q in
     c.loop-part.invariant (subst (AllByRecursion (λ (k : Name × Name). SameAlternate old new k)) (sym c.in-Some.ensures.steps) (same, rest))
 
 pub returns : goal.returns

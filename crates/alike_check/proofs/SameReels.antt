@@ -1,0 +1,115 @@
+-- Reels of two histories, by their views.
+use Rattle.std.proofs.Common.{◌≡◌, ℕ, ◌<◌, Bool, true, false, is_some, Option, Some, None, [], refl, sym, ap, ◌∙◌, arith}
+use Rattle.std.specs.Option.{option_and_then, option_map, option_map_or}
+use Rattle.desk_types.specs.declared.command.Receipt.{Receipt}
+use Rattle.desk_types.specs.declared.level.Level.{Level}
+use Rattle.desk_types.specs.declared.rules.Rules.TheVariants.{Two}
+use Rattle.desk_types.specs.declared.view.ReelView.{ReelView}
+use Rattle.desk_types.specs.Id.{Name}
+use Rattle.desk_types.specs.Level.{LevelWithLabel, limit_of}
+use Rattle.desk_types.specs.History.{History, now_of}
+use Rattle.desk_types.specs.Setup.{receipt_of}
+use Rattle.desk_types.specs.Pieces.{left_of}
+use Rattle.desk_types.specs.FloorLife.{out_since, floor_life, minutes_left, is_unbaked}
+use Rattle.desk_types.specs.View.{view_of, reel_view, life_left}
+use Rattle.desk_types.specs.Judged.{IsJudged}
+use Rattle.desk_laws.proofs.Balance.{unreceived-empty}
+use Rattle.alike.specs.Alike.{IsSameReel}
+use Rattle.alike_check.specs.Views.{IsSameView, IsCarried}
+use Rattle.alike_check.proofs.SameMinutes.{minutes-same, life-parts}
+
+-- The reel was received, and this is its view.
+record IsReceived (H : History) (reel : Name) (view : ReelView) : Type 0 where
+  receipt : Receipt
+  is : receipt_of H reel ≡ Some receipt
+  view_is : view_of H reel receipt ≡ view
+
+received : (H : History) (reel : Name) (view : ReelView) → reel_view H reel ≡ Some view → IsReceived H reel view
+received H reel view is = by (receipt_of H reel) refl is
+  where
+    by : (said : Option Receipt) → receipt_of H reel ≡ said → option_map (view_of H reel) said ≡ Some view → IsReceived H reel view
+    by None says is = cc
+    by (Some receipt) says is = record { receipt = receipt; is = says; view_is = ap (λ o. option_map_or (λ (v : ReelView). v) o view) is }
+
+unreceived : (H : History) (reel : Name) → reel_view H reel ≡ None → receipt_of H reel ≡ None
+unreceived H reel is = by (receipt_of H reel) is
+  where
+    by : (said : Option Receipt) → option_map (view_of H reel) said ≡ None → said ≡ None
+    by None is = refl
+    by (Some receipt) is = cc
+
+same-moisture : (a b : LevelWithLabel) → a.level ≡ b.level → a.label ≡ b.label → a ≡ b
+same-moisture a b level label = λ j. record { level = level j; label = label j }
+
+pub same-reel : (H H' : History) (reel : Name) (v w : ReelView) → IsJudged Two H → IsJudged Two H' → now_of H ≡ now_of H' → reel_view H reel ≡ Some v → reel_view H' reel ≡ Some w
+    → IsSameView v w → IsSameReel H H' reel
+same-reel H H' reel v w judged judged' now is_v is_w same =
+    let old = received H reel v is_v in
+    let new = received H' reel w is_w in
+    let level : old.receipt.moisture.level ≡ new.receipt.moisture.level = ap (λ (x : ReelView). x.level) old.view_is ∙ same.level ∙ sym (ap (λ (x : ReelView). x.level) new.view_is) in
+    let label : old.receipt.moisture.label ≡ new.receipt.moisture.label = ap (λ (x : ReelView). x.label) old.view_is ∙ same.label ∙ sym (ap (λ (x : ReelView). x.label) new.view_is) in
+    let bag : is_some (out_since H reel) ≡ is_some (out_since H' reel) = ap (λ (x : ReelView). x.is_open) old.view_is ∙ same.is_open ∙ sym (ap (λ (x : ReelView). x.is_open) new.view_is) in
+    let lives : floor_life H reel ≡ floor_life H' reel =
+        ap (option_and_then (λ (r : Receipt). limit_of r.moisture.level r.moisture.label)) old.is
+        ∙ ap (λ l. limit_of l old.receipt.moisture.label) level
+        ∙ ap (limit_of new.receipt.moisture.level) label
+        ∙ sym (ap (option_and_then (λ (r : Receipt). limit_of r.moisture.level r.moisture.label)) new.is) in
+    let left : life_left H reel ≡ life_left H' reel = ap (λ (x : ReelView). x.left) old.view_is ∙ same.left ∙ sym (ap (λ (x : ReelView). x.left) new.view_is) in
+    let parts = life-parts (is_unbaked H reel) (is_unbaked H' reel) (minutes_left H reel (now_of H)) (minutes_left H' reel (now_of H')) left in
+    record {
+      part = ap (λ o. option_map_or (λ (r : Receipt). r.part) o []) old.is
+          ∙ ap (λ (x : ReelView). x.part) old.view_is ∙ same.part ∙ sym (ap (λ (x : ReelView). x.part) new.view_is)
+          ∙ sym (ap (λ o. option_map_or (λ (r : Receipt). r.part) o []) new.is);
+      lot = ap (λ o. option_map_or (λ (r : Receipt). r.lot) o []) old.is
+          ∙ ap (λ (x : ReelView). x.lot) old.view_is ∙ same.lot ∙ sym (ap (λ (x : ReelView). x.lot) new.view_is)
+          ∙ sym (ap (λ o. option_map_or (λ (r : Receipt). r.lot) o []) new.is);
+      moisture = ap (option_map (λ (r : Receipt). r.moisture)) old.is
+          ∙ ap (λ m. Some m) (same-moisture old.receipt.moisture new.receipt.moisture level label)
+          ∙ sym (ap (option_map (λ (r : Receipt). r.moisture)) new.is);
+      unbaked = parts.0;
+      out = bag;
+      minutes = λ baked minute le. minutes-same H H' reel minute judged judged' now lives bag (parts.1 baked) le;
+    }
+
+-- The reel was carried from one history to the other.
+pub record IsReelCarried (H H' : History) (reel : Name) : Type 0 where
+  pub left : left_of H reel ≡ left_of H' reel
+  pub same : 0 < left_of H reel → IsSameReel H H' reel
+  pub known : is_some (receipt_of H' reel) ≡ true → is_some (receipt_of H reel) ≡ true
+
+pub carried : (H H' : History) (reel : Name) → IsJudged Two H → IsJudged Two H' → now_of H ≡ now_of H' → IsCarried (reel_view H reel) (reel_view H' reel) → IsReelCarried H H' reel
+carried H H' reel judged judged' now = by (reel_view H reel) (reel_view H' reel) refl refl
+  where
+    absent : {P : Type 0} (o : Option Receipt) → o ≡ None → is_some o ≡ true → P
+    absent None none some = cc
+    absent (Some r) none some = cc
+
+    pieces : (G : History) (view : ReelView) → reel_view G reel ≡ Some view → left_of G reel ≡ view.remaining
+    pieces G view is = ap (λ (x : ReelView). x.remaining) (received G reel view is).view_is
+
+    by : (v w : Option ReelView) → reel_view H reel ≡ v → reel_view H' reel ≡ w → IsCarried v w → IsReelCarried H H' reel
+    by None None is_v is_w is =
+        let old = unreceived-empty H reel judged (unreceived H reel is_v) in
+        let new = unreceived-empty H' reel judged' (unreceived H' reel is_w) in
+        record {
+          left = old ∙ sym new;
+          same = λ some. absurd (omega (arith, old, some));
+          known = absent (receipt_of H' reel) (unreceived H' reel is_w);
+        }
+    by None (Some w) is_v is_w is = absurd is
+    by (Some v) None is_v is_w is =
+        let old = pieces H v is_v in
+        let new = unreceived-empty H' reel judged' (unreceived H' reel is_w) in
+        record {
+          left = old ∙ is ∙ sym new;
+          same = λ some. absurd (omega (arith, old, is, some));
+          known = absent (receipt_of H' reel) (unreceived H' reel is_w);
+        }
+    by (Some v) (Some w) is_v is_w is =
+        let old = pieces H v is_v in
+        let new = pieces H' w is_w in
+        record {
+          left = old ∙ is.0 ∙ sym new;
+          same = λ some. same-reel H H' reel v w judged judged' now is_v is_w (is.1 (omega (arith, old, some)));
+          known = λ _. ap is_some (received H reel v is_v).is;
+        }
