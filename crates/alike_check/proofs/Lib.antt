@@ -3,4 +3,7 @@ pub mod EqualLists
 pub mod SameMinutes
 pub mod SameReels
 pub mod SameRows
+pub mod SameSheets
+pub mod SameSlots
+pub mod SameTables
 pub mod StartedBoards

@@ -1,9 +1,12 @@
 -- Reels of two histories, by their views.
-use Rattle.std.proofs.Common.{◌≡◌, ℕ, ◌<◌, Bool, true, false, is_some, Option, Some, None, [], refl, sym, ap, ◌∙◌, arith}
+use Rattle.std.proofs.Common.{◌≡◌, ℕ, ◌<◌, Bool, true, false, is_some, Option, Some, None, [], refl, sym, ap, subst, unwrap_or, ◌∙◌, arith}
+use Rattle.std.specs.Prelude.{if◌then◌else◌}
 use Rattle.std.specs.Option.{option_and_then, option_map, option_map_or}
 use Rattle.desk_types.specs.declared.command.Receipt.{Receipt}
 use Rattle.desk_types.specs.declared.level.Level.{Level}
+use Rattle.desk_types.specs.declared.level.Level.TheVariants.{One}
 use Rattle.desk_types.specs.declared.rules.Rules.TheVariants.{Two}
+use Rattle.desk_types.specs.declared.view.Left.TheVariants.{Minutes, Unlimited, Unbaked}
 use Rattle.desk_types.specs.declared.view.ReelView.{ReelView}
 use Rattle.desk_types.specs.Id.{Name}
 use Rattle.desk_types.specs.Level.{LevelWithLabel, limit_of}
@@ -14,7 +17,7 @@ use Rattle.desk_types.specs.FloorLife.{out_since, floor_life, minutes_left, is_u
 use Rattle.desk_types.specs.View.{view_of, reel_view, life_left}
 use Rattle.desk_types.specs.Judged.{IsJudged}
 use Rattle.desk_laws.proofs.Balance.{unreceived-empty}
-use Rattle.alike.specs.Alike.{IsSameReel}
+use Rattle.alike.specs.Alike.{IsSameReel, AreAlike}
 use Rattle.alike_check.specs.Views.{IsSameView, IsCarried}
 use Rattle.alike_check.proofs.SameMinutes.{minutes-same, life-parts}
 
@@ -113,3 +116,39 @@ carried H H' reel judged judged' now = by (reel_view H reel) (reel_view H' reel)
           same = λ some. same-reel H H' reel v w judged judged' now is_v is_w (is.1 (omega (arith, old, some)));
           known = λ _. ap is_some (received H reel v is_v).is;
         }
+
+-- ---- alike histories
+
+same-life : (H H' : History) (reel : Name) → now_of H ≡ now_of H' → IsSameReel H H' reel → life_left H reel ≡ life_left H' reel
+same-life H H' reel now same = by (is_unbaked H reel) (is_unbaked H' reel) same.unbaked (λ baked. same.minutes baked (now_of H) (omega arith) ∙ ap (minutes_left H' reel) now)
+  where
+    by : (b b' : Bool) → b ≡ b' → (b ≡ false → minutes_left H reel (now_of H) ≡ minutes_left H' reel (now_of H'))
+        → (if b then Unbaked else option_map_or Minutes (minutes_left H reel (now_of H)) Unlimited) ≡ (if b' then Unbaked else option_map_or Minutes (minutes_left H' reel (now_of H')) Unlimited)
+    by true true one left = refl
+    by true false one left = cc
+    by false true one left = cc
+    by false false one left = ap (λ m. option_map_or Minutes m Unlimited) (left refl)
+
+same-view : (H H' : History) (reel : Name) (r r' : Receipt) → now_of H ≡ now_of H' → receipt_of H reel ≡ Some r → receipt_of H' reel ≡ Some r' → IsSameReel H H' reel
+    → IsSameView (view_of H reel r) (view_of H' reel r')
+same-view H H' reel r r' now is is' same =
+    let moisture : Some r.moisture ≡ Some r'.moisture =
+        sym (ap (option_map (λ (x : Receipt). x.moisture)) is) ∙ same.moisture ∙ ap (option_map (λ (x : Receipt). x.moisture)) is' in
+    record {
+      part = sym (ap (λ o. option_map_or (λ (x : Receipt). x.part) o []) is) ∙ same.part ∙ ap (λ o. option_map_or (λ (x : Receipt). x.part) o []) is';
+      lot = sym (ap (λ o. option_map_or (λ (x : Receipt). x.lot) o []) is) ∙ same.lot ∙ ap (λ o. option_map_or (λ (x : Receipt). x.lot) o []) is';
+      level = ap (λ o. option_map_or (λ (m : LevelWithLabel). m.level) o One) moisture;
+      label = ap (λ o. option_map_or (λ (m : LevelWithLabel). m.label) o 0) moisture;
+      is_open = same.out;
+      left = same-life H H' reel now same;
+    }
+
+pub alike-carried : (H H' : History) (reel : Name) → IsJudged Two H' → AreAlike H H' → IsCarried (reel_view H reel) (reel_view H' reel)
+alike-carried H H' reel judged' alike = by (receipt_of H reel) (receipt_of H' reel) refl refl
+  where
+    by : (o o' : Option Receipt) → receipt_of H reel ≡ o → receipt_of H' reel ≡ o' → IsCarried (option_map (view_of H reel) o) (option_map (view_of H' reel) o')
+    by None None is is' = tt
+    by None (Some r') is is' = let known : true ≡ false = sym (alike.reels_known reel (ap is_some is')) ∙ ap is_some is in cc
+    by (Some r) None is is' = alike.left reel ∙ unreceived-empty H' reel judged' is'
+    by (Some r) (Some r') is is' =
+        (alike.left reel, λ some. same-view H H' reel r r' (ap (λ o. unwrap_or o 0) alike.minute) is is' (alike.reels reel some))

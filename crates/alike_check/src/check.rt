@@ -8,7 +8,7 @@ ghost use Rattle.feeder_state.specs.State.{IsState};
 ghost use Rattle.alike.specs.Alike.{AreAlike};
 
 use crate::difference::Difference;
-use crate::reels::first_reel;
+use crate::carried::first_reel;
 use crate::sheets::first_sheet;
 use crate::tables::tables_difference;
 use crate::tapes::slot_in;
@@ -26,8 +26,10 @@ fn slot_difference(old: &StateDesk, new: &StateDesk) -> Option<Difference>
     if let Some((machine, slot)) = slot_in(old.rows(), old, new) {
         return Some(Difference::Slot { machine, slot });
     }
-    let (machine, slot) = slot_in(new.rows(), old, new)?;
-    Some(Difference::Slot { machine, slot })
+    if let Some((machine, slot)) = slot_in(new.rows(), old, new) {
+        return Some(Difference::Slot { machine, slot });
+    }
+    None
 }
 
 /// Returns the first way in which the new desk isn't alike to the old one, or `None` if it is alike.
@@ -44,14 +46,19 @@ pub fn first_difference(old: &StateDesk, new: &StateDesk) -> Option<Difference>
             new: of_new,
         });
     }
-    if let Some(found) = tables_difference(old.rows(), new.rows()) {
+    let old_rows = old.rows();
+    let new_rows = new.rows();
+    if let Some(found) = tables_difference(old_rows, new_rows) {
         return Some(found);
     }
-    if let Some((product, machine)) = first_sheet(old.rows(), new.rows(), old, new) {
+    if let Some((product, machine)) = first_sheet(old_rows, new_rows, old, new) {
         return Some(Difference::Sheet { product, machine });
     }
-    if let Some(found) = first_reel(old.rows(), new.rows(), old, new) {
+    if let Some(found) = first_reel(old_rows, new_rows, old, new) {
         return Some(found);
     }
-    slot_difference(old, new)
+    if let Some(found) = slot_difference(old, new) {
+        return Some(found);
+    }
+    None
 }

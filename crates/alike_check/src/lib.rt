@@ -1,9 +1,9 @@
 //! Decides whether a new desk is alike to the old desk that it follows.
 #![tactic(auto)]
 
+mod carried;
 mod check;
 mod difference;
-mod reels;
 mod sheets;
 mod tables;
 mod tapes;
