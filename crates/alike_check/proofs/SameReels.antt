@@ -1,9 +1,8 @@
 -- Reels of two histories, by their views.
-use Rattle.std.proofs.Common.{◌≡◌, ℕ, ◌<◌, Bool, true, false, is_some, Option, Some, None, [], refl, sym, ap, subst, unwrap_or, ◌∙◌, arith}
+use Rattle.std.proofs.Common.{◌≡◌, ◌<◌, Bool, true, false, is_some, Option, Some, None, [], refl, sym, ap, unwrap_or, ◌∙◌, arith}
 use Rattle.std.specs.Prelude.{if◌then◌else◌}
 use Rattle.std.specs.Option.{option_and_then, option_map, option_map_or}
 use Rattle.desk_types.specs.declared.command.Receipt.{Receipt}
-use Rattle.desk_types.specs.declared.level.Level.{Level}
 use Rattle.desk_types.specs.declared.level.Level.TheVariants.{One}
 use Rattle.desk_types.specs.declared.rules.Rules.TheVariants.{Two}
 use Rattle.desk_types.specs.declared.view.Left.TheVariants.{Minutes, Unlimited, Unbaked}
@@ -53,10 +52,10 @@ same-reel H H' reel v w judged judged' now is_v is_w same =
     let label : old.receipt.moisture.label ≡ new.receipt.moisture.label = ap (λ (x : ReelView). x.label) old.view_is ∙ same.label ∙ sym (ap (λ (x : ReelView). x.label) new.view_is) in
     let bag : is_some (out_since H reel) ≡ is_some (out_since H' reel) = ap (λ (x : ReelView). x.is_open) old.view_is ∙ same.is_open ∙ sym (ap (λ (x : ReelView). x.is_open) new.view_is) in
     let lives : floor_life H reel ≡ floor_life H' reel =
-        ap (option_and_then (λ (r : Receipt). limit_of r.moisture.level r.moisture.label)) old.is
-        ∙ ap (λ l. limit_of l old.receipt.moisture.label) level
-        ∙ ap (limit_of new.receipt.moisture.level) label
-        ∙ sym (ap (option_and_then (λ (r : Receipt). limit_of r.moisture.level r.moisture.label)) new.is) in
+    ap (option_and_then (λ (r : Receipt). limit_of r.moisture.level r.moisture.label)) old.is
+    ∙ ap (λ l. limit_of l old.receipt.moisture.label) level
+    ∙ ap (limit_of new.receipt.moisture.level) label
+    ∙ sym (ap (option_and_then (λ (r : Receipt). limit_of r.moisture.level r.moisture.label)) new.is) in
     let left : life_left H reel ≡ life_left H' reel = ap (λ (x : ReelView). x.left) old.view_is ∙ same.left ∙ sym (ap (λ (x : ReelView). x.left) new.view_is) in
     let parts = life-parts (is_unbaked H reel) (is_unbaked H' reel) (minutes_left H reel (now_of H)) (minutes_left H' reel (now_of H')) left in
     record {
@@ -133,7 +132,7 @@ same-view : (H H' : History) (reel : Name) (r r' : Receipt) → now_of H ≡ now
     → IsSameView (view_of H reel r) (view_of H' reel r')
 same-view H H' reel r r' now is is' same =
     let moisture : Some r.moisture ≡ Some r'.moisture =
-        sym (ap (option_map (λ (x : Receipt). x.moisture)) is) ∙ same.moisture ∙ ap (option_map (λ (x : Receipt). x.moisture)) is' in
+    sym (ap (option_map (λ (x : Receipt). x.moisture)) is) ∙ same.moisture ∙ ap (option_map (λ (x : Receipt). x.moisture)) is' in
     record {
       part = sym (ap (λ o. option_map_or (λ (x : Receipt). x.part) o []) is) ∙ same.part ∙ ap (λ o. option_map_or (λ (x : Receipt). x.part) o []) is';
       lot = sym (ap (λ o. option_map_or (λ (x : Receipt). x.lot) o []) is) ∙ same.lot ∙ ap (λ o. option_map_or (λ (x : Receipt). x.lot) o []) is';

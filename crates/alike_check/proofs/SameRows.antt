@@ -1,5 +1,5 @@
 -- Facts of rows, by key.
-use Rattle.std.proofs.Common.{◌≡◌, Bool, true, false, is_some, Option, Some, None, refl, sym, ◌∙◌}
+use Rattle.std.proofs.Common.{◌≡◌, Bool, true, false, is_some, Option, Some, None, refl}
 use Rattle.std.proofs.Math.Bool.{beq}
 use Rattle.std.specs.Prelude.{not, ◌&&◌, IfNone}
 use Rattle.desk_types.specs.Id.{Name}

@@ -1,11 +1,10 @@
 -- Tables of two histories, by rows.
-use Rattle.std.proofs.Common.{◌≡◌, true, false, is_some, Option, Some, None, refl, sym, ap, ◌∙◌}
+use Rattle.std.proofs.Common.{◌≡◌, true, false, is_some, sym, ap, ◌∙◌}
 use Rattle.std.specs.Option.{option_and_then}
 use Rattle.desk_types.specs.declared.row.BoardRow.{BoardRow}
 use Rattle.desk_types.specs.declared.rules.Rules.TheVariants.{Two}
 use Rattle.desk_types.specs.Id.{Name}
 use Rattle.desk_types.specs.History.{History}
-use Rattle.desk_types.specs.Setup.{is_part, is_alternate, selected_on}
 use Rattle.desk_types.specs.Tables.{Tables, tables_of, board_row}
 use Rattle.desk_types.specs.Judged.{IsJudged}
 use Rattle.state_rows.specs.Kept.{KeptRows, tables_in, unnumbered}

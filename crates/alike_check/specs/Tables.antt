@@ -1,5 +1,5 @@
 -- Tables of two desks.
-use Rattle.std.specs.Prelude.{◌≡◌, true, is_some, Option}
+use Rattle.std.specs.Prelude.{◌≡◌, true, Option}
 use Rattle.std.specs.Option.{option_and_then}
 use Rattle.desk_types.specs.declared.row.BoardRow.{BoardRow}
 use Rattle.desk_types.specs.Id.{Name}

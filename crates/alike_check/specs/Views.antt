@@ -1,5 +1,5 @@
 -- The view of a reel on two desks.
-use Rattle.std.specs.Prelude.{◌≡◌, ℕ, ◌<◌, ⊤, Option, Some, None}
+use Rattle.std.specs.Prelude.{◌≡◌, ◌<◌, ⊤, Option, Some, None}
 use Rattle.desk_types.specs.declared.view.ReelView.{ReelView}
 use Rattle.desk_types.specs.Id.{Name}
 use Rattle.desk_types.specs.History.{History}

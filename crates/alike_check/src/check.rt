@@ -7,8 +7,8 @@ ghost use Rattle.desk_types.specs.Pieces.{live_on};
 ghost use Rattle.feeder_state.specs.State.{IsState};
 ghost use Rattle.alike.specs.Alike.{AreAlike};
 
-use crate::difference::Difference;
 use crate::carried::first_reel;
+use crate::difference::Difference;
 use crate::sheets::first_sheet;
 use crate::tables::tables_difference;
 use crate::tapes::slot_in;

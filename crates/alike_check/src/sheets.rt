@@ -24,7 +24,10 @@ fn same_sheet<F: Facts>(old: &F, new: &F, product: &Id, machine: &Id) -> bool
     ensures { (H H' : History) → F.Stands old.now H → F.Stands new.now H'
         → IsTrue result ↔ (sheet_of H product.now machine.now ≡ sheet_of H' product.now machine.now) }
 {
-    match (old.sheet_of(product, machine), new.sheet_of(product, machine)) {
+    match (
+        old.sheet_of(product, machine),
+        new.sheet_of(product, machine),
+    ) {
         (Some(of_old), Some(of_new)) => same_rows(of_old, of_new),
         (None, None) => true,
         _ => false,

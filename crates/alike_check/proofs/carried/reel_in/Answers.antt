@@ -13,8 +13,8 @@ pub loop-reel-preserved : goal.loop-reel-preserved
 loop-reel-preserved g c = λ H H' of_old of_new rest.
     let reel = c.in-Some.reel.now in
     let carried : IsCarried (reel_view H reel) (reel_view H' reel) =
-        subst (λ v. IsCarried v (reel_view H' reel)) (c.reel-of_old.ensures H of_old)
-        (subst (λ w. IsCarried c.reel-of_old.result w) (c.reel-of_new.ensures H' of_new) c.in_default.ensures.same) in
+    subst (λ v. IsCarried v (reel_view H' reel)) (c.reel-of_old.ensures H of_old)
+    (subst (λ w. IsCarried c.reel-of_old.result w) (c.reel-of_new.ensures H' of_new) c.in_default.ensures.same) in
     c.loop-reel.invariant H H' of_old of_new
     (subst (AllByRecursion (λ (e : Name × ReelRow). IsCarried (reel_view H e.0) (reel_view H' e.0))) (sym c.in-Some.ensures.steps) (carried, rest))
 

@@ -17,7 +17,7 @@ returns g c =
     let rows = c.args.sheets.now in
     let es = c.into_iter-key-iterator.result in
     let lists : Lists by_sheet_place es (λ k. (tables_in rows).sheets k.0 k.1 k.2) =
-        subst (λ xs. Lists by_sheet_place xs (λ k. (tables_in rows).sheets k.0 k.1 k.2)) (search rules) c.sheets-key-items.ensures in
+    subst (λ xs. Lists by_sheet_place xs (λ k. (tables_in rows).sheets k.0 k.1 k.2)) (search rules) c.sheets-key-items.ensures in
     record {
       same = λ G H H' judged is of_old of_new product machine some.
           covered-sheets G H H' rows es product machine judged is lists

@@ -1,4 +1,4 @@
-use Rattle.std.proofs.Common.{rules, sym, ap, subst, ◌≡◌, ◌∙◌, is_some, Bool, true, false, Option, Some, None, refl}
+use Rattle.std.proofs.Common.{rules, sym, ap, subst, ◌≡◌, ◌∙◌, is_some, true, false, Option, Some, None, refl}
 use Rattle.std.specs.List.{AllByRecursion}
 use Rattle.std.specs.Option.{option_and_then}
 use Rattle.std.proofs.lemmas.Map.Lookups.{exact_bytes}

@@ -1,4 +1,4 @@
-use Rattle.std.proofs.Common.{rules, sym, ap, subst, ◌≡◌, ◌∙◌, is_some}
+use Rattle.std.proofs.Common.{rules, sym, ap, subst, ◌∙◌, is_some}
 use Rattle.std.specs.List.{AllByRecursion}
 use Rattle.std.proofs.lemmas.Map.Lookups.{exact_bytes}
 use Rattle.desk_types.specs.declared.row.BoardRow.{BoardRow}

@@ -1,4 +1,4 @@
-use Rattle.std.proofs.Common.{rules, sym, ap, subst, ◌≡◌, ◌∙◌}
+use Rattle.std.proofs.Common.{rules, sym, subst, ◌∙◌}
 use Rattle.std.specs.List.{AllByRecursion}
 use Rattle.std.proofs.lemmas.Map.Lookups.{exact_bytes}
 use Rattle.desk_types.specs.Id.{Name, by_name}
@@ -13,7 +13,7 @@ loop-part-preserved c = λ rest.
     let new = c.args.new.now in
     let part = c.in-Some.part.now in
     let same : SamePart old new part =
-        sym (c.has.ensures ∙ c.part_set.ensures part) ∙ beq-same _ _ c.if-has.false ∙ c.has-in-loop-part.ensures ∙ c.part_set-in-loop-part.ensures part in
+    sym (c.has.ensures ∙ c.part_set.ensures part) ∙ beq-same _ _ c.if-has.false ∙ c.has-in-loop-part.ensures ∙ c.part_set-in-loop-part.ensures part in
     c.loop-part.invariant (subst (AllByRecursion (λ (k : Name). SamePart old new k)) (sym c.in-Some.ensures.steps) (same, rest))
 
 pub returns : goal.returns

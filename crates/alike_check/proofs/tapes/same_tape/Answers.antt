@@ -1,4 +1,4 @@
-use Rattle.std.proofs.Common.{◌≡◌, ℕ, ◌<◌, rules, sym, ap, ◌∙◌, arith, refl, length}
+use Rattle.std.proofs.Common.{◌≡◌, rules, sym, ◌∙◌, arith, refl, length}
 use Rattle.std.specs.List.{slice_get}
 use borrow.Author.Count.{below_more}
 use Rattle.alike_check.proofs.EqualLists.{gets-same}
