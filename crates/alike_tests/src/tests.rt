@@ -2,6 +2,8 @@
 
 mod cases;
 
+ghost use Rattle.desk_types.specs.Desk.{HasRoom};
+
 use alike_check::first_difference;
 use cases::{BASE, CASES};
 use desk_types::{Command, Desk, Id, Minute, Replies, Stamped, run};
@@ -9,8 +11,6 @@ use feeder_state::StateDesk;
 use std::alloc::Global;
 use std::test::Fail;
 use stored_texts::Kept;
-
-ghost use Rattle.desk_types.specs.Desk.{HasRoom};
 
 fn id(text: &str) -> Result<Id, Fail> {
     Ok(Id::read(text.as_bytes()).ok_or("no id")?)
