@@ -7,3 +7,4 @@ pub mod SameSheets
 pub mod SameSlots
 pub mod SameTables
 pub mod StartedBoards
+pub mod Unlike

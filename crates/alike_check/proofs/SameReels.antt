@@ -1,5 +1,6 @@
 -- Reels of two histories, by their views.
-use Rattle.std.proofs.Common.{◌≡◌, ◌<◌, Bool, true, false, is_some, Option, Some, None, [], refl, sym, ap, unwrap_or, ◌∙◌, arith}
+use Rattle.std.specs.Prelude.{◌≢◌}
+use Rattle.std.proofs.Common.{◌≡◌, ◌<◌, Bool, true, false, is_some, Option, Some, None, [], refl, sym, ap, subst, ◌∙◌, arith}
 use Rattle.std.specs.Prelude.{if◌then◌else◌}
 use Rattle.std.specs.Option.{option_and_then, option_map, option_map_or}
 use Rattle.desk_types.specs.declared.command.Receipt.{Receipt}
@@ -13,10 +14,13 @@ use Rattle.desk_types.specs.History.{History, now_of}
 use Rattle.desk_types.specs.Setup.{receipt_of}
 use Rattle.desk_types.specs.Pieces.{left_of}
 use Rattle.desk_types.specs.FloorLife.{out_since, floor_life, minutes_left, is_unbaked}
-use Rattle.desk_types.specs.View.{view_of, reel_view, life_left}
+use Rattle.desk_types.specs.View.{part_of, lot_of, view_of, reel_view, life_left}
 use Rattle.desk_types.specs.Judged.{IsJudged}
 use Rattle.desk_laws.proofs.Balance.{unreceived-empty}
-use Rattle.alike.specs.Alike.{IsSameReel, AreAlike}
+use Rattle.alike.specs.Alike.{IsSameReel}
+use Rattle.alike_check.specs.declared.difference.Difference.{Difference}
+use Rattle.alike_check.specs.declared.difference.Difference.TheVariants.{Minute, Part, Alternate, Sheet, Selection, OldWork, NewWork, Board, Reel, Remaining, ReelPart, Lot, Level, Open, Life, Slot}
+use Rattle.alike_check.specs.Difference.{Changes, IsDifference, IsViewDifference, AreViewsDifferent}
 use Rattle.alike_check.specs.Views.{IsSameView, IsCarried}
 use Rattle.alike_check.proofs.SameMinutes.{minutes-same, life-parts}
 
@@ -118,7 +122,7 @@ carried H H' reel judged judged' now = by (reel_view H reel) (reel_view H' reel)
 
 -- ---- alike histories
 
-same-life : (H H' : History) (reel : Name) → now_of H ≡ now_of H' → IsSameReel H H' reel → life_left H reel ≡ life_left H' reel
+pub same-life : (H H' : History) (reel : Name) → now_of H ≡ now_of H' → IsSameReel H H' reel → life_left H reel ≡ life_left H' reel
 same-life H H' reel now same = by (is_unbaked H reel) (is_unbaked H' reel) same.unbaked (λ baked. same.minutes baked (now_of H) (omega arith) ∙ ap (minutes_left H' reel) now)
   where
     by : (b b' : Bool) → b ≡ b' → (b ≡ false → minutes_left H reel (now_of H) ≡ minutes_left H' reel (now_of H'))
@@ -128,26 +132,81 @@ same-life H H' reel now same = by (is_unbaked H reel) (is_unbaked H' reel) same.
     by false true one left = cc
     by false false one left = ap (λ m. option_map_or Minutes m Unlimited) (left refl)
 
-same-view : (H H' : History) (reel : Name) (r r' : Receipt) → now_of H ≡ now_of H' → receipt_of H reel ≡ Some r → receipt_of H' reel ≡ Some r' → IsSameReel H H' reel
-    → IsSameView (view_of H reel r) (view_of H' reel r')
-same-view H H' reel r r' now is is' same =
-    let moisture : Some r.moisture ≡ Some r'.moisture =
-    sym (ap (option_map (λ (x : Receipt). x.moisture)) is) ∙ same.moisture ∙ ap (option_map (λ (x : Receipt). x.moisture)) is' in
-    record {
-      part = sym (ap (λ o. option_map_or (λ (x : Receipt). x.part) o []) is) ∙ same.part ∙ ap (λ o. option_map_or (λ (x : Receipt). x.part) o []) is';
-      lot = sym (ap (λ o. option_map_or (λ (x : Receipt). x.lot) o []) is) ∙ same.lot ∙ ap (λ o. option_map_or (λ (x : Receipt). x.lot) o []) is';
-      level = ap (λ o. option_map_or (λ (m : LevelWithLabel). m.level) o One) moisture;
-      label = ap (λ o. option_map_or (λ (m : LevelWithLabel). m.label) o 0) moisture;
-      is_open = same.out;
-      left = same-life H H' reel now same;
-    }
+-- ---- differences
 
-pub alike-carried : (H H' : History) (reel : Name) → IsJudged Two H' → AreAlike H H' → IsCarried (reel_view H reel) (reel_view H' reel)
-alike-carried H H' reel judged' alike = by (receipt_of H reel) (receipt_of H' reel) refl refl
+changes : {X : Type 0} (a b x y old new : X) → x ≡ a → y ≡ b → Changes a b old new → Changes x y old new
+changes a b x y old new is is' change = record { old_is = is ∙ change.old_is; new_is = is' ∙ change.new_is; differ = change.differ }
+
+pub reel-difference : (H H' : History) (reel : Name) (d : Difference) → IsJudged Two H → IsJudged Two H' → AreViewsDifferent reel (reel_view H reel) (reel_view H' reel) d
+    → IsDifference H H' d
+reel-difference H H' reel d judged judged' = by (reel_view H reel) (reel_view H' reel) refl refl
   where
-    by : (o o' : Option Receipt) → receipt_of H reel ≡ o → receipt_of H' reel ≡ o' → IsCarried (option_map (view_of H reel) o) (option_map (view_of H' reel) o')
-    by None None is is' = tt
-    by None (Some r') is is' = let known : true ≡ false = sym (alike.reels_known reel (ap is_some is')) ∙ ap is_some is in cc
-    by (Some r) None is is' = alike.left reel ∙ unreceived-empty H' reel judged' is'
-    by (Some r) (Some r') is is' =
-        (alike.left reel, λ some. same-view H H' reel r r' (ap (λ o. unwrap_or o 0) alike.minute) is is' (alike.reels reel some))
+    pieces : (G : History) (view : ReelView) → reel_view G reel ≡ Some view → left_of G reel ≡ view.remaining
+    pieces G view is = ap (λ (x : ReelView). x.remaining) (received G reel view is).view_is
+
+    part : (G : History) (view : ReelView) → reel_view G reel ≡ Some view → part_of G reel ≡ view.part
+    part G view is = let it = received G reel view is in ap (λ o. option_map_or (λ (r : Receipt). r.part) o []) it.is ∙ ap (λ (x : ReelView). x.part) it.view_is
+
+    lot : (G : History) (view : ReelView) → reel_view G reel ≡ Some view → lot_of G reel ≡ view.lot
+    lot G view is = let it = received G reel view is in ap (λ o. option_map_or (λ (r : Receipt). r.lot) o []) it.is ∙ ap (λ (x : ReelView). x.lot) it.view_is
+
+    bag : (G : History) (view : ReelView) → reel_view G reel ≡ Some view → is_some (out_since G reel) ≡ view.is_open
+    bag G view is = ap (λ (x : ReelView). x.is_open) (received G reel view is).view_is
+
+    life : (G : History) (view : ReelView) → reel_view G reel ≡ Some view → life_left G reel ≡ view.left
+    life G view is = ap (λ (x : ReelView). x.left) (received G reel view is).view_is
+
+    -- Two receipts with one moisture have the same level and label in their views.
+    moisture : (v w : ReelView) → reel_view H reel ≡ Some v → reel_view H' reel ≡ Some w
+        → option_map (λ (r : Receipt). r.moisture) (receipt_of H reel) ≡ option_map (λ (r : Receipt). r.moisture) (receipt_of H' reel)
+        → (v.level ≡ w.level) × (v.label ≡ w.label)
+    moisture v w is is' same =
+        let old = received H reel v is in
+        let new = received H' reel w is' in
+        let one : Some old.receipt.moisture ≡ Some new.receipt.moisture =
+        sym (ap (option_map (λ (x : Receipt). x.moisture)) old.is) ∙ same ∙ ap (option_map (λ (x : Receipt). x.moisture)) new.is in (
+          sym (ap (λ (x : ReelView). x.level) old.view_is) ∙ ap (λ o. option_map_or (λ (m : LevelWithLabel). m.level) o One) one ∙ ap (λ (x : ReelView). x.level) new.view_is,
+          sym (ap (λ (x : ReelView). x.label) old.view_is) ∙ ap (λ o. option_map_or (λ (m : LevelWithLabel). m.label) o 0) one ∙ ap (λ (x : ReelView). x.label) new.view_is,
+        )
+
+    views : (d : Difference) (v w : ReelView) → reel_view H reel ≡ Some v → reel_view H' reel ≡ Some w → IsViewDifference reel v w d → IsDifference H H' d
+    views (Remaining r old new) v w is is' (same, change) =
+        subst (λ x. Changes (left_of H x) (left_of H' x) old new) (sym same) (changes _ _ _ _ old new (pieces H v is) (pieces H' w is') change)
+    views (ReelPart r old new) v w is is' (same, some, change) =
+        subst (λ x. (0 < left_of H x) × Changes (part_of H x) (part_of H' x) old new) (sym same)
+        (subst (λ n. 0 < n) (sym (pieces H v is)) some, changes _ _ _ _ old new (part H v is) (part H' w is') change)
+    views (Lot r old new) v w is is' (same, some, change) =
+        subst (λ x. (0 < left_of H x) × Changes (lot_of H x) (lot_of H' x) old new) (sym same)
+        (subst (λ n. 0 < n) (sym (pieces H v is)) some, changes _ _ _ _ old new (lot H v is) (lot H' w is') change)
+    views (Level r) v w is is' (same, some, differ) =
+        subst (λ x. (0 < left_of H x)
+        × (option_map (λ (y : Receipt). y.moisture) (receipt_of H x) ≢ option_map (λ (y : Receipt). y.moisture) (receipt_of H' x))) (sym same)
+        (subst (λ n. 0 < n) (sym (pieces H v is)) some, λ one. let both = moisture v w is is' one in differ both.0 both.1)
+    views (Open r old new) v w is is' (same, some, change) =
+        subst (λ x. (0 < left_of H x) × Changes (is_some (out_since H x)) (is_some (out_since H' x)) old new) (sym same)
+        (subst (λ n. 0 < n) (sym (pieces H v is)) some, changes _ _ _ _ old new (bag H v is) (bag H' w is') change)
+    views (Life r old new) v w is is' (same, some, change) =
+        subst (λ x. (0 < left_of H x) × Changes (life_left H x) (life_left H' x) old new) (sym same)
+        (subst (λ n. 0 < n) (sym (pieces H v is)) some, changes _ _ _ _ old new (life H v is) (life H' w is') change)
+    views (Minute old new) v w is is' never = absurd never
+    views (Part p) v w is is' never = absurd never
+    views (Alternate p q) v w is is' never = absurd never
+    views (Sheet p m) v w is is' never = absurd never
+    views (Selection m) v w is is' never = absurd never
+    views (OldWork b) v w is is' never = absurd never
+    views (NewWork b) v w is is' never = absurd never
+    views (Board b) v w is is' never = absurd never
+    views (Reel r) v w is is' never = absurd never
+    views (Slot m s) v w is is' never = absurd never
+
+    by : (v w : Option ReelView) → reel_view H reel ≡ v → reel_view H' reel ≡ w → AreViewsDifferent reel v w d → IsDifference H H' d
+    by None None is is' never = absurd never
+    by None (Some w) is is' one =
+        subst (IsDifference H H') (sym one) (ap is_some (received H' reel w is').is, ap is_some (unreceived H reel is))
+    by (Some v) None is is' (some, one) =
+        subst (IsDifference H H') (sym one) (record {
+          old_is = pieces H v is;
+          new_is = unreceived-empty H' reel judged' (unreceived H' reel is');
+          differ = λ same. omega (arith, some, same);
+        })
+    by (Some v) (Some w) is is' one = views d v w is is' one

@@ -7,12 +7,13 @@ use Rattle.desk_types.specs.Id.{Name}
 use Rattle.desk_types.specs.History.{History}
 use Rattle.desk_types.specs.Tables.{Tables, tables_of, board_row}
 use Rattle.desk_types.specs.Judged.{IsJudged}
+use Rattle.desk_types.specs.Work.{is_in_work}
 use Rattle.state_rows.specs.Kept.{KeptRows, tables_in, unnumbered}
-use Rattle.state_rows.proofs.DesksOfRows.{machine_in}
+use Rattle.state_rows.proofs.DesksOfRows.{machine_in, in_work-row}
 use Rattle.alike.specs.Alike.{IsIdle}
 use Rattle.alike.specs.Past.{is_started}
 use Rattle.alike_check.specs.Tables.{machine_at}
-use Rattle.alike_check.proofs.StartedBoards.{idle, not-idle, started-row}
+use Rattle.alike_check.proofs.StartedBoards.{idle, started-row}
 
 -- Values that are the same in two tables are the same in their histories, and the other way.
 module _ (H H' : History) (old new : KeptRows) (is : unnumbered (tables_in old) ≡ unnumbered (tables_of H)) (is' : unnumbered (tables_in new) ≡ unnumbered (tables_of H')) where
@@ -31,9 +32,9 @@ pub rows-idle : (H : History) (rows : KeptRows) → IsJudged Two H → unnumbere
     → ((board : Name) → is_some (machine_at rows board) ≡ false) → IsIdle H
 rows-idle H rows judged is off = idle H judged (λ board. sym (ap is_some (machine-is H rows board is)) ∙ off board)
 
-pub rows-busy : (H : History) (rows : KeptRows) (board : Name) → IsJudged Two H → unnumbered (tables_in rows) ≡ unnumbered (tables_of H)
-    → is_some (machine_at rows board) ≡ true → IsIdle H → ⊥
-rows-busy H rows board judged is on = not-idle H board judged (sym (ap is_some (machine-is H rows board is)) ∙ on)
+pub rows-working : (H : History) (rows : KeptRows) (board : Name) → IsJudged Two H → unnumbered (tables_in rows) ≡ unnumbered (tables_of H)
+    → is_some (machine_at rows board) ≡ true → is_in_work H board ≡ true
+rows-working H rows board judged is on = in_work-row H board judged ∙ sym (ap is_some (machine-is H rows board is)) ∙ on
 
 pub started-is : (H : History) (rows : KeptRows) (board : Name) → IsJudged Two H → unnumbered (tables_in rows) ≡ unnumbered (tables_of H)
     → is_some ((tables_in rows).boards board) ≡ is_started H board

@@ -10,10 +10,11 @@ use Rattle.desk_types.specs.declared.rules.Rules.TheVariants.{Two}
 use Rattle.desk_types.specs.Id.{Name, same}
 use Rattle.desk_types.specs.History.{History}
 use Rattle.desk_types.specs.Setup.{selected_on}
-use Rattle.desk_types.specs.Work.{in_work_on, start_by, product_of}
+use Rattle.desk_types.specs.Work.{in_work_on, is_in_work, start_by, product_of}
 use Rattle.desk_types.specs.Tables.{board_row, work_machine}
 use Rattle.desk_types.specs.Judged.{IsNext, IsJudged}
 use Rattle.desk_laws.proofs.BoardsInWork.{work-selected}
+use Rattle.desk_laws.proofs.Lookups.{in_work-somewhere}
 use Rattle.state_rows.proofs.DesksOfRows.{machine_in, work-on_row}
 use Rattle.alike.specs.Alike.{IsIdle}
 use Rattle.alike.specs.Past.{is_started}
@@ -27,12 +28,8 @@ idle H judged off machine = by (in_work_on H machine) refl
     by None is = refl
     by (Some board) is = let on = ap is_some ((work-on_row H machine board judged).0 is) in let none = off board in cc
 
-pub not-idle : (H : History) (board : Name) → IsJudged Two H → is_some (machine_in (board_row H board)) ≡ true → IsIdle H → ⊥
-not-idle H board judged on none = by (machine_in (board_row H board)) refl on
-  where
-    by : (o : Option Name) → machine_in (board_row H board) ≡ o → is_some o ≡ true → ⊥
-    by None is some = cc
-    by (Some machine) is some = let there = (work-on_row H machine board judged).1 is in let absent = none machine in cc
+pub not-idle : (H : History) (board : Name) → is_in_work H board ≡ true → IsIdle H → ⊥
+not-idle H board on none = let there = in_work-somewhere H board on in let absent = none there.0 in let has = there.1 in cc
 
 -- ---- started boards
 

@@ -1,9 +1,6 @@
 -- The view of a reel on two desks.
 use Rattle.std.specs.Prelude.{◌≡◌, ◌<◌, ⊤, Option, Some, None}
 use Rattle.desk_types.specs.declared.view.ReelView.{ReelView}
-use Rattle.desk_types.specs.Id.{Name}
-use Rattle.desk_types.specs.History.{History}
-use Rattle.desk_types.specs.View.{reel_view}
 
 -- A reel with pieces left is the same on both desks.
 pub record IsSameView (old new : ReelView) : Type 0 where
@@ -20,7 +17,3 @@ IsCarried None None = ⊤
 IsCarried None (Some new) = ⊥
 IsCarried (Some old) None = old.remaining ≡ 0
 IsCarried (Some old) (Some new) = (old.remaining ≡ new.remaining) × (0 < old.remaining → IsSameView old new)
-
--- Some reel was not carried.
-abbrev pub IsUncarried : History → History → Type 0
-IsUncarried H H' = (reel : Name) × (IsCarried (reel_view H reel) (reel_view H' reel) → ⊥)

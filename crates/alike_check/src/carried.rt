@@ -6,7 +6,8 @@ ghost use Rattle.desk_types.specs.History.{History};
 ghost use Rattle.desk_types.specs.Tables.{tables_of};
 ghost use Rattle.desk_types.specs.View.{reel_view};
 ghost use Rattle.state_rows.specs.Kept.{tables_in, unnumbered};
-ghost use Rattle.alike_check.specs.Views.{IsCarried, IsUncarried};
+ghost use Rattle.alike_check.specs.Difference.{IsReelDifference};
+ghost use Rattle.alike_check.specs.Views.{IsCarried};
 
 use crate::difference::Difference;
 use crate::views::reel_difference;
@@ -19,7 +20,7 @@ fn reel_in<D: Desk>(reels: &RowSet, old: &D, new: &D) -> Option<Difference>
         → IfNone result (is_some ((tables_in reels.now).reels reel) ≡ true
         → IsCarried (reel_view H reel) (reel_view H' reel)) }
     ensures differs { (H H' : History) → D.Stands old.now H → D.Stands new.now H'
-        → IfSome result (λ _. IsUncarried H H') }
+        → IfSome result (IsReelDifference H H') }
 {
     for (reel, _) in reels.reels() {
         let of_old = old.reel(reel);
@@ -42,7 +43,7 @@ pub fn first_reel<D: Desk>(
         → unnumbered (tables_in new_rows.now) ≡ unnumbered (tables_of H') → D.Stands old.now H → D.Stands new.now H'
         → (reel : Name) → IfNone result (IsCarried (reel_view H reel) (reel_view H' reel)) }
     ensures differs { (H H' : History) → D.Stands old.now H → D.Stands new.now H'
-        → IfSome result (λ _. IsUncarried H H') }
+        → IfSome result (IsReelDifference H H') }
 {
     if let Some(found) = reel_in(old_rows, old, new) {
         return Some(found);

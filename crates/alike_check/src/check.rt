@@ -6,6 +6,7 @@ ghost use Rattle.desk_types.specs.History.{History};
 ghost use Rattle.desk_types.specs.Pieces.{live_on};
 ghost use Rattle.feeder_state.specs.State.{IsState};
 ghost use Rattle.alike.specs.Alike.{AreAlike};
+ghost use Rattle.alike_check.specs.Difference.{IsDifference};
 
 use crate::carried::first_reel;
 use crate::difference::Difference;
@@ -21,22 +22,27 @@ fn slot_difference(old: &StateDesk, new: &StateDesk) -> Option<Difference>
     ensures same { (H H' : History) → IsState H old.now → IsState H' new.now → (machine slot : Name)
         → IfNone result (live_on H machine slot ≡ live_on H' machine slot) }
     ensures differs { (H H' : History) → IsState H old.now → IsState H' new.now
-        → IfSome result (λ _. AreAlike H H' → ⊥) }
+        → IfSome result (IsDifference H H') }
 {
-    if let Some((machine, slot)) = slot_in(old.rows(), old, new) {
-        return Some(Difference::Slot { machine, slot });
+    if let Some(key) = slot_in(old.rows(), old, new) {
+        return Some(Difference::Slot {
+            machine: key.0,
+            slot: key.1,
+        });
     }
-    if let Some((machine, slot)) = slot_in(new.rows(), old, new) {
-        return Some(Difference::Slot { machine, slot });
+    if let Some(key) = slot_in(new.rows(), old, new) {
+        return Some(Difference::Slot {
+            machine: key.0,
+            slot: key.1,
+        });
     }
     None
 }
 
-/// Returns the first way in which the new desk isn't alike to the old one, or `None` if it is alike.
-pub fn first_difference(old: &StateDesk, new: &StateDesk) -> Option<Difference>
+fn find(old: &StateDesk, new: &StateDesk) -> Option<Difference>
     ensures alike { (H H' : History) → IsState H old.now → IsState H' new.now → IfNone result (AreAlike H H') }
     ensures differs { (H H' : History) → IsState H old.now → IsState H' new.now
-        → IfSome result (λ _. AreAlike H H' → ⊥) }
+        → IfSome result (IsDifference H H') }
 {
     let of_old = old.minute();
     let of_new = new.minute();
@@ -61,4 +67,14 @@ pub fn first_difference(old: &StateDesk, new: &StateDesk) -> Option<Difference>
         return Some(found);
     }
     None
+}
+
+/// Returns the first way in which the new desk isn't alike to the old one, or `None` if it is alike.
+pub fn first_difference(old: &StateDesk, new: &StateDesk) -> Option<Difference>
+    ensures alike { (H H' : History) → IsState H old.now → IsState H' new.now → IfNone result (AreAlike H H') }
+    ensures differs { (H H' : History) → IsState H old.now → IsState H' new.now → IfSome result (IsDifference H H') }
+    ensures unlike { (H H' : History) → IsState H old.now → IsState H' new.now
+        → IfSome result (λ _. AreAlike H H' → ⊥) }
+{
+    find(old, new)
 }

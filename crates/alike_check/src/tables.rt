@@ -7,7 +7,7 @@ ghost use Rattle.desk_types.specs.declared.rules.Rules.TheVariants.{Two};
 ghost use Rattle.desk_types.specs.History.{History};
 ghost use Rattle.desk_types.specs.Judged.{IsJudged};
 ghost use Rattle.desk_types.specs.Tables.{tables_of};
-ghost use Rattle.alike.specs.Alike.{AreAlike};
+ghost use Rattle.alike_check.specs.Difference.{IsDifference};
 ghost use Rattle.alike_check.specs.Tables.{machine_at, IsSetupAlike, IsWorkAlike};
 
 use crate::difference::Difference;
@@ -157,13 +157,16 @@ fn setup_difference(old: &RowSet, new: &RowSet) -> Option<Difference>
         → unnumbered (tables_in new.now) ≡ unnumbered (tables_of H') → IfNone result (IsSetupAlike H H') }
     ensures differs { (H H' : History) → unnumbered (tables_in old.now) ≡ unnumbered (tables_of H)
         → unnumbered (tables_in new.now) ≡ unnumbered (tables_of H')
-        → IfSome result (λ _. AreAlike H H' → ⊥) }
+        → IfSome result (IsDifference H H') }
 {
     if let Some(part) = first_part(old, new) {
         return Some(Difference::Part { part });
     }
-    if let Some((part, alternate)) = first_alternate(old, new) {
-        return Some(Difference::Alternate { part, alternate });
+    if let Some(pair) = first_alternate(old, new) {
+        return Some(Difference::Alternate {
+            part: pair.0,
+            alternate: pair.1,
+        });
     }
     if let Some(machine) = first_selection(old, new) {
         return Some(Difference::Selection { machine });
@@ -179,7 +182,7 @@ fn work_difference(old: &RowSet, new: &RowSet) -> Option<Difference>
     ensures differs { (H H' : History) → IsJudged Two H → IsJudged Two H'
         → unnumbered (tables_in old.now) ≡ unnumbered (tables_of H)
         → unnumbered (tables_in new.now) ≡ unnumbered (tables_of H')
-        → IfSome result (λ _. AreAlike H H' → ⊥) }
+        → IfSome result (IsDifference H H') }
 {
     if let Some(board) = first_in_work(old) {
         return Some(Difference::OldWork { board });
@@ -202,7 +205,7 @@ pub fn tables_difference(old: &RowSet, new: &RowSet) -> Option<Difference>
     ensures differs { (H H' : History) → IsJudged Two H → IsJudged Two H'
         → unnumbered (tables_in old.now) ≡ unnumbered (tables_of H)
         → unnumbered (tables_in new.now) ≡ unnumbered (tables_of H')
-        → IfSome result (λ _. AreAlike H H' → ⊥) }
+        → IfSome result (IsDifference H H') }
 {
     if let Some(found) = setup_difference(old, new) {
         return Some(found);

@@ -1,6 +1,8 @@
 //! Differences between the views of a reel.
 
-ghost use Rattle.std.specs.Prelude.{◌≡◌, Some, IfNone, IfSome};
+ghost use Rattle.std.specs.Prelude.{◌≡◌, ◌<◌, Some, IfNone, IfSome};
+ghost use Rattle.alike_check.specs.declared.difference.Difference.TheVariants.{Remaining};
+ghost use Rattle.alike_check.specs.Difference.{IsViewDifference, AreViewsDifferent};
 ghost use Rattle.alike_check.specs.Views.{IsSameView, IsCarried};
 
 use crate::difference::Difference;
@@ -9,7 +11,7 @@ use desk_types::{Id, ReelView};
 /// Returns the first difference between the views of a reel that has pieces left on both desks.
 fn view_difference(reel: Id, old: &ReelView, new: &ReelView) -> Option<Difference>
     ensures same { IfNone result (IsSameView old.now new.now) }
-    ensures differs { IfSome result (λ _. IsSameView old.now new.now → ⊥) }
+    ensures differs { 0 < old.now.remaining → IfSome result (IsViewDifference reel old.now new.now) }
 {
     if old.part != new.part {
         return Some(Difference::ReelPart {
@@ -48,7 +50,7 @@ fn view_difference(reel: Id, old: &ReelView, new: &ReelView) -> Option<Differenc
 /// Returns the first difference between the views of a reel that both desks received.
 fn received_difference(reel: Id, old: &ReelView, new: &ReelView) -> Option<Difference>
     ensures same { IfNone result (IsCarried (Some old.now) (Some new.now)) }
-    ensures differs { IfSome result (λ _. IsCarried (Some old.now) (Some new.now) → ⊥) }
+    ensures differs { IfSome result (IsViewDifference reel old.now new.now) }
 {
     if old.remaining != new.remaining {
         return Some(Difference::Remaining {
@@ -66,7 +68,7 @@ fn received_difference(reel: Id, old: &ReelView, new: &ReelView) -> Option<Diffe
 /// Returns the difference of a reel that only the old desk received.
 fn lost_difference(reel: Id, old: &ReelView) -> Option<Difference>
     ensures same { IfNone result (old.now.remaining ≡ 0) }
-    ensures differs { IfSome result (λ _. old.now.remaining ≡ 0 → ⊥) }
+    ensures differs { IfSome result (λ d. (0 < old.now.remaining) × (d ≡ Remaining reel old.now.remaining 0)) }
 {
     if old.remaining == 0 {
         return None;
@@ -85,7 +87,7 @@ pub fn reel_difference(
     new: &Option<ReelView>,
 ) -> Option<Difference>
     ensures same { IfNone result (IsCarried old.now new.now) }
-    ensures differs { IfSome result (λ _. IsCarried old.now new.now → ⊥) }
+    ensures differs { IfSome result (AreViewsDifferent reel old.now new.now) }
 {
     match (old, new) {
         (None, None) => None,

@@ -5,16 +5,16 @@ use Rattle.alike_check.proofs.SameSlots.{either-list}
 use Rattle.alike_check.proofs.check.slot_difference.Goals as goal
 
 pub returns-in-Some-clause-differs : goal.returns-in-Some-clause-differs
-returns-in-Some-clause-differs c = λ H H' of_old of_new alike.
-    let m = c.in-Some.machine in
-    let s = c.in-Some.slot in
-    c.in-Some.ensures'.differs (of_old.floor.tapes m s ∙ alike.slots m s ∙ sym (of_new.floor.tapes m s))
+returns-in-Some-clause-differs c = λ H H' of_old of_new same.
+    let m = c.in-Some.key.0 in
+    let s = c.in-Some.key.1 in
+    c.in-Some.ensures.differs (of_old.floor.tapes m s ∙ same ∙ sym (of_new.floor.tapes m s))
 
 pub returns-in-Some-slot_in-clause-differs : goal.returns-in-Some-slot_in-clause-differs
-returns-in-Some-slot_in-clause-differs c = λ H H' of_old of_new alike.
-    let m = c.in-Some-slot_in.machine in
-    let s = c.in-Some-slot_in.slot in
-    c.in-Some-slot_in.ensures'.differs (of_old.floor.tapes m s ∙ alike.slots m s ∙ sym (of_new.floor.tapes m s))
+returns-in-Some-slot_in-clause-differs c = λ H H' of_old of_new same.
+    let m = c.in-Some-slot_in.key.0 in
+    let s = c.in-Some-slot_in.key.1 in
+    c.in-Some-slot_in.ensures.differs (of_old.floor.tapes m s ∙ same ∙ sym (of_new.floor.tapes m s))
 
 pub returns-clause-same : goal.returns-clause-same
 returns-clause-same c = λ H H' of_old of_new m s.

@@ -1,22 +1,19 @@
-use Rattle.std.proofs.Common.{◌≡◌, true, false, sym, ◌∙◌}
-use Rattle.alike_check.proofs.SameTables.{rows-idle, rows-busy, started-is}
+use Rattle.std.proofs.Common.{sym, ◌∙◌}
+use Rattle.alike_check.proofs.SameTables.{rows-idle, rows-working, started-is}
 use Rattle.alike_check.proofs.tables.work_difference.Goals as goal
 
 pub returns-in-Some-clause-differs : goal.returns-in-Some-clause-differs
-returns-in-Some-clause-differs c = λ H H' judged judged' is is' alike.
-    rows-busy H c.args.old.now c.in-Some.board judged is c.in-Some.ensures.some alike.old_idle
+returns-in-Some-clause-differs c = λ H H' judged judged' is is'. rows-working H c.args.old.now c.in-Some.board judged is c.in-Some.ensures.some
 
 pub returns-in-Some-first_in_work-clause-differs : goal.returns-in-Some-first_in_work-clause-differs
-returns-in-Some-first_in_work-clause-differs c = λ H H' judged judged' is is' alike.
-    rows-busy H' c.args.new.now c.in-Some-first_in_work.board judged' is' c.in-Some-first_in_work.ensures.some alike.new_idle
+returns-in-Some-first_in_work-clause-differs c = λ H H' judged judged' is is'.
+    rows-working H' c.args.new.now c.in-Some-first_in_work.board judged' is' c.in-Some-first_in_work.ensures.some
 
 pub returns-in-Some-first_new_board-clause-differs : goal.returns-in-Some-first_new_board-clause-differs
-returns-in-Some-first_new_board-clause-differs c = λ H H' judged judged' is is' alike.
+returns-in-Some-first_new_board-clause-differs c = λ H H' judged judged' is is'.
     let board = c.in-Some-first_new_board.board in
     let only = c.in-Some-first_new_board.ensures.new in
-    let there = alike.boards_known board (sym (started-is H' c.args.new.now board judged' is') ∙ only.0) in
-    let never : true ≡ false = sym there ∙ sym (started-is H c.args.old.now board judged is) ∙ only.1 in
-    cc
+    (sym (started-is H' c.args.new.now board judged' is') ∙ only.0, sym (started-is H c.args.old.now board judged is) ∙ only.1)
 
 pub returns-clause-same : goal.returns-clause-same
 returns-clause-same c = λ H H' judged judged' is is'. record {
