@@ -1,0 +1,10 @@
+pub mod Covered
+pub mod EqualLists
+pub mod SameMinutes
+pub mod SameReels
+pub mod SameRows
+pub mod SameSheets
+pub mod SameSlots
+pub mod SameTables
+pub mod StartedBoards
+pub mod Unlike

@@ -1,0 +1,52 @@
+-- Slots of a history, by the rows of mounted reels.
+use Rattle.std.proofs.Common.{◌≡◌, ℕ, Bool, true, false, cond, is_some, Option, Some, None, List, [], ◌∷◌, refl, ap, subst, ◌∙◌}
+use Rattle.std.specs.List.{AllByRecursion, list_any}
+use Rattle.std.specs.Map.{lookup}
+use Rattle.std.specs.Option.{option_map, option_map_or}
+use Rattle.std.proofs.lemmas.Bool.{or_left}
+use Rattle.desk_types.specs.declared.row.MountRow.{MountRow}
+use Rattle.desk_types.specs.declared.rules.Rules.TheVariants.{Two}
+use Rattle.desk_types.specs.Id.{Name, same}
+use Rattle.desk_types.specs.History.{History}
+use Rattle.desk_types.specs.Pieces.{live_on, first}
+use Rattle.desk_types.specs.Tables.{Tables, tables_of, mount_row}
+use Rattle.desk_types.specs.Judged.{IsJudged}
+use Rattle.desk_types.proofs.Keys.{same-refl}
+use Rattle.state_rows.specs.Kept.{KeptRows, tables_in, unnumbered, without_number, ListsMounts}
+use Rattle.state_rows.proofs.MountedRows.{IsMountOf, live-mount}
+
+module _ (P : Name → Name → Type 0) where
+  listed : (r : Name) (es : List ((ℕ × Name) × MountRow)) (m : MountRow) → lookup (λ k. same r k.1) es ≡ Some m
+      → AllByRecursion (λ (e : (ℕ × Name) × MountRow). P e.1.machine e.1.slot) es → P m.machine m.slot
+  listed r [] m at all = cc
+  listed r (e ∷ es) m at (here, all) = by (same r e.0.1) at (λ later. listed r es m later all)
+    where
+      by : (b : Bool) → cond b (Some e.1) (lookup (λ k. same r k.1) es) ≡ Some m → (lookup (λ k. same r k.1) es ≡ Some m → P m.machine m.slot) → P m.machine m.slot
+      by true at later = subst (λ (x : MountRow). P x.machine x.slot) (ap (λ o. option_map_or (λ (x : MountRow). x) o m) at) here
+      by false at later = later at
+
+  -- What holds of the slot of each row holds of each slot with live reels.
+  pub covered-slots : (G : History) (rows : KeptRows) (es : List ((ℕ × Name) × MountRow)) (machine slot : Name) → IsJudged Two G
+      → unnumbered (tables_in rows) ≡ unnumbered (tables_of G) → ListsMounts es (tables_in rows).mounts
+      → AllByRecursion (λ (e : (ℕ × Name) × MountRow). P e.1.machine e.1.slot) es → is_some (first (live_on G machine slot)) ≡ true → P machine slot
+  covered-slots G rows es machine slot judged is lists all some = by (live_on G machine slot) refl some
+    where
+      by : (reels : List Name) → live_on G machine slot ≡ reels → is_some (first reels) ≡ true → P machine slot
+      by [] live some = cc
+      by (r ∷ rs) live some = found ((tables_in rows).mounts r) (lists.rows r) (ap (λ (t : Tables). t.mounts r) is ∙ ap (option_map without_number) put.is)
+        where
+          put : IsMountOf (mount_row G r) machine slot r
+          put = live-mount G machine slot r judged (ap (list_any (same r)) live ∙ or_left (same r r) (list_any (same r) rs) (same-refl r))
+
+          found : (o : Option MountRow) → lookup (λ k. same r k.1) es ≡ o → option_map without_number o ≡ Some (without_number put.mount) → P machine slot
+          found None at is = cc
+          found (Some m) at is =
+              let on_machine : m.machine ≡ machine = ap (λ o. option_map_or (λ (x : MountRow). x.machine) o []) is ∙ put.machine_is in
+              let on_slot : m.slot ≡ slot = ap (λ o. option_map_or (λ (x : MountRow). x.slot) o []) is ∙ put.slot_is in
+              subst (λ s. P machine s) on_slot (subst (λ x. P x m.slot) on_machine (listed r es m at all))
+
+-- Lists that are the same where either has an element are the same.
+pub either-list : (a b : List Name) → (is_some (first a) ≡ true → a ≡ b) → (is_some (first b) ≡ true → a ≡ b) → a ≡ b
+either-list (x ∷ xs) b old new = old refl
+either-list [] (y ∷ ys) old new = new refl
+either-list [] [] old new = refl

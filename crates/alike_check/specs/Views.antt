@@ -1,0 +1,19 @@
+-- The view of a reel on two desks.
+use Rattle.std.specs.Prelude.{◌≡◌, ◌<◌, ⊤, Option, Some, None}
+use Rattle.desk_types.specs.declared.view.ReelView.{ReelView}
+
+-- A reel with pieces left is the same on both desks.
+pub record IsSameView (old new : ReelView) : Type 0 where
+  pub part : old.part ≡ new.part
+  pub lot : old.lot ≡ new.lot
+  pub level : old.level ≡ new.level
+  pub label : old.label ≡ new.label
+  pub is_open : old.is_open ≡ new.is_open
+  pub left : old.left ≡ new.left
+
+-- The reel has the same pieces left on both desks; if these are not 0, it is the same. Only the old desk may have it alone, and then it is spent.
+abbrev pub IsCarried : Option ReelView → Option ReelView → Type 0
+IsCarried None None = ⊤
+IsCarried None (Some new) = ⊥
+IsCarried (Some old) None = old.remaining ≡ 0
+IsCarried (Some old) (Some new) = (old.remaining ≡ new.remaining) × (0 < old.remaining → IsSameView old new)

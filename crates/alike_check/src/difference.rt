@@ -1,0 +1,86 @@
+//! What tells two desks apart.
+
+use desk_types::{Id, Left, Minute};
+
+/// The first way in which a new desk isn't alike to the old desk that it follows.
+#[derive(Clone, Copy, Debug, PartialEq, Eq)]
+pub enum Difference {
+    /// The desk minutes.
+    Minute {
+        old: Option<Minute>,
+        new: Option<Minute>,
+    },
+    /// One desk has the part, and the other doesn't.
+    Part {
+        part: Id,
+    },
+    /// One desk has the alternate, and the other doesn't.
+    Alternate {
+        part: Id,
+        alternate: Id,
+    },
+    /// The sheets of the product on the machine.
+    Sheet {
+        product: Id,
+        machine: Id,
+    },
+    /// The products selected on the machine.
+    Selection {
+        machine: Id,
+    },
+    /// The board is in work on the old desk.
+    OldWork {
+        board: Id,
+    },
+    /// The board is in work on the new desk.
+    NewWork {
+        board: Id,
+    },
+    /// Only the new desk has started the board.
+    Board {
+        board: Id,
+    },
+    /// Only the new desk has received the reel.
+    Reel {
+        reel: Id,
+    },
+    /// The pieces left on the reel.
+    Remaining {
+        reel: Id,
+        old: u64,
+        new: u64,
+    },
+    /// The part of the reel.
+    ReelPart {
+        reel: Id,
+        old: Id,
+        new: Id,
+    },
+    /// The lot of the reel.
+    Lot {
+        reel: Id,
+        old: Id,
+        new: Id,
+    },
+    /// The moisture level of the reel, or the minutes on its label.
+    Level {
+        reel: Id,
+    },
+    /// Whether the reel is out of its bag.
+    Open {
+        reel: Id,
+        old: bool,
+        new: bool,
+    },
+    /// The floor life that the reel has left at the desk minute.
+    Life {
+        reel: Id,
+        old: Left,
+        new: Left,
+    },
+    /// The live reels of the slot.
+    Slot {
+        machine: Id,
+        slot: Id,
+    },
+}
