@@ -146,6 +146,12 @@ def alone(db):
         yield
 
 
+def want_restored(db):
+    """Stops where a restore was cut off: the desk is gone, or it has a second name, and no run opens such a file."""
+    if not db.exists() or db.stat().st_nlink > 1:
+        raise Fault(f"{db} is gone or has a second name, so a restore was cut off: call tracedesk-backup --restore again")
+
+
 @contextlib.contextmanager
 def folder_lock(db):
     """What takes the one lock of a desk's folder, or raises a BlockingIOError."""
