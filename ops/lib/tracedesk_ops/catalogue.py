@@ -79,31 +79,64 @@ def sha256_within(file):
 # --- Reading
 
 
+class Survey(NamedTuple):
+    """A catalogue as it is read by those who ask the archives that it does name: its bytes, and what is wrong with it."""
+    text: bytes
+    archives: list
+    faults: list
+
+
 def read(path):
-    """The archives of the catalogue in that file, in its order; none where there is no file."""
+    """The archives of the catalogue in that file, in its order; none where there is no file. A CatalogueError where something is wrong with it."""
     try:
-        with open(path, newline="", encoding="utf-8") as file:
-            return read_lines(path, csv.reader(file, strict=True))
+        return whole(survey_text(path, pathlib.Path(path).read_bytes()))
     except FileNotFoundError:
         return []
-    except (OSError, UnicodeDecodeError) as fault:
-        raise CatalogueError(f"{path}: it can't be read: {fault}") from fault
+    except OSError as fault:
+        raise CatalogueError(f"{path}: it can't be read: {fault.strerror}") from fault
 
 
-def read_lines(path, rows):
-    lines: dict = {}
+def survey(path):
+    """The archives of each line that can be read, and of each other line what is wrong with it."""
     try:
+        return survey_text(path, pathlib.Path(path).read_bytes())
+    except OSError as fault:
+        return Survey(b"", [], [f"{path}: it can't be read: {fault.strerror}"])
+
+
+def whole(surveyed):
+    """The archives of a catalogue with which nothing is wrong."""
+    if surveyed.faults:
+        raise CatalogueError(surveyed.faults[0])
+    return surveyed.archives
+
+
+def survey_text(path, text):
+    lines: dict = {}
+    faults = []
+    try:
+        rows = csv.reader(io.StringIO(text.decode(), newline=""), strict=True)
         if next(rows, None) != list(HEADER):
-            raise CatalogueError(f"{path}, line 1: the header is not {','.join(HEADER)}")
+            return Survey(text, [], [f"{path}, line 1: the header is not {','.join(HEADER)}"])
         for row in rows:
-            archive = archive_of(row)
+            try:
+                archive = archive_of(row)
+            except ValueError as fault:
+                faults.append(f"{path}, line {rows.line_num}: {fault}")
+                continue
             if archive.file in lines:
-                raise ValueError(f"{archive.file} stands in line {lines[archive.file][0]} too")
-            lines[archive.file] = rows.line_num, archive
-    except (ValueError, csv.Error) as fault:
-        raise CatalogueError(f"{path}, line {max(1, rows.line_num)}: {fault}") from fault
-    want_chains(path, lines)
-    return [archive for _, archive in lines.values()]
+                faults.append(f"{path}, line {rows.line_num}: {archive.file} stands in line {lines[archive.file][0]} too")
+            lines.setdefault(archive.file, (rows.line_num, archive))
+    except UnicodeDecodeError as fault:
+        faults.append(f"{path}: it can't be read: {fault}")
+    except csv.Error as fault:
+        faults.append(f"{path}, line {max(1, rows.line_num)} and those behind it: {fault}")
+    if not faults:
+        try:
+            want_chains(path, lines)
+        except CatalogueError as fault:
+            faults.append(str(fault))
+    return Survey(text, [archive for _, archive in lines.values()], faults)
 
 
 def archive_of(row):
@@ -117,7 +150,7 @@ def archive_of(row):
         raise ValueError("file or desk is empty")
     if not re.fullmatch(r"[0-9a-f]{64}", said["sha256"]):
         raise ValueError(f"sha256 is not 64 of the digits 0-9 and a-f: {said['sha256']!r}")
-    minutes, numbers = (minute_of, "a minute as 2026-03-02T06:00:00Z"), (whole, "a whole number")
+    minutes, numbers = (minute_of, "a minute as 2026-03-02T06:00:00Z"), (number_of, "a whole number")
     first, last = (read_field(said, name, *minutes) for name in ("first_minute", "last_minute"))
     commands, pieces = (read_field(said, name, *numbers) for name in ("commands", "pieces"))
     if first > last:
@@ -132,7 +165,7 @@ def read_field(said, name, reader, kind):
         raise ValueError(f"{name} is not {kind}: {said[name]!r}") from fault
 
 
-def whole(text):
+def number_of(text):
     if not re.fullmatch(r"\d{1,18}", text, re.ASCII):
         raise ValueError(text)
     return int(text)
@@ -153,49 +186,6 @@ def want_chains(path, lines):
                 raise CatalogueError(f"{path}, line {number}: {name} is {other}, which has no line")
             if other and (lines[other][1][back] != it.file or lines[other][1].desk != it.desk):
                 raise CatalogueError(f"{path}, line {number}: {name} is {other}, and line {lines[other][0]} doesn't say so of {it.file}")
-
-
-class Survey(NamedTuple):
-    """A catalogue as it is read by those who ask the archives that it does name: its bytes, and what is wrong with it."""
-    text: bytes
-    archives: list
-    faults: list
-
-
-def survey(path):
-    """The archives of each line that can be read, and of each other line what is wrong with it."""
-    try:
-        text = pathlib.Path(path).read_bytes()
-        return survey_text(path, text, csv.reader(io.StringIO(text.decode(), newline=""), strict=True))
-    except OSError as fault:
-        return Survey(b"", [], [f"{path}: it can't be read: {fault.strerror}"])
-    except UnicodeDecodeError as fault:
-        return Survey(text, [], [f"{path}: it can't be read: {fault}"])
-
-
-def survey_text(path, text, rows):
-    lines: dict = {}
-    faults = []
-    try:
-        if next(rows, None) != list(HEADER):
-            return Survey(text, [], [f"{path}, line 1: the header is not {','.join(HEADER)}"])
-        for row in rows:
-            try:
-                archive = archive_of(row)
-            except ValueError as fault:
-                faults.append(f"{path}, line {rows.line_num}: {fault}")
-                continue
-            if archive.file in lines:
-                faults.append(f"{path}, line {rows.line_num}: {archive.file} stands in line {lines[archive.file][0]} too")
-            lines.setdefault(archive.file, (rows.line_num, archive))
-    except csv.Error as fault:
-        faults.append(f"{path}, line {max(1, rows.line_num)} and those behind it: {fault}")
-    if not faults:
-        try:
-            want_chains(path, lines)
-        except CatalogueError as fault:
-            faults.append(str(fault))
-    return Survey(text, [archive for _, archive in lines.values()], faults)
 
 
 # --- What lies around a catalogue
@@ -349,7 +339,7 @@ def write(path, archives):
     """Puts a catalogue of these archives in the place of the one that is there."""
     text = io.StringIO()
     csv.writer(text, lineterminator="\n").writerows([HEADER, *map(row_of, archives)])
-    read_lines(path, csv.reader(io.StringIO(text.getvalue()), strict=True))
+    whole(survey_text(path, text.getvalue().encode()))
     put(path, text.getvalue())
 
 

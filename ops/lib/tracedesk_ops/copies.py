@@ -13,10 +13,12 @@ import os
 import pathlib
 import shutil
 import sqlite3
+import struct
 import tempfile
 
 LOGS = ("-wal", "-journal")  # beside a desk's file, and part of it; the second only where its making was cut off
 LOCKED_FROM, LOCKED = 1 << 30, 512  # where SQLite's locks of a file lie
+FLOCK = "hhqqi0q"  # Linux' struct flock of 64 bits: type, whence, start, length, process
 
 
 class InUse(Exception):
@@ -24,6 +26,12 @@ class InUse(Exception):
 
     def __init__(self):
         super().__init__("a run has it open: stop that, or name a copy of the file and its log")
+
+
+def is_locked(file):
+    """Whether another process has a lock of SQLite's on an open file, by which it may write."""
+    asked = struct.pack(FLOCK, fcntl.F_RDLCK, os.SEEK_SET, LOCKED_FROM, LOCKED, 0)
+    return struct.unpack(FLOCK, fcntl.fcntl(file, fcntl.F_GETLK, asked))[0] != fcntl.F_UNLCK
 
 
 def copy(file, to):

@@ -146,6 +146,12 @@ def alone(db):
         yield
 
 
+def want_restored(db):
+    """Stops where a restore was cut off: the desk is gone, or it has a second name, and no run opens such a file."""
+    if not db.exists() or db.stat().st_nlink > 1:
+        raise Fault(f"{db} is gone or has a second name, so a restore was cut off: call tracedesk-backup --restore again")
+
+
 @contextlib.contextmanager
 def folder_lock(db):
     """What takes the one lock of a desk's folder, or raises a BlockingIOError."""
@@ -196,15 +202,12 @@ def as_caller():
 
 
 def is_open(db):
-    """Whether a run has a file open."""
+    """Whether a run has a file open. This takes no lock: a run that starts at this moment would end for it."""
     try:
         with open(db, "rb") as file:
-            fcntl.lockf(file, fcntl.LOCK_SH | fcntl.LOCK_NB, copies.LOCKED, copies.LOCKED_FROM)
+            return copies.is_locked(file)
     except FileNotFoundError:
         return False
-    except BlockingIOError:
-        return True
-    return False
 
 
 class Held:
@@ -235,8 +238,10 @@ class Held:
 
 def wait_until_closed(db, seconds):
     """Waits until no run has a file open: a service that is still ending, or an audit whose caller was killed."""
-    with open(db, "rb") as file:
-        wait_for_lock(lambda: fcntl.lockf(file, fcntl.LOCK_SH | fcntl.LOCK_NB, copies.LOCKED, copies.LOCKED_FROM), seconds, f"a run has {db} open")
+    def take():
+        if is_open(db):
+            raise BlockingIOError
+    wait_for_lock(take, seconds, f"a run has {db} open")
 
 
 def wait_for_lock(take, seconds, held):
