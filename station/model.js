@@ -7,7 +7,6 @@ import { lifeOrder } from "./life.js";
 
 const LEAST_PERIOD = 3; // seconds
 const KIT_PERIOD = 300; // of sheets, free reels and the overdue list, which seldom change
-const CACHE = 2_100; // milliseconds after which the proxy asks the desk anew
 const ALL_BOARDS = "100000";
 const ENOUGH = 6, CARDS = 24; // free reels that are enough to choose from, and cards that are asked for at most to find more
 
@@ -150,15 +149,10 @@ export class Model {
     });
   }
 
-  /** Asks for a machine's slots at once, and again where the proxy's answer was older than a moment of the server. */
-  async refresh(machine, since = 0) {
+  /** Asks for a machine's slots at once. */
+  async refresh(machine) {
     const line = this.line(machine);
-    if (!line) {
-      return;
-    }
-    await this.slots(line);
-    if (since && this.state.ok && line.had && line.had < since) {
-      await new Promise((resolve) => setTimeout(resolve, CACHE));
+    if (line) {
       await this.slots(line);
     }
   }

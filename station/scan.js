@@ -13,7 +13,7 @@ export const WORDS = {
 };
 const isOfReceive = (action) => OF_RECEIVE.includes(action) || /^[0-9]$/.test(action);
 const FRESH = 3_000; // milliseconds: what is known of a slot is asked for again when it is older
-const CARD_WAIT = 3_000; // milliseconds that a count waits for the reel's card
+const CARD_WAIT = 4_000; // milliseconds that a count waits for the reel's card
 const RISE = { pieces: 100, part: 0.1 }; // a count may be so much above what the desk has of a reel without a question
 
 export class Scan {

@@ -258,6 +258,7 @@ class Station {
       this.scanned();
     }
     if (answered) {
+      desk.heardAnswer();
       const isMine = this.mine.delete(answered.uid);
       if (isMine || answered.at < this.began) {
         this.verdict.answered(answered, !isMine || (this.verdict.current !== null && this.verdict.current.scan?.uid !== answered.uid));
@@ -279,7 +280,7 @@ class Station {
     if (word === WORDS.SELECT) {
       await this.model.select(body.Machine, body.Product, answer.Number, time);
     } else if (body.Machine) {
-      await this.model.refresh(body.Machine, clock.now());
+      await this.model.refresh(body.Machine);
     }
   }
 }

@@ -246,8 +246,7 @@ export class Verdict {
   async explain(scan) {
     const { answer } = scan, { Machine: machine, Slot: slot, Reel: reel, PartNumber: part } = scan.body, isLoad = LOADS.includes(actionOf(scan)), more = [];
     if (answer.Refusal === "ReelMounted") {
-      const since = clock.now(); // what the page knew before may be why the reel was scanned here
-      await Promise.all(this.model.lines.map((it) => this.model.refresh(it.machine, since)));
+      await Promise.all(this.model.lines.map((it) => this.model.refresh(it.machine))); // what the page knew before may be why the reel was scanned here
     }
     if (answer.Answer === "Accepted") {
       more.push(...(part ? [this.own({ part, lot: scan.body.Lot })] : isLoad ? this.stood(await this.model.card(reel), scan.about) : []));

@@ -250,12 +250,14 @@ def a_name_is_no_number(site):
         if "count 5,000 on 1000234" not in it.verdict()[1]:
             raise Difference(it.text("verdict"))
         it.does("1000234", "A/COUNT", "5060", holds=("COUNTED",))
+        for quantity in ("5100", "5600"):  # 600 above the first card, and 500 above the count before
+            it.does("K-2", "A/COUNT", quantity, holds=("COUNTED",))
         it.go("receive")
         type_label(it, "[)>{RS}06{GS}PCAP{GS}1TLOT-1{GS}S4711{RS}{EOT}")
         it.scan("4711", "A/LEVEL-1", "A/ENTER")
         wait_for("the pieces are refused", lambda: "not as the desk takes it" in it.script("return document.querySelector('form.receive .note').textContent"))
-        whole(site, it, 2)
-    return "2 names, 1 rise with a no and a yes, 1 receipt"
+        whole(site, it, 4)
+    return "2 names, 1 rise with a no and a yes, 2 counts at once, 1 receipt"
 
 
 def typing_with_pauses_and_touches(site):
