@@ -87,20 +87,21 @@ export class Model {
   }
 
   async kits() {
-    const turn = this.turn();
+    const turn = this.turn(), areHad = [];
     for (const line of this.lines) {
-      await this.kit(line);
+      areHad.push(await this.kit(line));
     }
-    await this.had(desk.rows("overdue", {}), (told) => {
+    areHad.push(await this.had(desk.rows("overdue", {}), (told) => {
       this.overdue = told.rows.length;
       this.overdueHad = told.had;
-    });
-    this.kitTurn = this.state.ok ? turn : null;
+    }));
+    this.kitTurn = areHad.every(Boolean) ? turn : null; // else they are asked for again at the next look
   }
 
-  /** Takes a report where it is had, and notes how the desk is. That a thing is unknown is the desk's answer too. */
+  /** Takes a report where it is had, and notes how the desk is; false where it isn't had. That a thing is unknown is the desk's answer too. */
   async had(asking, take, without = () => {}) {
     const heard = (told) => { this.state = { had: told.had, age: told.age, at: performance.now(), old: told.old, ok: true, status: 200 }; };
+    let isHad = true;
     try {
       const told = await asking;
       heard(told);
@@ -114,9 +115,11 @@ export class Model {
         without(fault.body.Kind, fault.had);
       } else {
         this.state = { ...this.state, ok: false, status: fault.status };
+        isHad = false;
       }
     }
     this.changed();
+    return isHad;
   }
 
   async slots(line) {
@@ -136,9 +139,9 @@ export class Model {
     const product = this.product(line.machine)?.product;
     if (!product) {
       line.kit = null;
-      return;
+      return true;
     }
-    await this.had(desk.rows("kit", { product, machine: line.machine, boards: "1" }), (told) => {
+    return this.had(desk.rows("kit", { product, machine: line.machine, boards: "1" }), (told) => {
       line.kit = sheetOf(told.rows);
       line.kitHad = told.had;
       line.noSheet = false;

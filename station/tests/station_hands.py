@@ -4,7 +4,7 @@ import pathlib
 import time
 
 from station_flows import SETUP, type_label, whole
-from station_line import view
+from station_line import shown_rows, view
 from station_site import Difference, Operator, wait_for
 
 DAY = 86_400_000  # milliseconds
@@ -166,6 +166,21 @@ def whether_it_may_send_is_asked_again(site):
         it.does("A/OPEN", "K-1", holds=("OPENED",))
         whole(site, it, 1)
     return "not known, then known without a reload"
+
+
+def a_sheet_is_asked_for_again(site):
+    """A sheet that isn't had at the first look is there at the next one, not five minutes later."""
+    with Operator(site, begin=False) as it:
+        it.open()
+        it.page.execute_cdp_cmd("Network.enable", {})
+        it.page.execute_cdp_cmd("Network.setBlockedURLs", {"urls": ["*/desk/kit*machine=M1*"]})
+        it.load()
+        it.ready()
+        if shown_rows(it, "M1"):
+            raise Difference(f"a sheet that was not had: {shown_rows(it, 'M1')}")
+        it.page.execute_cdp_cmd("Network.setBlockedURLs", {"urls": []})
+        wait_for("M1's sheet is had", lambda: shown_rows(it, "M1"), 40)
+    return "M1's sheet not at the first look, and at one of the next"
 
 
 # --- Refusals stay
@@ -477,5 +492,5 @@ def each_size_of_a_screen(site):
     return f"{len(SIZES)} sizes, 20 verdicts and {touched} things to touch"
 
 
-FLOWS = [a_servers_clock_that_jumps, a_tablet_that_slept, what_is_held_is_forgotten, a_disk_that_fails_once, whether_it_may_send_is_asked_again, a_refusal_stays, a_mounted_reel_is_said_to_be_where_it_is,
+FLOWS = [a_servers_clock_that_jumps, a_tablet_that_slept, what_is_held_is_forgotten, a_disk_that_fails_once, whether_it_may_send_is_asked_again, a_sheet_is_asked_for_again, a_refusal_stays, a_mounted_reel_is_said_to_be_where_it_is,
          a_name_is_no_number, typing_with_pauses_and_touches, two_slots_of_one_code, quiet_for_who_listens, each_size_of_a_screen]
