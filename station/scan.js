@@ -22,6 +22,7 @@ export class Scan {
     this.station = station;
     this.turn = Promise.resolve(); // scans are taken one behind the other
     this.touched = 0; // when the last one came, by the tablet's own clock: that goes on while it sleeps
+    this.at = 0; // and when the one came that is taken now, by the page's
     this.isForgotten = false;
     this.clear();
   }
@@ -53,17 +54,19 @@ export class Scan {
 
   /** Takes what the scanner or the keyboard read, behind what came before. */
   take(text) {
-    this.turn = this.turn.then(() => this.taken(text)).catch((fault) => this.station.fault(fault.message));
+    const at = performance.now();
+    this.turn = this.turn.then(() => this.taken(text, at)).catch((fault) => this.station.fault(fault.message));
     return this.turn;
   }
 
-  async taken(text) {
+  async taken(text, at) {
     const { station } = this, read = stripped(text, station.setup.scanner);
     if (read === "") {
       return;
     }
     this.forget();
     this.touched = Date.now();
+    this.at = at;
     this.isForgotten = false;
     const code = readCode(read, station.setup), isNumber = this.asking && code.kind !== "action" && code.kind !== "badge";
     if (station.verdict.isAsking()) {
@@ -95,7 +98,6 @@ export class Scan {
 
   slotHeld(code) {
     this.clear();
-    this.station.verdict.seeAll({ Machine: code.machine, Slot: code.slot });
     this.slot = { machine: code.machine, slot: code.slot };
     const line = this.station.model.line(code.machine), known = this.station.model.state;
     if (!line.slots || !known.ok || performance.now() - known.at > FRESH) {
@@ -105,6 +107,7 @@ export class Scan {
 
   /** A slot is held for a reel, or is what the action was waiting for. */
   slotScanned(code) {
+    this.station.verdict.seeAll({ Machine: code.machine, Slot: code.slot }, this.at);
     if (this.action && OF_SLOT.includes(this.action)) {
       return this.act(this.action, { machine: code.machine, slot: code.slot });
     } else if (this.action) {
@@ -115,6 +118,9 @@ export class Scan {
   }
 
   reelScanned({ reel }) {
+    if (!this.slot) {
+      this.station.verdict.seeAll({ Reel: reel }, this.at);
+    }
     if (this.action && OF_REEL.includes(this.action)) {
       return this.act(this.action, { reel });
     } else if (this.action) {
@@ -123,7 +129,6 @@ export class Scan {
       return this.act(this.isLive(this.slot) ? "SPLICE" : "LOAD", { ...this.slot, reel });
     } else {
       this.clear();
-      this.station.verdict.seeAll({ Reel: reel });
       this.reel = reel;
       this.readCard(reel);
     }

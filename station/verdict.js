@@ -107,9 +107,9 @@ export class Verdict {
     }
   }
 
-  /** The next scan is of the same slot, or of the same reel where there is no slot: whoever made it knows what was refused. */
-  seeAll(body) {
-    this.see(this.refused.filter((it) => aboutOf(it.body) === aboutOf(body)));
+  /** At that moment somebody scanned the same slot, or the same reel where there is no slot, and knew what was refused until then. */
+  seeAll(body, moment = performance.now()) {
+    this.see(this.refused.filter((it) => it.since < moment && aboutOf(it.body) === aboutOf(body)));
   }
 
   /** Shows what is new. */
@@ -131,7 +131,7 @@ export class Verdict {
 
   /** A message that was wanted and not sent: it stays as a refusal does. */
   notSent(word, body, text) {
-    this.refused.unshift({ uid: crypto.randomUUID(), word, body, at: clock.now(), answer: { Answer: "NotSent", text } });
+    this.refused.unshift({ uid: crypto.randomUUID(), word, body, at: clock.now(), since: performance.now(), answer: { Answer: "NotSent", text } });
     this.tell(null);
     play("refused");
   }
@@ -160,7 +160,7 @@ export class Verdict {
 
   /** Takes an answer; `isLate` is one of a scan before the last one, or of before the page was loaded. */
   answered(scan, isLate) {
-    const { kind } = wordsOf(scan), told = { ...scan, isLate };
+    const { kind } = wordsOf(scan), told = { ...scan, isLate, since: performance.now() };
     if (kind === "refused") {
       this.refused.unshift(told);
     } else if (isLate) {
