@@ -54,8 +54,9 @@ export class Scan {
 
   /** Takes what the scanner or the keyboard read, behind what came before. */
   take(text) {
-    const at = performance.now();
-    this.turn = this.turn.then(() => this.taken(text, at)).catch((fault) => this.station.fault(fault.message));
+    const at = performance.now(), { dataset } = document.body;
+    dataset.untaken = Number(dataset.untaken ?? 0) + 1;
+    this.turn = this.turn.then(() => this.taken(text, at)).catch((fault) => this.station.fault(fault.message)).finally(() => { dataset.untaken -= 1; });
     return this.turn;
   }
 

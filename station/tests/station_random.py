@@ -197,6 +197,7 @@ def tried(site, it, dice):
     it.script("sessionStorage.setItem('log', ''); window.note({ load: true })")
     hands = Hands(site, it, dice)
     hands.sequence()
+    wait_for("each scan is taken", lambda: it.script("return !Number(document.body.dataset.untaken)"))
     scans = wait_for("all scans are answered", lambda: (told := it.scans()) is not None and all(scan["state"] == "answered" for scan in told) and [told])[0]
     time.sleep(0.3)  # the page shows the last answer
     desk, log = accepted(site), [json.loads(line) for line in it.script("return sessionStorage.getItem('log')").split("\n") if line]
