@@ -1,12 +1,19 @@
 // What is asked of the desk, through the proxy that gave this page.
-import { hear } from "./clock.js";
+import { hear, now as serverNow } from "./clock.js";
 import { rowsOf } from "./csv.js";
 
 const GET_SECONDS = 25;
 const POST_SECONDS = 30; // then the same bytes are sent again: a message acts once
 const ANEW = 300, ANEW_TIMES = 8; // milliseconds, and how often an answer of before is asked for again while the desk makes a new one
+const CACHE = 3_000; // milliseconds after which the proxy asks the desk anew: it counts two whole seconds
 const DECIDED = { 200: ["Accepted"], 202: ["Ignored"], 400: ["Faulty"], 409: ["Refused"], 422: ["Faulty"] };
 const OF_THE_REQUEST = ["BadHead", "BadLength", "BadQuery"];
+let answered = 0; // the server's moment of the last answer to a scan: a report of before may lack what that scan did
+
+/** The desk has answered a scan: reports that are asked for from now on are no older. */
+export function heardAnswer() {
+  answered = serverNow() ?? 0;
+}
 
 /** No report: `status` 0 is no answer at all; `body` is what was said, and `isDesk` that the desk itself said it, of the moment `had`. */
 export class NotHad extends Error {
@@ -40,15 +47,19 @@ async function asked(target, how, seconds) {
 async function looked(target) {
   const { status, text, headers } = await asked(target, {}, GET_SECONDS), cached = headers.get("X-Station-Cache");
   const had = Number(headers.get("X-Desk-Answered")) * 1000, now = Number(headers.get("X-Station-Now")) * 1000;
-  return { status, text, had: had > 0 ? had : null, age: had > 0 && now > 0 ? Math.max(0, now - had) : null, old: cached === "STALE", anew: cached === "UPDATING" };
+  return { status, text, now, had: had > 0 ? had : null, age: had > 0 && now > 0 ? Math.max(0, now - had) : null, old: cached === "STALE", anew: cached === "UPDATING" };
 }
 
-/** A report: its text, and of which moment of the server it is. A report that isn't had is a NotHad. */
+/**
+ * A report: its text, and of which moment of the server it is. It is asked for again while the cache has only one from before the last
+ * answer to a scan, or another station asks the desk: its answer is ours too. A report that isn't had is a NotHad.
+ */
 export async function report(path, query = {}) {
-  const words = new URLSearchParams(query).toString(), target = `/station/desk/${path}${words ? `?${words}` : ""}`;
+  const words = new URLSearchParams(query).toString(), target = `/station/desk/${path}${words ? `?${words}` : ""}`, since = answered;
+  const isBefore = ({ had, now, old }) => !old && had !== null && had < since && since <= now; // later than now is a clock that was set back
   let told = await looked(target);
-  for (let turn = 0; told.anew && turn < ANEW_TIMES; turn += 1) { // another station asks the desk at this moment: its answer is ours too
-    await new Promise((resolve) => setTimeout(resolve, ANEW));
+  for (let turn = 0; turn < ANEW_TIMES && (told.anew || isBefore(told)); turn += 1) {
+    await new Promise((resolve) => setTimeout(resolve, told.anew ? ANEW : Math.max(ANEW, CACHE - told.age)));
     told = await looked(target);
   }
   if (told.status !== 200) {

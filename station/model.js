@@ -7,7 +7,6 @@ import { lifeOrder } from "./life.js";
 
 const LEAST_PERIOD = 3; // seconds
 const KIT_PERIOD = 300; // of sheets, free reels and the overdue list, which seldom change
-const CACHE = 2_100; // milliseconds after which the proxy asks the desk anew
 const ALL_BOARDS = "100000";
 const ENOUGH = 6, CARDS = 24; // free reels that are enough to choose from, and cards that are asked for at most to find more
 
@@ -88,20 +87,21 @@ export class Model {
   }
 
   async kits() {
-    const turn = this.turn();
+    const turn = this.turn(), areHad = [];
     for (const line of this.lines) {
-      await this.kit(line);
+      areHad.push(await this.kit(line));
     }
-    await this.had(desk.rows("overdue", {}), (told) => {
+    areHad.push(await this.had(desk.rows("overdue", {}), (told) => {
       this.overdue = told.rows.length;
       this.overdueHad = told.had;
-    });
-    this.kitTurn = this.state.ok ? turn : null;
+    }));
+    this.kitTurn = areHad.every(Boolean) ? turn : null; // else they are asked for again at the next look
   }
 
-  /** Takes a report where it is had, and notes how the desk is. That a thing is unknown is the desk's answer too. */
+  /** Takes a report where it is had, and notes how the desk is; false where it isn't had. That a thing is unknown is the desk's answer too. */
   async had(asking, take, without = () => {}) {
     const heard = (told) => { this.state = { had: told.had, age: told.age, at: performance.now(), old: told.old, ok: true, status: 200 }; };
+    let isHad = true;
     try {
       const told = await asking;
       heard(told);
@@ -115,9 +115,11 @@ export class Model {
         without(fault.body.Kind, fault.had);
       } else {
         this.state = { ...this.state, ok: false, status: fault.status };
+        isHad = false;
       }
     }
     this.changed();
+    return isHad;
   }
 
   async slots(line) {
@@ -137,9 +139,9 @@ export class Model {
     const product = this.product(line.machine)?.product;
     if (!product) {
       line.kit = null;
-      return;
+      return true;
     }
-    await this.had(desk.rows("kit", { product, machine: line.machine, boards: "1" }), (told) => {
+    return this.had(desk.rows("kit", { product, machine: line.machine, boards: "1" }), (told) => {
       line.kit = sheetOf(told.rows);
       line.kitHad = told.had;
       line.noSheet = false;
@@ -150,15 +152,10 @@ export class Model {
     });
   }
 
-  /** Asks for a machine's slots at once, and again where the proxy's answer was older than a moment of the server. */
-  async refresh(machine, since = 0) {
+  /** Asks for a machine's slots at once. */
+  async refresh(machine) {
     const line = this.line(machine);
-    if (!line) {
-      return;
-    }
-    await this.slots(line);
-    if (since && this.state.ok && line.had && line.had < since) {
-      await new Promise((resolve) => setTimeout(resolve, CACHE));
+    if (line) {
       await this.slots(line);
     }
   }

@@ -13,7 +13,7 @@ export const WORDS = {
 };
 const isOfReceive = (action) => OF_RECEIVE.includes(action) || /^[0-9]$/.test(action);
 const FRESH = 3_000; // milliseconds: what is known of a slot is asked for again when it is older
-const CARD_WAIT = 3_000; // milliseconds that a count waits for the reel's card
+const CARD_WAIT = 4_000; // milliseconds that a count waits for the reel's card
 const RISE = { pieces: 100, part: 0.1 }; // a count may be so much above what the desk has of a reel without a question
 
 export class Scan {
@@ -22,6 +22,7 @@ export class Scan {
     this.station = station;
     this.turn = Promise.resolve(); // scans are taken one behind the other
     this.touched = 0; // when the last one came, by the tablet's own clock: that goes on while it sleeps
+    this.at = 0; // and when the one came that is taken now, by the page's
     this.isForgotten = false;
     this.clear();
   }
@@ -53,17 +54,20 @@ export class Scan {
 
   /** Takes what the scanner or the keyboard read, behind what came before. */
   take(text) {
-    this.turn = this.turn.then(() => this.taken(text)).catch((fault) => this.station.fault(fault.message));
+    const at = performance.now(), { dataset } = document.body;
+    dataset.untaken = Number(dataset.untaken ?? 0) + 1;
+    this.turn = this.turn.then(() => this.taken(text, at)).catch((fault) => this.station.fault(fault.message)).finally(() => { dataset.untaken -= 1; });
     return this.turn;
   }
 
-  async taken(text) {
+  async taken(text, at) {
     const { station } = this, read = stripped(text, station.setup.scanner);
     if (read === "") {
       return;
     }
     this.forget();
     this.touched = Date.now();
+    this.at = at;
     this.isForgotten = false;
     const code = readCode(read, station.setup), isNumber = this.asking && code.kind !== "action" && code.kind !== "badge";
     if (station.verdict.isAsking()) {
@@ -95,7 +99,6 @@ export class Scan {
 
   slotHeld(code) {
     this.clear();
-    this.station.verdict.seeAll({ Machine: code.machine, Slot: code.slot });
     this.slot = { machine: code.machine, slot: code.slot };
     const line = this.station.model.line(code.machine), known = this.station.model.state;
     if (!line.slots || !known.ok || performance.now() - known.at > FRESH) {
@@ -105,6 +108,7 @@ export class Scan {
 
   /** A slot is held for a reel, or is what the action was waiting for. */
   slotScanned(code) {
+    this.station.verdict.seeAll({ Machine: code.machine, Slot: code.slot }, this.at);
     if (this.action && OF_SLOT.includes(this.action)) {
       return this.act(this.action, { machine: code.machine, slot: code.slot });
     } else if (this.action) {
@@ -115,6 +119,9 @@ export class Scan {
   }
 
   reelScanned({ reel }) {
+    if (!this.slot) {
+      this.station.verdict.seeAll({ Reel: reel }, this.at);
+    }
     if (this.action && OF_REEL.includes(this.action)) {
       return this.act(this.action, { reel });
     } else if (this.action) {
@@ -123,7 +130,6 @@ export class Scan {
       return this.act(this.isLive(this.slot) ? "SPLICE" : "LOAD", { ...this.slot, reel });
     } else {
       this.clear();
-      this.station.verdict.seeAll({ Reel: reel });
       this.reel = reel;
       this.readCard(reel);
     }

@@ -201,7 +201,6 @@ class Station {
   /** Keeps a message and has it sent; its answer comes to `told`. False where it isn't kept. */
   async send(word, body, values) {
     this.verdict.pass();
-    this.verdict.seeAll(body);
     if (this.maySend === null || clock.now() === null) {
       await this.askMaySend(SOON);
     }
@@ -258,6 +257,7 @@ class Station {
       this.scanned();
     }
     if (answered) {
+      desk.heardAnswer();
       const isMine = this.mine.delete(answered.uid);
       if (isMine || answered.at < this.began) {
         this.verdict.answered(answered, !isMine || (this.verdict.current !== null && this.verdict.current.scan?.uid !== answered.uid));
@@ -279,7 +279,7 @@ class Station {
     if (word === WORDS.SELECT) {
       await this.model.select(body.Machine, body.Product, answer.Number, time);
     } else if (body.Machine) {
-      await this.model.refresh(body.Machine, clock.now());
+      await this.model.refresh(body.Machine);
     }
   }
 }

@@ -107,9 +107,9 @@ export class Verdict {
     }
   }
 
-  /** The next scan is of the same slot, or of the same reel where there is no slot: whoever made it knows what was refused. */
-  seeAll(body) {
-    this.see(this.refused.filter((it) => aboutOf(it.body) === aboutOf(body)));
+  /** At that moment somebody scanned the same slot, or the same reel where there is no slot, and knew what was refused until then. */
+  seeAll(body, moment = performance.now()) {
+    this.see(this.refused.filter((it) => it.since < moment && aboutOf(it.body) === aboutOf(body)));
   }
 
   /** Shows what is new. */
@@ -131,7 +131,7 @@ export class Verdict {
 
   /** A message that was wanted and not sent: it stays as a refusal does. */
   notSent(word, body, text) {
-    this.refused.unshift({ uid: crypto.randomUUID(), word, body, at: clock.now(), answer: { Answer: "NotSent", text } });
+    this.refused.unshift({ uid: crypto.randomUUID(), word, body, at: clock.now(), since: performance.now(), answer: { Answer: "NotSent", text } });
     this.tell(null);
     play("refused");
   }
@@ -160,7 +160,7 @@ export class Verdict {
 
   /** Takes an answer; `isLate` is one of a scan before the last one, or of before the page was loaded. */
   answered(scan, isLate) {
-    const { kind } = wordsOf(scan), told = { ...scan, isLate };
+    const { kind } = wordsOf(scan), told = { ...scan, isLate, since: performance.now() };
     if (kind === "refused") {
       this.refused.unshift(told);
     } else if (isLate) {
@@ -246,8 +246,7 @@ export class Verdict {
   async explain(scan) {
     const { answer } = scan, { Machine: machine, Slot: slot, Reel: reel, PartNumber: part } = scan.body, isLoad = LOADS.includes(actionOf(scan)), more = [];
     if (answer.Refusal === "ReelMounted") {
-      const since = clock.now(); // what the page knew before may be why the reel was scanned here
-      await Promise.all(this.model.lines.map((it) => this.model.refresh(it.machine, since)));
+      await Promise.all(this.model.lines.map((it) => this.model.refresh(it.machine))); // what the page knew before may be why the reel was scanned here
     }
     if (answer.Answer === "Accepted") {
       more.push(...(part ? [this.own({ part, lot: scan.body.Lot })] : isLoad ? this.stood(await this.model.card(reel), scan.about) : []));

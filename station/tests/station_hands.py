@@ -4,7 +4,7 @@ import pathlib
 import time
 
 from station_flows import SETUP, type_label, whole
-from station_line import view
+from station_line import shown_rows, view
 from station_site import Difference, Operator, wait_for
 
 DAY = 86_400_000  # milliseconds
@@ -23,6 +23,11 @@ for (const name of ['put', 'add']) {
     return done.apply(this, what);
   };
 }"""
+
+
+GATES = """const fetched = window.fetch, pause = () => new Promise((done) => setTimeout(done, 20));
+window.fetch = async (...how) => { while (window.shut?.test(how[0])) { await pause(); } return fetched(...how); };"""
+REDS = "return [...document.querySelectorAll('#verdict:not([hidden]) :is(.one.refused, .brief)')].map((it) => it.dataset.scan)"
 
 
 def opened(site, before, name="W1"):
@@ -168,6 +173,21 @@ def whether_it_may_send_is_asked_again(site):
     return "not known, then known without a reload"
 
 
+def a_sheet_is_asked_for_again(site):
+    """A sheet that isn't had at the first look is there at the next one, not five minutes later."""
+    with Operator(site, begin=False) as it:
+        it.open()
+        it.page.execute_cdp_cmd("Network.enable", {})
+        it.page.execute_cdp_cmd("Network.setBlockedURLs", {"urls": ["*/desk/kit*machine=M1*"]})
+        it.load()
+        it.ready()
+        if shown_rows(it, "M1"):
+            raise Difference(f"a sheet that was not had: {shown_rows(it, 'M1')}")
+        it.page.execute_cdp_cmd("Network.setBlockedURLs", {"urls": []})
+        wait_for("M1's sheet is had", lambda: shown_rows(it, "M1"), 40)
+    return "M1's sheet not at the first look, and at one of the next"
+
+
 # --- Refusals stay
 
 
@@ -205,6 +225,27 @@ def a_refusal_stays(site):
             raise Difference("what was seen came again")
         whole(site, it, 5)
     return "over a green, another slot, a reload and one without an answer; gone by a touch and by its slot"
+
+
+def a_late_refusal_stays(site):
+    """One that comes after the scan of its reel, while a number is typed or while that scan waits for its turn, was not seen by that scan."""
+    site.say("MaterialsLoaded", {"Machine": "M1", "Slot": "1", "Reel": "K-1"})
+    with opened(site, GATES) as it:
+        it.ready()
+        for at, (shut, codes, then, typed) in enumerate((("/messages/", ("K-1", "A/COUNT"), "null", ("A/5", "A/ENTER")), ("/messages|reel/", ("K-2", "A/COUNT", "10", "K-1"), "/reel/", ()))):
+            it.script(f"window.shut = {shut}")
+            it.scan("A/SEAL", "K-1", *codes)
+            it.script(f"window.shut = {then}")
+            wait_for("the refusal", lambda: it.script(REDS))
+            it.scan(*typed)
+            scans = wait_for("all scans are answered", lambda: len(told := it.scans()) == 2 * (at + 1) and all(scan["state"] == "answered" for scan in told) and told)
+            wait_for("nothing else is held", lambda: "how many" not in it.text("held") and (typed or "K-1" in it.text("held")))
+            if (seal := scans[-2])["word"] != "ReelSealed" or seal["uid"] not in it.script(REDS):
+                raise Difference(f"a refusal went by a scan before it: {seal['answer']}, shown are {it.script(REDS)}")
+            it.script("window.shut = null")
+            it.seen()
+        whole(site, it, 4)
+    return "while a number was typed, and while a scan waited for its turn"
 
 
 def a_mounted_reel_is_said_to_be_where_it_is(site):
@@ -250,12 +291,14 @@ def a_name_is_no_number(site):
         if "count 5,000 on 1000234" not in it.verdict()[1]:
             raise Difference(it.text("verdict"))
         it.does("1000234", "A/COUNT", "5060", holds=("COUNTED",))
+        for quantity in ("5100", "5600"):  # 600 above the first card, and 500 above the count before
+            it.does("K-2", "A/COUNT", quantity, holds=("COUNTED",))
         it.go("receive")
         type_label(it, "[)>{RS}06{GS}PCAP{GS}1TLOT-1{GS}S4711{RS}{EOT}")
         it.scan("4711", "A/LEVEL-1", "A/ENTER")
         wait_for("the pieces are refused", lambda: "not as the desk takes it" in it.script("return document.querySelector('form.receive .note').textContent"))
-        whole(site, it, 2)
-    return "2 names, 1 rise with a no and a yes, 1 receipt"
+        whole(site, it, 4)
+    return "2 names, 1 rise with a no and a yes, 2 counts at once, 1 receipt"
 
 
 def typing_with_pauses_and_touches(site):
@@ -475,5 +518,5 @@ def each_size_of_a_screen(site):
     return f"{len(SIZES)} sizes, 20 verdicts and {touched} things to touch"
 
 
-FLOWS = [a_servers_clock_that_jumps, a_tablet_that_slept, what_is_held_is_forgotten, a_disk_that_fails_once, whether_it_may_send_is_asked_again, a_refusal_stays, a_mounted_reel_is_said_to_be_where_it_is,
+FLOWS = [a_servers_clock_that_jumps, a_tablet_that_slept, what_is_held_is_forgotten, a_disk_that_fails_once, whether_it_may_send_is_asked_again, a_sheet_is_asked_for_again, a_refusal_stays, a_late_refusal_stays, a_mounted_reel_is_said_to_be_where_it_is,
          a_name_is_no_number, typing_with_pauses_and_touches, two_slots_of_one_code, quiet_for_who_listens, each_size_of_a_screen]

@@ -197,6 +197,7 @@ def tried(site, it, dice):
     it.script("sessionStorage.setItem('log', ''); window.note({ load: true })")
     hands = Hands(site, it, dice)
     hands.sequence()
+    wait_for("each scan is taken", lambda: it.script("return !Number(document.body.dataset.untaken)"))
     scans = wait_for("all scans are answered", lambda: (told := it.scans()) is not None and all(scan["state"] == "answered" for scan in told) and [told])[0]
     time.sleep(0.3)  # the page shows the last answer
     desk, log = accepted(site), [json.loads(line) for line in it.script("return sessionStorage.getItem('log')").split("\n") if line]
@@ -242,14 +243,14 @@ def run(program, count, jobs, seed):
     """The long form: the exit status."""
     sums, failed, begun = [0] * 5, 0, time.monotonic()
     with concurrent.futures.ThreadPoolExecutor(jobs) as threads:
-        asked = [threads.submit(batch, program, seed + at, min(BATCH, count - at)) for at in range(0, count, BATCH)]
+        asked = {threads.submit(batch, program, seed + at, min(BATCH, count - at)): seed + at for at in range(0, count, BATCH)}
         for one in concurrent.futures.as_completed(asked):
             try:
                 sums = [a + b for a, b in zip(sums, one.result())]
                 print(f"{words(sums)} ({time.monotonic() - begun:.0f} s)", flush=True)
             except Exception as fault:  # whatever it is, the other batches go on
                 failed += 1
-                print(f"FAILED  {type(fault).__name__} {str(fault)[:1500]}", flush=True)
+                print(f"FAILED  the {BATCH} of seed {asked[one]}: {type(fault).__name__} {str(fault)[:1500]}", flush=True)
     print(f"{sums[3]} passed, {failed} failed")
     return 1 if failed else 0
 
