@@ -63,9 +63,11 @@ pub fn chain_keeps_receipts()
 /// lot exactly if the lot has the board.
 pub fn chain_recalls_agree()
     ensures boards { (files : List DeskFile) (lot board : Name) → IsChain files
-        → Contains (boards_over files lot) board ↔ Any (λ (f : DeskFile). Contains (boards_of f.whole lot) board) files }
+        → Contains (boards_over files lot) board
+        ↔ Any (λ (f : DeskFile). Contains (boards_of f.whole lot) board) files }
     ensures lots { (files : List DeskFile) (board lot : Name) → IsChain files
-        → Contains (lots_over files board) lot ↔ Any (λ (f : DeskFile). Contains (lots_of f.whole board) lot) files }
+        → Contains (lots_over files board) lot
+        ↔ Any (λ (f : DeskFile). Contains (lots_of f.whole board) lot) files }
     ensures converse { (files : List DeskFile) (board lot : Name)
         → Contains (lots_over files board) lot ↔ Contains (boards_over files lot) board }
 {}
