@@ -66,7 +66,8 @@ left_over (file ∷ older) reel = left_of file.whole reel
 
 -- ---- lots and boards
 
--- The receipt with which the reel came to the line: that of the newest file in which it is new.
+-- The receipt with which the newest file's reel came to the line: its own, or that of the file from which it was carried over. None if
+-- the newest file doesn't know the reel.
 abbrev pub receipt_over : List DeskFile → Name → Option Receipt
 receipt_over [] reel = None
 receipt_over (file ∷ older) reel = if is_some (receipt_of file.begun reel) then receipt_over older reel else receipt_of file.whole reel
@@ -75,7 +76,7 @@ receipt_over (file ∷ older) reel = if is_some (receipt_of file.begun reel) the
 abbrev pub origin : Receipt → Name × Name
 origin r = (r.part, r.lot)
 
--- The lot with which the reel came to the line.
+-- The lot with which the newest file's reel came to the line.
 abbrev pub lot_over : List DeskFile → Name → Name
 lot_over files reel = option_map_or (λ (r : Receipt). r.lot) (receipt_over files reel) []
 

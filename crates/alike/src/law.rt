@@ -50,8 +50,8 @@ pub fn chain_pieces_balance()
         → received_over files reel ≡ placed_over files reel + scrapped_over files reel + left_over files reel }
 {}
 
-/// Each placed piece of a chain has the part and the lot with which its reel came to the line, in
-/// whichever file that was.
+/// Each placed piece of the newest file has the part and the lot with which its reel came to the line, in
+/// whichever file that was. So do those of an older file, by the chain up to it.
 pub fn chain_keeps_receipts()
     ensures { (file : DeskFile) (older : List DeskFile) → IsChain (file ∷ older)
         → All (λ (p : Placement). option_map origin (receipt_over (file ∷ older) p.reel) ≡ Some (p.part, p.lot))

@@ -2,7 +2,7 @@
 use Rattle.std.specs.Prelude.{◌≡◌, ◌<◌, ⊤, Option, Some, None}
 use Rattle.desk_types.specs.declared.view.ReelView.{ReelView}
 
--- A reel with pieces left is the same on both desks.
+-- What both desks have of a reel with pieces left.
 pub record IsSameView (old new : ReelView) : Type 0 where
   pub part : old.part ≡ new.part
   pub lot : old.lot ≡ new.lot

@@ -1,4 +1,4 @@
-//! A connection to two files of any store.
+//! A connection to two files of any store. New files get small pages.
 
 ghost use Rattle.std.specs.Prelude.{◌≡◌, [], false, IsTrue, IfOk, IfSome};
 ghost use Rattle.sqlite_pool.specs.Opening.{IsBlankFile};

@@ -22,7 +22,7 @@ use setup_sheets::Sheet;
 use std::alloc::{AllocError, Global};
 use std::collections::{BTreeMap, BTreeSet};
 
-/// A slot's current reel during a message, the pieces left on it, and how many of the slot's reels
+/// A slot's current reel before or during a message, the pieces left on it, and how many of the slot's reels
 /// come up to and including it.
 #[derive(Clone, Copy, Debug, PartialEq, Eq)]
 pub struct Feed {

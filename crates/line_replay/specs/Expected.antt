@@ -33,7 +33,7 @@ placement_by edit = None
 abbrev pub placements_by : List RowEdit → List PlacementRow
 placements_by edits = filter_map placement_by edits
 
--- The rows are those of the history's state tables, with the numbers of its commands. A desk keeps no placements.
+-- The rows are those of the history's state tables, with the numbers of its commands. Placements aren't compared.
 abbrev pub AreKept : KeptRows → History → Type 0
 AreKept rows H = but_placements (tables_in rows) (state_of []) ≡ but_placements (state_of H) (state_of [])
 

@@ -77,8 +77,8 @@ ForKept g StandsFor kept_rules old new Fact = (L : Kept) → Stands g StandsFor 
 abbrev pub has_desk : {S D : Type 0} → LineStore S D → Bool
 has_desk store = is_some store.desk
 
--- The rows of a loaded desk are those of the history's state tables, with the numbers of its commands: the very rows
--- that the file has. A desk keeps no placements.
+-- The rows of a loaded desk are those of the history's state tables, with the numbers of its commands. So they are the
+-- rows of a file that holds the history, apart from placements.
 abbrev pub HasRows : {S D : Type 0} → (D → KeptRows) → LineStore S D → History → Type 0
 HasRows kept_rows store H = IfSome store.desk (λ d. AreKept (kept_rows d) H)
 

@@ -1,4 +1,4 @@
--- A store whose disk may fail at any point, also within a call: the files are then as after a kill at that point.
+-- A store whose disk may fail at any point, even within a call. That a kill at that point leaves the same files is not proved.
 use Rattle.std.specs.Prelude.{◌⊎◌, None, true}
 use Rattle.sqlite_trees.specs.declared.store.Store.{Ghosts}
 use Rattle.sqlite_trees.specs.Tree.{Trees}

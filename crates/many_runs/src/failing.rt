@@ -57,7 +57,7 @@ impl<S: Alter, D: KeepsRows + Drop> ReportedOwner for WatchedStore<S, D> {
 
 /// A law: calls on an open store whose disk fails at any point, also within a command in mid-feed. A crash leaves the
 /// tables of the history that answers the calls, or those with one more command that would be accepted. `headline`
-/// shows each of the calls.
+/// shows each of the calls; here a report is answered with nothing.
 pub fn failing_disks_leave_the_list<S: Alter, D: KeepsRows + Drop>(
     first: &WatchedStore<S, D>,
     last: &WatchedStore<S, D>,

@@ -140,8 +140,8 @@ pub fn reported_calls_are_calls<F: Disk + Drop>(
 {}
 
 /// A law: a run that was killed while its desk was open is a run, with the calls that the command's contract
-/// gives of that desk. A kill within a feed, an import or a connection leaves the desk as one that failed to
-/// read or write there, so `ended` may be a fault.
+/// gives of that desk. A feed, an import or a connection may have ended with a fault, such as a failed read or
+/// write. That a kill at that point leaves the same files is not proved.
 pub fn crashed_runs_are_runs<T: Start>(desk: &FileDesk<T, StateDesk>, files: &Files<FileFrom<T>>)
     ensures crashed { (make : Option ℕ) (calls : List Call) (image : Image)
         → RunsOn T.Start make (Desk desk.now) (λ G H. AnswersByTheList report_of G calls H)

@@ -1,10 +1,10 @@
-//! The first field of a stored text, which names the command.
+//! The kinds of commands. A kind's text is the first field of a stored text, and the end of a message's name.
 
 ghost use Rattle.std.specs.Prelude.{◌≡◌, find, option_map, IfSome, IfNone};
 ghost use Rattle.desk_types.specs.Id.{same};
 ghost use Rattle.stored_texts.specs.StoredText.{word_text};
 
-/// The kind of command in a stored text.
+/// The kind of command, in a stored text or a message.
 #[derive(Clone, Copy, Debug, PartialEq, Eq)]
 pub enum Word {
     PartDefined,

@@ -1,4 +1,4 @@
-//! Laws of a crash between two calls. They are for proofs and do nothing at run time.
+//! Laws of a crash between two calls. They are for proofs, and the program calls none of them.
 
 ghost use Rattle.std.specs.Prelude.{◌≡◌, ℕ, IsTrue, List};
 ghost use Rattle.sqlite_trees.specs.Tree.{Trees};
