@@ -33,7 +33,8 @@ pub fn whole_run<T: Start, U: Start, W: Write, E: Write>(
     ensures differs { result.0 ≡ 1
         → Differing (Compares T.Start U.Start ⟦<FileFrom<T> as Disk>⟧ ⟦<FileFrom<U> as Disk>⟧ result.1 result.2
         (map string_bytes words.now)) W.contents output.old output.new }
-    ensures bad { result.0 ≡ 2 → Bad (map string_bytes words.now) E.contents output.old output.new errors.old errors.new }
+    ensures bad { result.0 ≡ 2
+        → Bad (map string_bytes words.now) E.contents output.old output.new errors.old errors.new }
     ensures no_desk { result.0 ≡ 3
         → NoDesk (Compares T.Start U.Start ⟦<FileFrom<T> as Disk>⟧ ⟦<FileFrom<U> as Disk>⟧ result.1 result.2
         (map string_bytes words.now)) E.contents output.old output.new errors.old errors.new }
