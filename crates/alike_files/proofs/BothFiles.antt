@@ -38,10 +38,20 @@ module _ {T U D E : Type 0} {g : disk.Ghosts D} {g' : disk.Ghosts E} (of_old : s
       → ((L L' : Kept) → Stands over_files state.Stands state.kept_rules old L → Stands over_files state.Stands state.kept_rules new L' → Relates L.history L'.history)
       → HoldOpen of_old of_new (Desk old) (Desk new) Relates
   holds_open Relates old new first second says = λ clean alone.
-      let b = first.1 clean alone in
-      (b.0, b.1, b.2, b.3.lawful clean refl, b.1, b.3, (refl, λ clean' alone'.
-      let b' = second.1 clean' alone' in
-      (b'.0, b'.1, b'.2, b'.3.lawful clean' refl, b'.1, b'.3, (refl, says _ _ b.3 b'.3))))
+      let b = first.1 clean alone in (
+        b.0,
+        b.1,
+        b.2,
+        b.3.lawful clean refl,
+        b.1,
+        b.3,
+        (
+          refl,
+          λ clean' alone'.
+              let b' = second.1 clean' alone' in
+              (b'.0, b'.1, b'.2, b'.3.lawful clean' refl, b'.1, b'.3, (refl, says _ _ b.3 b'.3)),
+        ),
+      )
 
   pub opens : (found : Compared) (old : LineStore (FileStore D g) StateDesk) (new : LineStore (FileStore E g') StateDesk) → HasOpened of_old old → HasOpened of_new new
       → ((L L' : Kept) → Stands over_files state.Stands state.kept_rules old L → Stands over_files state.Stands state.kept_rules new L' → Says found L.history L'.history)

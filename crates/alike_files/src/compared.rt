@@ -18,17 +18,11 @@ pub enum Side {
 #[derive(Clone, Copy, Debug, PartialEq, Eq)]
 pub enum Compared {
     /// The desks are alike. The new one has this many reels, and so many of them are mounted.
-    Alike {
-        reels: u64,
-        mounts: u64,
-    },
+    Alike { reels: u64, mounts: u64 },
     /// The first difference between the desks.
     Differs(Difference),
     /// This file holds no desk, or it could not be read or closed.
-    Refused {
-        side: Side,
-        fault: OpenFault,
-    },
+    Refused { side: Side, fault: OpenFault },
 }
 
 impl fmt::Display for Side {

@@ -21,7 +21,11 @@ pub fn compare_files<T: Start, U: Start>(
     new: &str,
     of_old: T,
     of_new: U,
-) -> (Compared, Option<Files<FileFrom<T>>>, Option<Files<FileFrom<U>>>)
+) -> (
+    Compared,
+    Option<Files<FileFrom<T>>>,
+    Option<Files<FileFrom<U>>>,
+)
     ensures { Finds T.Start U.Start ⟦<FileFrom<T> as Disk>⟧ ⟦<FileFrom<U> as Disk>⟧ result.0 result.1 result.2 }
 {
     let (found, left_old, left_new) = open_both(rt, old, new, of_old, of_new);

@@ -16,10 +16,7 @@ use std::alloc::{AllocError, Global};
 #[derive(Drop)]
 pub enum Asked {
     /// Compare the desks in these files.
-    Compare {
-        old: String,
-        new: String,
-    },
+    Compare { old: String, new: String },
     /// Print this text, help or the version, on standard output.
     Text(String),
     /// No meaning. This text, for standard error, says why.
@@ -90,7 +87,12 @@ fn command<'a>(alloc: Global) -> Result<clap::Command<'a>, AllocError>
 {
     let start = bare(alloc)?;
     let with_old = with_file(alloc, start, "old", "The file of the desk that was closed")?;
-    with_file(alloc, with_old, "new", "The file of the desk that follows it")
+    with_file(
+        alloc,
+        with_old,
+        "new",
+        "The file of the desk that follows it",
+    )
 }
 
 fn bare<'a>(alloc: Global) -> Result<clap::Command<'a>, AllocError>

@@ -42,8 +42,13 @@ pub fn whole_run<T: Start, U: Start, W: Write, E: Write>(
 {
     match read_words(rt.alloc(), words) {
         Ok(Asked::Compare { old, new }) => {
-            let (found, old_files, new_files) =
-                compare_files(rt, old.as_str(), new.as_str(), of_old, of_new);
+            let (found, old_files, new_files) = compare_files(
+                rt,
+                old.as_str(),
+                new.as_str(),
+                of_old,
+                of_new,
+            );
             let status = tell_found(rt.alloc(), &found, output, errors);
             (status, old_files, new_files)
         }

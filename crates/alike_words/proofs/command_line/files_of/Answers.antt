@@ -20,8 +20,7 @@ pub returns : goal.returns
 returns c = λ words told rows.
     let found = found_of c.args.found.now in
     let old : first_value found (codes "old") ≡ Some (string_bytes c.in_ok-old_file.old_file) = search rules in
-    let new : first_value found (codes "new") ≡ Some (string_bytes c.in_ok-new_file.new_file) = search rules in
-    (
+    let new : first_value found (codes "new") ≡ Some (string_bytes c.in_ok-new_file.new_file) = search rules in (
       told,
       subst (λ (at : List Row). first_of (codes "old") at ≡ Some (string_bytes c.in_ok-old_file.old_file)) rows (sym (first_value-rows found (codes "old")) ∙ old),
       subst (λ (at : List Row). first_of (codes "new") at ≡ Some (string_bytes c.in_ok-new_file.new_file)) rows (sym (first_value-rows found (codes "new")) ∙ new),
