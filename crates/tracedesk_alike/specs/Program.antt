@@ -1,17 +1,14 @@
 -- The effect of a run of the program.
-use Rattle.std.specs.Prelude.{◌≡◌, ◌⊎◌, ℕ, List, [], ◌++◌, Option, codes}
+use Rattle.std.specs.Prelude.{◌≡◌, ◌⊎◌, ℕ, List, ◌++◌, Option, codes}
 use Rattle.std.specs.Io.KnownBytes.{Appends}
 use Rattle.sqlite_disk.specs.declared.Disk as disk
 use Rattle.sqlite_disk.specs.declared.Files.{Files}
 use Rattle.sqlite_disk.specs.declared.start.Start as start
 use Rattle.desk_types.specs.declared.wire.Wire.{Wire}
 use Rattle.desk_types.specs.Wire.{inner_of}
-use Rattle.line_schema.specs.declared.fault.OpenFault.{OpenFault}
 use Rattle.desk_runs.specs.Told.{unavailable_line, Tells, TellsLine}
-use Rattle.alike_check.specs.declared.difference.Difference.{Difference}
 use Rattle.alike_files.specs.declared.compared.Compared.{Compared}
 use Rattle.alike_files.specs.declared.compared.Compared.TheVariants.{Alike, Differs, Refused}
-use Rattle.alike_files.specs.declared.compared.Side.{Side}
 use Rattle.alike_files.specs.Found.{Finds}
 use Rattle.alike_files.specs.Texts.{compared_text}
 use Rattle.alike_words.specs.CommandLine.{AsksForNothing, AsksForText, AsksToCompare}
@@ -33,15 +30,23 @@ Compares of_old of_new g g' files files' words found =
 abbrev pub Sent : {W : Type 0} → (W → Option (List ℕ)) → Wire W → Wire W → List ℕ → Type 0
 Sent writes output output' text = Appends (writes (inner_of output)) (writes (inner_of output')) text
 
+-- The exit status of a comparison: the desks are alike, they differ, or a file was refused.
+abbrev pub status_of : Compared → ℕ
+status_of (Alike reels mounts) = 0
+status_of (Differs difference) = 1
+status_of (Refused side fault) = 3
+
+-- A comparison with this status was made, and its line was written.
+abbrev pub Shows : {W : Type 0} → (Compared → Type 0) → (W → Option (List ℕ)) → Wire W → Wire W → ℕ → Type 0
+Shows Made writes output output' status = (found : Compared) × (status_of found ≡ status) × Made found × Sent writes output output' (found_line found)
+
 -- Status 0: the desks are alike, or a text was asked for.
 abbrev pub Done : {W : Type 0} → (Compared → Type 0) → List (List ℕ) → (W → Option (List ℕ)) → Wire W → Wire W → Type 0
-Done Found words writes output output' =
-    ((reels : ℕ) × (mounts : ℕ) × Found (Alike reels mounts) × Sent writes output output' (found_line (Alike reels mounts)))
-    ⊎ (AsksForText words × (text : List ℕ) × Sent writes output output' text)
+Done Made words writes output output' = Shows Made writes output output' 0 ⊎ (AsksForText words × (text : List ℕ) × Sent writes output output' text)
 
--- Status 1: this is a difference between the desks.
+-- Status 1: the desks differ.
 abbrev pub Differing : {W : Type 0} → (Compared → Type 0) → (W → Option (List ℕ)) → Wire W → Wire W → Type 0
-Differing Found writes output output' = (difference : Difference) × Found (Differs difference) × Sent writes output output' (found_line (Differs difference))
+Differing Made writes output output' = Shows Made writes output output' 1
 
 -- Status 2: the arguments have no meaning.
 abbrev pub Bad : {W E : Type 0} → List (List ℕ) → (E → Option (List ℕ)) → Wire W → Wire W → Wire E → Wire E → Type 0
@@ -49,7 +54,7 @@ Bad words tells output output' errors errors' = AsksForNothing words × (output'
 
 -- Status 3: a file was refused, or memory was, and nothing was written.
 abbrev pub NoDesk : {W E : Type 0} → (Compared → Type 0) → (E → Option (List ℕ)) → Wire W → Wire W → Wire E → Wire E → Type 0
-NoDesk Found tells output output' errors errors' =
+NoDesk Made tells output output' errors errors' =
     (output' ≡ output)
     × (TellsLine tells errors errors' unavailable_line
-    ⊎ ((side : Side) × (fault : OpenFault) × Found (Refused side fault) × TellsLine tells errors errors' (refused_line (Refused side fault))))
+    ⊎ ((found : Compared) × (status_of found ≡ 3) × Made found × TellsLine tells errors errors' (refused_line found)))
