@@ -23,6 +23,9 @@ life_text (Minutes minutes) = decimal minutes
 life_text Unlimited = codes "unlimited"
 life_text Unbaked = codes "unbaked"
 
+abbrev pub pieces_text : ℕ → List ℕ
+pieces_text pieces = decimal pieces
+
 abbrev pub truth_text : Bool → List ℕ
 truth_text true = codes "true"
 truth_text false = codes "false"
@@ -42,7 +45,7 @@ difference_text (OldWork board) = codes "board " ++ board ++ codes " in work old
 difference_text (NewWork board) = codes "board " ++ board ++ codes " in work new"
 difference_text (Board board) = codes "board " ++ board ++ codes " new"
 difference_text (Reel reel) = codes "reel " ++ reel ++ codes " new"
-difference_text (Remaining reel old new) = codes "reel " ++ reel ++ codes " remaining " ++ both (decimal old) (decimal new)
+difference_text (Remaining reel old new) = codes "reel " ++ reel ++ codes " remaining " ++ both (pieces_text old) (pieces_text new)
 difference_text (ReelPart reel old new) = codes "reel " ++ reel ++ codes " part " ++ both old new
 difference_text (Lot reel old new) = codes "reel " ++ reel ++ codes " lot " ++ both old new
 difference_text (Level reel) = codes "reel " ++ reel ++ codes " level"

@@ -12,6 +12,10 @@ pub struct ShownMinute(pub Option<Minute>);
 #[derive(Clone, Copy)]
 pub struct ShownLife(pub Left);
 
+/// A number of pieces.
+#[derive(Clone, Copy)]
+pub struct ShownPieces(pub u64);
+
 /// A difference: its kind, the names that it is in, and then the values on the old desk and on the new one.
 #[derive(Clone, Copy)]
 pub struct ShownDifference(pub Difference);
@@ -48,6 +52,18 @@ impl fmt::Display for ShownLife {
     }
 }
 
+impl fmt::Display for ShownPieces {
+    ghost use Rattle.std.specs.Prelude.{Some};
+    ghost use Rattle.alike_files.specs.Texts.{pieces_text};
+
+    ghost output = { λ shown. Some (pieces_text shown.0) };
+
+    fn fmt<W: fmt::Write>(&self, f: &mut fmt::Formatter<W>) -> fmt::Result {
+        let pieces = self.0;
+        write!(f, "{pieces}")
+    }
+}
+
 impl fmt::Display for ShownDifference {
     ghost use Rattle.std.specs.Prelude.{Some};
     ghost use Rattle.alike_files.specs.Texts.{difference_text};
@@ -68,7 +84,12 @@ impl fmt::Display for ShownDifference {
             Difference::Board { board } => write!(f, "board {board} new"),
             Difference::Reel { reel } => write!(f, "reel {reel} new"),
             Difference::Remaining { reel, old, new } => {
-                write!(f, "reel {reel} remaining {old} {new}")
+                write!(
+                    f,
+                    "reel {reel} remaining {} {}",
+                    ShownPieces(old),
+                    ShownPieces(new)
+                )
             }
             Difference::ReelPart { reel, old, new } => write!(f, "reel {reel} part {old} {new}"),
             Difference::Lot { reel, old, new } => write!(f, "reel {reel} lot {old} {new}"),
