@@ -1,5 +1,6 @@
 -- The texts of a comparison.
 use Rattle.std.specs.Prelude.{ℕ, List, ◌++◌, Bool, true, false, Option, Some, None, codes, decimal}
+use Rattle.desk_types.specs.Id.{Name}
 use Rattle.desk_types.specs.declared.view.Left.{Left}
 use Rattle.desk_types.specs.declared.view.Left.TheVariants.{Minutes, Unlimited, Unbaked}
 use Rattle.line_schema.specs.Opening.{fault_text}
@@ -23,9 +24,6 @@ life_text (Minutes minutes) = decimal minutes
 life_text Unlimited = codes "unlimited"
 life_text Unbaked = codes "unbaked"
 
-abbrev pub pieces_text : ℕ → List ℕ
-pieces_text pieces = decimal pieces
-
 abbrev pub truth_text : Bool → List ℕ
 truth_text true = codes "true"
 truth_text false = codes "false"
@@ -33,6 +31,9 @@ truth_text false = codes "false"
 -- Two texts with a space between them.
 abbrev pub both : List ℕ → List ℕ → List ℕ
 both a b = a ++ codes " " ++ b
+
+abbrev pub remaining_text : Name → ℕ → ℕ → List ℕ
+remaining_text reel old new = codes "reel " ++ reel ++ codes " remaining " ++ both (decimal old) (decimal new)
 
 -- The kind of a difference, the names that it is in, and then the values on the old desk and on the new one.
 abbrev pub difference_text : Difference → List ℕ
@@ -45,7 +46,7 @@ difference_text (OldWork board) = codes "board " ++ board ++ codes " in work old
 difference_text (NewWork board) = codes "board " ++ board ++ codes " in work new"
 difference_text (Board board) = codes "board " ++ board ++ codes " new"
 difference_text (Reel reel) = codes "reel " ++ reel ++ codes " new"
-difference_text (Remaining reel old new) = codes "reel " ++ reel ++ codes " remaining " ++ both (pieces_text old) (pieces_text new)
+difference_text (Remaining reel old new) = remaining_text reel old new
 difference_text (ReelPart reel old new) = codes "reel " ++ reel ++ codes " part " ++ both old new
 difference_text (Lot reel old new) = codes "reel " ++ reel ++ codes " lot " ++ both old new
 difference_text (Level reel) = codes "reel " ++ reel ++ codes " level"

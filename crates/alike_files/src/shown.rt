@@ -1,7 +1,7 @@
 //! The texts of differences.
 
 use alike_check::Difference;
-use desk_types::{Left, Minute};
+use desk_types::{Id, Left, Minute};
 use std::fmt;
 
 /// A desk minute, or `none` before the first command.
@@ -12,9 +12,13 @@ pub struct ShownMinute(pub Option<Minute>);
 #[derive(Clone, Copy)]
 pub struct ShownLife(pub Left);
 
-/// A number of pieces.
+/// The pieces left on a reel, on the old desk and on the new one.
 #[derive(Clone, Copy)]
-pub struct ShownPieces(pub u64);
+struct ShownRemaining {
+    reel: Id,
+    old: u64,
+    new: u64,
+}
 
 /// A difference: its kind, the names that it is in, and then the values on the old desk and on the new one.
 #[derive(Clone, Copy)]
@@ -52,15 +56,14 @@ impl fmt::Display for ShownLife {
     }
 }
 
-impl fmt::Display for ShownPieces {
+impl fmt::Display for ShownRemaining {
     ghost use Rattle.std.specs.Prelude.{Some};
-    ghost use Rattle.alike_files.specs.Texts.{pieces_text};
+    ghost use Rattle.alike_files.specs.Texts.{remaining_text};
 
-    ghost output = { λ shown. Some (pieces_text shown.0) };
+    ghost output = { λ shown. Some (remaining_text shown.reel shown.old shown.new) };
 
     fn fmt<W: fmt::Write>(&self, f: &mut fmt::Formatter<W>) -> fmt::Result {
-        let pieces = self.0;
-        write!(f, "{pieces}")
+        write!(f, "reel {} remaining {} {}", self.reel, self.old, self.new)
     }
 }
 
@@ -84,12 +87,7 @@ impl fmt::Display for ShownDifference {
             Difference::Board { board } => write!(f, "board {board} new"),
             Difference::Reel { reel } => write!(f, "reel {reel} new"),
             Difference::Remaining { reel, old, new } => {
-                write!(
-                    f,
-                    "reel {reel} remaining {} {}",
-                    ShownPieces(old),
-                    ShownPieces(new)
-                )
+                write!(f, "{}", ShownRemaining { reel, old, new })
             }
             Difference::ReelPart { reel, old, new } => write!(f, "reel {reel} part {old} {new}"),
             Difference::Lot { reel, old, new } => write!(f, "reel {reel} lot {old} {new}"),
