@@ -13,6 +13,8 @@ ROOT = pathlib.Path(__file__).resolve().parents[3]
 CRATES = ROOT / "crates"
 CRATE = "tracedesk"
 BUILT = CRATES / CRATE / "out" / CRATE
+# The second program, which compares two desk files.
+ALIKE = "tracedesk_alike"
 NAME = os.path.relpath(os.path.realpath(sys.argv[0]), ROOT)
 NO_KIT = ("there is no rt, the command of Rattle's kit, which proves and builds. All but make build, test and wrong-bodies "
           "work without it on a program that is built: make day PROGRAM=FILE")
@@ -55,7 +57,12 @@ def want_kit():
 # --- What the program is built of
 
 
-def proved_in_turn():
+def built(crate):
+    """Where a program is once it is built."""
+    return CRATES / crate / "out" / crate
+
+
+def proved_in_turn(crate=CRATE):
     """The crates at and below the program, in the order in which rt proves them."""
     rows = [line.partition("#")[0].partition(":") for line in CRATES.with_suffix(".txt").read_text(encoding="utf-8").splitlines()]
     named = {name.split()[0]: deps.split() for name, _, deps in rows if name.strip()}
@@ -67,27 +74,27 @@ def proved_in_turn():
         if name in named and name not in found:
             found.append(name)
 
-    add(CRATE)
+    add(crate)
     return found
 
 
-def sources():
+def sources(program=CRATE):
     """The files that the program is built of, and their folders, whose times tell of files that are gone."""
     yield CRATES.with_suffix(".txt")
     yield ROOT / "HANDLES"
-    for crate in proved_in_turn():
+    for crate in proved_in_turn(program):
         for part in ("src", "specs", "proofs"):
             yield from (it for it in (CRATES / crate / part, *(CRATES / crate / part).rglob("*")) if it.exists())
 
 
-def newest():
+def newest(crate=CRATE):
     """The source that was written last."""
-    return max(sources(), key=lambda it: it.stat().st_mtime_ns)
+    return max(sources(crate), key=lambda it: it.stat().st_mtime_ns)
 
 
-def is_built():
+def is_built(crate=CRATE):
     """Whether a program is there that no source is newer than."""
-    return can_run(BUILT) and BUILT.stat().st_mtime_ns >= newest().stat().st_mtime_ns
+    return can_run(built(crate)) and built(crate).stat().st_mtime_ns >= newest(crate).stat().st_mtime_ns
 
 
 def can_run(file):
@@ -106,8 +113,8 @@ def lines_of(crate):
 class Progress:
     """What is told on standard error of the lines that rt prints."""
 
-    def __init__(self):
-        self.crates = proved_in_turn()
+    def __init__(self, crate):
+        self.crates = proved_in_turn(crate)
         self.lines = {it: lines_of(it) for it in self.crates}
         self.began, self.done, self.crate = time.monotonic(), 0, None
 
@@ -133,13 +140,13 @@ def tell(text):
     print(text, file=sys.stderr, flush=True)
 
 
-def build():
+def build(crate):
     """Proves and builds the program; where that fails, all that rt said is told, and the tool ends with its status."""
     tell(f"{NAME}: proving and building the program, some 40 minutes on four cores; `make demo` shows it at work before that")
-    progress, said, began = Progress(), [], time.time_ns()
+    progress, said, began = Progress(crate), [], time.time_ns()
     # rt runs what it built: once, for its help
     words = ["rt", "run", "--", "--help"]
-    with subprocess.Popen(words, cwd=CRATES / CRATE, stdin=subprocess.DEVNULL, stdout=subprocess.DEVNULL, stderr=subprocess.PIPE, errors="replace") as building:
+    with subprocess.Popen(words, cwd=CRATES / crate, stdin=subprocess.DEVNULL, stdout=subprocess.DEVNULL, stderr=subprocess.PIPE, errors="replace") as building:
         for line in building.stderr or ():
             said.append(line)
             progress.hear(line)
@@ -148,16 +155,16 @@ def build():
         tell(f"{NAME}: the program was not built: rt ended with status {building.returncode}")
         sys.exit(building.returncode if building.returncode == 1 else 2)
     # rt goes by what the files say: a source written anew with the same text leaves the program as old as it was
-    if BUILT.stat().st_mtime_ns < newest().stat().st_mtime_ns < began:
-        os.utime(BUILT)
+    if built(crate).stat().st_mtime_ns < newest(crate).stat().st_mtime_ns < began:
+        os.utime(built(crate))
 
 
-def own():
+def own(crate=CRATE):
     """The repository's own program, built where that is wanting."""
-    if not is_built():
+    if not is_built(crate):
         want_kit()
-        build()
-    return str(BUILT)
+        build(crate)
+    return str(built(crate))
 
 
 # --- For the tools

@@ -1,0 +1,23 @@
+//! The program that says whether the desks in two files are alike.
+#![tactic(auto)]
+
+mod program;
+mod run;
+mod telling;
+
+use desk_types::Wire;
+use run::{wordless, words};
+use std::process::ExitCode;
+
+fn main(rt: HostRuntime) -> ExitCode {
+    let mut errors = Wire::new(rt.stderr());
+    ExitCode::from(match words(&rt) {
+        Ok(words) => run::program(
+            &rt,
+            words.as_slice(),
+            &mut Wire::new(rt.stdout()),
+            &mut errors,
+        ),
+        Err(error) => wordless(&error, &mut errors),
+    })
+}
