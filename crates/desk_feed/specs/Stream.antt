@@ -1,11 +1,12 @@
 -- The answers to the lines of an input.
-use Rattle.std.specs.Prelude.{◌≡◌, ℕ, ◌+◌, Bool, true, false, nat_lt, List, [], ◌∷◌, ◌++◌, length, Option, IfSome, count_by, codes, if◌then◌else◌}
+use Rattle.std.specs.Prelude.{◌≡◌, ℕ, ◌+◌, Bool, true, false, nat_lt, List, [], ◌∷◌, ◌++◌, length, Option, IfSome, Result, Ok, Err, count_by, codes, if◌then◌else◌}
 use Rattle.std.specs.List.{flat_map}
-use Rattle.std.specs.Io.KnownBytes.{Appends, Consumes}
+use Rattle.std.specs.Io.KnownBytes.{Appends, Consumes, IsAtEnd}
 use Rattle.serde_json.specs.Written.{compact_text}
 use Rattle.cfx_profile.specs.Answer.{faulty, unavailable_text}
 use Rattle.desk_types.specs.declared.rules.Rules.{Rules}
 use Rattle.desk_types.specs.History.{History}
+use Rattle.desk_answers.specs.Ledger.{Ledger}
 use Rattle.served.specs.declared.serving.Served.{Served}
 use Rattle.served.specs.declared.serving.ServeFault.{ServeFault}
 use Rattle.served.specs.declared.serving.ServeFault.TheVariants.{Read, Write, TooManyReads}
@@ -100,3 +101,15 @@ abbrev pub LeavesNone : Option (List ℕ) → Option (List ℕ) → ServeFault �
 LeavesNone input input' (Read served) = AnswersEnded input input' served
 LeavesNone input input' (TooManyReads served) = AnswersEnded input input' served
 LeavesNone input input' (Write served) = Unit {0}
+
+-- ---- a run, by how it ended
+
+-- The answers to the input: to all its lines, or those before the fault.
+abbrev pub AnswersInput : Option (List ℕ) → Option (List ℕ) → Option (List ℕ) → Result Served ServeFault → Ledger → History → Type 0
+AnswersInput input out out' (Ok served) G H = AnsweredAll G.rules G.greatest input G.history out H out' served
+AnswersInput input out out' (Err fault) G H = AnsweredUpTo G.rules G.greatest input G.history out H out' fault
+
+-- The input was read to its end, or up to the fault.
+abbrev pub ReadsInput : Option (List ℕ) → Option (List ℕ) → Result Served ServeFault → Type 0
+ReadsInput input input' (Ok served) = IsAtEnd input'
+ReadsInput input input' (Err fault) = LeavesNone input input' fault
