@@ -1,10 +1,10 @@
 -- The stored parts of a portion.
-use Rattle.std.specs.Prelude.{◌≤◌, List, ℕ, length}
+use Rattle.std.specs.Prelude.{◌≤◌, List, ℕ, length, Option, IfSome, MatchOption}
 use Rattle.httparse.specs.Spans.{span_bytes, IsWithin}
 use Rattle.http_stream.specs.declared.front.Seen.{Seen}
 use Rattle.http_stream.specs.declared.portion.Taken.{Taken}
 use Rattle.http_stream.specs.declared.portion.Taken.TheVariants as taken
-use Rattle.http_stream.specs.Cut.{Request, Portion, whole, bad_head, head_too_large, unread, starved}
+use Rattle.http_stream.specs.Cut.{Request, Portion, whole, bad_head, head_too_large, unread, starved, EndsInside, TakesPortion}
 use Rattle.http_stream.specs.Fronts.{seen_bytes}
 
 -- The head's method, from the block.
@@ -38,3 +38,8 @@ IsTaken block taken.BadHead = Unit {0}
 IsTaken block taken.HeadTooLarge = Unit {0}
 IsTaken block (taken.Unread seen fault) = IsSeen block seen
 IsTaken block taken.Starved = Unit {0}
+
+-- The next portion was taken and lies in the block, or the stream ends inside or before it.
+pub record TakesNext (next : Option Taken) (block : List ℕ) (old new : Option (List ℕ)) : Type 0 where
+  pub taken : IfSome next (λ taken. IsTaken block taken)
+  pub portion : MatchOption next (IfSome old EndsInside) (λ taken. TakesPortion old (portion_of block taken) new)

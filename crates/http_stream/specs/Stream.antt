@@ -1,12 +1,16 @@
 -- The answers to a stream of requests.
-use Rattle.std.specs.Prelude.{◌≡◌, ℕ, ◌+◌, Bool, true, false, not, List, [], ◌∷◌, length, Option, Some, IfSome, count_by}
+use Rattle.std.specs.Prelude.{◌≡◌, ℕ, ◌+◌, Bool, true, false, not, List, [], ◌∷◌, length, Option, Some, IfSome, Result, Ok, Err, IfOk, count_by}
 use Rattle.std.specs.List.{flat_map}
 use Rattle.std.specs.Io.KnownBytes.{Appends}
 use Rattle.desk_types.specs.History.{History}
+use Rattle.desk_types.specs.declared.wire.Wire.{Wire}
+use Rattle.desk_answers.specs.Ledger.{Ledger}
 use Rattle.desk_types.specs.declared.rules.Rules.{Rules}
-use Rattle.served.specs.Counts.{none_served}
-use Rattle.served.specs.Sent.{SendsFront}
+use Rattle.served.specs.Counts.{none_served, CountsUpToOne}
+use Rattle.served.specs.Sent.{SendsFront, CountsWrite}
 use Rattle.served.specs.declared.serving.Served.{Served}
+use Rattle.served.specs.declared.serving.ServeFault.{ServeFault}
+use Rattle.served.specs.declared.serving.ServeFault.TheVariants.{Read, Write, TooManyReads}
 use Rattle.http_stream.specs.Answers.{Told, unavailable, told_bad_head, told_head_too_large, told_length, is_refused, answer_bytes}
 use Rattle.http_stream.specs.Cut.{Request, Portion, whole, bad_head, head_too_large, unread, starved, is_last, is_head, IsPortion, Leads, ReadsInside, IsCut}
 
@@ -98,6 +102,13 @@ AnsweredInto rule input H out H' out' served = (ps : List Portion) × (marks : L
     × IfSome input (λ bytes. (left : List ℕ) × (rest : List ℕ) × Leads bytes ps left × IsPortion left p rest) × Answered rule ps marks H out none_served H₁ out₁ served
     × (H' ≡ (answer rule mark H₁ p).after) × SendsFront out₁ out' (answer rule mark H₁ p).bytes
 
+-- The answers before a fault: the first portions and, after a failed write, the first bytes of one
+-- more answer.
+abbrev pub AnsweredUpTo : Rule → Option (List ℕ) → Option (List ℕ) → History → Option (List ℕ) → History → Option (List ℕ) → ServeFault → Type 0
+AnsweredUpTo rule input input' H out H' out' (Read served) = AnsweredFront rule input input' H out H' out' served
+AnsweredUpTo rule input input' H out H' out' (TooManyReads served) = AnsweredFront rule input input' H out H' out' served
+AnsweredUpTo rule input input' H out H' out' (Write served) = AnsweredInto rule input H out H' out' served
+
 -- ---- a handler
 
 -- A handler's rule, from the rules and greatest number of its ledger.
@@ -112,6 +123,11 @@ AnswersRequest rule r H told H' = (mark : Bool) × (told ≡ (request_outcome ru
 abbrev pub AnswersPortion : Rule → Portion → History → Told → History → Type 0
 AnswersPortion rule p H told H' = (mark : Bool) × (told ≡ (outcome rule mark H p).told) × (H' ≡ (outcome rule mark H p).after)
 
+-- The answers to a connection, by how it ended: to all its portions, or those before the fault.
+abbrev pub AnswersConnection : RuleBy → Option (List ℕ) → Option (List ℕ) → Option (List ℕ) → Option (List ℕ) → Result Served ServeFault → Ledger → History → Type 0
+AnswersConnection rule input input' out out' (Ok served) G H = AnsweredAll (rule G.rules G.greatest) input G.history out H out' served
+AnswersConnection rule input input' out out' (Err fault) G H = AnsweredUpTo (rule G.rules G.greatest) input input' G.history out H out' fault
+
 -- The portions were answered.
 abbrev pub Serves : Rule → List Portion → History → Option (List ℕ) → Served → History → Option (List ℕ) → Served → Type 0
 Serves rule ps H out s H' out' s' = (marks : List Bool) × Answered rule ps marks H out s H' out' s'
@@ -119,3 +135,14 @@ Serves rule ps H out s H' out' s' = (marks : List Bool) × Answered rule ps mark
 -- Only the first bytes of the answer to the portion were sent.
 abbrev pub Breaks : Rule → Portion → History → Option (List ℕ) → Served → History → Option (List ℕ) → Served → Type 0
 Breaks rule p H out s H' out' s' = (mark : Bool) × (s' ≡ s) × (H' ≡ (answer rule mark H p).after) × SendsFront out out' (answer rule mark H p).bytes
+
+-- The portion was answered: whole, or with only the first bytes of the answer.
+abbrev pub SendsPortion : {A E : Type 0} → RuleBy → Portion → Option (List ℕ) → Served → Option (List ℕ) → Served → Result A E → Ledger → History → Type 0
+SendsPortion rule p out s out' s' (Ok done) G H = Serves (rule G.rules G.greatest) (p ∷ []) G.history out s H out' s'
+SendsPortion rule p out s out' s' (Err fault) G H = Breaks (rule G.rules G.greatest) p G.history out s H out' s'
+
+-- The result is whether the answer is the last, and the counts show whether it was sent whole.
+pub record ShowsSent {E W : Type 0} (ends : Bool) (result : Result Bool E) (output output' : Wire W) (old new : Served) : Type 0 where
+  pub last : IfOk result (λ last. last ≡ ends)
+  pub writes : CountsWrite result output output'
+  pub counts : CountsUpToOne old new
