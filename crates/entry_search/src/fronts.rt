@@ -40,9 +40,10 @@ fn front_reel(floor: &Floor, minute: Minute, reel: Option<Id>) -> Option<FrontRe
 {
     let name = reel?;
     let found = reel_on(floor, &name)?;
+    let row = found.row;
     Some(FrontReel {
         reel: name,
-        part: found.part,
+        part: row.part,
         life: life(&found, minute),
     })
 }

@@ -68,12 +68,13 @@ fn mount(floor: &Floor, minute: Minute, slot: &Id, position: u64, reel: &Id) -> 
     let Some(found) = reel_on(floor, reel) else {
         unreachable!()
     };
+    let row = found.row;
     Mount {
         slot: *slot,
         position,
         reel: *reel,
-        part: found.part,
-        lot: found.lot,
+        part: row.part,
+        lot: row.lot,
         remaining: pieces(&floor.stock, reel),
         left: life_left(&found, minute),
     }

@@ -31,9 +31,9 @@ is_reel found minute row = ((nat_le row.label GREATEST_LABEL && nat_le found row
 pub record IsHeld (H : History) (name : Name) (held : Held) : Type 0 where
   pub stands : StandsFor H name held.reel
   pub by_now : held.reel.last ≤ now_of H
-  pub remaining : held.reel.remaining ≡ left_of H name
-  pub placed : held.reel.placed ≡ placed_of H name
-  pub scrapped : held.reel.scrapped ≡ scrapped_of H name
+  pub remaining : held.reel.row.remaining ≡ left_of H name
+  pub placed : held.reel.row.placed ≡ placed_of H name
+  pub scrapped : held.reel.row.scrapped ≡ scrapped_of H name
   pub found : held.reel.found ≡ found_of H name
   pub mounted : held.on_slot ≡ is_mounted H name
 

@@ -31,9 +31,9 @@ fn is_free(alternates: &Alternates, part: &Id, held: &Held, left: Left) -> bool
     ensures { (H : History) (name : Name) → AreAlternates H alternates.now → IsHeld H name held.now
         → left ≡ life_left H name → result ≡ is_free H part.now name }
 {
-    allowed(alternates, part, &held.reel.part)
+    allowed(alternates, part, &held.reel.row.part)
         && !held.on_slot
-        && held.reel.remaining > 0
+        && held.reel.row.remaining > 0
         && is_usable(left)
 }
 

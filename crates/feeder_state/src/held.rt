@@ -55,18 +55,8 @@ fn reel_of(row: &ReelRow, found: u64, minute: Minute) -> Option<Reel>
 {
     if is_reel(row, found, minute) {
         return Some(Reel {
-            part: row.part,
-            lot: row.lot,
-            level: row.level,
-            label: row.label,
-            received: row.received,
+            row: *row,
             found,
-            placed: row.placed,
-            scrapped: row.scrapped,
-            remaining: row.remaining,
-            used: row.used,
-            open_since: row.open_since,
-            baked: row.baked,
             last: minute,
         });
     }

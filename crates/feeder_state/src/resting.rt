@@ -24,7 +24,7 @@ pub fn is_at_rest(held: &Held) -> bool
     ensures held { result ≡ held_rests held.now }
     ensures listed { (H : History) (name : Name) → IsHeld H name held.now → result ≡ rests H name }
 {
-    held.reel.remaining > 0 && !held.on_slot
+    held.reel.row.remaining > 0 && !held.on_slot
 }
 
 fn put_tape(resting: &mut BTreeSet<Id>, tape: &Tape) -> Result<(), AllocError>

@@ -21,23 +21,24 @@ fn view_of(held: &Held, minute: Minute, name: &Id) -> ReelView
     ensures { (H : History) → IsHeld H name.now held.now → now_of H ≡ minute → reel_view H name.now ≡ Some result }
 {
     let reel = &held.reel;
+    let row = &reel.row;
     ReelView {
         reel: *name,
-        part: reel.part,
-        lot: reel.lot,
-        level: reel.level,
-        label: reel.label,
-        received: reel.received,
+        part: row.part,
+        lot: row.lot,
+        level: row.level,
+        label: row.label,
+        received: row.received,
         found: reel.found,
-        placed: reel.placed,
-        scrapped: reel.scrapped,
-        remaining: reel.remaining,
+        placed: row.placed,
+        scrapped: row.scrapped,
+        remaining: row.remaining,
         left: life_left(reel, reel.not_before(minute)),
         mounted: held.on_slot,
-        is_open: reel.open_since.is_some(),
-        used: reel.used,
-        open_since: reel.open_since,
-        baked: reel.baked,
+        is_open: row.open_since.is_some(),
+        used: row.used,
+        open_since: row.open_since,
+        baked: row.baked,
     }
 }
 
@@ -69,9 +70,9 @@ fn mount_of(held: &Held, minute: Minute, slot: &Id, position: u64, name: &Id) ->
         slot: *slot,
         position,
         reel: *name,
-        part: held.reel.part,
-        lot: held.reel.lot,
-        remaining: held.reel.remaining,
+        part: held.reel.row.part,
+        lot: held.reel.row.lot,
+        remaining: held.reel.row.remaining,
         left: life_left(&held.reel, held.reel.not_before(minute)),
     }
 }

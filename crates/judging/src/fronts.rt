@@ -29,9 +29,10 @@ fn front_at<F: Facts>(facts: &F, minute: Minute, machine: &Id, slot: &Id) -> Opt
     facts.is_judged();
     let name = front(facts, machine, slot)?;
     let found = facts.reel(&name)?;
+    let row = found.row;
     Some(FrontReel {
         reel: name,
-        part: found.part,
+        part: row.part,
         life: life(&found, found.not_before(minute)),
     })
 }

@@ -27,7 +27,7 @@ fn reel_refusal<F: Facts>(facts: &F, minute: Minute, row: &SheetRow, reel: &Id) 
     if facts.left_of(reel) == 0 {
         return Some(Refusal::ReelEmpty(*reel));
     }
-    if !allowed(facts.alternates(), &row.part, &found.part) {
+    if !allowed(facts.alternates(), &row.part, &found.row.part) {
         return Some(Refusal::WrongPart(*reel));
     }
     if found.is_unbaked() {

@@ -11,6 +11,7 @@ use Rattle.desk_types.specs.declared.take.Take.{Take}
 use Rattle.desk_types.specs.declared.take.Purpose.{Purpose}
 use Rattle.desk_types.specs.declared.take.Purpose.TheVariants.{Placed}
 use Rattle.desk_types.specs.Id.{Name, same}
+use Rattle.desk_types.specs.Row.{fresh_row}
 use Rattle.desk_types.specs.Setup.{receipt_by}
 use Rattle.desk_types.specs.Pieces.{pieces_picked, is_placed, pieces_by, found_by}
 use Rattle.desk_types.specs.FloorLife.{open_by, since_after, baked_by}
@@ -26,23 +27,6 @@ placed_in picks reel = pieces_picked (filter (λ p. is_placed p.purpose) picks) 
 
 abbrev pub scrapped_in : List Pick → Name → ℕ
 scrapped_in picks reel = pieces_picked (filter (λ p. not (is_placed p.purpose)) picks) reel
-
--- The row of a reel that was just received.
-abbrev pub fresh_row : Name → Receipt → ReelRow
-fresh_row reel receipt = record {
-  reel = reel;
-  part = receipt.part;
-  lot = receipt.lot;
-  level = receipt.moisture.level;
-  label = receipt.moisture.label;
-  received = receipt.quantity;
-  placed = 0;
-  scrapped = 0;
-  remaining = receipt.quantity;
-  used = 0;
-  open_since = None;
-  baked = false;
-}
 
 -- The exposure that is kept after a command, by whether it bakes the reel and how it leaves its bag.
 abbrev pub used_after : Bool → Option Bool → ℕ → Option ℕ → ℕ → ℕ

@@ -12,6 +12,7 @@ use Rattle.desk_types.specs.declared.take.Take.{Take}
 use Rattle.desk_types.specs.declared.view.Mount.{Mount}
 use Rattle.desk_types.specs.declared.view.ReelView.{ReelView}
 use Rattle.desk_types.specs.Id.{Name, same}
+use Rattle.desk_types.specs.Row.{fresh_row, opened_row, sealed_row, baked_row}
 use Rattle.desk_types.specs.History.{History}
 use Rattle.desk_types.specs.Setup.{sheet_of, selected_on}
 use Rattle.desk_types.specs.Pieces.{pieces_picked, is_placed, placed_of, scrapped_of}
@@ -22,7 +23,7 @@ use Rattle.desk_types.specs.declared.edit.RowEdit.{RowEdit}
 use Rattle.desk_types.specs.declared.edit.RowEdit.TheVariants.{TakeSheetRow, TakeMount, PutPart, PutAlternate, PutSheetRow, PutSelected, PutReel, PutMount, PutBoard, PutPlacement, PutFound}
 use Rattle.desk_types.specs.Tables.{Tables, at_place, columns_of, reel_row}
 use Rattle.desk_types.specs.Edits.{with_edits}
-use Rattle.state_rows.specs.After.{placed_in, scrapped_in, fresh_row, placed_row}
+use Rattle.state_rows.specs.After.{placed_in, scrapped_in, placed_row}
 
 -- ---- sheets
 
@@ -36,15 +37,6 @@ put_rows product machine n [] = []
 put_rows product machine n (row ∷ rows) = PutSheetRow product machine n row ∷ put_rows product machine (n + 1) rows
 
 -- ---- reels
-
-abbrev pub opened_row : ℕ → ReelRow → ReelRow
-opened_row minute row = record row { open_since = option_or row.open_since (Some minute) }
-
-abbrev pub sealed_row : ℕ → ReelRow → ReelRow
-sealed_row minute row = record row { used = row.used + option_map_or (λ from. minute - from) row.open_since 0; open_since = None }
-
-abbrev pub baked_row : ReelRow → ReelRow
-baked_row row = record row { used = 0; open_since = None; baked = true }
 
 -- The changed row of a reel that has one.
 abbrev pub reel_edit : (ReelRow → ReelRow) → Option ReelRow → List RowEdit

@@ -7,7 +7,6 @@ ghost use Rattle.std.specs.Option.{option_map, option_or, option_to_list};
 ghost use Rattle.std.specs.BTreeMap.{get, keys, values};
 ghost use Rattle.desk_types.specs.Id.{Name, same, by_name};
 ghost use Rattle.desk_types.specs.History.{History};
-ghost use Rattle.desk_types.specs.Pieces.{is_placed};
 ghost use Rattle.desk_types.specs.declared.row.ReelRow.{ReelRow};
 ghost use Rattle.desk_types.specs.declared.row.PlacementRow.{PlacementRow};
 ghost use Rattle.desk_types.specs.declared.edit.RowEdit.TheVariants.{PutReel, PutPlacement};
@@ -21,20 +20,13 @@ use desk_types::{Id, PlacementRow, Purpose, ReelRow, RowEdit, Take};
 use std::alloc::{AllocError, Global};
 use std::collections::BTreeMap;
 
-/// Whether a piece was placed, and not thrown away.
-fn is_placed(purpose: &Purpose) -> bool
-    ensures { result ≡ is_placed purpose.now }
-{
-    matches!(purpose, Purpose::Placed { .. })
-}
-
 /// Takes a take's pieces off a row.
 fn lessen(row: &mut ReelRow, take: &Take)
     requires { LessFits (pick_of take.now) row.old }
     ensures { row.new ≡ less_by (pick_of take.now) row.old }
 {
     row.remaining = row.remaining.saturating_sub(take.quantity);
-    if is_placed(&take.purpose) {
+    if take.purpose.is_placed() {
         row.placed = row.placed.saturating_add(take.quantity);
     } else {
         row.scrapped = row.scrapped.saturating_add(take.quantity);
