@@ -31,7 +31,13 @@ impl ReelRow {
     pub fn fresh(reel: Id, part: Id, lot: Id, moisture: Moisture, quantity: Quantity) -> ReelRow
         ensures { (minute : ℕ)
             → result ≡ fresh_row reel
-            (record { part = part; lot = lot; moisture = moisture; quantity = quantity; effective = minute }) }
+            (record {
+              part = part;
+              lot = lot;
+              moisture = moisture;
+              quantity = quantity;
+              effective = minute;
+            }) }
     {
         ReelRow {
             reel,

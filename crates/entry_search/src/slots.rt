@@ -91,7 +91,8 @@ fn put_mounts(
     requires by_now { AreReelsBy floor.now.reels minute }
     requires received { All (λ reel. is_some (reel_at floor.now.reels reel) ≡ true) reels.now }
     ensures { (H : History) → IsFloor H floor.now → now_of H ≡ minute
-        → OnOk result (mounts.new.items ≡ mounts.old.items ++ map (mount_of H slot.now) (enumerate_from 1 reels.now)) }
+        → OnOk result (mounts.new.items
+        ≡ mounts.old.items ++ map (mount_of H slot.now) (enumerate_from 1 reels.now)) }
 {
     for (index, reel) in reels.iter().enumerate() {
         mounts.push(mount(floor, minute, slot, index as u64 + 1, reel))?;

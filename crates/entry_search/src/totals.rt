@@ -46,7 +46,8 @@ fn taken_for(takes: &[Take], reel: &Id, usage: Usage) -> u64
 
 /// Returns the reel's pieces with this usage, for the takes of an accepted history.
 pub fn total(takes: &[Takes], reel: &Id, usage: Usage) -> u64
-    ensures { (H : History) → IsJudged Two H → length H ≤ MOST_ENTRIES → AreTakes H (reverse takes.now)
+    ensures { (H : History) → IsJudged Two H → length H ≤ MOST_ENTRIES
+        → AreTakes H (reverse takes.now)
         → result ≡ total_of usage H reel.now }
 {
     let mut pieces = 0u64;

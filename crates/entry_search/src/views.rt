@@ -21,7 +21,8 @@ use reels::Reel;
 /// Returns the reel's remaining floor life at the desk minute.
 pub fn life_left(reel: &Reel, minute: Minute) -> Left
     requires { reel.now.last ≤ minute }
-    ensures { (H : History) (name : Name) → StandsFor H name reel.now → now_of H ≡ minute → result ≡ life_left H name }
+    ensures { (H : History) (name : Name) → StandsFor H name reel.now → now_of H ≡ minute
+        → result ≡ life_left H name }
 {
     if reel.is_unbaked() {
         return Left::Unbaked;

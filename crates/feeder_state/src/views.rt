@@ -18,7 +18,8 @@ use state_rows::RowSet;
 use std::alloc::{AllocError, Global};
 
 fn view_of(held: &Held, minute: Minute, name: &Id) -> ReelView
-    ensures { (H : History) → IsHeld H name.now held.now → now_of H ≡ minute → reel_view H name.now ≡ Some result }
+    ensures { (H : History) → IsHeld H name.now held.now → now_of H ≡ minute
+        → reel_view H name.now ≡ Some result }
 {
     let reel = &held.reel;
     let row = &reel.row;
@@ -87,7 +88,8 @@ fn put_tape(
 ) -> Result<(), AllocError>
     ensures { (H : History) → AreRowsAt H (Some minute) rows.now
         → All (λ name. is_some (receipt_of H name) ≡ true) tape.now
-        → OnOk result (mounts.new.items ≡ mounts.old.items ++ map (mount_of H slot.now) (enumerate_from 1 tape.now)) }
+        → OnOk result (mounts.new.items
+        ≡ mounts.old.items ++ map (mount_of H slot.now) (enumerate_from 1 tape.now)) }
 {
     for index in 0..tape.reels.len() {
         let name = &tape.reels[index];
@@ -108,7 +110,8 @@ fn put_slots(
 ) -> Result<(), AllocError>
     ensures { (H : History) → AreRowsAt H (Some minute) rows.now → IsFloor H floor.now
         → OnOk result
-        (mounts.new.items ≡ mounts.old.items ++ flat_map (slot_mounts H machine.now) (loaded_slots H machine.now)) }
+        (mounts.new.items ≡ mounts.old.items
+        ++ flat_map (slot_mounts H machine.now) (loaded_slots H machine.now)) }
 {
     for (key, tape) in &floor.tapes {
         if key.0 == *machine {
@@ -129,7 +132,8 @@ pub fn slots_of(
     machine: &Id,
 ) -> Result<Option<Mounts>, AllocError>
     ensures { (H : History) → AreRowsAt H minute rows.now → IsFloor H floor.now
-        → has_sheet ≡ is_on_sheet H machine.now → IfOk result (λ mounts. mounts ≡ mounts_on H machine.now) }
+        → has_sheet ≡ is_on_sheet H machine.now
+        → IfOk result (λ mounts. mounts ≡ mounts_on H machine.now) }
 {
     if !has_sheet {
         return Ok(None);

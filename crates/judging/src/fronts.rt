@@ -40,7 +40,8 @@ fn front_at<F: Facts>(facts: &F, minute: Minute, machine: &Id, slot: &Id) -> Opt
 /// Returns the slots of the selected product's sheet in order, each with its front reel at the desk
 /// minute.
 pub fn fronts<F: Facts>(alloc: Global, facts: &F, machine: &Id) -> Result<Fronts, AllocError>
-    ensures { (H : History) → F.Stands facts.now H → IfOk result (λ fronts. fronts ≡ fronts_of H machine.now) }
+    ensures { (H : History) → F.Stands facts.now H
+        → IfOk result (λ fronts. fronts ≡ fronts_of H machine.now) }
 {
     let mut fronts = Vec::new(alloc);
     let Some(minute) = facts.minute() else {

@@ -44,7 +44,8 @@ pub fn takes_for<F: Facts>(
     picks: &[Pick],
 ) -> Result<Takes, AllocError>
     requires { IsBy F.Stands facts.now minute }
-    ensures { (H : History) → F.Stands facts.now H → AllByRecursion (λ (p : Picking). IsKnownReel H p.reel) picks.now
+    ensures { (H : History) → F.Stands facts.now H
+        → AllByRecursion (λ (p : Picking). IsKnownReel H p.reel) picks.now
         → IfOk result (λ takes. takes ≡ map (take_of H minute) picks.now) }
 {
     let mut takes = Vec::with_capacity(alloc, picks.len())?;

@@ -13,11 +13,13 @@ use Rattle.reels.specs.declared.reel.Reel.{Reel}
 
 -- The reel's remaining minutes of floor life, 0 if expired; none without a limit.
 abbrev pub minutes_left_at : Reel → ℕ → Option ℕ
-minutes_left_at reel minute = option_map (λ limit. limit - exposure_at reel.row minute) (limit_of reel.row.level reel.row.label)
+minutes_left_at reel minute = option_map
+    (λ limit. limit - exposure_at reel.row minute) (limit_of reel.row.level reel.row.label)
 
 -- Whether the reel's exposure has reached its limit, if it has one.
 abbrev pub is_expired_at : Reel → ℕ → Bool
-is_expired_at reel minute = option_map_or (λ limit. nat_le limit (exposure_at reel.row minute)) (limit_of reel.row.level reel.row.label) false
+is_expired_at reel minute = option_map_or (λ limit. nat_le limit (exposure_at reel.row minute))
+    (limit_of reel.row.level reel.row.label) false
 
 -- Whether the reel waits for its bake: it has level 6 and isn't baked.
 abbrev pub is_unbaked_reel : Reel → Bool

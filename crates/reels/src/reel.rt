@@ -43,7 +43,13 @@ impl Reel {
         at: Minute,
     ) -> Reel
         ensures row { result.row ≡ fresh_row reel
-            (record { part = part; lot = lot; moisture = moisture; quantity = quantity; effective = at }) }
+            (record {
+              part = part;
+              lot = lot;
+              moisture = moisture;
+              quantity = quantity;
+              effective = at;
+            }) }
         ensures found { result.found ≡ 0 }
         ensures last { result.last ≡ at }
         ensures stands { (H : History) (e : Entry) → IsUntouched H reel
@@ -115,7 +121,8 @@ impl Reel {
         requires { self.now.last ≤ at }
         ensures value { result ≡ exposure_at self.now.row at }
         ensures bound { result ≤ at }
-        ensures stands { (H : History) (name : Name) → StandsFor H name self.now → result ≡ exposure_of H name at }
+        ensures stands { (H : History) (name : Name) → StandsFor H name self.now
+            → result ≡ exposure_of H name at }
     {
         let _ = at.get();
         self.row.exposure(at)
@@ -126,7 +133,8 @@ impl Reel {
         requires { self.now.last ≤ at }
         ensures value { result ≡ minutes_left_at self.now at }
         ensures bound { IfSome result (λ left. left ≤ GREATEST_LABEL) }
-        ensures stands { (H : History) (name : Name) → StandsFor H name self.now → result ≡ minutes_left H name at }
+        ensures stands { (H : History) (name : Name) → StandsFor H name self.now
+            → result ≡ minutes_left H name at }
     {
         let exposure = self.exposure(at);
         let limit = self.row.level.limit(self.row.label)?;
@@ -137,7 +145,8 @@ impl Reel {
     /// receipt.
     pub fn is_unbaked(&self) -> bool
         ensures value { result ≡ is_unbaked_reel self.now }
-        ensures stands { (H : History) (name : Name) → StandsFor H name self.now → result ≡ is_unbaked H name }
+        ensures stands { (H : History) (name : Name) → StandsFor H name self.now
+            → result ≡ is_unbaked H name }
     {
         self.row.level == Level::Six && !self.row.baked
     }
@@ -146,7 +155,8 @@ impl Reel {
     pub fn is_expired(&self, at: Minute) -> bool
         requires { self.now.last ≤ at }
         ensures value { result ≡ is_expired_at self.now at }
-        ensures stands { (H : History) (name : Name) → StandsFor H name self.now → result ≡ is_expired H name at }
+        ensures stands { (H : History) (name : Name) → StandsFor H name self.now
+            → result ≡ is_expired H name at }
     {
         match self.row.level.limit(self.row.label) {
             Some(limit) => self.exposure(at) >= limit,

@@ -107,7 +107,8 @@ pub fn mount<D: Views>(
     minute: Minute,
 ) -> Result<Vec<RowEdit>, AllocError>
     ensures { (H : History) → D.Stands desk.now H
-        → IfOk result (λ edits. edits.items ≡ PutMount put ∷ reel_edit (opened_row minute) (reel_row H put.reel)) }
+        → IfOk result (λ edits. edits.items
+        ≡ PutMount put ∷ reel_edit (opened_row minute) (reel_row H put.reel)) }
 {
     let mut edits = Vec::new(alloc);
     edits.push(RowEdit::PutMount(put))?;

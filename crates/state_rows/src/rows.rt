@@ -40,7 +40,8 @@ fn edits_of<D: Views>(
     requires room { HasRoom D.Stands desk.now 1 }
     requires judged { (H : History) → D.Stands desk.now H → IsJudged Two H }
     requires not_before { (H : History) → D.Stands desk.now H → now_of H ≤ minute }
-    requires fits { (H : History) × D.Stands desk.now H × ArePiecesFitting H (map pick_of takes.now) }
+    requires fits { (H : History) × D.Stands desk.now H
+        × ArePiecesFitting H (map pick_of takes.now) }
     ensures { (H : History) → D.Stands desk.now H
         → IfOk result (λ edits. AreEditsOf H number minute takes.now command.now edits.items) }
 {
@@ -123,12 +124,14 @@ pub fn edits_for<D: Views>(
     requires judged { (H : History) → D.Stands desk.now H
         → IsChange (D.kept_rules desk.now) H change.now.stamped change.now }
     ensures lead { (H : History) → D.Stands desk.now H → number ≡ length H + 1
-        → IfOk result (λ edits. with_edits edits (tables_of H) ≡ tables_of (accept H change.now.stamped)) }
+        → IfOk result (λ edits. with_edits edits (tables_of H)
+        ≡ tables_of (accept H change.now.stamped)) }
     ensures new { (H : History) → D.Stands desk.now H → number ≡ length H + 1
         → IfOk result (λ edits. AreNew edits (tables_of H)) }
     ensures same { (H : History) → D.Stands desk.now H
         → IfOk result
-        (λ edits. unnumbered (with_edits edits (tables_of H)) ≡ unnumbered (tables_of (accept H change.now.stamped))) }
+        (λ edits. unnumbered (with_edits edits (tables_of H))
+        ≡ unnumbered (tables_of (accept H change.now.stamped))) }
     ensures in_order { IfOk result (λ edits. AreTakesFirst edits × AreBalanced edits) }
 {
     desk.is_judged();
@@ -158,12 +161,14 @@ pub fn rows_of<D: Desk>(
     requires judged { (H : History) → D.Stands desk.now H
         → IsChange (D.kept_rules desk.now) H change.now.stamped change.now }
     ensures lead { (H : History) → D.Stands desk.now H → number ≡ length H + 1
-        → IfOk result (λ edits. with_edits edits (tables_of H) ≡ tables_of (accept H change.now.stamped)) }
+        → IfOk result (λ edits. with_edits edits (tables_of H)
+        ≡ tables_of (accept H change.now.stamped)) }
     ensures new { (H : History) → D.Stands desk.now H → number ≡ length H + 1
         → IfOk result (λ edits. AreNew edits (tables_of H)) }
     ensures same { (H : History) → D.Stands desk.now H
         → IfOk result
-        (λ edits. unnumbered (with_edits edits (tables_of H)) ≡ unnumbered (tables_of (accept H change.now.stamped))) }
+        (λ edits. unnumbered (with_edits edits (tables_of H))
+        ≡ unnumbered (tables_of (accept H change.now.stamped))) }
     ensures in_order { IfOk result (λ edits. AreTakesFirst edits × AreBalanced edits) }
 {
     let views = DeskViews { desk };
