@@ -32,19 +32,22 @@ TakesLine old raw false new = HasNoFeed raw × Consumes old new (raw ++ 10 ∷ [
 
 -- The next line was taken.
 abbrev pub TakesNext : Option (List ℕ) → Taken → Option (List ℕ) → Type 0
-TakesNext old taken new = (raw : List ℕ) × HoldsLine taken.line raw × TakesLine old raw taken.last new
+TakesNext old taken new = (raw : List ℕ) × HoldsLine taken.line raw
+    × TakesLine old raw taken.last new
 
 -- The bytes read are no whole line.
 abbrev pub ReadsInside : Option (List ℕ) → Option (List ℕ) → Type 0
 ReadsInside old new = (rest : List ℕ) × HasNoFeed rest × Consumes old new rest
 
 -- A byte is pending, or the input is at its end.
-pub record HasPending {E : Type 0} (result : Result Bool E) (block : Block) (known : Option (List ℕ)) : Type 0 where
+pub record HasPending {E : Type 0} (result : Result Bool E) (block : Block)
+    (known : Option (List ℕ)) : Type 0 where
   pub some : result ≡ Ok true → 0 < length (pending_bytes block)
   pub end : result ≡ Ok false → IsAtEnd (source block known)
 
 -- The measure doesn't grow, and it falls at the end of input.
-pub record FallsAtEnd {E R : Type 0} (most_reads : ℕ) (result : Result Bool E) (old : Wire R) (block : Block) (new : Wire R) (block' : Block) : Type 0 where
+pub record FallsAtEnd {E R : Type 0} (most_reads : ℕ) (result : Result Bool E) (old : Wire R)
+    (block : Block) (new : Wire R) (block' : Block) : Type 0 where
   pub falls : OnOk result (fuel most_reads new block' ≤ fuel most_reads old block)
   pub at_end : result ≡ Ok false → fuel most_reads new block' < fuel most_reads old block
 

@@ -94,12 +94,16 @@ impl<T: Write> Write for Wire<T> {
 
     fn write(&mut self, buf: &[u8]) -> io::Result<usize>
         ensures bound { WritesAtMost result buf.now }
-        ensures bytes { WriteAppends (T.contents (inner_of self.old)) (T.contents (inner_of self.new)) result buf.now }
+        ensures bytes { WriteAppends (T.contents (inner_of self.old))
+            (T.contents (inner_of self.new)) result buf.now }
         ensures reads { reads_of self.new ≡ reads_of self.old }
         ensures failed { OnErr result (failures_of self.new ≡ one_more (failures_of self.old)) }
-        ensures stuck { result ≡ Ok 0 → 0 < length buf.now → failures_of self.new ≡ one_more (failures_of self.old) }
-        ensures kept { IfOk result (λ taken. 0 < taken → failures_of self.new ≡ failures_of self.old) }
-        ensures empty { OnOk result (length buf.now ≡ 0 → failures_of self.new ≡ failures_of self.old) }
+        ensures stuck { result ≡ Ok 0 → 0 < length buf.now
+            → failures_of self.new ≡ one_more (failures_of self.old) }
+        ensures kept { IfOk result
+            (λ taken. 0 < taken → failures_of self.new ≡ failures_of self.old) }
+        ensures empty { OnOk result (length buf.now ≡ 0
+            → failures_of self.new ≡ failures_of self.old) }
     {
         match self.inner.write(buf) {
             Ok(0) if !buf.is_empty() => {

@@ -19,4 +19,5 @@ source block known = prepend_known (pending_bytes block) known
 
 -- A measure for loops: the bytes of all reads still allowed, and the pending ones.
 abbrev pub fuel : {R : Type 0} → ℕ → Wire R → Block → ℕ
-fuel most_reads wire block = (most_reads - reads_of wire) * (BLOCK + 1) + length (pending_bytes block)
+fuel most_reads wire block = (most_reads - reads_of wire) * (BLOCK + 1)
+    + length (pending_bytes block)
