@@ -3,4 +3,4 @@
 
 mod reel;
 
-pub use reel::{Reel, Usage};
+pub use reel::Reel;

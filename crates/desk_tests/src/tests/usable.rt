@@ -12,17 +12,17 @@ fn reel_of_level(level: Level, label: u64, at: Minute) -> Result<Reel, Fail>
 {
     let moisture = Moisture::new(level, label).ok_or("no label")?;
     let pieces = Quantity::new(100).ok_or("no quantity")?;
-    Ok(Reel::receive(id("P")?, id("L")?, moisture, pieces, at))
+    Ok(Reel::receive(id("K1")?, id("P")?, id("L")?, moisture, pieces, at))
 }
 
 /// A reel of level 6 may be used from its bake on, one of level 1 from its receipt on.
 #[test]
 fn a_reel_waits_for_its_bake(rt: HostRuntime) -> Result<(), Fail> {
     let at = Minute::new(50).ok_or("no minute")?;
-    assert!(rt; reel_of_level(Level::One, 0, at)?.usable(at));
+    assert!(rt; !reel_of_level(Level::One, 0, at)?.is_unbaked());
     let mut reel = reel_of_level(Level::Six, 60, at)?;
-    assert!(rt; !reel.usable(at));
+    assert!(rt; reel.is_unbaked());
     reel.bake(at);
-    assert!(rt; reel.usable(at));
+    assert!(rt; !reel.is_unbaked() && !reel.is_expired(at));
     Ok(())
 }
