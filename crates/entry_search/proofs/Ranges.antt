@@ -10,8 +10,8 @@ use Rattle.desk_types.specs.Pieces.{left_of, received_of, placed_of, scrapped_of
 use Rattle.desk_types.specs.Judged.{IsJudged}
 use Rattle.desk_laws.proofs.Balance.{balance}
 use Rattle.desk_laws.proofs.Ranges.{received-range}
-use Rattle.entry_search.specs.declared.totals.Usage.{Usage}
-use Rattle.entry_search.specs.declared.totals.Usage.TheVariants.{Placed, Scrapped}
+use Rattle.reels.specs.declared.reel.Usage.{Usage}
+use Rattle.reels.specs.declared.reel.Usage.TheVariants.{Placed, Scrapped}
 use Rattle.entry_search.specs.Totals.{total_of}
 
 pub few-reversed : (entries : List Entry) → length entries ≤ MOST_ENTRIES → length (reverse entries) ≤ MOST_ENTRIES

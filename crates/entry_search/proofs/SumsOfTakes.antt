@@ -13,7 +13,7 @@ use Rattle.desk_types.specs.History.{History}
 use Rattle.desk_types.specs.Pieces.{pieces_picked, picks_of, all_picks}
 use Rattle.desk_types.specs.Outcome.{take_of}
 use Rattle.desk_laws.proofs.Picks.{pieces_picked-append}
-use Rattle.entry_search.specs.declared.totals.Usage.{Usage}
+use Rattle.reels.specs.declared.reel.Usage.{Usage}
 use Rattle.entry_search.specs.Kept.{AreTakes}
 use Rattle.entry_search.specs.Totals.{is_usage_of, total_of, taken_for}
 

@@ -6,8 +6,8 @@ use Rattle.desk_types.specs.declared.take.Take.{Take}
 use Rattle.desk_types.specs.Id.{Name, same}
 use Rattle.desk_types.specs.History.{History}
 use Rattle.desk_types.specs.Pieces.{pieces_picked, all_picks, is_placed}
-use Rattle.entry_search.specs.declared.totals.Usage.{Usage}
-use Rattle.entry_search.specs.declared.totals.Usage.TheVariants.{Placed, Scrapped}
+use Rattle.reels.specs.declared.reel.Usage.{Usage}
+use Rattle.reels.specs.declared.reel.Usage.TheVariants.{Placed, Scrapped}
 
 -- Whether pieces taken for this purpose have this usage.
 abbrev pub is_usage_of : Usage → Purpose → Bool

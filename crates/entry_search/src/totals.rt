@@ -11,15 +11,7 @@ ghost use Rattle.entry_search.specs.Totals.{is_usage_of, total_of, taken_for};
 
 use crate::pieces::left_of;
 use desk_types::{Entry, Id, Purpose, Take, Takes};
-
-/// Why pieces left a reel.
-#[derive(Clone, Copy, Debug, PartialEq, Eq)]
-pub enum Usage {
-    /// They were placed on boards.
-    Placed,
-    /// They were scrapped, or missing at a count.
-    Scrapped,
-}
+use reels::Usage;
 
 fn is_usage_of(usage: Usage, purpose: &Purpose) -> bool
     ensures { result ≡ is_usage_of usage purpose.now }

@@ -14,9 +14,9 @@ use crate::floor_life::reel_of;
 use crate::mounts::is_mounted;
 use crate::pieces::left_of;
 use crate::setup::{desk_minute, receipt};
-use crate::totals::{Usage, received_of, total};
+use crate::totals::{received_of, total};
 use desk_types::{Entry, Id, Left, Minute, ReelView, Takes};
-use reels::Reel;
+use reels::{Reel, Usage};
 
 /// Returns the reel's remaining floor life at the desk minute.
 pub fn life_left(reel: &Reel, minute: Minute) -> Left

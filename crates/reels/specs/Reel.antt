@@ -1,5 +1,5 @@
 -- The state of a reel, and the history that it represents.
-use Rattle.std.specs.Prelude.{◌≡◌, ℕ, ◌+◌, ◌-◌, ◌≤◌, nat_le, Bool, false, not, ◌&&◌, Option, Some, unwrap_or}
+use Rattle.std.specs.Prelude.{◌≡◌, ℕ, ◌+◌, ◌-◌, ◌≤◌, nat_le, Bool, true, false, not, ◌&&◌, Option, Some, unwrap_or, if◌then◌else◌}
 use Rattle.std.specs.Option.{option_map, option_map_or}
 use Rattle.desk_types.specs.declared.command.Receipt.{Receipt}
 use Rattle.desk_types.specs.declared.row.ReelRow.{ReelRow}
@@ -10,6 +10,8 @@ use Rattle.desk_types.specs.History.{History}
 use Rattle.desk_types.specs.Setup.{receipt_of}
 use Rattle.desk_types.specs.FloorLife.{out_since, exposure_of, exposure_starts, is_baked, is_six}
 use Rattle.reels.specs.declared.reel.Reel.{Reel}
+use Rattle.reels.specs.declared.reel.Usage.{Usage}
+use Rattle.reels.specs.declared.reel.Usage.TheVariants.{Placed, Scrapped}
 
 -- The reel's remaining minutes of floor life, 0 if expired; none without a limit.
 abbrev pub minutes_left_at : Reel → ℕ → Option ℕ
@@ -24,6 +26,32 @@ is_expired_at reel minute = option_map_or (λ limit. nat_le limit (exposure_at r
 -- Whether the reel waits for its bake: it has level 6 and isn't baked.
 abbrev pub is_unbaked_reel : Reel → Bool
 is_unbaked_reel reel = is_six reel.row.level && not reel.row.baked
+
+abbrev pub is_placed_usage : Usage → Bool
+is_placed_usage Placed = true
+is_placed_usage Scrapped = false
+
+-- The row without pieces that were taken off the reel, each placed or scrapped.
+abbrev pub taken_row : Usage → ℕ → ReelRow → ReelRow
+taken_row usage pieces row = record row {
+  placed = row.placed + (if is_placed_usage usage then pieces else 0);
+  scrapped = row.scrapped + (if is_placed_usage usage then 0 else pieces);
+  remaining = row.remaining - pieces;
+}
+
+-- The row after a count of so many pieces: the missing ones are scrapped.
+abbrev pub counted_row : ℕ → ReelRow → ReelRow
+counted_row pieces row = record row {
+  scrapped = row.scrapped + (row.remaining - pieces);
+  remaining = pieces;
+}
+
+-- The row after a count above the remaining pieces: the surplus is received.
+abbrev pub risen_row : ℕ → ReelRow → ReelRow
+risen_row pieces row = record row {
+  received = row.received + (pieces - row.remaining);
+  remaining = pieces;
+}
 
 -- The history has this row's receipt; the received pieces are the receipt's and those found later.
 pub record HasReceipt (H : History) (name : Name) (row : ReelRow) (found : ℕ) : Type 0 where

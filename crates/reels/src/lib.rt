@@ -3,4 +3,4 @@
 
 mod reel;
 
-pub use reel::Reel;
+pub use reel::{Reel, Usage};

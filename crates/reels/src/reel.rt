@@ -4,6 +4,15 @@ ghost use Rattle.reels.specs.Fitting.{IsFitting};
 
 use desk_types::{Id, Level, Minute, Moisture, Quantity, ReelRow};
 
+/// Why pieces left a reel.
+#[derive(Clone, Copy, Debug, PartialEq, Eq)]
+pub enum Usage {
+    /// They were placed on boards.
+    Placed,
+    /// They were scrapped, or missing at a count.
+    Scrapped,
+}
+
 /// The state of a reel after its commands.
 ///
 /// - `row`: the reel's columns. The exposure in `used` counts up to `row.open_since`, or up to `last`
@@ -22,7 +31,7 @@ pub struct Reel {
 }
 
 impl Reel {
-    ghost use Rattle.std.specs.Prelude.{◌≡◌, ℕ, ◌≤◌, max, Some, true, ◌∷◌};
+    ghost use Rattle.std.specs.Prelude.{◌≡◌, ℕ, ◌+◌, ◌-◌, ◌≤◌, ◌<◌, ◌^◌, max, not, ◌&&◌, Some, true, ◌∷◌};
     ghost use Rattle.std.specs.Prelude.{IfSome};
     ghost use Rattle.desk_types.specs.declared.limits.TheConstants.{GREATEST_LABEL};
     ghost use Rattle.desk_types.specs.declared.command.Command.TheVariants.{ReelReceived, ReelSealed, ReelBaked};
@@ -31,7 +40,7 @@ impl Reel {
     ghost use Rattle.desk_types.specs.Row.{fresh_row, exposure_at, opened_row, sealed_row, baked_row};
     ghost use Rattle.desk_types.specs.History.{History};
     ghost use Rattle.desk_types.specs.FloorLife.{open_by, IsUntouched, exposure_of, minutes_left, is_expired, is_unbaked};
-    ghost use Rattle.reels.specs.Reel.{StandsFor, minutes_left_at, is_expired_at, is_unbaked_reel};
+    ghost use Rattle.reels.specs.Reel.{StandsFor, minutes_left_at, is_expired_at, is_unbaked_reel, taken_row, counted_row, risen_row};
 
     /// Returns a sealed reel received at this minute.
     pub fn receive(
@@ -162,6 +171,65 @@ impl Reel {
             Some(limit) => self.exposure(at) >= limit,
             None => false,
         }
+    }
+
+    /// Returns whether the reel can be used at this minute: it is neither unbaked nor expired.
+    pub fn usable(&self, at: Minute) -> bool
+        requires { self.now.last ≤ at }
+        ensures value { result
+            ≡ (not (is_unbaked_reel self.now) && not (is_expired_at self.now at)) }
+        ensures stands { (H : History) (name : Name) → StandsFor H name self.now
+            → result ≡ (not (is_unbaked H name) && not (is_expired H name at)) }
+    {
+        !self.is_unbaked() && !self.is_expired(at)
+    }
+
+    /// Takes pieces off the reel.
+    pub fn take(&mut self, pieces: u64, usage: Usage)
+        requires { pieces ≤ self.old.row.remaining }
+        ensures row { self.new.row ≡ taken_row usage pieces self.old.row }
+        ensures found { self.new.found ≡ self.old.found }
+        ensures last { self.new.last ≡ self.old.last }
+        ensures stands { (H : History) (name : Name) → StandsFor H name self.old
+            → StandsFor H name self.new }
+    {
+        // The received pieces fit their type, and so do the sums below.
+        let _received = self.row.received;
+        self.row.remaining -= pieces;
+        match usage {
+            Usage::Placed => self.row.placed += pieces,
+            Usage::Scrapped => self.row.scrapped += pieces,
+        }
+    }
+
+    /// Records a count. Missing pieces become scrapped.
+    pub fn count(&mut self, pieces: u64)
+        requires { pieces ≤ self.old.row.remaining }
+        ensures row { self.new.row ≡ counted_row pieces self.old.row }
+        ensures found { self.new.found ≡ self.old.found }
+        ensures last { self.new.last ≡ self.old.last }
+        ensures stands { (H : History) (name : Name) → StandsFor H name self.old
+            → StandsFor H name self.new }
+    {
+        let missing = self.row.remaining - pieces;
+        self.take(missing, Usage::Scrapped);
+    }
+
+    /// Records a count above the remaining pieces. The surplus becomes found and received pieces.
+    pub fn rise(&mut self, pieces: u64)
+        requires above { self.old.row.remaining < pieces }
+        requires fits { self.old.row.received + (pieces - self.old.row.remaining) < 2 ^ 64 }
+        ensures row { self.new.row ≡ risen_row pieces self.old.row }
+        ensures found { self.new.found
+            ≡ self.old.found + (pieces - self.old.row.remaining) }
+        ensures last { self.new.last ≡ self.old.last }
+        ensures stands { (H : History) (name : Name) → StandsFor H name self.old
+            → StandsFor H name self.new }
+    {
+        let above = pieces - self.row.remaining;
+        self.row.remaining = pieces;
+        self.found += above;
+        self.row.received += above;
     }
 
     /// A law: a command that doesn't concern the reel keeps it representing its history. It is for

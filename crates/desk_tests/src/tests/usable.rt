@@ -19,10 +19,10 @@ fn reel_of_level(level: Level, label: u64, at: Minute) -> Result<Reel, Fail>
 #[test]
 fn a_reel_waits_for_its_bake(rt: HostRuntime) -> Result<(), Fail> {
     let at = Minute::new(50).ok_or("no minute")?;
-    assert!(rt; !reel_of_level(Level::One, 0, at)?.is_unbaked());
+    assert!(rt; reel_of_level(Level::One, 0, at)?.usable(at));
     let mut reel = reel_of_level(Level::Six, 60, at)?;
-    assert!(rt; reel.is_unbaked());
+    assert!(rt; !reel.usable(at));
     reel.bake(at);
-    assert!(rt; !reel.is_unbaked() && !reel.is_expired(at));
+    assert!(rt; reel.usable(at));
     Ok(())
 }

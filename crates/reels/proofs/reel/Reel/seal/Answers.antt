@@ -1,5 +1,4 @@
-use Rattle.std.proofs.Common.{◌≡◌, ◌∷◌, sym, subst, arith}
-use Rattle.desk_types.specs.Row.{sealed_row}
+use Rattle.std.proofs.Common.{◌∷◌, sym, subst, arith}
 use Rattle.reels.specs.Fitting.{IsFitting}
 use Rattle.reels.specs.Reel.{RowStandsFor}
 use Rattle.reels.proofs.StandingReels.{exposure-within, sealed-fits, StandsFor-seal}
