@@ -102,8 +102,8 @@ IsEnd greatest old count = (count ≡ greatest) ⊎ Reads old (λ db. filter (ha
 abbrev pub IsStop : Rules → ℕ → State → ℕ → Type 0
 IsStop rules greatest old n = (H : History) × IsJudged rules H × (length H + 1 ≡ n) × (n ≤ greatest) × Reads old (λ db. AreAt (accepted_in db) H × IsStuck rules H (accepted_in db))
 
--- The rows up to this number were taken, within the greatest number: the desk represents their history. On a clean disk
--- no row follows.
+-- The rows up to this number were taken, within the greatest number: the desk represents their
+-- history. On a clean disk no row follows.
 pub record TakesAll {D : Type 0} (StandsFor : D → History → Type 0) (rules : Rules) (greatest : ℕ) (Clean : Type 0) (old : State) (desk : D) (expected : Expected) (count : ℕ) : Type 0 where
   pub history : History
   pub within : count ≤ greatest

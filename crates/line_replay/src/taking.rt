@@ -67,8 +67,9 @@ pub fn take_rows<S: Alter, D: KeepsRows>(
     requires start { IsFresh D.Stands desk.old lists.old (D.kept_rows desk.old) }
     requires bound { greatest ≤ MOST_ENTRIES }
     ensures taken { IfOk result
-        (λ r. TakesAll (StandsListed D.Stands) (D.kept_rules desk.old) greatest (HasCleanDisk (state S.Store conn.new))
-        (state S.Store conn.old) (desk.new, lists.new) (kept_with (D.kept_rows desk.new) r.1) r.0) }
+        (λ r. TakesAll (StandsListed D.Stands) (D.kept_rules desk.old) greatest
+        (HasCleanDisk (state S.Store conn.new)) (state S.Store conn.old) (desk.new, lists.new)
+        (kept_with (D.kept_rows desk.new) r.1) r.0) }
     ensures err { HasCleanDisk (state S.Store conn.new)
         → IfErr result (λ f. (f ≡ Unavailable)
         ⊎ ((n : ℕ) × (f ≡ NotLawful n) × IsStop (D.kept_rules desk.old) greatest (state S.Store conn.old) n)) }
@@ -78,6 +79,7 @@ pub fn take_rows<S: Alter, D: KeepsRows>(
     let mut placed = Placed {
         all: true,
         count: 0,
+        end: Some(0),
     };
     for number in 0..greatest {
         let taken = take_row(alloc, conn, desk, lists, &mut placed, number + 1)?;
