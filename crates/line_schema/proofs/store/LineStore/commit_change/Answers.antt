@@ -6,6 +6,7 @@ use Rattle.desk_types.specs.History.{accept}
 use Rattle.desk_types.specs.Number.{IsMinute}
 use Rattle.line_tables.specs.Edit.{command_edits}
 use Rattle.line_tables.proofs.Keeps.{keeps_same}
+use Rattle.line_tables.proofs.Leaves.{others_kept}
 use Rattle.line_schema.proofs.StandsAfter.{judged_for, stood_for, stands_on, left_on, survives_on, failed_on, survives_still, err_still}
 use Rattle.line_schema.proofs.DeskRows.{lead_of, rows_settled}
 use Rattle.line_schema.proofs.Others.{let_be_edited}
@@ -19,7 +20,7 @@ returns-in_err-reserve-clause-err g c L stands =
 pub returns-in_err-append-clause-err : goal.returns-in_err-append-clause-err
 returns-in_err-append-clause-err g c L stands =
     err_still c.from_residual-in_err-append.result
-    (failed_on g.S.Store g.D.Desk.Stands g.D.Desk.kept_rules c.args.self.now _ c.in-Some-lists.lists c.reserve.new.self c.in-Some-lists.is refl c.reserve.ensures.same refl refl refl (c.append.ensures.mode stands.mode) c.append.ensures.crash c.in_err-append.ensures.neither L stands)
+    (failed_on g.S.Store g.D.Desk.Stands g.D.Desk.kept_rules c.args.self.now _ c.in-Some-lists.lists c.reserve.new.self c.in-Some-lists.is refl c.reserve.ensures.same refl refl refl (c.append.ensures.inside.mode stands.mode) c.append.ensures.crash c.in_err-append.ensures.neither L stands)
 
 pub returns-in_err-append-clause-survives : goal.returns-in_err-append-clause-survives
 returns-in_err-append-clause-survives g c L stands own =
@@ -62,13 +63,13 @@ returns-clause-ok g c L stands first =
     let new = c.in_ok-text.ensures.new L.greatest L.history by (ap (λ n. n + 1) stands.count) in
     let minute : IsMinute change.minute = search rules in
     stands_on g.S.Store g.D.Desk.Stands g.D.Desk.kept_rules old _ L change (command_edits c.in_ok-text.field-0.row c.in_ok-text.field-0.edits) stands c.requires.room is c.ranges_hold.ensures minute refl refl (search rules) (c.settle_both-desk.ensures.desk Two L.history (search rules)) (c.settle_both-desk.ensures.lists L.history (search rules) (search rules) (ap (λ n. n + 1) stands.count)) c.settle_both-desk.ensures.beside after new
-    c.append.ensures.crash (λ clean. rw c.as_slice.ensures at (c.in_ok-append.ensures.done clean)) (λ clean. (c.in_ok-append.ensures.stays_open clean).0) first
+    c.append.ensures.crash (λ clean. (rw c.as_slice.ensures at (c.in_ok-append.ensures.done clean)).tables) (λ clean. (c.in_ok-append.ensures.stays_open clean).0) first
 
 pub returns-in_err-append-clause-others : goal.returns-in_err-append-clause-others
-returns-in_err-append-clause-others g c = let_be_edited _ _ _ c.append.result c.append.ensures.crash c.append.ensures.others c.append.ensures.stays_open c.append.ensures.neither
+returns-in_err-append-clause-others g c = let_be_edited _ _ _ c.append.result c.append.ensures.crash (λ clean. others_kept _ _ _ c.append.result (c.append.ensures.done clean)) c.append.ensures.stays_open c.append.ensures.neither
 
 pub returns-clause-others : goal.returns-clause-others
-returns-clause-others g c = let_be_edited _ _ _ c.append.result c.append.ensures.crash c.append.ensures.others c.append.ensures.stays_open c.append.ensures.neither
+returns-clause-others g c = let_be_edited _ _ _ c.append.result c.append.ensures.crash (λ clean. others_kept _ _ _ c.append.result (c.append.ensures.done clean)) c.append.ensures.stays_open c.append.ensures.neither
 
 pub returns-in_err-text-clause-err : goal.returns-in_err-text-clause-err
 returns-in_err-text-clause-err g c L stands = err_still _ stands

@@ -22,7 +22,7 @@ returns-in-Ok-clause-stands g c = record {
   mode = search rules;
   stays_open = λ clean. inl (c.in-Ok.ensures.stays_open clean).1;
   lawful = λ clean own. record { judged = tt; uids = none_yet; numbers = omega arith };
-  tables = λ clean own is_open. c.in-Ok.ensures.made clean (blank_is _ own);
+  tables = λ clean own is_open. (c.in-Ok.ensures.made clean (blank_is _ own)).tables;
 }
 
 pub returns-in-Ok-clause-alone : goal.returns-in-Ok-clause-alone
