@@ -13,7 +13,9 @@ use Rattle.line_tables.specs.Line.{IsOurs}
 use Rattle.line_tables.specs.StateRows.{AreRows, rows_in, has_piece, placement_columns, HoldsParts, HoldsAlternates, HoldsSheets, HoldsSelected, HoldsReels, HoldsMounts, HoldsBoards, HoldsPlacements, HoldsFound}
 use Rattle.line_audit.specs.declared.table.StateTable.{StateTable}
 use Rattle.line_audit.specs.declared.table.StateTable.TheVariants.{Part, Alternate, SheetRow, Selected, Reel, Mount, Board, Placement, Found}
+use Rattle.line_audit.specs.declared.auditing.Placed.{Placed}
 use Rattle.line_audit.specs.Alone.{Listed, AreAlone}
+use Rattle.line_audit.specs.Placed.{HasBefore}
 
 -- Only rules Two have the table of found pieces.
 abbrev pub found_table : Rules → List StateTable
@@ -71,12 +73,13 @@ abbrev pub HasPlacements : Database → (ℕ × ℕ → Option PlacementRow) →
 HasPlacements db f = AreRows has_piece (λ _ row. placement_columns row) (rows_in line.placement db) f
 
 -- These are the expected placements, with their number and their map. If all were found, the committed contents have
--- them.
-pub record IsExpected (old : State) (all : Bool) (count : ℕ) (es : Pieces) (f : ℕ × ℕ → Option PlacementRow) : Type 0 where
+-- them, before the end if that is known.
+pub record IsExpected (old : State) (looked : Placed) (es : Pieces) (f : ℕ × ℕ → Option PlacementRow) : Type 0 where
   pub listed : Listed es f
   pub pieces : AreByPiece es
-  pub counted : length es ≡ count
-  pub placed : IsTrue old.is_open → IsOurs old.committed.schema → ArePlaced old.committed all es
+  pub counted : length es ≡ looked.count
+  pub placed : IsTrue old.is_open → IsOurs old.committed.schema → ArePlaced old.committed looked.all es
+  pub before : IsTrue old.is_open → IsOurs old.committed.schema → HasBefore looked.end looked.count old.committed
 
 -- An entry for a row, by its number and its place.
 abbrev pub piece_of : PlacementRow → (ℕ × ℕ) × PlacementRow

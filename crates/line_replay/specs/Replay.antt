@@ -17,7 +17,8 @@ use Rattle.line_replay.specs.Listed.{IsAt, AreAt, StopsAt, AreRowsOf}
 use Rattle.line_replay.specs.Expected.{Expected, AreExpected, Adds}
 use Rattle.line_rows.specs.Judging.{GoesOn, Lead}
 use Rattle.desk_types.specs.Edits.{with_edits}
-use Rattle.state_rows.specs.Kept.{KeptRows, tables_in, but_placements}
+use Rattle.desk_types.specs.Tables.{tables_of}
+use Rattle.state_rows.specs.Kept.{KeptRows, tables_in, but_placements, unnumbered}
 use Rattle.desk_types.specs.declared.edit.RowEdit.{RowEdit}
 use Rattle.trace_lists.specs.declared.lists.TraceLists.{TraceLists}
 use Rattle.trace_lists.specs.Lists.{IsListed}
@@ -42,6 +43,12 @@ IsFaultOf rules greatest old Unavailable = ⊤
 -- A desk with its trace indexes represents a history if the desk does, and the indexes list it.
 abbrev pub StandsListed : {D : Type 0} → (D → History → Type 0) → D × TraceLists → History → Type 0
 StandsListed StandsFor it H = StandsFor it.0 H × IsListed it.1 H
+
+-- The desk and its trace indexes are those of an empty history, and so are the rows that it keeps.
+pub record IsFresh {D : Type 0} (StandsFor : D → History → Type 0) (desk : D) (lists : TraceLists) (rows : KeptRows) : Type 0 where
+  pub stands : StandsFor desk []
+  pub listed : IsListed lists []
+  pub empty : unnumbered (tables_in rows) ≡ unnumbered (tables_of [])
 
 -- There is no row, or the least number is 1.
 abbrev pub IsNumbered : List Row → Type 0
@@ -94,3 +101,11 @@ IsEnd greatest old count = (count ≡ greatest) ⊎ Reads old (λ db. filter (ha
 -- The place where no entry continues a judged history whose entries have their rows.
 abbrev pub IsStop : Rules → ℕ → State → ℕ → Type 0
 IsStop rules greatest old n = (H : History) × IsJudged rules H × (length H + 1 ≡ n) × (n ≤ greatest) × Reads old (λ db. AreAt (accepted_in db) H × IsStuck rules H (accepted_in db))
+
+-- The rows up to this number were taken, within the greatest number: the desk represents their
+-- history. On a clean disk no row follows.
+pub record TakesAll {D : Type 0} (StandsFor : D → History → Type 0) (rules : Rules) (greatest : ℕ) (Clean : Type 0) (old : State) (desk : D) (expected : Expected) (count : ℕ) : Type 0 where
+  pub history : History
+  pub within : count ≤ greatest
+  pub taken : IsTaken StandsFor rules Clean old.committed desk expected count history
+  pub ends : Clean → IsEnd greatest old count

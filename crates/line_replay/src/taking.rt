@@ -1,6 +1,6 @@
 //! Rows taken one after another, by number.
 
-ghost use Rattle.std.specs.Prelude.{◌≡◌, ◌==◌, ◌+◌, ◌≤◌, ◌⊎◌, ⊤, ℕ, true, IfOk, IfErr, OnOk, [], ◌∷◌, length};
+ghost use Rattle.std.specs.Prelude.{◌≡◌, ◌==◌, ◌+◌, ◌≤◌, ◌⊎◌, ⊤, ℕ, true, IfOk, IfErr, OnOk, length};
 ghost use Rattle.std.specs.List.{list_any};
 ghost use Rattle.sqlite.specs.State.{HasCleanDisk};
 ghost use Rattle.sqlite.specs.Held.{state};
@@ -9,15 +9,13 @@ ghost use Rattle.desk_types.specs.declared.limits.TheConstants.{MOST_ENTRIES};
 ghost use Rattle.desk_types.specs.declared.rules.Rules.{Rules};
 ghost use Rattle.desk_types.specs.Desk.{HasRoom};
 ghost use Rattle.desk_types.specs.History.{History};
-ghost use Rattle.desk_types.specs.Tables.{tables_of};
-ghost use Rattle.state_rows.specs.Kept.{tables_in, unnumbered};
 ghost use Rattle.line_tables.specs.Rows.{accepted_in};
 ghost use Rattle.line_tables.specs.Calls.{Reads, is_before};
 ghost use Rattle.line_tables.specs.Frames.{ReadsOnly};
 ghost use Rattle.line_rows.specs.Judging.{GoesOn};
 ghost use Rattle.line_replay.specs.declared.fault.ReplayFault.TheVariants.{NotLawful, Unavailable};
 ghost use Rattle.line_replay.specs.Expected.{kept_with};
-ghost use Rattle.line_replay.specs.Replay.{IsFaultOf, IsNumbered, IsStuck, StandsListed, Accepts, Goes, IsTaken, IsEnd, IsStop};
+ghost use Rattle.line_replay.specs.Replay.{IsFaultOf, IsNumbered, IsStuck, StandsListed, IsFresh, Accepts, Goes, TakesAll, IsStop};
 ghost use Rattle.trace_lists.specs.Lists.{IsListed};
 
 use crate::fault::ReplayFault;
@@ -66,15 +64,12 @@ pub fn take_rows<S: Alter, D: KeepsRows>(
     lists: &mut TraceLists,
     greatest: u32,
 ) -> Result<(u32, Placed), ReplayFault>
-    requires fresh { D.Stands desk.old [] }
-    requires empty { IsListed lists.old [] }
-    requires none { unnumbered (tables_in (D.kept_rows desk.old)) ≡ unnumbered (tables_of []) }
+    requires start { IsFresh D.Stands desk.old lists.old (D.kept_rows desk.old) }
     requires bound { greatest ≤ MOST_ENTRIES }
-    ensures taken { IfOk result (λ r. (H : History) × (r.0 ≤ greatest)
-        × IsTaken (StandsListed D.Stands) (D.kept_rules desk.old) (HasCleanDisk (state S.Store conn.new))
-        (state S.Store conn.old).committed (desk.new, lists.new) (kept_with (D.kept_rows desk.new) r.1) r.0 H) }
-    ensures ends { HasCleanDisk (state S.Store conn.new)
-        → IfOk result (λ r. IsEnd greatest (state S.Store conn.old) r.0) }
+    ensures taken { IfOk result
+        (λ r. TakesAll (StandsListed D.Stands) (D.kept_rules desk.old) greatest
+        (HasCleanDisk (state S.Store conn.new)) (state S.Store conn.old) (desk.new, lists.new)
+        (kept_with (D.kept_rows desk.new) r.1) r.0) }
     ensures err { HasCleanDisk (state S.Store conn.new)
         → IfErr result (λ f. (f ≡ Unavailable)
         ⊎ ((n : ℕ) × (f ≡ NotLawful n) × IsStop (D.kept_rules desk.old) greatest (state S.Store conn.old) n)) }
@@ -84,6 +79,7 @@ pub fn take_rows<S: Alter, D: KeepsRows>(
     let mut placed = Placed {
         all: true,
         count: 0,
+        end: Some(0),
     };
     for number in 0..greatest {
         let taken = take_row(alloc, conn, desk, lists, &mut placed, number + 1)?;

@@ -41,6 +41,11 @@ pub record KeepsOthers (before after : Database) : Type 0 where
 abbrev pub Edits : List Edit → Database → Database → Type 0
 Edits edits before after = (tables : Tables) → Holds before tables → AreNew edits tables → (after.schema ≡ before.schema) × Holds after (after_edits edits tables)
 
+-- The second database is the first with the edits made. Other people's tables are unchanged.
+pub record Edited (edits : List Edit) (before after : Database) : Type 0 where
+  pub tables : Edits edits before after
+  pub others : KeepsOthers before after
+
 -- The connection was open, and the edits were made inside its transaction, whose trees list its schema. Other people's
 -- rows are unchanged.
 pub record Writes (edits : List Edit) (old new : State) : Type 0 where
@@ -65,11 +70,16 @@ pub record LeavesBlank (greatest : ℕ) (old : State) (trees : Trees) : Type 0 w
   pub was_open : IsTrue old.is_open
   pub holds : old.now.schema ≡ no_schema → (left : HoldsAt (blank greatest) trees) × (left.0.schema ≡ line_schema)
 
+-- The database has the tables of an empty history, in the layout of new files.
+pub record HoldsBlank (greatest : ℕ) (db : Database) : Type 0 where
+  pub layout : db.schema ≡ line_schema
+  pub tables : Holds db (blank greatest)
+
 -- The connection was open, and inside its transaction the tables of an empty history were created in the layout of new
 -- files. Before, there was no table. The trees list the schema.
 pub record Makes (greatest : ℕ) (old new : State) : Type 0 where
   pub was_open : IsTrue old.is_open
-  pub done : old.now.schema ≡ no_schema → (new.now.schema ≡ line_schema) × Holds new.now (blank greatest)
+  pub done : old.now.schema ≡ no_schema → HoldsBlank greatest new.now
   pub sound : old.now.schema ≡ no_schema → IsDatabase new.now
 
 -- Whatever tables the first database holds by version 1, the second holds by version 2, in the same layout. Only

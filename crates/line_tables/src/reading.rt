@@ -131,7 +131,8 @@ fn accepted_of(row: &Row) -> Result<Accepted, Error>
     })
 }
 
-fn least_of(rows: &[Row]) -> Result<Option<i64>, Error>
+/// The number of the only row, if there is a row.
+pub fn least_of(rows: &[Row]) -> Result<Option<i64>, Error>
     ensures ok { IfOk result (λ least. rows.now ≡ number_row least) }
     ensures err { IfErr result (OnlyWhere ((least : Option ℤ) → rows.now ≢ number_row least)) }
 {

@@ -8,6 +8,7 @@ use Rattle.desk_types.specs.History.{accept}
 use Rattle.desk_types.specs.Number.{IsMinute}
 use Rattle.line_tables.specs.Edit.{command_edits}
 use Rattle.line_tables.proofs.Keeps.{keeps_same}
+use Rattle.line_tables.proofs.Leaves.{others_kept}
 use Rattle.line_schema.proofs.StandsAfter.{failed_on, fails, judged_for, left_on, not_committed, stands_on, stood_for, survives_on}
 use Rattle.line_schema.proofs.DeskRows.{lead_of, rows_settled}
 use Rattle.line_schema.proofs.Others.{file_edited, survives_still}
@@ -27,7 +28,7 @@ returns-in_err-reserve-clause-answers g c L stands =
 pub returns-in_err-append-clause-answers : goal.returns-in_err-append-clause-answers
 returns-in_err-append-clause-answers g c L stands =
     let told = err_from_is_err_and c.from_residual-in_err-append.result c.from_residual-in_err-append.ensures.1 in
-    let after = failed_on g.S.Store g.D.Desk.Stands g.D.Desk.kept_rules c.args.self.now _ c.in-Some-lists.lists c.reserve.new.self c.in-Some-lists.is refl c.reserve.ensures.same refl refl refl (c.append.ensures.mode stands.mode) c.append.ensures.crash c.in_err-append.ensures.neither L stands in
+    let after = failed_on g.S.Store g.D.Desk.Stands g.D.Desk.kept_rules c.args.self.now _ c.in-Some-lists.lists c.reserve.new.self c.in-Some-lists.is refl c.reserve.ensures.same refl refl refl (c.append.ensures.inside.mode stands.mode) c.append.ensures.crash c.in_err-append.ensures.neither L stands in
     fails g.S.Store g.D.Desk.Stands g.D.Desk.kept_rules g.D.KeepsRows.kept_rows c.args.self.now _ L _ _ _ _ told.1 after (λ was. was)
 
 pub returns-in_err-append-clause-commits : goal.returns-in_err-append-clause-commits
@@ -43,7 +44,7 @@ returns-in_err-append-clause-commits g c L stands =
     not_committed g.S.Store g.D.Desk.Stands g.D.Desk.kept_rules old _ L _ change.stamped _ told.1 (λ own. survives_on (state g.S.Store old.conn) _ _ _ after fresh (λ clean. stands.tables clean own) (state g.S.Store c.append.new.conn) (rw c.as_slice.ensures at c.append.ensures.crash))
 
 pub returns-in_err-append-clause-file : goal.returns-in_err-append-clause-file
-returns-in_err-append-clause-file g c = file_edited _ _ _ c.append.result c.append.ensures.crash c.append.ensures.others c.append.ensures.stays_open c.append.ensures.neither
+returns-in_err-append-clause-file g c = file_edited _ _ _ c.append.result c.append.ensures.crash (λ clean. others_kept _ _ _ c.append.result (c.append.ensures.done clean)) c.append.ensures.stays_open c.append.ensures.neither
 
 pub returns-clause-answers : goal.returns-clause-answers
 returns-clause-answers g c L stands =
@@ -74,7 +75,7 @@ returns-clause-commits g c L stands =
     let minute : IsMinute change.minute = search rules in
     record {
       ok = stands_on g.S.Store g.D.Desk.Stands g.D.Desk.kept_rules old _ L change (command_edits c.in_ok-text.field-0.row c.in_ok-text.field-0.edits) stands c.requires.room is c.ranges_hold.ensures minute refl refl (search rules) (c.settle_both-desk.ensures.desk Two L.history (search rules)) (c.settle_both-desk.ensures.lists L.history (search rules) (search rules) next) c.settle_both-desk.ensures.beside after fresh
-          c.append.ensures.crash (λ clean. rw c.as_slice.ensures at (c.in_ok-append.ensures.done clean)) (λ clean. (c.in_ok-append.ensures.stays_open clean).0);
+          c.append.ensures.crash (λ clean. (rw c.as_slice.ensures at (c.in_ok-append.ensures.done clean)).tables) (λ clean. (c.in_ok-append.ensures.stays_open clean).0);
       survives = λ own. survives_on (state g.S.Store old.conn) _ _ _ after fresh (λ clean. stands.tables clean own) (state g.S.Store c.append.new.conn) (rw c.as_slice.ensures at c.append.ensures.crash);
       alone = λ clean own trees left.
           let early : HasCleanDisk (state g.S.Store old.conn) = omega (arith, c.append.ensures.crash.clean, clean) in
@@ -82,4 +83,4 @@ returns-clause-commits g c L stands =
     }
 
 pub returns-clause-file : goal.returns-clause-file
-returns-clause-file g c = file_edited _ _ _ c.append.result c.append.ensures.crash c.append.ensures.others c.append.ensures.stays_open c.append.ensures.neither
+returns-clause-file g c = file_edited _ _ _ c.append.result c.append.ensures.crash (λ clean. others_kept _ _ _ c.append.result (c.append.ensures.done clean)) c.append.ensures.stays_open c.append.ensures.neither

@@ -23,7 +23,7 @@ returns-in-Ok-clause-made g c = record {
     mode = search rules;
     stays_open = λ clean. inl (c.in-Ok.ensures.stays_open clean).1;
     lawful = λ clean own. record { judged = tt; uids = none_yet; numbers = omega arith };
-    tables = λ clean own is_open. c.in-Ok.ensures.made clean (blank_is _ own);
+    tables = λ clean own is_open. (c.in-Ok.ensures.made clean (blank_is _ own)).tables;
   };
   loaded = refl;
   rows = subst (λ (rows : KeptRows). AreKept rows []) c.rows-empty.ensures.kept (no_rows (tables_in c.rows-empty.result.now) (c.rows-empty.ensures.same [] c.fresh-desk.ensures.stands));
