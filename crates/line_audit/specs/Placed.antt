@@ -13,7 +13,8 @@ use Rattle.line_tables.specs.StateRows.{has_text, has_piece, kept_in, rows_in, p
 
 -- The row has the board, the designator, the number and the place of the placement.
 abbrev pub has_placement : PlacementRow → Row → Bool
-has_placement p row = has_text 2 p.board row && (has_text 3 p.designator row && has_piece (p.number, p.place) row)
+has_placement p row = has_text 2 p.board row
+    && (has_text 3 p.designator row && has_piece (p.number, p.place) row)
 
 -- Each row is in the table.
 abbrev pub AreHere : Database → List PlacementRow → Type 0
@@ -36,7 +37,8 @@ HasBefore (Some end) count db = count_from 0 db ≡ count + count_from end db
 
 -- So many more rows come before the new end, if it is known, than before the old one.
 abbrev pub HasMoreBefore : Option ℕ → Option ℕ → ℕ → Database → Type 0
-HasMoreBefore from end more db = (count : ℕ) → HasBefore from count db → HasBefore end (count + more) db
+HasMoreBefore from end more db = (count : ℕ) → HasBefore from count db
+    → HasBefore end (count + more) db
 
 -- The rows with rowids from the first one up to the end are these, and each is in the table.
 pub record IsRange (db : Database) (first end : ℕ) (rows : List PlacementRow) : Type 0 where

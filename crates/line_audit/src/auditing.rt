@@ -54,7 +54,8 @@ pub fn audit<S: Alter>(
         → IfOk result (λ verdict. (f : ℕ × ℕ → Option PlacementRow) → (es : Pieces)
         → IsExpected (state S.Store conn.old) placed es f
         → Reads (state S.Store conn.old)
-        (λ db. IsVerdict (state_tables rules) db (with_placements f (tables_in rows.now)) verdict)) }
+        (λ db. IsVerdict (state_tables rules) db
+        (with_placements f (tables_in rows.now)) verdict)) }
     ensures reads { ReadsOnly S.Store conn.old conn.new }
 {
     match rules {
@@ -96,7 +97,8 @@ fn is_same<S: Alter>(
     ensures same { HasCleanDisk (state S.Store conn.new)
         → IfOk result (λ b. (f : ℕ × ℕ → Option PlacementRow) → (es : Pieces)
         → IsExpected (state S.Store conn.old) placed es f
-        → Decides (λ db. HoldsTable db (with_placements f (tables_in rows.now)) table) (state S.Store conn.old) b) }
+        → Decides (λ db. HoldsTable db (with_placements f (tables_in rows.now)) table)
+        (state S.Store conn.old) b) }
     ensures reads { ReadsOnly S.Store conn.old conn.new }
 {
     match table {

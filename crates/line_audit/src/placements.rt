@@ -49,7 +49,8 @@ fn has_own<S: Alter>(
 ) -> Result<bool, Error>
     requires some { 0 < length rows.now }
     ensures found { HasCleanDisk (state S.Store conn.new)
-        → IfOk result (λ all. Reads (state S.Store conn.old) (λ db. ArePlaced db all (map piece_of rows.now))) }
+        → IfOk result (λ all. Reads (state S.Store conn.old)
+        (λ db. ArePlaced db all (map piece_of rows.now))) }
     ensures reads { ReadsOnly S.Store conn.old conn.new }
 {
     let (all, _) = has_range(conn, entry.saturating_mul(65_536), end, rows)?;
@@ -115,7 +116,8 @@ fn are_rows(shown: &[Row], rows: &[PlacementRow]) -> Result<bool, Error>
 fn has_each<S: Alter>(conn: &mut Connection<S>, rows: &[PlacementRow]) -> Result<bool, Error>
     requires some { 0 < length rows.now }
     ensures found { HasCleanDisk (state S.Store conn.new)
-        → IfOk result (λ all. Reads (state S.Store conn.old) (λ db. ArePlaced db all (map piece_of rows.now))) }
+        → IfOk result (λ all. Reads (state S.Store conn.old)
+        (λ db. ArePlaced db all (map piece_of rows.now))) }
     ensures reads { ReadsOnly S.Store conn.old conn.new }
 {
     for row in rows {

@@ -22,7 +22,8 @@ pub fn look_up<S: Alter>(
     edits: &[RowEdit],
 ) -> Result<(), ReplayFault>
     ensures ok { OnOk result
-        (LooksUp (HasCleanDisk (state S.Store conn.new)) (state S.Store conn.old) edits.now placed.old placed.new) }
+        (LooksUp (HasCleanDisk (state S.Store conn.new))
+        (state S.Store conn.old) edits.now placed.old placed.new) }
     ensures err { IfErr result (λ f. f ≡ Unavailable) }
     ensures reads { ReadsOnly S.Store conn.old conn.new }
 {

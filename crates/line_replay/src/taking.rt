@@ -34,7 +34,8 @@ pub fn least_is_one<S: Alter>(conn: &mut Connection<S>) -> Result<(), ReplayFaul
     ensures ok { HasCleanDisk (state S.Store conn.new)
         → OnOk result (Reads (state S.Store conn.old) (λ db. IsNumbered (accepted_in db))) }
     ensures err { HasCleanDisk (state S.Store conn.new)
-        → IfErr result (λ f. (rules : Rules) (greatest : ℕ) → IsFaultOf rules greatest (state S.Store conn.old) f) }
+        → IfErr result (λ f. (rules : Rules) (greatest : ℕ)
+        → IsFaultOf rules greatest (state S.Store conn.old) f) }
     ensures reads { ReadsOnly S.Store conn.old conn.new }
 {
     let least = least_number(conn)?;
@@ -48,7 +49,8 @@ pub fn least_is_one<S: Alter>(conn: &mut Connection<S>) -> Result<(), ReplayFaul
 /// Requires this number of rows.
 pub fn are_all<S: Alter>(conn: &mut Connection<S>, taken: u32) -> Result<bool, ReplayFault>
     ensures counted { HasCleanDisk (state S.Store conn.new)
-        → IfOk result (λ are. Reads (state S.Store conn.old) (λ db. are ≡ (taken == length (accepted_in db)))) }
+        → IfOk result (λ are. Reads (state S.Store conn.old)
+        (λ db. are ≡ (taken == length (accepted_in db)))) }
     ensures err { IfErr result (λ f. f ≡ Unavailable) }
     ensures reads { ReadsOnly S.Store conn.old conn.new }
 {
@@ -72,7 +74,8 @@ pub fn take_rows<S: Alter, D: KeepsRows>(
         (kept_with (D.kept_rows desk.new) r.1) r.0) }
     ensures err { HasCleanDisk (state S.Store conn.new)
         → IfErr result (λ f. (f ≡ Unavailable)
-        ⊎ ((n : ℕ) × (f ≡ NotLawful n) × IsStop (D.kept_rules desk.old) greatest (state S.Store conn.old) n)) }
+        ⊎ ((n : ℕ) × (f ≡ NotLawful n)
+        × IsStop (D.kept_rules desk.old) greatest (state S.Store conn.old) n)) }
     ensures rules { OnOk result (D.kept_rules desk.new ≡ D.kept_rules desk.old) }
     ensures reads { ReadsOnly S.Store conn.old conn.new }
 {
@@ -99,15 +102,20 @@ fn take_row<S: Alter, D: KeepsRows>(
     number: u32,
 ) -> Result<bool, ReplayFault>
     requires room { HasRoom D.Stands desk.old 1 }
-    ensures ok { (H : History) → StandsListed D.Stands (desk.old, lists.old) H → length H + 1 ≡ number
+    ensures ok { (H : History) → StandsListed D.Stands (desk.old, lists.old) H
+        → length H + 1 ≡ number
         → IfOk result
-        (Goes (StandsListed D.Stands) (D.kept_rules desk.old) (HasCleanDisk (state S.Store conn.new))
-        (state S.Store conn.old) H (kept_with (D.kept_rows desk.old) placed.old) (desk.new, lists.new)
+        (Goes (StandsListed D.Stands) (D.kept_rules desk.old)
+        (HasCleanDisk (state S.Store conn.new))
+        (state S.Store conn.old) H (kept_with (D.kept_rows desk.old) placed.old)
+        (desk.new, lists.new)
         (kept_with (D.kept_rows desk.new) placed.new)) }
-    ensures err { (H : History) → D.Stands desk.old H → length H + 1 ≡ number → HasCleanDisk (state S.Store conn.new)
+    ensures err { (H : History) → D.Stands desk.old H → length H + 1 ≡ number
+        → HasCleanDisk (state S.Store conn.new)
         → IfErr result (λ f. (f ≡ Unavailable)
         ⊎ ((f ≡ NotLawful number)
-        × Reads (state S.Store conn.old) (λ db. IsStuck (D.kept_rules desk.old) H (accepted_in db)))) }
+        × Reads (state S.Store conn.old)
+        (λ db. IsStuck (D.kept_rules desk.old) H (accepted_in db)))) }
     ensures rules { OnOk result (D.kept_rules desk.new ≡ D.kept_rules desk.old) }
     ensures reads { ReadsOnly S.Store conn.old conn.new }
 {
@@ -132,16 +140,20 @@ fn accept_first<S: Alter, D: KeepsRows>(
     row: &Row,
 ) -> Result<RowEdits, ReplayFault>
     requires room { HasRoom D.Stands desk.old 1 }
-    ensures ok { (H : History) → StandsListed D.Stands (desk.old, lists.old) H → length H + 1 ≡ number
+    ensures ok { (H : History) → StandsListed D.Stands (desk.old, lists.old) H
+        → length H + 1 ≡ number
         → IfOk result
-        (λ edits. Accepts (StandsListed D.Stands) (D.kept_rules desk.old) (HasCleanDisk (state S.Store conn.new))
+        (λ edits. Accepts (StandsListed D.Stands) (D.kept_rules desk.old)
+        (HasCleanDisk (state S.Store conn.new))
         (state S.Store conn.old) number row.now H (desk.new, lists.new) edits (D.kept_rows desk.old)
         (D.kept_rows desk.new)) }
-    ensures err { (H : History) → D.Stands desk.old H → length H + 1 ≡ number → HasCleanDisk (state S.Store conn.new)
+    ensures err { (H : History) → D.Stands desk.old H → length H + 1 ≡ number
+        → HasCleanDisk (state S.Store conn.new)
         → IfErr result (λ f. (f ≡ Unavailable)
         ⊎ ((f ≡ NotLawful number)
         × ((e : Entry) → GoesOn (D.kept_rules desk.old) H row.now e
-        → Reads (state S.Store conn.old) (λ db. list_any (is_before e.stamped.uid number) (accepted_in db) ≡ true)))) }
+        → Reads (state S.Store conn.old)
+        (λ db. list_any (is_before e.stamped.uid number) (accepted_in db) ≡ true)))) }
     ensures rules { OnOk result (D.kept_rules desk.new ≡ D.kept_rules desk.old) }
     ensures reads { ReadsOnly S.Store conn.old conn.new }
 {

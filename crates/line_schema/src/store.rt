@@ -257,7 +257,8 @@ impl<S: Alter, D: KeepsRows + Drop> LineStore<S, D> {
         ensures desk { desk_of self.new ≡ desk_of self.old }
         ensures stands { (L : Kept) → Stands S.Store D.Stands D.kept_rules self.old L
             → Stands S.Store D.Stands D.kept_rules self.new L }
-        ensures survives { Survives (state_of S.Store self.old) (state_of S.Store self.new) (λ _. ⊥) }
+        ensures survives { Survives (state_of S.Store self.old)
+            (state_of S.Store self.new) (λ _. ⊥) }
         ensures others { LetsOthersBe (state_of S.Store self.old) (state_of S.Store self.new) }
     {
         match find(&mut self.conn, stamped.uid.as_str())? {

@@ -19,7 +19,8 @@ pub fn make<S: Alter>(conn: &mut Connection<S>, greatest: u32) -> Result<(), Err
         → OnOk result ((state S.Store conn.old).now.schema ≡ no_schema
         → HoldsBlank greatest (state S.Store conn.new).committed) }
     ensures stays_open { HasCleanDisk (state S.Store conn.new)
-        → OnOk result (IsTrue (state S.Store conn.old).is_open × IsTrue (state S.Store conn.new).is_open) }
+        → OnOk result (IsTrue (state S.Store conn.old).is_open
+        × IsTrue (state S.Store conn.new).is_open) }
     ensures neither { HasCleanDisk (state S.Store conn.new)
         → OnErr result (KeepsCommit (state S.Store conn.old) (state S.Store conn.new)) }
     ensures alone { HasCleanDisk (state S.Store conn.new)
@@ -39,7 +40,8 @@ pub fn make<S: Alter>(conn: &mut Connection<S>, greatest: u32) -> Result<(), Err
 
 fn make_all<S: Alter>(tx: &mut Transaction<'_, S>, greatest: u32) -> Result<(), Error>
     ensures made { HasCleanDisk (state S.Store tx.new.conn.now)
-        → OnOk result (Makes greatest (state S.Store tx.old.conn.now) (state S.Store tx.new.conn.now)) }
+        → OnOk result (Makes greatest (state S.Store tx.old.conn.now)
+        (state S.Store tx.new.conn.now)) }
     ensures within { InTransaction S.Store tx.old tx.new }
 {
     make_tables(tx)?;
@@ -52,7 +54,8 @@ fn make_all<S: Alter>(tx: &mut Transaction<'_, S>, greatest: u32) -> Result<(), 
 
 fn make_tables<S: Alter>(tx: &mut Transaction<'_, S>) -> Result<(), Error>
     ensures made { HasCleanDisk (state S.Store tx.new.conn.now)
-        → OnOk result (Extends no_schema line_schema (state S.Store tx.old.conn.now) (state S.Store tx.new.conn.now)) }
+        → OnOk result (Extends no_schema line_schema (state S.Store tx.old.conn.now)
+        (state S.Store tx.new.conn.now)) }
     ensures within { InTransaction S.Store tx.old tx.new }
 {
     make_list(tx)?;
@@ -65,7 +68,8 @@ fn make_tables<S: Alter>(tx: &mut Transaction<'_, S>) -> Result<(), Error>
 fn make_list<S: Alter>(tx: &mut Transaction<'_, S>) -> Result<(), Error>
     ensures made { HasCleanDisk (state S.Store tx.new.conn.now)
         → OnOk result
-        (Extends no_schema (first_of_line 2 1) (state S.Store tx.old.conn.now) (state S.Store tx.new.conn.now)) }
+        (Extends no_schema (first_of_line 2 1) (state S.Store tx.old.conn.now)
+        (state S.Store tx.new.conn.now)) }
     ensures within { InTransaction S.Store tx.old tx.new }
 {
     run(
@@ -138,7 +142,8 @@ fn make_floor<S: Alter>(tx: &mut Transaction<'_, S>) -> Result<(), Error>
 fn make_pieces<S: Alter>(tx: &mut Transaction<'_, S>) -> Result<(), Error>
     ensures made { HasCleanDisk (state S.Store tx.new.conn.now)
         → OnOk result
-        (Extends (first_of_line 9 8) line_schema (state S.Store tx.old.conn.now) (state S.Store tx.new.conn.now)) }
+        (Extends (first_of_line 9 8) line_schema (state S.Store tx.old.conn.now)
+        (state S.Store tx.new.conn.now)) }
     ensures within { InTransaction S.Store tx.old tx.new }
 {
     run(

@@ -15,9 +15,11 @@ use sqlite::{Alter, Connection, Error, ErrorCode, Transaction};
 /// version number changes; all other rows stay. Inside an open transaction of the caller nothing is done.
 pub fn migrate_tables<S: Alter>(conn: &mut Connection<S>) -> Result<(), Error>
     ensures done { HasCleanDisk (state S.Store conn.new)
-        → OnOk result (Migrated (state S.Store conn.old).committed (state S.Store conn.new).committed) }
+        → OnOk result (Migrated (state S.Store conn.old).committed
+        (state S.Store conn.new).committed) }
     ensures stays_open { HasCleanDisk (state S.Store conn.new)
-        → OnOk result (IsTrue (state S.Store conn.old).is_open × IsTrue (state S.Store conn.new).is_open) }
+        → OnOk result (IsTrue (state S.Store conn.old).is_open
+        × IsTrue (state S.Store conn.new).is_open) }
     ensures neither { HasCleanDisk (state S.Store conn.new)
         → OnErr result (KeepsCommit (state S.Store conn.old) (state S.Store conn.new)) }
     ensures alone { HasCleanDisk (state S.Store conn.new)

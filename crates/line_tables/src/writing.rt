@@ -34,7 +34,8 @@ pub fn append<S: Alter>(
         (Edited (command_edits row.now edits.now) (state S.Store conn.old).committed
         (state S.Store conn.new).committed) }
     ensures stays_open { HasCleanDisk (state S.Store conn.new)
-        → OnOk result (IsTrue (state S.Store conn.old).is_open × IsTrue (state S.Store conn.new).is_open) }
+        → OnOk result (IsTrue (state S.Store conn.old).is_open
+        × IsTrue (state S.Store conn.new).is_open) }
     ensures neither { HasCleanDisk (state S.Store conn.new)
         → OnErr result (KeepsCommit (state S.Store conn.old) (state S.Store conn.new)) }
     ensures alone { HasCleanDisk (state S.Store conn.new)
@@ -60,7 +61,8 @@ fn put_all<S: Alter>(
 ) -> Result<(), Error>
     ensures done { HasCleanDisk (state S.Store tx.new.conn.now)
         → OnOk result
-        (Writes (command_edits row.now edits.now) (state S.Store tx.old.conn.now) (state S.Store tx.new.conn.now)) }
+        (Writes (command_edits row.now edits.now) (state S.Store tx.old.conn.now)
+        (state S.Store tx.new.conn.now)) }
     ensures within { InTransaction S.Store tx.old tx.new }
 {
     put_accepted(tx, row)?;
@@ -109,7 +111,8 @@ fn first_eight<'a>(alloc: Global, edits: &'a [RowEdit]) -> Result<Option<Vec<Val
 fn put_accepted<S: Alter>(tx: &mut Transaction<'_, S>, row: &Accepted) -> Result<(), Error>
     ensures done { HasCleanDisk (state S.Store tx.new.conn.now)
         → OnOk result
-        (Writes (PutAccepted row.now ∷ []) (state S.Store tx.old.conn.now) (state S.Store tx.new.conn.now)) }
+        (Writes (PutAccepted row.now ∷ []) (state S.Store tx.old.conn.now)
+        (state S.Store tx.new.conn.now)) }
     ensures within { InTransaction S.Store tx.old tx.new }
 {
     run(
