@@ -11,8 +11,11 @@ use Rattle.desk_types.specs.FloorLife.{out_since}
 use Rattle.desk_types.specs.Work.{is_in_work}
 use Rattle.desk_types.specs.View.{part_of, lot_of, life_left, reel_view}
 use Rattle.alike.specs.Past.{is_started}
+use Rattle.alike.specs.Alike.{AreAlike}
+use Rattle.alike.specs.Chain.{Carries, quantity_of}
+use Rattle.alike_check.specs.Views.{quantity_in}
 use Rattle.alike_check.specs.declared.difference.Difference.{Difference}
-use Rattle.alike_check.specs.declared.difference.Difference.TheVariants.{Minute, Part, Alternate, Sheet, Selection, OldWork, NewWork, Board, Reel, Remaining, ReelPart, Lot, Level, Open, Life, Slot}
+use Rattle.alike_check.specs.declared.difference.Difference.TheVariants.{Minute, Part, Alternate, Sheet, Selection, OldWork, NewWork, Board, Reel, Remaining, Received, ReelPart, Lot, Level, Open, Life, Slot}
 
 -- The value is one on the old desk and another on the new one.
 pub record Changes {X : Type 0} (of_old of_new old new : X) : Type 0 where
@@ -32,6 +35,7 @@ IsDifference H H' (NewWork board) = is_in_work H' board ≡ true
 IsDifference H H' (Board board) = (is_started H' board ≡ true) × (is_started H board ≡ false)
 IsDifference H H' (Reel reel) = (is_some (receipt_of H' reel) ≡ true) × (is_some (receipt_of H reel) ≡ false)
 IsDifference H H' (Remaining reel old new) = Changes (left_of H reel) (left_of H' reel) old new
+IsDifference H H' (Received reel old new) = (is_some (receipt_of H' reel) ≡ true) × Changes (left_of H reel) (quantity_of H' reel) old new
 IsDifference H H' (ReelPart reel old new) = (0 < left_of H reel) × Changes (part_of H reel) (part_of H' reel) old new
 IsDifference H H' (Lot reel old new) = (0 < left_of H reel) × Changes (lot_of H reel) (lot_of H' reel) old new
 IsDifference H H' (Level reel) =
@@ -40,9 +44,15 @@ IsDifference H H' (Open reel old new) = (0 < left_of H reel) × Changes (is_some
 IsDifference H H' (Life reel old new) = (0 < left_of H reel) × Changes (life_left H reel) (life_left H' reel) old new
 IsDifference H H' (Slot machine slot) = live_on H machine slot ≢ live_on H' machine slot
 
+-- The difference shows that the new desk doesn't carry on the old one: they aren't alike, unless it is one of received pieces.
+abbrev pub Refutes : History → History → Difference → Type 0
+Refutes H H' (Received reel old new) = Carries H H' → ⊥
+Refutes H H' _ = AreAlike H H' → ⊥
+
 -- The difference is one of two views of the reel.
 abbrev pub IsViewDifference : Name → ReelView → ReelView → Difference → Type 0
 IsViewDifference reel v w (Remaining r old new) = (r ≡ reel) × Changes v.remaining w.remaining old new
+IsViewDifference reel v w (Received r old new) = (r ≡ reel) × Changes v.remaining (quantity_in w) old new
 IsViewDifference reel v w (ReelPart r old new) = (r ≡ reel) × (0 < v.remaining) × Changes v.part w.part old new
 IsViewDifference reel v w (Lot r old new) = (r ≡ reel) × (0 < v.remaining) × Changes v.lot w.lot old new
 IsViewDifference reel v w (Level r) = (r ≡ reel) × (0 < v.remaining) × (v.level ≡ w.level → v.label ≡ w.label → ⊥)

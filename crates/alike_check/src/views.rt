@@ -59,6 +59,14 @@ fn received_difference(reel: Id, old: &ReelView, new: &ReelView) -> Option<Diffe
             new: new.remaining,
         });
     }
+    let received = new.received.saturating_sub(new.found);
+    if received != old.remaining {
+        return Some(Difference::Received {
+            reel,
+            old: old.remaining,
+            new: received,
+        });
+    }
     if old.remaining == 0 {
         return None;
     }

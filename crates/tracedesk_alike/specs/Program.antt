@@ -7,11 +7,11 @@ use Rattle.sqlite_disk.specs.declared.start.Start as start
 use Rattle.desk_types.specs.declared.wire.Wire.{Wire}
 use Rattle.desk_types.specs.Wire.{inner_of}
 use Rattle.desk_runs.specs.Told.{unavailable_line, Tells, TellsLine}
-use Rattle.alike_files.specs.declared.compared.Compared.{Compared}
-use Rattle.alike_files.specs.declared.compared.Compared.TheVariants.{Alike, Differs, Refused}
-use Rattle.alike_files.specs.Found.{Finds}
-use Rattle.alike_files.specs.Texts.{compared_text}
-use Rattle.alike_words.specs.CommandLine.{AsksForNothing, AsksForText, AsksToCompare}
+use Rattle.tracedesk_alike.specs.declared.compared.Compared.{Compared}
+use Rattle.tracedesk_alike.specs.declared.compared.Compared.TheVariants.{Alike, Differs, Refused}
+use Rattle.tracedesk_alike.specs.Found.{Finds}
+use Rattle.tracedesk_alike.specs.Texts.{compared_text}
+use Rattle.tracedesk_alike.specs.CommandLine.{AsksForNothing, AsksForText, AsksToCompare}
 
 -- The line of a comparison on the output.
 abbrev pub found_line : Compared → List ℕ

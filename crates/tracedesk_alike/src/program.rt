@@ -5,9 +5,9 @@ ghost use Rattle.desk_runs.specs.Told.{TellsUnwritten};
 ghost use Rattle.desk_runs.specs.Wires.{HaveFewFailures};
 ghost use Rattle.tracedesk_alike.specs.Program.{Bad, Compares, Differing, Done, NoDesk};
 
+use crate::command_line::{Asked, read_words};
+use crate::files::compare_files;
 use crate::telling::tell_found;
-use alike_files::compare_files;
-use alike_words::{Asked, read_words};
 use desk_runs::{Exit, send_text, tell, unavailable};
 use desk_types::Wire;
 use sqlite::{FileFrom, Files, Start};

@@ -7,7 +7,7 @@ ghost use Rattle.desk_runs.specs.Told.{unavailable_line, TellsLine, TellsUnwritt
 ghost use Rattle.desk_runs.specs.Wires.{HaveFewFailures};
 ghost use Rattle.tracedesk_alike.specs.Program.{found_line, refused_line, status_of};
 
-use alike_files::Compared;
+use crate::compared::Compared;
 use desk_runs::{Exit, send_text, tell_line, unavailable};
 use desk_types::Wire;
 use std::alloc::Global;
