@@ -88,8 +88,9 @@ def find_program(reader, asked):
 def alike_of(program):
     """The program that compares two desks, or none: ALIKE in the environment, else the one next to this program, installed or built."""
     at = pathlib.Path(program).resolve().parent
+    beside = [f"{at}/tracedesk-alike", f"{at.parent.parent}/tracedesk_alike/out/tracedesk_alike"]
     named = os.environ.get("ALIKE")
-    return next(filter(None, map(shutil.which, [named] if named else [at / "tracedesk-alike", at.parent.parent / "tracedesk_alike/out/tracedesk_alike"])), None)
+    return next(filter(None, map(shutil.which, [named] if named else beside)), None)
 
 
 def offer(reader):
