@@ -60,6 +60,6 @@ pictures:      ## the SVGs of docs/: crates, a splice, starts by pieces, two yea
 	@dev/pictures
 
 #: package
-dist:          ## a .deb and a tarball in dist: the program and what a plant installs beside it | 20 s | pandoc binutils debhelper
+dist:          ## a .deb and a tarball in dist: both programs and what a plant installs with them | 20 s | pandoc binutils debhelper
 	$(say)
 	@dev/dist

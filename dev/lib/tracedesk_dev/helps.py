@@ -91,7 +91,7 @@ def read(words, name):
             got[LISTS[head]] = entries(lines[1:])
         elif head.startswith("usage: "):
             got["usage"] = [lines[0][7:], *(it[7:] for it in lines[1:])]
-        elif head == "examples:":
+        elif head in ("example:", "examples:"):
             got["examples"] = [it.strip() for it in lines[1:]]
         elif found := re.match(r"exit status(?:es)?: *", head):
             got["statuses"] = statuses([it for it in (lines[0][found.end():], *lines[1:]) if it])

@@ -85,6 +85,14 @@ def find_program(reader, asked):
         reader.error("there is no program: name it by --program, or PROGRAM in the environment")
 
 
+def alike_of(program):
+    """The program that compares two desks, or none: ALIKE in the environment, else the one next to this program, installed or built."""
+    at = pathlib.Path(program).resolve().parent
+    beside = [f"{at}/tracedesk-alike", f"{at.parent.parent}/tracedesk_alike/out/tracedesk_alike"]
+    named = os.environ.get("ALIKE")
+    return next(filter(None, map(shutil.which, [named] if named else beside)), None)
+
+
 def offer(reader):
     """Adds the words of both tools."""
     reader.add_argument("--db", type=pathlib.Path, default=DESK, metavar="FILE", help=f"the desk's file ({DESK})")
