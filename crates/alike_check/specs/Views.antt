@@ -20,4 +20,5 @@ abbrev pub IsCarried : Option ReelView → Option ReelView → Type 0
 IsCarried None None = ⊤
 IsCarried None (Some new) = ⊥
 IsCarried (Some old) None = old.remaining ≡ 0
-IsCarried (Some old) (Some new) = (old.remaining ≡ new.remaining) × (quantity_in new ≡ old.remaining) × (0 < old.remaining → IsSameView old new)
+IsCarried (Some old) (Some new) = (old.remaining ≡ new.remaining)
+    × (quantity_in new ≡ old.remaining) × (0 < old.remaining → IsSameView old new)

@@ -40,7 +40,8 @@ fn slot_difference(old: &StateDesk, new: &StateDesk) -> Option<Difference>
 }
 
 fn find(old: &StateDesk, new: &StateDesk) -> Option<Difference>
-    ensures carries { (H H' : History) → IsState H old.now → IsState H' new.now → IfNone result (Carries H H') }
+    ensures carries { (H H' : History) → IsState H old.now → IsState H' new.now
+        → IfNone result (Carries H H') }
     ensures differs { (H H' : History) → IsState H old.now → IsState H' new.now
         → IfSome result (IsDifference H H') }
 {
@@ -72,9 +73,12 @@ fn find(old: &StateDesk, new: &StateDesk) -> Option<Difference>
 /// Returns the first way in which the new desk isn't alike to the old one, or received other pieces of a reel than were left.
 /// Returns `None` if there is none.
 pub fn first_difference(old: &StateDesk, new: &StateDesk) -> Option<Difference>
-    ensures carries { (H H' : History) → IsState H old.now → IsState H' new.now → IfNone result (Carries H H') }
-    ensures differs { (H H' : History) → IsState H old.now → IsState H' new.now → IfSome result (IsDifference H H') }
-    ensures refutes { (H H' : History) → IsState H old.now → IsState H' new.now → IfSome result (Refutes H H') }
+    ensures carries { (H H' : History) → IsState H old.now → IsState H' new.now
+        → IfNone result (Carries H H') }
+    ensures differs { (H H' : History) → IsState H old.now → IsState H' new.now
+        → IfSome result (IsDifference H H') }
+    ensures refutes { (H H' : History) → IsState H old.now → IsState H' new.now
+        → IfSome result (Refutes H H') }
 {
     find(old, new)
 }

@@ -35,9 +35,11 @@ fn same_tape<F: Facts>(old: &F, new: &F, machine: &Id, slot: &Id) -> bool
 fn is_changed<F: Facts>(own: &F, old: &F, new: &F, reel: &Id, mount: &MountRow) -> bool
     ensures same { result ≡ false
         → slice_get (F.reels_on own.now mount.now.machine mount.now.slot) 0 ≡ Some reel.now
-        → F.reels_on old.now mount.now.machine mount.now.slot ≡ F.reels_on new.now mount.now.machine mount.now.slot }
+        → F.reels_on old.now mount.now.machine mount.now.slot
+        ≡ F.reels_on new.now mount.now.machine mount.now.slot }
     ensures differs { result ≡ true
-        → F.reels_on old.now mount.now.machine mount.now.slot ≢ F.reels_on new.now mount.now.machine mount.now.slot }
+        → F.reels_on old.now mount.now.machine mount.now.slot
+        ≢ F.reels_on new.now mount.now.machine mount.now.slot }
 {
     own.reel_at(&mount.machine, &mount.slot, 0) == Some(*reel)
         && !same_tape(old, new, &mount.machine, &mount.slot)
@@ -46,7 +48,8 @@ fn is_changed<F: Facts>(own: &F, old: &F, new: &F, reel: &Id, mount: &MountRow) 
 /// Returns the first of the slots of these mounts that doesn't have the same reels on both desks. The mounts are those of
 /// `own`, one of the desks, where slots have live reels only.
 pub fn slot_in<F: Facts>(mounts: &RowSet, own: &F, old: &F, new: &F) -> Option<(Id, Id)>
-    ensures same { (G : History) → IsJudged Two G → unnumbered (tables_in mounts.now) ≡ unnumbered (tables_of G)
+    ensures same { (G : History) → IsJudged Two G
+        → unnumbered (tables_in mounts.now) ≡ unnumbered (tables_of G)
         → ((m s : Name) → F.reels_on own.now m s ≡ live_on G m s) → (machine slot : Name)
         → IfNone result (is_some (front_of G machine slot) ≡ true
         → F.reels_on old.now machine slot ≡ F.reels_on new.now machine slot) }

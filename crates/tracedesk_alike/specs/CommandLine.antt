@@ -17,7 +17,8 @@ required_option name = record (new_rule name) { long = Some name; value_names = 
 
 -- The program has a version.
 abbrev pub bare : App
-bare = on_top (λ s. record s { no_binary_name = true; has_version = true }) (new_app (codes "tracedesk-alike"))
+bare = on_top (λ s. record s { no_binary_name = true; has_version = true })
+    (new_app (codes "tracedesk-alike"))
 
 -- It has two options, `--old FILE` and `--new FILE`.
 abbrev pub command : App
@@ -36,7 +37,8 @@ found_by words = matches_of command words
 -- The arguments mean: compare the desks in these two files.
 abbrev pub AsksToCompare : List (List ℕ) → List ℕ → List ℕ → Type 0
 AsksToCompare words old new =
-    (told_of words ≡ []) × (first_of (codes "old") (found_by words) ≡ Some old) × (first_of (codes "new") (found_by words) ≡ Some new)
+    (told_of words ≡ []) × (first_of (codes "old") (found_by words) ≡ Some old)
+    × (first_of (codes "new") (found_by words) ≡ Some new)
 
 abbrev pub IsText : ErrorKind → Type 0
 IsText kind = (kind ≡ DisplayHelp) ⊎ (kind ≡ DisplayVersion)
@@ -51,7 +53,8 @@ IsMistaken words = (kind : ErrorKind) × IsAmong kind (told_of words) × (IsText
 
 -- A file is missing.
 abbrev pub LacksFile : List (List ℕ) → Type 0
-LacksFile words = (first_of (codes "old") (found_by words) ≡ None) ⊎ (first_of (codes "new") (found_by words) ≡ None)
+LacksFile words = (first_of (codes "old") (found_by words) ≡ None)
+    ⊎ (first_of (codes "new") (found_by words) ≡ None)
 
 -- The arguments have no meaning.
 abbrev pub AsksForNothing : List (List ℕ) → Type 0

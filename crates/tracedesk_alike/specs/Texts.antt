@@ -33,7 +33,8 @@ abbrev pub both : List ℕ → List ℕ → List ℕ
 both a b = a ++ codes " " ++ b
 
 abbrev pub remaining_text : Name → ℕ → ℕ → List ℕ
-remaining_text reel old new = codes "reel " ++ reel ++ codes " remaining " ++ both (decimal old) (decimal new)
+remaining_text reel old new =
+    codes "reel " ++ reel ++ codes " remaining " ++ both (decimal old) (decimal new)
 
 -- The kind of a difference, the names that it is in, and then the values on the old desk and on the new one.
 abbrev pub difference_text : Difference → List ℕ
@@ -47,12 +48,15 @@ difference_text (NewWork board) = codes "board " ++ board ++ codes " in work new
 difference_text (Board board) = codes "board " ++ board ++ codes " new"
 difference_text (Reel reel) = codes "reel " ++ reel ++ codes " new"
 difference_text (Remaining reel old new) = remaining_text reel old new
-difference_text (Received reel old new) = codes "reel " ++ reel ++ codes " received " ++ both (decimal old) (decimal new)
+difference_text (Received reel old new) =
+    codes "reel " ++ reel ++ codes " received " ++ both (decimal old) (decimal new)
 difference_text (ReelPart reel old new) = codes "reel " ++ reel ++ codes " part " ++ both old new
 difference_text (Lot reel old new) = codes "reel " ++ reel ++ codes " lot " ++ both old new
 difference_text (Level reel) = codes "reel " ++ reel ++ codes " level"
-difference_text (Open reel old new) = codes "reel " ++ reel ++ codes " open " ++ both (truth_text old) (truth_text new)
-difference_text (Life reel old new) = codes "reel " ++ reel ++ codes " life " ++ both (life_text old) (life_text new)
+difference_text (Open reel old new) =
+    codes "reel " ++ reel ++ codes " open " ++ both (truth_text old) (truth_text new)
+difference_text (Life reel old new) =
+    codes "reel " ++ reel ++ codes " life " ++ both (life_text old) (life_text new)
 difference_text (Slot machine slot) = codes "slot " ++ both machine slot
 
 -- The line of a comparison, without its line feed.

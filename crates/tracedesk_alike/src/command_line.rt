@@ -49,7 +49,8 @@ pub fn read_words(alloc: Global, words: &[String]) -> Result<Asked, AllocError>
 }
 
 fn help_or_mistake(alloc: Global, error: &clap::Error) -> Result<Asked, AllocError>
-    ensures { (words : List (List ℕ)) → HasKind (told_of words) error.now → IfOk result (Asks words) }
+    ensures { (words : List (List ℕ)) → HasKind (told_of words) error.now
+        → IfOk result (Asks words) }
 {
     if error.kind() == ErrorKind::OutOfMemory {
         return Err(AllocError);
@@ -63,7 +64,8 @@ fn help_or_mistake(alloc: Global, error: &clap::Error) -> Result<Asked, AllocErr
 }
 
 fn files_of(alloc: Global, found: &ArgMatches<'_>) -> Result<Asked, AllocError>
-    ensures { (words : List (List ℕ)) → told_of words ≡ [] → rows_of (found_of found.now) ≡ found_by words
+    ensures { (words : List (List ℕ)) → told_of words ≡ []
+        → rows_of (found_of found.now) ≡ found_by words
         → IfOk result (Asks words) }
 {
     let Some(old) = found.get_str("old") else {
@@ -115,7 +117,8 @@ fn with_file<'a>(
     help: &'a str,
 ) -> Result<clap::Command<'a>, AllocError>
     requires local { (out-Command start).has_globals ≡ false }
-    ensures shape { IfOk result (λ it. app_of it ≡ with_rule (app_of start.entry) (required_option name.now)) }
+    ensures shape { IfOk result
+        (λ it. app_of it ≡ with_rule (app_of start.entry) (required_option name.now)) }
     ensures local { IfOk result (λ it. (out-Command it).has_globals ≡ false) }
 {
     let option = Arg::new(alloc, name)

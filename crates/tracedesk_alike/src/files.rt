@@ -26,7 +26,8 @@ pub fn compare_files<T: Start, U: Start>(
     Option<Files<FileFrom<T>>>,
     Option<Files<FileFrom<U>>>,
 )
-    ensures { Finds T.Start U.Start ⟦<FileFrom<T> as Disk>⟧ ⟦<FileFrom<U> as Disk>⟧ result.0 result.1 result.2 }
+    ensures { Finds T.Start U.Start ⟦<FileFrom<T> as Disk>⟧ ⟦<FileFrom<U> as Disk>⟧
+        result.0 result.1 result.2 }
 {
     let (found, left_old, left_new) = open_both(rt, old, new, of_old, of_new);
     let (old_closed, old_files) = close_left(left_old);
